@@ -1,0 +1,8 @@
+//! Names, moments and refusals of the vault.
+#![tactic(auto)]
+
+pub mod content;
+pub mod moment;
+pub mod name;
+pub mod refusal;
+pub mod right;

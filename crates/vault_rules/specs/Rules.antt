@@ -1,0 +1,67 @@
+-- Which lists of lifecycle rules a bucket may have.
+use Rattle.std.specs.Prelude.{ℕ, Bool, true, false, not, ◌&&◌, ◌||◌, nat_lt, nat_le, List, [], ◌∷◌, length, Option, Some, None, is_some, is_none}
+use Rattle.std.specs.List.{list_any}
+use Rattle.std.specs.Str.{bytes_eq}
+use Rattle.vault_rules.specs.declared.rule.Noncurrent.{Noncurrent}
+use Rattle.vault_rules.specs.declared.rule.Rule.{Rule}
+use Rattle.vault_rules.specs.declared.rule_set.RuleFault.{RuleFault}
+use Rattle.vault_rules.specs.declared.rule_set.RuleFault.TheVariants.{NoRules, TooMany, SameId, NoAction, DaysAndMarkers, OutOfRange}
+
+-- a number of days is 1 to 2,147,483,647
+abbrev pub is_days : ℕ → Bool
+is_days n = nat_le 1 n && nat_le n 2147483647
+
+-- NewerNoncurrentVersions is 1 to 100
+abbrev pub is_newer : ℕ → Bool
+is_newer n = nat_le 1 n && nat_le n 100
+
+-- where it is given, it passes
+abbrev pub passes_if_given : {A : Type 0} → (A → Bool) → Option A → Bool
+passes_if_given test None = true
+passes_if_given test (Some x) = test x
+
+abbrev pub is_noncurrent_action : Noncurrent → Bool
+is_noncurrent_action n = is_days n.days && passes_if_given is_newer n.newer
+
+-- at least one action
+abbrev pub has_action : Rule → Bool
+has_action r = is_some r.days || r.lone_markers || is_some r.noncurrent
+
+-- both kinds of Expiration at once
+abbrev pub has_days_and_markers : Rule → Bool
+has_days_and_markers r = is_some r.days && r.lone_markers
+
+-- each number is in its range
+abbrev pub is_in_range : Rule → Bool
+is_in_range r = passes_if_given is_days r.days && passes_if_given is_noncurrent_action r.noncurrent
+
+-- the first of these faults whose test passes
+abbrev pub fault_where : Bool → RuleFault → Option RuleFault → Option RuleFault
+fault_where true fault later = Some fault
+fault_where false fault later = later
+
+-- the fault of a rule that stands behind rules of these ids
+abbrev pub fault_of : List (List ℕ) → Rule → Option RuleFault
+fault_of ids r =
+    fault_where (list_any (λ id. bytes_eq id r.id) ids) SameId
+    (fault_where (not (has_action r)) NoAction
+    (fault_where (has_days_and_markers r) DaysAndMarkers
+    (fault_where (not (is_in_range r)) OutOfRange None)))
+
+abbrev pub first_of_both : Option RuleFault → Option RuleFault → Option RuleFault
+first_of_both None later = later
+first_of_both (Some fault) later = Some fault
+
+-- the fault of the first rule at fault; the ids are those of the rules before it
+abbrev pub first_fault : List (List ℕ) → List Rule → Option RuleFault
+first_fault ids [] = None
+first_fault ids (r ∷ rs) = first_of_both (fault_of ids r) (first_fault (r.id ∷ ids) rs)
+
+-- what is wrong with a list of rules, if anything is (S3 User Guide, "Lifecycle configuration elements")
+abbrev pub rules_fault : List Rule → Option RuleFault
+rules_fault [] = Some NoRules
+rules_fault (r ∷ rs) = fault_where (nat_lt 1000 (length (r ∷ rs))) TooMany (first_fault [] (r ∷ rs))
+
+-- a list that a bucket may have
+abbrev pub is_rule_set : List Rule → Bool
+is_rule_set rules = is_none (rules_fault rules)

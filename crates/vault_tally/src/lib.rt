@@ -1,0 +1,4 @@
+//! The running row of a department.
+#![tactic(auto)]
+
+pub mod row;
