@@ -5,3 +5,4 @@ pub mod change;
 pub mod command;
 pub mod records;
 pub mod reply;
+pub mod rights;

@@ -1,4 +1,5 @@
 //! What the vault keeps.
+use crate::rights::Rights;
 use std::marker::Model;
 use vault_base::content::{Content, Digest};
 use vault_base::moment::Moment;
@@ -6,23 +7,6 @@ use vault_base::name::{BatchName, BucketName, CallerName, DeptName, ObjectKey, R
 use vault_lock::lock::Lock;
 use vault_lock::retention::{Default, Retention};
 use vault_rules::rule_set::RuleSet;
-
-/// The rights of a caller.
-#[derive(Clone, Copy, Debug, PartialEq, Eq)]
-pub struct Rights {
-    pub admin: bool,
-    pub config: bool,
-    pub put: bool,
-    pub retain: bool,
-    pub hold: bool,
-    pub get: bool,
-    pub list: bool,
-    pub delete: bool,
-    pub delete_version: bool,
-    pub run: bool,
-    pub report: bool,
-    pub bypass: bool,
-}
 
 /// Who asks: open, or closed for good.
 #[derive(Drop)]
