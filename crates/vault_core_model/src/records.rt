@@ -17,12 +17,18 @@ pub struct Caller {
     pub closed: bool,
 }
 
-/// A bucket of a department.
+/// Whose a bucket is, and the retention that it gives to versions placed later.
+#[derive(Drop)]
+pub struct BucketConfig {
+    pub dept: DeptName,
+    pub default: Option<Default>,
+}
+
+/// A bucket, with its lifecycle rules where it has any.
 #[derive(Drop)]
 pub struct Bucket {
     pub name: BucketName,
-    pub dept: DeptName,
-    pub default: Option<Default>,
+    pub config: BucketConfig,
     pub rules: Option<RuleSet>,
 }
 
@@ -113,5 +119,12 @@ pub struct Note {
 #[derive(Clone, Copy, PartialEq, Eq)]
 pub struct Head {
     pub newest: VersionId,
+    pub count: u64,
+}
+
+/// The lock that counts of a version, and how many settings it ever had.
+#[derive(Clone, Copy)]
+pub struct LastSetting {
+    pub lock: Lock,
     pub count: u64,
 }
