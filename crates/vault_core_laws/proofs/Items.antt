@@ -1,11 +1,11 @@
 -- The sums of a department, entry by entry.
-use Rattle.std.proofs.Common.{◌≡◌, ℕ, ◌+◌, ◌≤◌, List, [], ◌∷◌, ◌++◌, length, map, Bool, true, false, Option, Some, None, refl, sym, ◌∙◌, ap, subst, arith, eqb}
-use Rattle.std.specs.Prelude.{IsSome, filter, sum_by, if◌then◌else◌, not, ◌&&◌}
+use Rattle.std.proofs.Common.{◌≡◌, ℕ, ◌+◌, ◌≤◌, List, [], ◌∷◌, ◌++◌, map, Bool, true, false, Some, refl, sym, ◌∙◌, ap, subst, arith, eqb}
+use Rattle.std.specs.Prelude.{filter, sum_by, if◌then◌else◌, not, ◌&&◌}
 use Rattle.std.specs.List.{AllByRecursion}
 use Rattle.std.specs.Str.{bytes_eq}
 use Rattle.std.proofs.lemmas.Slice.Eq.{bytes_eq-Decides}
 use Rattle.std.proofs.lemmas.List.Sums.{sum_by-cons, sum_by_push}
-use Rattle.vault_tally.specs.Row.{size_of, Item}
+use Rattle.vault_tally.specs.Row.{size_of}
 use Rattle.vault_core_model.specs.declared.records.Bucket.{Bucket}
 use Rattle.vault_core_model.specs.declared.records.BucketConfig.{BucketConfig}
 use Rattle.vault_core_model.specs.declared.records.History.{History}
@@ -79,6 +79,7 @@ share_fits buckets h own dept most sum placed fits few =
     counted : (m : Bool) (s size most : ℕ) → s ≤ most → s + size ≤ most → s + (if not m && true then size else 0) ≤ most
     counted true s size most few fits = omega arith
     counted false s size most few fits = fits
+
     uncounted : (m : Bool) (s size most : ℕ) → s ≤ most → s + (if not m && false then size else 0) ≤ most
     uncounted true s size most few = omega arith
     uncounted false s size most few = omega arith

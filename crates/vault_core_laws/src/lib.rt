@@ -18,13 +18,11 @@ ghost use Rattle.vault_core_model.specs.Totals.{items_of};
 /// A sound vault stays sound under every change that it allows.
 pub fn allowed_changes_keep_soundness()
     ensures { (v : Vault) (t : ℕ) (c : Change) → Sound v → v.last ≤ t → Allows v t c → Sound (changed v t c) }
-{
-}
+{}
 
 /// The days of a sound vault's versions are in order, and no department admitted more than the quota:
 /// so no sum of a department's row overflows.
 pub fn sums_of_sound_vaults_are_bounded()
     ensures bounded { (v : Vault) (dept : List ℕ) → Sound v → v.last ≤ last_moment → AreBounded (items_of v dept) }
     ensures admitted { (v : Vault) (dept : List ℕ) (t : ℕ) → Sound v → v.last ≤ t → AreAdmittedBy (day t) (items_of v dept) }
-{
-}
+{}
