@@ -6,3 +6,4 @@ pub mod moment;
 pub mod name;
 pub mod refusal;
 pub mod right;
+mod spelling;

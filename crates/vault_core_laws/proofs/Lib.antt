@@ -1,0 +1,5 @@
+pub mod Bounds
+pub mod Buckets
+pub mod Items
+pub mod Lists
+pub mod Soundness
