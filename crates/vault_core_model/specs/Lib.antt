@@ -1,0 +1,14 @@
+pub mod Allowed
+pub mod Change
+pub mod Checks
+pub mod EntryOutcomes
+pub mod Halts
+pub mod Order
+pub mod Places
+pub mod Reads
+pub mod RecordOutcomes
+pub mod Rights
+pub mod Sound
+pub mod Step
+pub mod Totals
+pub mod Vault

@@ -1,6 +1,6 @@
 //! What may change in the vault.
-use crate::records::{Bucket, Caller, History, Note, Removal};
-use vault_base::name::{DeptName, VersionId};
+use crate::records::{Caller, History, Note, Removal};
+use vault_base::name::{BucketName, DeptName, VersionId};
 
 /// A new history, and the note of the intake line that it came by.
 #[derive(Drop)]
@@ -14,7 +14,7 @@ pub struct Admission {
 pub enum Change {
     AddDept(DeptName),
     AddCaller(Caller),
-    AddBucket(Bucket),
+    AddBucket(BucketName, DeptName),
     Admit(Admission),
     Remove(VersionId, Removal),
 }

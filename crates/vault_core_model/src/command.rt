@@ -1,5 +1,5 @@
 //! What is asked of the vault.
-use crate::records::Rights;
+use crate::rights::Rights;
 use vault_base::content::Content;
 use vault_base::moment::Moment;
 use vault_base::name::{BucketName, CallerName, DeptName, ObjectKey, VersionId};

@@ -1,5 +1,5 @@
 -- What guards a version against removal, and what keeps its retention from being lowered.
-use Rattle.std.specs.Prelude.{ℕ, Bool, false, ◌&&◌, nat_lt, nat_le, List, length, [], ◌∷◌, filter, Option, Some, None, Result, Ok, Err, if◌then◌else◌}
+use Rattle.std.specs.Prelude.{◌≡◌, ℕ, ◌<◌, ◌≤◌, Bool, false, ◌&&◌, nat_lt, nat_le, List, length, [], ◌∷◌, filter, Option, Some, None, Result, Ok, Err, if◌then◌else◌}
 use Rattle.vault_lock.specs.declared.retention.Mode.{Mode}
 use Rattle.vault_lock.specs.declared.retention.Mode.TheVariants as mode
 use Rattle.vault_lock.specs.declared.retention.Retention.{Retention}
@@ -39,6 +39,11 @@ removable l t asked allowed = permit_under (guards l t) asked allowed
 abbrev pub is_locked : Lock → ℕ → Bool
 is_locked l t = nat_lt 0 (length (guards l t))
 
+-- the denial that names a mode
+abbrev pub denial_of : Mode → Denial
+denial_of mode.Governance = Governance
+denial_of mode.Compliance = Compliance
+
 -- the new retention has the mode of the old one and doesn't end earlier
 abbrev pub keeps : Retention → Retention → Bool
 keeps old new = is_mode old.mode new.mode && nat_le old.until new.until
@@ -57,3 +62,17 @@ permit_instead (Some old) new asked allowed =
 -- whether a version with this lock may get the new retention at t; a hold doesn't matter
 abbrev pub retainable : Lock → Retention → ℕ → Bool → Bool → Result Permit Denial
 retainable l new t asked allowed = permit_instead (in_force l.retention t) new asked allowed
+
+-- where a retention is in force, the new one has its mode and doesn't end earlier
+abbrev pub KeepsRetention : Option Retention → Retention → ℕ → Type 0
+KeepsRetention None new t = Unit {0}
+KeepsRetention (Some old) new t = t < old.until → (new.mode ≡ old.mode) × (old.until ≤ new.until)
+
+-- a retention whose mode has that name in denials is in force
+abbrev pub HasInForce : Option Retention → ℕ → Denial → Type 0
+HasInForce None t d = ⊥
+HasInForce (Some r) t d = (t < r.until) × (d ≡ denial_of r.mode)
+
+-- governance is in force, and the new retention doesn't keep it
+abbrev pub LowersGovernance : Option Retention → Retention → ℕ → Type 0
+LowersGovernance old new t = HasInForce old t Governance × (KeepsRetention old new t → ⊥)

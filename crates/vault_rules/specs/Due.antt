@@ -5,9 +5,9 @@ use Rattle.vault_base.specs.Days.{day_length, midnight_from}
 use Rattle.vault_rules.specs.declared.rule.Noncurrent.{Noncurrent}
 use Rattle.vault_rules.specs.declared.rule.Rule.{Rule}
 
--- the rule is enabled and its prefix begins the key
-abbrev pub fits : Rule → List ℕ → Bool
-fits r key = r.enabled && starts_with nat_eq key r.prefix
+-- the rule is enabled and its prefix begins the key; entries of every size fit
+abbrev pub fits : Rule → List ℕ → ℕ → Bool
+fits r key size = r.enabled && starts_with nat_eq key r.prefix
 
 -- the midnight has come that ends so many days from a moment (S3 User Guide, "Lifecycle configuration elements": How Amazon S3 calculates how long an object has been noncurrent, and rounding)
 abbrev pub have_passed : ℕ → ℕ → ℕ → Bool
@@ -24,23 +24,23 @@ noncurrent_has_passed None since rank t = false
 noncurrent_has_passed (Some n) since rank t = have_passed n.days since t && nat_le (unwrap_or n.newer 0) rank
 
 -- the rule makes the key's current content due
-abbrev pub makes_current_due : List ℕ → ℕ → ℕ → Rule → Bool
-makes_current_due key admitted t r = fits r key && days_have_passed r.days admitted t
+abbrev pub makes_current_due : List ℕ → ℕ → ℕ → ℕ → Rule → Bool
+makes_current_due key size admitted t r = fits r key size && days_have_passed r.days admitted t
 
 -- the rule makes a noncurrent entry due
-abbrev pub makes_noncurrent_due : List ℕ → ℕ → ℕ → ℕ → Rule → Bool
-makes_noncurrent_due key since rank t r = fits r key && noncurrent_has_passed r.noncurrent since rank t
+abbrev pub makes_noncurrent_due : List ℕ → ℕ → ℕ → ℕ → ℕ → Rule → Bool
+makes_noncurrent_due key size since rank t r = fits r key size && noncurrent_has_passed r.noncurrent since rank t
 
 -- the rule makes a lone marker due
-abbrev pub makes_marker_due : List ℕ → ℕ → ℕ → Rule → Bool
-makes_marker_due key admitted t r = fits r key && (r.lone_markers || days_have_passed r.days admitted t)
+abbrev pub makes_marker_due : List ℕ → ℕ → ℕ → ℕ → Rule → Bool
+makes_marker_due key size admitted t r = fits r key size && (r.lone_markers || days_have_passed r.days admitted t)
 
 -- the place of the first rule that makes due: current content, a noncurrent entry, a lone marker
-abbrev pub due_current : List Rule → List ℕ → ℕ → ℕ → Option ℕ
-due_current rules key admitted t = position (makes_current_due key admitted t) rules
+abbrev pub due_current : List Rule → List ℕ → ℕ → ℕ → ℕ → Option ℕ
+due_current rules key size admitted t = position (makes_current_due key size admitted t) rules
 
-abbrev pub due_noncurrent : List Rule → List ℕ → ℕ → ℕ → ℕ → Option ℕ
-due_noncurrent rules key since rank t = position (makes_noncurrent_due key since rank t) rules
+abbrev pub due_noncurrent : List Rule → List ℕ → ℕ → ℕ → ℕ → ℕ → Option ℕ
+due_noncurrent rules key size since rank t = position (makes_noncurrent_due key size since rank t) rules
 
-abbrev pub due_marker : List Rule → List ℕ → ℕ → ℕ → Option ℕ
-due_marker rules key admitted t = position (makes_marker_due key admitted t) rules
+abbrev pub due_marker : List Rule → List ℕ → ℕ → ℕ → ℕ → Option ℕ
+due_marker rules key size admitted t = position (makes_marker_due key size admitted t) rules

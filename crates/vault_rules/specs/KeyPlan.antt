@@ -35,16 +35,16 @@ only_if b found = if b then found else None
 
 -- the rule that marks the key for x: x is current content and due
 abbrev pub mark_rule : List Rule → List ℕ → ℕ → List Held → Held → Option ℕ
-mark_rule rules key t hs x = only_if (is_current hs x && not x.marker) (due_current rules key x.admitted t)
+mark_rule rules key t hs x = only_if (is_current hs x && not x.marker) (due_current rules key x.size x.admitted t)
 
 -- the rule that removes x: x is noncurrent, due and not locked
 abbrev pub removal_rule : List Rule → List ℕ → ℕ → List Held → Held → Option ℕ
 removal_rule rules key t hs x =
-    only_if (is_noncurrent hs x && not (is_locked x.lock t)) (due_noncurrent rules key (since hs x) (rank hs x) t)
+    only_if (is_noncurrent hs x && not (is_locked x.lock t)) (due_noncurrent rules key x.size (since hs x) (rank hs x) t)
 
 -- the rule that removes x alone: x is a marker, its key's only entry, and due
 abbrev pub lone_rule : List Rule → List ℕ → ℕ → List Held → Held → Option ℕ
-lone_rule rules key t hs x = only_if (x.marker && length hs == 1) (due_marker rules key x.admitted t)
+lone_rule rules key t hs x = only_if (x.marker && length hs == 1) (due_marker rules key x.size x.admitted t)
 
 -- the steps of each phase
 abbrev pub mark_steps : List Rule → List ℕ → ℕ → List Held → List Step

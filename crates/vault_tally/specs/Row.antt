@@ -1,6 +1,5 @@
 -- The row of a department: five sums over the versions admitted to it.
 use Rattle.std.specs.Prelude.{◌≡◌, ℕ, ◌+◌, ◌-◌, ◌*◌, Bool, nat_le, List, Option, Some, None, sum_by, ◌&&◌, ◌≤◌, IsTrue}
-use Rattle.vault_base.specs.Days.{day}
 use Rattle.std.specs.List.{list_all}
 use Rattle.vault_base.specs.Days.{day, last_moment}
 use Rattle.vault_tally.specs.declared.row.Row.{Row}
@@ -74,3 +73,15 @@ is_dated i = nat_le i.admitted (end_day i.removed last_day) && nat_le (end_day i
 pub record AreBounded (items : List Item) : Type 0 where
   pub dated : IsTrue (list_all is_dated items)
   pub within : sum_by size_of items ≤ quota
+
+-- none was admitted after that day
+abbrev pub AreAdmittedBy : ℕ → List Item → Type 0
+AreAdmittedBy today items = IsTrue (list_all (λ i. nat_le i.admitted today) items)
+
+-- a version that is held
+abbrev pub held_item : ℕ → ℕ → Item
+held_item size day = record { size = size; admitted = day; removed = None }
+
+-- a version that was removed: its size, the day of its admission and that of its removal
+abbrev pub removed_item : ℕ → ℕ → ℕ → Item
+removed_item size admitted day = record { size = size; admitted = admitted; removed = Some day }

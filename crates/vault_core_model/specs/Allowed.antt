@@ -1,0 +1,40 @@
+-- Which changes may be made of a vault.
+use Rattle.std.specs.Prelude.{◌≡◌, ℕ, ◌+◌, ◌≤◌, false, Some, None}
+use Rattle.vault_tally.specs.Row.{quota}
+use Rattle.vault_core_model.specs.declared.records.BucketConfig.{BucketConfig}
+use Rattle.vault_core_model.specs.declared.records.Entry.{Entry}
+use Rattle.vault_core_model.specs.declared.records.Removal.{Removal}
+use Rattle.vault_core_model.specs.declared.change.Admission.{Admission}
+use Rattle.vault_core_model.specs.declared.change.Change.{Change}
+use Rattle.vault_core_model.specs.declared.change.Change.TheVariants.{AddDept, AddCaller, AddBucket, Admit, Remove}
+use Rattle.vault_core_model.specs.Vault.{Vault, has_department, caller_of, config_of, next_id}
+use Rattle.vault_core_model.specs.Reads.{entry_of}
+use Rattle.vault_core_model.specs.Checks.{most_ids}
+use Rattle.vault_core_model.specs.Sound.{IsWhole}
+use Rattle.vault_core_model.specs.Totals.{admitted_bytes}
+
+-- the next entry, admitted at t to a bucket that is there, within the quota of its department
+pub record IsAdmission (v : Vault) (t : ℕ) (a : Admission) : Type 0 where
+  pub id : a.history.entry.id ≡ next_id v
+  pub enough_ids : next_id v ≤ most_ids
+  pub now : a.history.entry.admitted ≡ t
+  pub held : a.history.entry.removal ≡ None
+  pub whole : IsWhole a.history
+  pub bucket : BucketConfig
+  pub placed : config_of v a.history.entry.bucket ≡ Some bucket
+  pub fits : admitted_bytes v bucket.dept + a.history.entry.size ≤ quota
+
+-- the entry of that id is held
+pub record IsRemoval (v : Vault) (t id : ℕ) (r : Removal) : Type 0 where
+  pub now : r.at ≡ t
+  pub entry : Entry
+  pub there : entry_of v id ≡ Some entry
+  pub held : entry.removal ≡ None
+
+-- a change that may be made at t: a name that is free, the next entry, or the removal of a held one
+abbrev pub Allows : Vault → ℕ → Change → Type 0
+Allows v t (AddDept name) = has_department v name ≡ false
+Allows v t (AddCaller c) = caller_of v c.name ≡ None
+Allows v t (AddBucket name dept) = config_of v name ≡ None
+Allows v t (Admit a) = IsAdmission v t a
+Allows v t (Remove id r) = IsRemoval v t id r

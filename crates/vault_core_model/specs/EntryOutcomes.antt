@@ -1,0 +1,83 @@
+-- What the commands that admit, read and remove entries answer, and the vault after them.
+use Rattle.std.specs.Prelude.{ℕ, List, [], ◌∷◌, length, false, Some, None, is_some, unwrap_or, Result, Ok}
+use Rattle.sha2.specs.Sha256.{sha256}
+use Rattle.vault_base.specs.declared.refusal.Refusal.{Refusal}
+use Rattle.vault_base.specs.declared.right.Right.TheVariants as right
+use Rattle.vault_lock.specs.declared.lock.Lock.{Lock}
+use Rattle.vault_lock.specs.declared.lock.Permit.{Permit}
+use Rattle.vault_lock.specs.declared.lock.Permit.TheVariants as permit
+use Rattle.vault_lock.specs.Lock.{removable}
+use Rattle.vault_core_model.specs.declared.records.Author.TheVariants as author
+use Rattle.vault_core_model.specs.declared.records.Cause.{Cause}
+use Rattle.vault_core_model.specs.declared.records.Cause.TheVariants as cause
+use Rattle.vault_core_model.specs.declared.records.History.{History}
+use Rattle.vault_core_model.specs.declared.change.Change.TheVariants as change
+use Rattle.vault_core_model.specs.declared.command.Put.{Put}
+use Rattle.vault_core_model.specs.declared.command.Get.{Get}
+use Rattle.vault_core_model.specs.declared.command.DeleteVersion.{DeleteVersion}
+use Rattle.vault_core_model.specs.declared.reply.Answer.{Answer}
+use Rattle.vault_core_model.specs.declared.reply.Answer.TheVariants as answer
+use Rattle.vault_core_model.specs.declared.access.Access.{Access}
+use Rattle.vault_core_model.specs.Vault.{Vault}
+use Rattle.vault_core_model.specs.Reads.{lock_of, content_of}
+use Rattle.vault_core_model.specs.Change.{changed}
+use Rattle.vault_core_model.specs.Checks.{◌>>=◌, needs_if, access, small_enough, ends_later_if_given, held_entry, version_meant, permitted, lock_at_admission, within_quota, free_id}
+
+-- ---- admission
+
+-- the version that is admitted, with its first setting
+abbrev pub new_version : ℕ → ℕ → List ℕ → Put → Lock → History
+new_version id t who c lock = record {
+  entry = record { id = id; bucket = c.bucket; key = c.key; marker = false; size = length c.content; digest = Some (sha256 c.content); admitted = t; by = author.Caller who; removal = None };
+  content = Some c.content;
+  settings = record { at = t; by = who; lock = lock; bypass = false } ∷ [];
+}
+
+-- a caller that may put, and set what is given of retention and hold
+abbrev pub access_to_put : Vault → ℕ → List ℕ → Put → Result Access Refusal
+access_to_put v t who c = do
+  a ← access v t who c.bucket right.Put
+  _ ← needs_if (is_some c.retention) a.caller right.Retain
+  _ ← needs_if (is_some c.hold) a.caller right.Hold
+  Ok a
+
+-- the version that a Put admits: the arguments, the lock, the quota, the id
+abbrev pub admission : Vault → ℕ → List ℕ → Put → Access → Result History Refusal
+admission v t who c a = do
+  _ ← small_enough c.content
+  _ ← ends_later_if_given t c.retention
+  lock ← lock_at_admission a.bucket c.retention c.hold t
+  _ ← within_quota v a.bucket.dept (length c.content)
+  id ← free_id v
+  Ok (new_version id t who c lock)
+
+-- a new version above whatever the key has (API Reference, "PutObject")
+abbrev pub put : Vault → ℕ → List ℕ → Put → Result (Answer × Vault) Refusal
+put v t who c = do
+  a ← access_to_put v t who c
+  h ← admission v t who c a
+  Ok (answer.Admitted h.entry.id, changed v t (change.Admit (record { history = h; note = None })))
+
+-- ---- reading
+
+-- the bytes that stand, with the lock that counts (API Reference, "GetObject")
+abbrev pub get : Vault → ℕ → List ℕ → Get → Result (Answer × Vault) Refusal
+get v t who c = do
+  _ ← access v t who c.bucket right.Get
+  e ← version_meant v c.bucket c.key c.id
+  Ok (answer.Version (record { entry = e; lock = lock_of v e.id }) (unwrap_or (content_of v e.id) []), v)
+
+-- ---- removal
+
+-- the cause of a removal that was permitted so
+abbrev pub cause_by : Permit → List ℕ → Cause
+cause_by permit.Free who = cause.Request who
+cause_by permit.Bypass who = cause.Bypass who
+
+-- the entry is removed for good, where no lock denies it (S3 User Guide, "Deleting object versions from a versioning-enabled bucket")
+abbrev pub delete_version : Vault → ℕ → List ℕ → DeleteVersion → Result (Answer × Vault) Refusal
+delete_version v t who c = do
+  a ← access v t who c.bucket right.DeleteVersion
+  e ← held_entry v c.bucket c.key c.id
+  p ← permitted (removable (lock_of v c.id) t c.bypass a.caller.rights.bypass)
+  Ok (answer.Removed (record { id = c.id; marker = e.marker; permit = p }), changed v t (change.Remove c.id (record { at = t; cause = cause_by p who })))

@@ -1,0 +1,40 @@
+-- What a check or a command of the code gives, beside what its definition gives.
+use Rattle.std.specs.Prelude.{ℕ, ◌≡◌, ◌<◌, Bool, true, false, Result, Ok, Err}
+use Rattle.vault_base.specs.declared.refusal.Refusal.{Refusal}
+use Rattle.vault_base.specs.declared.refusal.Refusal.TheVariants as refusal
+use Rattle.vault_core_model.specs.declared.halt.Fault.TheVariants as fault
+use Rattle.vault_core_model.specs.declared.halt.Halt.{Halt}
+use Rattle.vault_core_model.specs.declared.halt.Halt.TheVariants as halt
+
+-- a fault says nothing of the definition; a refusal is its refusal
+abbrev pub Fails : {X : Type 0} → Halt → Result X Refusal → Type 0
+Fails (halt.Fault f) judged = Unit {0}
+Fails (halt.Refused r) judged = judged ≡ Err r
+
+-- what a check gives is what the definition gives, or a fault came
+abbrev pub Finds : {X : Type 0} → Result X Halt → Result X Refusal → Type 0
+Finds (Ok x) judged = judged ≡ Ok x
+Finds (Err e) judged = Fails e judged
+
+-- a command answers as the definition does and leaves its vault; else the vault is as before
+abbrev pub Meets : {A V : Type 0} → Result A Halt → V → V → Result (A × V) Refusal → Type 0
+Meets (Ok a) old new judged = judged ≡ Ok (a, new)
+Meets (Err e) old new judged = (new ≡ old) × Fails e judged
+
+abbrev pub is_device_refusal : Refusal → Bool
+is_device_refusal refusal.Device = true
+is_device_refusal _ = false
+
+abbrev pub is_device_halt : Halt → Bool
+is_device_halt (halt.Fault fault.Device) = true
+is_device_halt (halt.Fault fault.Memory) = false
+is_device_halt (halt.Refused r) = is_device_refusal r
+
+-- the answer is that the device failed
+abbrev pub is_device : {X : Type 0} → Result X Halt → Bool
+is_device (Ok x) = false
+is_device (Err e) = is_device_halt e
+
+-- a count of failures rose, or stands at its greatest value
+abbrev pub Rose : ℕ → ℕ → Type 0
+Rose old new = old < 18446744073709551615 → old < new

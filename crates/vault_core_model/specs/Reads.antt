@@ -1,0 +1,44 @@
+-- What a keeper reads of a vault.
+use Rattle.std.specs.Prelude.{ℕ, List, [], ◌∷◌, length, Option, Some, None, option_map, option_and_then, false}
+use Rattle.vault_lock.specs.declared.lock.Lock.{Lock}
+use Rattle.vault_core_model.specs.declared.records.Entry.{Entry}
+use Rattle.vault_core_model.specs.declared.records.Head.{Head}
+use Rattle.vault_core_model.specs.declared.records.History.{History}
+use Rattle.vault_core_model.specs.declared.records.LastSetting.{LastSetting}
+use Rattle.vault_core_model.specs.declared.records.Setting.{Setting}
+use Rattle.vault_core_model.specs.Vault.{Vault, history_of, last_lock}
+use Rattle.vault_core_model.specs.Places.{held_at}
+
+-- the entry of that id, held or removed
+abbrev pub entry_of : Vault → ℕ → Option Entry
+entry_of v id = option_map (λ h. h.entry) (history_of v id)
+
+-- the last lock of these settings and how many they are; none where there is no setting
+abbrev pub last_setting : List Setting → Option LastSetting
+last_setting [] = None
+last_setting (s ∷ ss) = Some (record { lock = last_lock (s ∷ ss); count = length (s ∷ ss) })
+
+abbrev pub setting_of : Vault → ℕ → Option LastSetting
+setting_of v id = option_and_then (λ h. last_setting h.settings) (history_of v id)
+
+-- the lock that a last setting gives; without one there is none
+abbrev pub lock_by : Option LastSetting → Lock
+lock_by None = record { retention = None; hold = false }
+lock_by (Some s) = s.lock
+
+-- the lock of the entry of that id; a marker is not locked
+abbrev pub lock_of : Vault → ℕ → Lock
+lock_of v id = lock_by (setting_of v id)
+
+-- the bytes of a held version
+abbrev pub content_of : Vault → ℕ → Option (List ℕ)
+content_of v id = option_and_then (λ h. h.content) (history_of v id)
+
+-- the newest of these entries, which come oldest first, and how many there are
+abbrev pub head_over : List History → Option Head
+head_over [] = None
+head_over (h ∷ []) = Some (record { newest = h.entry.id; count = 1 })
+head_over (h ∷ g ∷ gs) = option_map (λ x. record { newest = x.newest; count = length (h ∷ g ∷ gs) }) (head_over (g ∷ gs))
+
+abbrev pub head_of : Vault → List ℕ → List ℕ → Option Head
+head_of v bucket key = head_over (held_at v bucket key)

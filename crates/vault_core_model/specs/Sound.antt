@@ -1,0 +1,64 @@
+-- What holds of every vault that a keeper has.
+use Rattle.std.specs.Prelude.{◌≡◌, ℕ, ◌+◌, ◌≤◌, Bool, true, false, List, [], ◌∷◌, length, Option, Some, None, IsSome}
+use Rattle.std.specs.List.{AllByRecursion}
+use Rattle.sha2.specs.Sha256.{sha256}
+use Rattle.vault_tally.specs.Row.{quota}
+use Rattle.vault_core_model.specs.declared.records.Entry.{Entry}
+use Rattle.vault_core_model.specs.declared.records.History.{History}
+use Rattle.vault_core_model.specs.declared.records.Removal.{Removal}
+use Rattle.vault_core_model.specs.declared.records.Setting.{Setting}
+use Rattle.vault_core_model.specs.Vault.{Vault, config_of}
+use Rattle.vault_core_model.specs.Totals.{admitted_bytes}
+use Rattle.vault_core_model.specs.Checks.{most_content, most_ids}
+
+-- the settings of one version at most
+abbrev pub most_settings : ℕ
+most_settings = 1000000000
+
+-- the ids are n, n + 1, n + 2 and so on
+abbrev pub AreIdsFrom : ℕ → List History → Type 0
+AreIdsFrom n [] = Unit {0}
+AreIdsFrom n (h ∷ hs) = (h.entry.id ≡ n) × AreIdsFrom (n + 1) hs
+
+-- no admission is before the one before it, nor after the last moment
+abbrev pub AreInOrder : ℕ → ℕ → List History → Type 0
+AreInOrder from last [] = from ≤ last
+AreInOrder from last (h ∷ hs) = (from ≤ h.entry.admitted) × AreInOrder h.entry.admitted last hs
+
+-- a removal lies from the admission to the last moment
+abbrev pub LiesBetween : ℕ → ℕ → Option Removal → Type 0
+LiesBetween admitted last None = Unit {0}
+LiesBetween admitted last (Some r) = (admitted ≤ r.at) × (r.at ≤ last)
+
+abbrev pub IsInTime : ℕ → History → Type 0
+IsInTime last h = LiesBetween h.entry.admitted last h.entry.removal
+
+-- a held version has its bytes, of its size and digest; a removed one has none
+abbrev pub HasItsBytes : Option Removal → Option (List ℕ) → Entry → Type 0
+HasItsBytes None None e = ⊥
+HasItsBytes None (Some bytes) e = (length bytes ≡ e.size) × (e.digest ≡ Some (sha256 bytes))
+HasItsBytes (Some r) None e = IsSome e.digest
+HasItsBytes (Some r) (Some bytes) e = ⊥
+
+-- a version has a size in its limit and at least one setting; a marker has no size, digest, bytes or setting
+abbrev pub IsWholeAs : Bool → Entry → Option (List ℕ) → List Setting → Type 0
+IsWholeAs false e content settings =
+    (e.size ≤ most_content) × HasItsBytes e.removal content e × (1 ≤ length settings) × (length settings ≤ most_settings)
+IsWholeAs true e content settings = (e.size ≡ 0) × (e.digest ≡ None) × (content ≡ None) × (settings ≡ [])
+
+abbrev pub IsWhole : History → Type 0
+IsWhole h = IsWholeAs h.entry.marker h.entry h.content h.settings
+
+-- the bucket of the entry is there
+abbrev pub IsPlaced : Vault → History → Type 0
+IsPlaced v h = IsSome (config_of v h.entry.bucket)
+
+-- what holds of every vault that is kept
+pub record Sound (v : Vault) : Type 0 where
+  pub ids : AreIdsFrom 1 v.histories
+  pub enough_ids : length v.histories ≤ most_ids
+  pub order : AreInOrder 0 v.last v.histories
+  pub in_time : AllByRecursion (IsInTime v.last) v.histories
+  pub whole : AllByRecursion IsWhole v.histories
+  pub placed : AllByRecursion (IsPlaced v) v.histories
+  pub within : (dept : List ℕ) → admitted_bytes v dept ≤ quota

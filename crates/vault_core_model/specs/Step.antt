@@ -1,0 +1,49 @@
+-- The history machine: one step, a run of steps, and the vaults that are reached.
+use Rattle.std.specs.Prelude.{◌≡◌, ℕ, List, [], ◌∷◌, Bool, true, false, IsTrue, ◌⊎◌, Result, Ok, Err}
+use Rattle.vault_base.specs.declared.refusal.Refusal.{Refusal}
+use Rattle.vault_base.specs.declared.refusal.Refusal.TheVariants.{Memory, Device}
+use Rattle.vault_core_model.specs.declared.command.Command.{Command}
+use Rattle.vault_core_model.specs.declared.command.Command.TheVariants as command
+use Rattle.vault_core_model.specs.declared.command.Timed.{Timed}
+use Rattle.vault_core_model.specs.declared.reply.Answer.{Answer}
+use Rattle.vault_core_model.specs.declared.reply.Reply.{Reply}
+use Rattle.vault_core_model.specs.declared.reply.Reply.TheVariants.{Done, Refused}
+use Rattle.vault_core_model.specs.Vault.{Vault, opening}
+use Rattle.vault_core_model.specs.RecordOutcomes as records
+use Rattle.vault_core_model.specs.EntryOutcomes as entries
+
+-- what a command answers of a vault at t, and the vault after it; or the first check that fails
+abbrev pub outcome_of : Vault → ℕ → List ℕ → Command → Result (Answer × Vault) Refusal
+outcome_of v t who (command.AddDept c) = records.add_dept v t who c
+outcome_of v t who (command.AddCaller c) = records.add_caller v t who c
+outcome_of v t who (command.AddBucket c) = records.add_bucket v t who c
+outcome_of v t who (command.Put c) = entries.put v t who c
+outcome_of v t who (command.Get c) = entries.get v t who c
+outcome_of v t who (command.DeleteVersion c) = entries.delete_version v t who c
+outcome_of v t who (command.Report c) = records.report v t who c
+
+-- want of memory, or a failing device
+abbrev pub is_fault : Refusal → Bool
+is_fault Memory = true
+is_fault Device = true
+is_fault _ = false
+
+-- A command that is judged so may be answered by this reply and leave v'. A refusal, and a fault at any time, leave the vault as it was.
+abbrev pub Answers : Result (Answer × Vault) Refusal → Vault → Reply → Vault → Type 0
+Answers judged v (Done a) v' = judged ≡ Ok (a, v')
+Answers judged v (Refused r) v' = (v' ≡ v) × (IsTrue (is_fault r) ⊎ (judged ≡ Err r))
+
+-- from v, the command given at t may be answered so and leave v'
+abbrev pub Step : Vault → ℕ → List ℕ → Command → Reply → Vault → Type 0
+Step v t who c reply v' = Answers (outcome_of v t who c) v reply v'
+
+-- these replies to these commands, one step after another
+abbrev pub Run : Vault → List Timed → List Reply → Vault → Type 0
+Run v [] [] v' = v' ≡ v
+Run v (c ∷ cs) (r ∷ rs) v' = (mid : Vault) × Step v c.at c.who c.command r mid × Run mid cs rs v'
+Run v [] (r ∷ rs) v' = ⊥
+Run v (c ∷ cs) [] v' = ⊥
+
+-- some run leads there from a new vault
+abbrev pub Reached : Vault → Type 0
+Reached v = (cs : List Timed) × (rs : List Reply) × Run opening cs rs v

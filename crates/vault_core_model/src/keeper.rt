@@ -1,0 +1,129 @@
+//! What keeps a vault.
+ghost use Rattle.std.specs.Prelude.{◌≡◌, ◌≤◌, ◌<◌, ◌+◌, ℕ, List, length, IfOk, OnOk, OnErr};
+ghost use Rattle.vault_core_model.specs.Vault.{Vault, caller_of, config_of, has_department, next_id};
+ghost use Rattle.vault_core_model.specs.Reads.{entry_of, setting_of, content_of, head_of};
+ghost use Rattle.vault_core_model.specs.Change.{changed};
+ghost use Rattle.vault_core_model.specs.Allowed.{Allows};
+ghost use Rattle.vault_core_model.specs.Sound.{Sound};
+ghost use Rattle.vault_core_model.specs.Halts.{Rose};
+ghost use Rattle.vault_core_model.specs.Totals.{IsRowFor};
+
+use crate::change::Change;
+use crate::halt::Fault;
+use crate::records::{BucketConfig, Caller, Entry, Head, LastSetting};
+use vault_base::content::Content;
+use vault_base::moment::Moment;
+use vault_base::name::{BucketName, CallerName, DeptName, ObjectKey, VersionId};
+use vault_tally::row::Row;
+
+/// What keeps a vault: a list of histories, or tables in a file.
+///
+/// A read answers what its name says of the vault and changes nothing, also where it fails. What it says
+/// holds while the device has returned what was written (`is_honest`). `Device` comes only where the count
+/// of failures rose, or stands at its greatest value.
+pub trait Keeper {
+    /// Its device has returned what was written; memory always has.
+    ghost is_honest: { Self → Type 0 };
+
+    /// The vault that it keeps.
+    ghost vault: { Self → Vault };
+
+    /// How often its device failed.
+    ghost count: { Self → ℕ };
+
+    /// How often its device failed, up to the greatest number.
+    fn faults(&self) -> u64
+        ensures { result ≡ count self.now };
+
+    /// The moment of the last change.
+    fn last(&mut self) -> Result<Moment, Fault>
+        ensures value { is_honest self.new → IfOk result (λ at. at ≡ (vault self.old).last) }
+        // Every vault that is kept is sound.
+        ensures sound { is_honest self.new → Sound (vault self.old) }
+        ensures same { vault self.new ≡ vault self.old }
+        ensures honest { is_honest self.new → is_honest self.old }
+        ensures counted { count self.old ≤ count self.new }
+        ensures device { result ≡ Err Fault.Device → Rose (count self.old) (count self.new) };
+
+    /// The id that the next entry gets.
+    fn next_id(&mut self) -> Result<u64, Fault>
+        ensures value { is_honest self.new → IfOk result (λ id. id ≡ next_id (vault self.old)) }
+        ensures same { vault self.new ≡ vault self.old }
+        ensures honest { is_honest self.new → is_honest self.old }
+        ensures counted { count self.old ≤ count self.new }
+        ensures device { result ≡ Err Fault.Device → Rose (count self.old) (count self.new) };
+
+    /// The caller of that name, open or closed.
+    fn caller(&mut self, name: &CallerName) -> Result<Option<Caller>, Fault>
+        ensures value { is_honest self.new → IfOk result (λ found. found ≡ caller_of (vault self.old) name.now) }
+        ensures same { vault self.new ≡ vault self.old }
+        ensures honest { is_honest self.new → is_honest self.old }
+        ensures counted { count self.old ≤ count self.new }
+        ensures device { result ≡ Err Fault.Device → Rose (count self.old) (count self.new) };
+
+    /// Whether there is such a department.
+    fn dept(&mut self, name: &DeptName) -> Result<bool, Fault>
+        ensures value { is_honest self.new → IfOk result (λ found. found ≡ has_department (vault self.old) name.now) }
+        ensures same { vault self.new ≡ vault self.old }
+        ensures honest { is_honest self.new → is_honest self.old }
+        ensures counted { count self.old ≤ count self.new }
+        ensures device { result ≡ Err Fault.Device → Rose (count self.old) (count self.new) };
+
+    /// The department and the default retention of a bucket.
+    fn bucket(&mut self, name: &BucketName) -> Result<Option<BucketConfig>, Fault>
+        ensures value { is_honest self.new → IfOk result (λ found. found ≡ config_of (vault self.old) name.now) }
+        ensures same { vault self.new ≡ vault self.old }
+        ensures honest { is_honest self.new → is_honest self.old }
+        ensures counted { count self.old ≤ count self.new }
+        ensures device { result ≡ Err Fault.Device → Rose (count self.old) (count self.new) };
+
+    /// The newest held entry of a key and how many are held; none where none is.
+    fn head(&mut self, bucket: &BucketName, key: &ObjectKey) -> Result<Option<Head>, Fault>
+        ensures value { is_honest self.new → IfOk result (λ found. found ≡ head_of (vault self.old) bucket.now key.now) }
+        ensures same { vault self.new ≡ vault self.old }
+        ensures honest { is_honest self.new → is_honest self.old }
+        ensures counted { count self.old ≤ count self.new }
+        ensures device { result ≡ Err Fault.Device → Rose (count self.old) (count self.new) };
+
+    /// The entry of an id, held or removed.
+    fn entry(&mut self, id: VersionId) -> Result<Option<Entry>, Fault>
+        ensures value { is_honest self.new → IfOk result (λ found. found ≡ entry_of (vault self.old) id) }
+        ensures same { vault self.new ≡ vault self.old }
+        ensures honest { is_honest self.new → is_honest self.old }
+        ensures counted { count self.old ≤ count self.new }
+        ensures device { result ≡ Err Fault.Device → Rose (count self.old) (count self.new) };
+
+    /// The last setting of a version, and how many it has; a marker has none.
+    fn setting(&mut self, id: VersionId) -> Result<Option<LastSetting>, Fault>
+        ensures value { is_honest self.new → IfOk result (λ found. found ≡ setting_of (vault self.old) id) }
+        ensures same { vault self.new ≡ vault self.old }
+        ensures honest { is_honest self.new → is_honest self.old }
+        ensures counted { count self.old ≤ count self.new }
+        ensures device { result ≡ Err Fault.Device → Rose (count self.old) (count self.new) };
+
+    /// The bytes of a held version.
+    fn content(&mut self, id: VersionId) -> Result<Option<Content>, Fault>
+        ensures value { is_honest self.new → IfOk result (λ found. found ≡ content_of (vault self.old) id) }
+        ensures same { vault self.new ≡ vault self.old }
+        ensures honest { is_honest self.new → is_honest self.old }
+        ensures counted { count self.old ≤ count self.new }
+        ensures device { result ≡ Err Fault.Device → Rose (count self.old) (count self.new) };
+
+    /// The sums of a department.
+    fn totals(&mut self, dept: &DeptName) -> Result<Row, Fault>
+        ensures value { is_honest self.new → IfOk result (λ row. IsRowFor (vault self.old) dept.now row) }
+        ensures same { vault self.new ≡ vault self.old }
+        ensures honest { is_honest self.new → is_honest self.old }
+        ensures counted { count self.old ≤ count self.new }
+        ensures device { result ≡ Err Fault.Device → Rose (count self.old) (count self.new) };
+
+    /// Makes a change at a moment, which becomes the last one; or changes nothing.
+    fn apply(&mut self, at: Moment, change: &Change) -> Result<(), Fault>
+        requires in_time { is_honest self.old → (vault self.old).last ≤ at }
+        requires allowed { is_honest self.old → Allows (vault self.old) at change.now }
+        ensures ok { OnOk result (vault self.new ≡ changed (vault self.old) at change.now) }
+        ensures err { OnErr result (vault self.new ≡ vault self.old) }
+        ensures honest { is_honest self.new → is_honest self.old }
+        ensures counted { count self.old ≤ count self.new }
+        ensures device { result ≡ Err Fault.Device → Rose (count self.old) (count self.new) };
+}
