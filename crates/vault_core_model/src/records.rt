@@ -1,5 +1,8 @@
 //! What the vault keeps.
+ghost use Rattle.std.specs.Prelude.{◌≡◌, [], ◌∷◌, ◌++◌, OnOk, OnErr};
+
 use crate::rights::Rights;
+use std::alloc::{AllocError, Global};
 use std::marker::Model;
 use vault_base::content::{Content, Digest};
 use vault_base::moment::Moment;
@@ -17,11 +20,35 @@ pub struct Caller {
     pub closed: bool,
 }
 
+impl Clone for Caller {
+    ghost is_clone = { λ s t. t ≡ s };
+
+    fn clone(&self) -> Result<Caller, AllocError> {
+        Ok(Caller {
+            name: self.name.clone()?,
+            dept: self.dept.clone()?,
+            rights: self.rights,
+            closed: self.closed,
+        })
+    }
+}
+
 /// Whose a bucket is, and the retention that it gives to versions placed later.
 #[derive(Drop)]
 pub struct BucketConfig {
     pub dept: DeptName,
     pub default: Option<Default>,
+}
+
+impl Clone for BucketConfig {
+    ghost is_clone = { λ s t. t ≡ s };
+
+    fn clone(&self) -> Result<BucketConfig, AllocError> {
+        Ok(BucketConfig {
+            dept: self.dept.clone()?,
+            default: self.default,
+        })
+    }
 }
 
 /// A bucket, with its lifecycle rules where it has any.
@@ -39,6 +66,17 @@ pub enum Author {
     Rule(RuleId),
 }
 
+impl Clone for Author {
+    ghost is_clone = { λ s t. t ≡ s };
+
+    fn clone(&self) -> Result<Author, AllocError> {
+        match self {
+            Author::Caller(caller) => Ok(Author::Caller(caller.clone()?)),
+            Author::Rule(rule) => Ok(Author::Rule(rule.clone()?)),
+        }
+    }
+}
+
 /// Why an entry was removed.
 #[derive(Drop)]
 pub enum Cause {
@@ -47,11 +85,34 @@ pub enum Cause {
     Rule(RuleId),
 }
 
+impl Clone for Cause {
+    ghost is_clone = { λ s t. t ≡ s };
+
+    fn clone(&self) -> Result<Cause, AllocError> {
+        match self {
+            Cause::Request(caller) => Ok(Cause::Request(caller.clone()?)),
+            Cause::Bypass(caller) => Ok(Cause::Bypass(caller.clone()?)),
+            Cause::Rule(rule) => Ok(Cause::Rule(rule.clone()?)),
+        }
+    }
+}
+
 /// The end of an entry.
 #[derive(Drop)]
 pub struct Removal {
     pub at: Moment,
     pub cause: Cause,
+}
+
+impl Clone for Removal {
+    ghost is_clone = { λ s t. t ≡ s };
+
+    fn clone(&self) -> Result<Removal, AllocError> {
+        Ok(Removal {
+            at: self.at,
+            cause: self.cause.clone()?,
+        })
+    }
 }
 
 /// A content version or a delete marker, held or removed.
@@ -69,6 +130,24 @@ pub struct Entry {
     pub removal: Option<Removal>,
 }
 
+impl Clone for Entry {
+    ghost is_clone = { λ s t. t ≡ s };
+
+    fn clone(&self) -> Result<Entry, AllocError> {
+        Ok(Entry {
+            id: self.id,
+            bucket: self.bucket.clone()?,
+            key: self.key.clone()?,
+            marker: self.marker,
+            size: self.size,
+            digest: self.digest,
+            admitted: self.admitted,
+            by: self.by.clone()?,
+            removal: self.removal.clone()?,
+        })
+    }
+}
+
 /// What a caller set of a version's lock.
 #[derive(Drop)]
 pub struct Setting {
@@ -76,6 +155,19 @@ pub struct Setting {
     pub by: CallerName,
     pub lock: Lock,
     pub bypass: bool,
+}
+
+impl Clone for Setting {
+    ghost is_clone = { λ s t. t ≡ s };
+
+    fn clone(&self) -> Result<Setting, AllocError> {
+        Ok(Setting {
+            at: self.at,
+            by: self.by.clone()?,
+            lock: self.lock,
+            bypass: self.bypass,
+        })
+    }
 }
 
 /// The settings of a version, oldest first.
@@ -93,12 +185,61 @@ impl Model for Settings {
     ghost view = { λ s. s.settings.items };
 }
 
+impl Settings {
+    /// No setting.
+    pub fn new(alloc: Global) -> Settings
+        ensures { result ≡ [] }
+    {
+        Settings {
+            settings: Vec::new(alloc),
+        }
+    }
+
+    /// One setting more, the newest.
+    pub fn push(&mut self, setting: Setting) -> Result<(), AllocError>
+        ensures ok { OnOk result (self.new ≡ self.old ++ setting ∷ []) }
+        ensures err { OnErr result (self.new ≡ self.old) }
+    {
+        self.settings.push(setting)?;
+        Ok(())
+    }
+
+    /// The settings, oldest first.
+    pub fn as_slice(&self) -> &[Setting]
+        ensures { result.now ≡ self.now }
+    {
+        self.settings.as_slice()
+    }
+}
+
+impl Clone for Settings {
+    ghost is_clone = { λ s t. t ≡ s };
+
+    fn clone(&self) -> Result<Settings, AllocError> {
+        Ok(Settings {
+            settings: self.settings.clone()?,
+        })
+    }
+}
+
 /// An entry with its bytes, while it is held, and its settings.
 #[derive(Drop)]
 pub struct History {
     pub entry: Entry,
     pub content: Option<Content>,
     pub settings: Settings,
+}
+
+impl Clone for History {
+    ghost is_clone = { λ s t. t ≡ s };
+
+    fn clone(&self) -> Result<History, AllocError> {
+        Ok(History {
+            entry: self.entry.clone()?,
+            content: self.content.clone()?,
+            settings: self.settings.clone()?,
+        })
+    }
 }
 
 /// What an accepted line of an intake batch asked for, and the version that it admitted.
@@ -113,6 +254,24 @@ pub struct Note {
     pub retention: Option<Retention>,
     pub hold: Option<bool>,
     pub id: VersionId,
+}
+
+impl Clone for Note {
+    ghost is_clone = { λ s t. t ≡ s };
+
+    fn clone(&self) -> Result<Note, AllocError> {
+        Ok(Note {
+            bucket: self.bucket.clone()?,
+            batch: self.batch.clone()?,
+            line: self.line,
+            key: self.key.clone()?,
+            size: self.size,
+            digest: self.digest,
+            retention: self.retention,
+            hold: self.hold,
+            id: self.id,
+        })
+    }
 }
 
 /// The newest held entry of a key, and how many are held.

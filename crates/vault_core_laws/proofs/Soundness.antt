@@ -1,0 +1,155 @@
+-- A change that is allowed keeps a vault sound.
+use Rattle.std.proofs.Common.{◌≡◌, ℕ, ◌+◌, ◌≤◌, List, [], ◌∷◌, ◌++◌, length, map, Bool, true, false, Option, Some, None, refl, sym, subst, arith, eqb}
+use Rattle.std.specs.Prelude.{if◌then◌else◌, IsSome}
+use Rattle.std.specs.List.{AllByRecursion}
+use Rattle.std.proofs.lemmas.List.{length-map, length-append}
+use Rattle.vault_tally.specs.Row.{quota}
+use Rattle.vault_core_model.specs.declared.records.Entry.{Entry}
+use Rattle.vault_core_model.specs.declared.records.History.{History}
+use Rattle.vault_core_model.specs.declared.records.Removal.{Removal}
+use Rattle.vault_core_model.specs.declared.records.Setting.{Setting}
+use Rattle.vault_core_model.specs.declared.change.Change.{Change}
+use Rattle.vault_core_model.specs.declared.change.Change.TheVariants.{AddDept, AddCaller, AddBucket, Admit, Remove}
+use Rattle.vault_core_model.specs.Checks.{most_ids}
+use Rattle.vault_core_model.specs.Order.{placed, bucket_cmp}
+use Rattle.vault_core_model.specs.Vault.{Vault, config_in}
+use Rattle.vault_core_model.specs.Change.{changed, removed_by, removed_if, new_bucket}
+use Rattle.vault_core_model.specs.Sound.{AreIdsFrom, AreInOrder, IsInTime, LiesBetween, HasItsBytes, IsWhole, IsWholeAs, IsPlaced, Sound}
+use Rattle.vault_core_model.specs.Allowed.{Allows}
+use Rattle.vault_core_model.specs.Totals.{admitted_bytes}
+use Rattle.vault_core_laws.proofs.Lists.{All-push, All-weaker, All-map}
+use Rattle.vault_core_laws.proofs.Buckets.{config_in-placed}
+use Rattle.vault_core_laws.proofs.Items.{admitted-push, admitted-removed, admitted-other, share_fits}
+
+-- ---- ids
+
+AreIdsFrom-push : (n : ℕ) (hs : List History) (h : History) → AreIdsFrom n hs → h.entry.id ≡ length hs + n → AreIdsFrom n (hs ++ h ∷ [])
+AreIdsFrom-push n [] h ids e = (omega arith, tt)
+AreIdsFrom-push n (g ∷ hs) h ids e = (ids.0, AreIdsFrom-push (n + 1) hs h ids.1 (omega arith))
+
+AreIdsFrom-removed : (id : ℕ) (r : Removal) (n : ℕ) (hs : List History) → AreIdsFrom n hs → AreIdsFrom n (map (removed_if id r) hs)
+AreIdsFrom-removed id r n [] ids = tt
+AreIdsFrom-removed id r n (h ∷ hs) ids =
+    elim (eqb h.entry.id id) as (λ b. AreIdsFrom n ((if b then removed_by r h else h) ∷ map (removed_if id r) hs))
+    [ true ↦ (ids.0, AreIdsFrom-removed id r (n + 1) hs ids.1) | false ↦ (ids.0, AreIdsFrom-removed id r (n + 1) hs ids.1) ]
+
+one_more : (hs : List History) (h : History) → length hs + 1 ≤ most_ids → length (hs ++ h ∷ []) ≤ most_ids
+one_more hs h fits = omega (arith, length-append hs (h ∷ []))
+
+-- ---- moments
+
+pub AreInOrder-later : (from last t : ℕ) (hs : List History) → last ≤ t → AreInOrder from last hs → AreInOrder from t hs
+AreInOrder-later from last t [] le order = omega arith
+AreInOrder-later from last t (h ∷ hs) le order = (order.0, AreInOrder-later h.entry.admitted last t hs le order.1)
+
+AreInOrder-push : (from last t : ℕ) (hs : List History) (h : History) → last ≤ t → h.entry.admitted ≡ t → AreInOrder from last hs → AreInOrder from t (hs ++ h ∷ [])
+AreInOrder-push from last t [] h le now order = (omega (arith, now), omega (arith, now))
+AreInOrder-push from last t (g ∷ hs) h le now order = (order.0, AreInOrder-push g.entry.admitted last t hs h le now order.1)
+
+AreInOrder-removed : (id : ℕ) (r : Removal) (from last : ℕ) (hs : List History) → AreInOrder from last hs → AreInOrder from last (map (removed_if id r) hs)
+AreInOrder-removed id r from last [] order = order
+AreInOrder-removed id r from last (h ∷ hs) order =
+    elim (eqb h.entry.id id) as (λ b. AreInOrder from last ((if b then removed_by r h else h) ∷ map (removed_if id r) hs))
+    [ true ↦ (order.0, AreInOrder-removed id r h.entry.admitted last hs order.1) | false ↦ (order.0, AreInOrder-removed id r h.entry.admitted last hs order.1) ]
+
+from_le_last : (from last : ℕ) (hs : List History) → AreInOrder from last hs → from ≤ last
+from_le_last from last [] order = order
+from_le_last from last (h ∷ hs) order = omega (arith, order.0, from_le_last h.entry.admitted last hs order.1)
+
+-- no entry was admitted after the last moment
+pub admitted_by : (from last : ℕ) (hs : List History) → AreInOrder from last hs → AllByRecursion (λ h. h.entry.admitted ≤ last) hs
+admitted_by from last [] order = tt
+admitted_by from last (h ∷ hs) order = (from_le_last h.entry.admitted last hs order.1, admitted_by h.entry.admitted last hs order.1)
+
+LiesBetween-later : (admitted last t : ℕ) (o : Option Removal) → last ≤ t → LiesBetween admitted last o → LiesBetween admitted t o
+LiesBetween-later admitted last t None le lies = tt
+LiesBetween-later admitted last t (Some r) le lies = (lies.0, omega (arith, lies.1))
+
+IsInTime-later : (last t : ℕ) (hs : List History) → last ≤ t → AllByRecursion (IsInTime last) hs → AllByRecursion (IsInTime t) hs
+IsInTime-later last t hs le all = All-weaker (IsInTime last) (IsInTime t) (λ h in_time. LiesBetween-later h.entry.admitted last t h.entry.removal le in_time) hs all
+
+IsInTime-removed : (last t id : ℕ) (r : Removal) (h : History) → last ≤ t → r.at ≡ t → h.entry.admitted ≤ last → IsInTime last h → IsInTime t (removed_if id r h)
+IsInTime-removed last t id r h le now early in_time =
+    elim (eqb h.entry.id id) as (λ b. IsInTime t (if b then removed_by r h else h))
+    [ true ↦ (omega (arith, now), omega (arith, now)) | false ↦ LiesBetween-later h.entry.admitted last t h.entry.removal le in_time ]
+
+-- ---- entries
+
+digest_is : (e : Entry) (o : Option Removal) (content : Option (List ℕ)) → HasItsBytes o content e → IsSome e.digest
+digest_is e None None has = absurd has
+digest_is e None (Some bytes) has = rw has.1 refl
+digest_is e (Some r) None has = has
+digest_is e (Some r) (Some bytes) has = absurd has
+
+whole_removed : (r : Removal) (e : Entry) (marker : Bool) (content : Option (List ℕ)) (settings : List Setting) → IsWholeAs marker e content settings → IsWholeAs marker (record e { removal = Some r }) None settings
+whole_removed r e true content settings whole = (whole.0, whole.1, refl, whole.3)
+whole_removed r e false content settings whole = (whole.0, digest_is e e.removal content whole.1, whole.2, whole.3)
+
+IsWhole-removed : (id : ℕ) (r : Removal) (h : History) → IsWhole h → IsWhole (removed_if id r h)
+IsWhole-removed id r h whole =
+    elim (eqb h.entry.id id) as (λ b. IsWhole (if b then removed_by r h else h))
+    [ true ↦ whole_removed r h.entry h.entry.marker h.content h.settings whole | false ↦ whole ]
+
+IsPlaced-removed : (v : Vault) (id : ℕ) (r : Removal) (h : History) → IsPlaced v h → IsPlaced v (removed_if id r h)
+IsPlaced-removed v id r h placed =
+    elim (eqb h.entry.id id) as (λ b. IsPlaced v (if b then removed_by r h else h)) [ true ↦ placed | false ↦ placed ]
+
+-- ---- the changes
+
+pub Sound-changed : (v : Vault) (t : ℕ) (c : Change) → Sound v → v.last ≤ t → Allows v t c → Sound (changed v t c)
+Sound-changed v t (AddDept name) sound le allowed = record {
+  ids = sound.ids;
+  enough_ids = sound.enough_ids;
+  order = AreInOrder-later 0 v.last t v.histories le sound.order;
+  in_time = IsInTime-later v.last t v.histories le sound.in_time;
+  whole = sound.whole;
+  placed = sound.placed;
+  within = sound.within;
+}
+Sound-changed v t (AddCaller c) sound le allowed = record {
+  ids = sound.ids;
+  enough_ids = sound.enough_ids;
+  order = AreInOrder-later 0 v.last t v.histories le sound.order;
+  in_time = IsInTime-later v.last t v.histories le sound.in_time;
+  whole = sound.whole;
+  placed = sound.placed;
+  within = sound.within;
+}
+Sound-changed v t (AddBucket name dept) sound le allowed =
+    let buckets = placed bucket_cmp (new_bucket name dept) v.buckets in
+    let same = All-weaker (IsPlaced v) (λ h. config_in buckets h.entry.bucket ≡ config_in v.buckets h.entry.bucket) (λ h there. config_in-placed v.buckets name dept h.entry.bucket allowed there) v.histories sound.placed in
+    record {
+      ids = sound.ids;
+      enough_ids = sound.enough_ids;
+      order = AreInOrder-later 0 v.last t v.histories le sound.order;
+      in_time = IsInTime-later v.last t v.histories le sound.in_time;
+      whole = sound.whole;
+      placed = All-weaker (IsPlaced v) (IsPlaced (changed v t (AddBucket name dept))) (λ h there. rw (config_in-placed v.buckets name dept h.entry.bucket allowed there) there) v.histories sound.placed;
+      within = λ d. rw (admitted-other v.buckets buckets d v.histories same) (sound.within d);
+    }
+Sound-changed v t (Admit a) sound le allowed = record {
+  ids = AreIdsFrom-push 1 v.histories a.history sound.ids allowed.id;
+  enough_ids = one_more v.histories a.history allowed.enough_ids;
+  order = AreInOrder-push 0 v.last t v.histories a.history le allowed.now sound.order;
+  in_time = All-push (IsInTime t) v.histories a.history (IsInTime-later v.last t v.histories le sound.in_time) (rw allowed.held tt);
+  whole = All-push IsWhole v.histories a.history sound.whole allowed.whole;
+  placed = All-push (IsPlaced v) v.histories a.history sound.placed (rw allowed.placed refl);
+  within = λ dept. rw (admitted-push v.buckets dept v.histories a.history) (share_fits v.buckets a.history allowed.bucket dept quota (admitted_bytes v) allowed.placed allowed.fits (sound.within dept));
+}
+Sound-changed v t (Remove id r) sound le allowed = record {
+  ids = AreIdsFrom-removed id r 1 v.histories sound.ids;
+  enough_ids = rw (length-map v.histories (removed_if id r)) sound.enough_ids;
+  order = AreInOrder-removed id r 0 t v.histories (AreInOrder-later 0 v.last t v.histories le sound.order);
+  in_time = All-map (λ h. h.entry.admitted ≤ v.last) (IsInTime v.last) (IsInTime t) (removed_if id r) (λ h early in_time. IsInTime-removed v.last t id r h le allowed.now early in_time) v.histories (admitted_by 0 v.last v.histories sound.order) sound.in_time;
+  whole = All-map IsWhole IsWhole IsWhole (removed_if id r) (λ h whole same. IsWhole-removed id r h whole) v.histories sound.whole sound.whole;
+  placed = All-map (IsPlaced v) (IsPlaced v) (IsPlaced v) (removed_if id r) (λ h placed same. IsPlaced-removed v id r h placed) v.histories sound.placed sound.placed;
+  within = λ dept. rw (admitted-removed v.buckets dept id r v.histories) (sound.within dept);
+}
+
+-- the same, where the vault and the change are known by equations
+pub Sound-changed-to : (v w : Vault) (t : ℕ) (change other : Change) → v ≡ w → change ≡ other → Sound v → w.last ≤ t → Allows w t change → Sound (changed v t other)
+Sound-changed-to v w t change other e f sound le allowed =
+    let P : Vault → Type 0 = λ u. u.last ≤ t in
+    let Q : Vault → Type 0 = λ u. Allows u t change in
+    let R : Change → Type 0 = λ c. Allows v t c in
+    Sound-changed v t other sound (subst P (sym e) le) (subst R f (subst Q (sym e) allowed))
