@@ -1,7 +1,7 @@
 -- The rules of a bucket make due as the laws of plans ask.
-use Rattle.std.proofs.Common.{◌≡◌, ℕ, zero, suc, ◌+◌, ◌*◌, ◌<◌, ◌≤◌, ◌&&◌, ◌++◌, Bool, true, false, nat_le, nat_lt, IsTrue, List, [], ◌∷◌, length, Option, Some, None, refl, sym, ap, ◌∙◌, arith, cond}
+use Rattle.std.proofs.Common.{◌≡◌, ℕ, ◌+◌, ◌*◌, ◌<◌, ◌≤◌, ◌&&◌, ◌++◌, Bool, true, false, nat_le, nat_lt, IsTrue, List, [], ◌∷◌, length, Option, Some, None, refl, sym, ap, ◌∙◌, arith, cond}
 use Rattle.std.specs.Prelude.{not, is_none, unwrap_or}
-use Rattle.std.specs.List.{All, position, position_from}
+use Rattle.std.specs.List.{All, position_from}
 use Rattle.std.proofs.lemmas.List.Elements.{All-head, All-tail, All-nil, All-cons, All-weaker}
 use Rattle.std.proofs.lemmas.Iterator.Adapters.{position_from-zero}
 use Rattle.std.proofs.lemmas.Bool.Decides.{nat_tests}
@@ -10,8 +10,8 @@ use Rattle.vault_rules.specs.declared.rule.Rule.{Rule}
 use Rattle.vault_rules.specs.declared.rule.Noncurrent.{Noncurrent}
 use Rattle.vault_rules.specs.declared.rule_set.RuleFault.{RuleFault}
 use Rattle.vault_rules.specs.declared.rule_set.RuleFault.TheVariants.{SameId, NoAction, DaysAndMarkers, OutOfRange, TooMany}
-use Rattle.vault_rules.specs.Rules.{is_days, is_newer, passes_if_given, is_noncurrent_action, is_in_range, has_id, has_action, has_days_and_markers, fault_where, fault_of, first_of_both, first_fault, rules_fault, is_rule_set}
-use Rattle.vault_rules.specs.Due.{have_passed, fits, noncurrent_has_passed, makes_noncurrent_due}
+use Rattle.vault_rules.specs.Rules.{is_days, is_newer, passes_if_given, is_noncurrent_action, is_in_range, has_id, has_action, has_days_and_markers, fault_where, fault_of, first_of_both, first_fault, is_rule_set}
+use Rattle.vault_rules.specs.Due.{fits, noncurrent_has_passed, makes_noncurrent_due}
 use Rattle.vault_rules.specs.Walk.{Dues, dues}
 
 -- a later since or a lower rank makes nothing due

@@ -1,8 +1,7 @@
 -- The last of a key's entries.
-use Rattle.std.proofs.Common.{◌≡◌, ◌≢◌, ℕ, zero, suc, ◌+◌, ◌-◌, ◌<◌, ◌≤◌, ◌++◌, Bool, true, false, List, [], ◌∷◌, length, Option, Some, None, refl, sym, ap, subst, ◌∙◌, arith, append-nil}
+use Rattle.std.proofs.Common.{◌≡◌, ◌≢◌, ℕ, suc, ◌-◌, ◌++◌, Bool, true, false, List, [], ◌∷◌, length, Option, Some, None, refl, sym, ap, ◌∙◌, arith, append-nil}
 use Rattle.std.specs.Prelude.{slice_get}
 use Rattle.vault_rules.specs.declared.plan.Held.{Held}
-use Rattle.vault_rules.specs.declared.plan.Step.{Step}
 use Rattle.vault_rules.specs.declared.plan.Step.TheVariants.{Mark}
 use Rattle.vault_rules.specs.KeyPlan.{id_above}
 use Rattle.vault_rules.specs.Walk.{Dues, unless, last_mark, mark_step, later_phases, walk, marked_by, marker_at, removal, removals, keep_if, left_over, lone_removal}

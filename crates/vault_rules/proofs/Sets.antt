@@ -1,5 +1,5 @@
 -- The plan by sets is the plan by a walk, where ids rise.
-use Rattle.std.proofs.Common.{◌≡◌, ℕ, zero, suc, ◌+◌, ◌-◌, ◌<◌, ◌≤◌, ◌++◌, ◌&&◌, ◌==◌, Bool, true, false, nat_lt, IsTrue, List, [], ◌∷◌, length, Option, Some, None, refl, sym, ap, subst, ◌∙◌, arith, cond, append_assoc, append-nil}
+use Rattle.std.proofs.Common.{◌≡◌, ℕ, suc, ◌-◌, ◌<◌, ◌≤◌, ◌++◌, ◌&&◌, ◌==◌, Bool, true, false, nat_lt, IsTrue, List, [], ◌∷◌, length, Option, Some, None, refl, sym, ap, subst, ◌∙◌, arith, cond, append_assoc}
 use Rattle.std.specs.Prelude.{not, is_none, max, filter, filter_map, fold, option_map, if◌then◌else◌}
 use Rattle.std.specs.List.{list_all, cons_option}
 use Rattle.std.proofs.lemmas.Bool.Decides.{nat_tests}
@@ -10,7 +10,7 @@ use Rattle.vault_rules.specs.declared.plan.Step.{Step}
 use Rattle.vault_rules.specs.declared.plan.Step.TheVariants.{Mark, Remove, RemoveLone}
 use Rattle.vault_rules.specs.Due.{due_current, due_noncurrent, due_marker}
 use Rattle.vault_rules.specs.KeyPlan.{ids_rise, newer, first_admission, only_if, mark_rule, removal_rule, lone_rule, mark_steps, removal_steps, lone_steps, id_above, marker_on, marked, kept, key_plan}
-use Rattle.vault_rules.specs.Walk.{Dues, dues, unless, last_mark, mark_step, remove_step, lone_step, later_phases, walk, marked_by, marker_at, removal, removals, keep_if, left_over, lone_removal}
+use Rattle.vault_rules.specs.Walk.{dues, unless, last_mark, mark_step, remove_step, lone_step, walk, marked_by, marker_at, removal, removals, keep_if, left_over, lone_removal}
 
 both : (a b : Bool) → IsTrue (a && b) → IsTrue a × IsTrue b
 both true b h = (refl, h)
@@ -114,7 +114,7 @@ module _ (rules : List Rule) (key : List ℕ) (t : ℕ) where
       ∙ push_mark (unless x.marker (due_current rules key x.size x.admitted t))
   marks_from hs before (x ∷ y ∷ ys) e h =
       ap (λ o. cons_option (option_map (λ r. Mark r) o) (filter_map (λ x. option_map (λ r. Mark r) (mark_rule rules key t hs x)) (y ∷ ys)))
-          (mark_at hs before x (y ∷ ys) e h ∙ ap (λ b. only_if (b && not x.marker) (due_current rules key x.size x.admitted t)) (none_stand (length ys)))
+      (mark_at hs before x (y ∷ ys) e h ∙ ap (λ b. only_if (b && not x.marker) (due_current rules key x.size x.admitted t)) (none_stand (length ys)))
       ∙ marks_from hs (before ++ x ∷ []) (y ∷ ys) (e ∙ sym (append_assoc before (x ∷ []) (y ∷ ys))) h
 
   lone_of_one : (x : Held) → lone_steps rules key t (x ∷ []) ≡ lone_removal (dues rules key t) (x ∷ [])
@@ -133,7 +133,7 @@ module _ (rules : List Rule) (key : List ℕ) (t : ℕ) where
   lone_of_more hs [] h = refl
   lone_of_more hs (x ∷ xs) h =
       ap (λ o. cons_option (option_map (λ r. RemoveLone x.id r) o) (filter_map (λ x. option_map (λ r. RemoveLone x.id r) (lone_rule rules key t hs x)) xs))
-          (ap (λ b. only_if (x.marker && b) (due_marker rules key x.size x.admitted t)) h ∙ only_never x.marker (due_marker rules key x.size x.admitted t))
+      (ap (λ b. only_if (x.marker && b) (due_marker rules key x.size x.admitted t)) h ∙ only_never x.marker (due_marker rules key x.size x.admitted t))
       ∙ lone_of_more hs xs h
 
   lone_is : (hs : List Held) → lone_steps rules key t hs ≡ lone_removal (dues rules key t) hs

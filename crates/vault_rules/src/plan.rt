@@ -3,12 +3,13 @@ ghost use Rattle.std.specs.Prelude.{◌≡◌, ℕ, ◌+◌, ◌++◌, ◌∷◌
 ghost use Rattle.vault_rules.specs.KeyPlan.{ids_rise, key_plan};
 ghost use Rattle.vault_rules.specs.Walk.{dues, last_mark, marked_above, removal, removals, left_over, lone_removal};
 
+use crate::due::{first_for_current, first_for_marker, first_for_noncurrent};
 use crate::rule::Rule;
 use crate::rule_set::RuleSet;
 use std::alloc::{AllocError, Global};
 use vault_base::moment::Moment;
 use vault_base::name::{ObjectKey, VersionId};
-use vault_lock::lock::{in_force, Lock};
+use vault_lock::lock::{Lock, in_force};
 
 /// A held entry of a key.
 #[derive(Clone, Copy, PartialEq, Eq)]
@@ -72,9 +73,7 @@ fn mark_of(rules: &[Rule], key: &ObjectKey, held: &[Held], now: Moment) -> Optio
     if last.marker {
         return None;
     }
-    rules
-        .iter()
-        .position(|rule| rule.makes_current_due(key, last.size, last.admitted, now))
+    first_for_current(rules, key, last.size, last.admitted, now)
 }
 
 /// The rule that removes an entry below these newer ones and, if the key is marked now, below
@@ -93,14 +92,14 @@ fn removal_of(
     if in_force(&entry.lock, now) {
         return None;
     }
-    let (since, rank) = match newer.first() {
-        Some(successor) => (successor.admitted, newer.len() - 1 + usize::from(marked)),
-        None if marked => (now, 0),
-        None => return None,
-    };
-    rules
-        .iter()
-        .position(|rule| rule.makes_noncurrent_due(key, entry.size, since, rank, now))
+    match newer.first() {
+        Some(successor) => {
+            let rank = newer.len() - 1 + usize::from(marked);
+            first_for_noncurrent(rules, key, entry.size, successor.admitted, rank, now)
+        }
+        None if marked => first_for_noncurrent(rules, key, entry.size, now, 0, now),
+        None => None,
+    }
 }
 
 /// Adds the removals of noncurrent entries, and answers how many entries stay.
@@ -116,7 +115,7 @@ fn remove_noncurrent(
         steps.old.items ++ removals (dues rules.now key.now now) (held.now ++ marked_above id now marked)) }
     ensures left { IfOk result (λ left. (id : ℕ) →
         left + length (left_over (dues rules.now key.now now) (marked_above id now marked))
-            ≡ length (left_over (dues rules.now key.now now) (held.now ++ marked_above id now marked))) }
+        ≡ length (left_over (dues rules.now key.now now) (held.now ++ marked_above id now marked))) }
 {
     let mut left = 0;
     for (i, entry) in held.iter().enumerate() {
@@ -139,11 +138,10 @@ fn remove_lone(
     ensures { OnOk result (steps.new.items ≡
         steps.old.items ++ lone_removal (dues rules.now key.now now) (only.now ∷ [])) }
 {
-    let due = rules
-        .iter()
-        .position(|rule| rule.makes_marker_due(key, only.size, only.admitted, now));
-    if let (Some(rule), true) = (due, only.marker) {
-        steps.push(Step::RemoveLone(only.id, rule))?;
+    if only.marker {
+        if let Some(rule) = first_for_marker(rules, key, only.size, only.admitted, now) {
+            steps.push(Step::RemoveLone(only.id, rule))?;
+        }
     }
     Ok(())
 }

@@ -1,7 +1,7 @@
 //! A lifecycle rule.
 ghost use Rattle.std.specs.Prelude.{◌≡◌};
 ghost use Rattle.vault_rules.specs.Rules.{is_days, is_newer, is_noncurrent_action, has_action, has_days_and_markers, is_in_range};
-ghost use Rattle.vault_rules.specs.Due.{have_passed, fits, days_have_passed, noncurrent_has_passed, makes_current_due, makes_noncurrent_due, makes_marker_due};
+ghost use Rattle.vault_rules.specs.Due.{have_passed, fits, days_have_passed, noncurrent_has_passed};
 
 use std::alloc::AllocError;
 use vault_base::moment::Moment;
@@ -94,11 +94,12 @@ impl Rule {
     pub(crate) fn is_in_range(&self) -> bool
         ensures { result ≡ is_in_range self.now }
     {
-        self.days.map_or(true, is_days) && self.noncurrent.map_or(true, |action| action.is_in_range())
+        self.days.map_or(true, is_days)
+            && self.noncurrent.map_or(true, |action| action.is_in_range())
     }
 
     /// Whether it is for entries of that key and size.
-    fn fits(&self, key: &ObjectKey, _size: u64) -> bool
+    pub(crate) fn fits(&self, key: &ObjectKey, _size: u64) -> bool
         ensures { result ≡ fits self.now key.now _size }
     {
         let prefix = self.prefix.as_str().as_bytes();
@@ -106,7 +107,7 @@ impl Rule {
     }
 
     /// Whether its Days have passed since that moment.
-    fn days_have_passed(&self, from: Moment, now: Moment) -> bool
+    pub(crate) fn days_have_passed(&self, from: Moment, now: Moment) -> bool
         ensures { result ≡ days_have_passed self.now.days from now }
     {
         self.days.is_some_and(|days| have_passed(days, from, now))
@@ -114,53 +115,12 @@ impl Rule {
 
     /// Whether its NoncurrentDays have passed since that moment, under enough newer noncurrent
     /// entries.
-    fn noncurrent_has_passed(&self, since: Moment, rank: usize, now: Moment) -> bool
+    pub(crate) fn noncurrent_has_passed(&self, since: Moment, rank: usize, now: Moment) -> bool
         ensures { result ≡ noncurrent_has_passed self.now.noncurrent since rank now }
     {
         let Some(action) = self.noncurrent else {
             return false;
         };
         have_passed(action.days, since, now) && action.newer.unwrap_or(0) as usize <= rank
-    }
-
-    /// Whether it makes current content of that key, size and admission due.
-    pub(crate) fn makes_current_due(
-        &self,
-        key: &ObjectKey,
-        size: u64,
-        admitted: Moment,
-        now: Moment,
-    ) -> bool
-        ensures { result ≡ makes_current_due key.now size admitted now self.now }
-    {
-        self.fits(key, size) && self.days_have_passed(admitted, now)
-    }
-
-    /// Whether it makes an entry of that key and size due, which became noncurrent then and has
-    /// so many newer noncurrent entries above it.
-    pub(crate) fn makes_noncurrent_due(
-        &self,
-        key: &ObjectKey,
-        size: u64,
-        since: Moment,
-        rank: usize,
-        now: Moment,
-    ) -> bool
-        ensures { result ≡ makes_noncurrent_due key.now size since rank now self.now }
-    {
-        self.fits(key, size) && self.noncurrent_has_passed(since, rank, now)
-    }
-
-    /// Whether it makes a marker of that key, size and admission due that is its key's only entry.
-    pub(crate) fn makes_marker_due(
-        &self,
-        key: &ObjectKey,
-        size: u64,
-        admitted: Moment,
-        now: Moment,
-    ) -> bool
-        ensures { result ≡ makes_marker_due key.now size admitted now self.now }
-    {
-        self.fits(key, size) && (self.lone_markers || self.days_have_passed(admitted, now))
     }
 }

@@ -13,4 +13,4 @@ pub returns : goal.returns
 returns c =
     let d = dues c.args.rules.now c.args.key.now c.args.now in
     let x = c.in_ok-last.last.now in
-    c.due_current.ensures ∙ sym (last_mark-last d c.args.held.now x c.in_ok-last.ensures.value ∙ ap (λ b. unless b (d.current x.size x.admitted)) c.if-last.false)
+    c.first_for_current.ensures ∙ sym (last_mark-last d c.args.held.now x c.in_ok-last.ensures.value ∙ ap (λ b. unless b (d.current x.size x.admitted)) c.if-last.false)
