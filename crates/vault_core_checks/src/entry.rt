@@ -178,7 +178,12 @@ pub fn find_first_lock(
     ensures found { Finds result (lock_at_admission bucket.now retention hold at) }
     ensures device { is_device result ≡ false }
 {
-    match first_lock(bucket.default.as_ref(), retention, hold.unwrap_or(false), at) {
+    match first_lock(
+        bucket.default.as_ref(),
+        retention,
+        hold.unwrap_or(false),
+        at,
+    ) {
         Some(lock) => Ok(lock),
         None => Err(Halt::Refused(Refusal::RetentionOutOfRange)),
     }

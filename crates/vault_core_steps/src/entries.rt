@@ -1,9 +1,11 @@
 //! Entries: admission, reading, removal.
-ghost use Rattle.std.specs.Prelude.{◌≡◌, ◌≤◌, [], ◌∷◌, IsTrue, IfOk, OnOk, Some, None, false};
+ghost use Rattle.std.specs.Prelude.{◌≡◌, ◌≤◌, ◌+◌, length, [], ◌∷◌, IsTrue, IfOk, OnOk, Some, None, false};
 ghost use Rattle.vault_core_model.specs.Halts.{Finds, Meets, is_device, Rose};
-ghost use Rattle.vault_core_model.specs.Allowed.{IsAdmission, IsHeldId};
+ghost use Rattle.vault_core_model.specs.Allowed.{IsHeldId};
 ghost use Rattle.vault_core_model.specs.EntryOutcomes as outcome;
+ghost use Rattle.vault_core_model.specs.Totals.{admitted_bytes};
 ghost use Rattle.vault_core_model.specs.Vault.{config_of};
+ghost use Rattle.vault_tally.specs.Row.{quota};
 
 use std::alloc::{AllocError, Global};
 use vault_base::content::Content;
@@ -39,10 +41,10 @@ pub fn put<K: Keeper>(
     ensures device { IsTrue (is_device result) → Rose (K.count keeper.old) (K.count keeper.new) }
 {
     let access = find_access_to_put(keeper, at, who, command)?;
-    let history = find_admission(alloc, keeper, at, who, command, &access)?;
-    let id = history.entry.id;
+    let lock = find_lock_to_admit(keeper, at, command, &access)?;
+    let id = find_id(keeper)?;
     let admission = Admission {
-        history,
+        history: new_version(alloc, id, at, who, command, lock)?,
         note: None,
     };
     keeper.apply(at, &Change::Admit(admission))?;
@@ -70,18 +72,16 @@ fn find_access_to_put<K: Keeper>(
     Ok(access)
 }
 
-/// The version that is to be admitted: the arguments, the lock, the quota, the id.
-fn find_admission<K: Keeper>(
-    alloc: Global,
+/// The lock of the version that is to be admitted: the arguments, the lock, the quota.
+fn find_lock_to_admit<K: Keeper>(
     keeper: &mut K,
     at: Moment,
-    who: &CallerName,
     command: &Put,
     access: &Access,
-) -> Result<History, Halt>
-    requires { K.is_honest keeper.old → config_of (K.vault keeper.old) command.now.bucket ≡ Some access.now.bucket }
-    ensures found { K.is_honest keeper.new → Finds result (outcome.admission (K.vault keeper.old) at who.now command.now access.now) }
-    ensures allowed { K.is_honest keeper.new → IfOk result (λ history. IsAdmission (K.vault keeper.old) at (record { history = history; note = None })) }
+) -> Result<Lock, Halt>
+    ensures found { K.is_honest keeper.new → Finds result (outcome.lock_to_admit (K.vault keeper.old) at command.now access.now) }
+    ensures small { OnOk result (length command.now.content ≤ 1048576) }
+    ensures fits { K.is_honest keeper.new → OnOk result (admitted_bytes (K.vault keeper.old) access.now.bucket.dept + length command.now.content ≤ quota) }
     ensures same { K.vault keeper.new ≡ K.vault keeper.old }
     ensures honest { K.is_honest keeper.new → K.is_honest keeper.old }
     ensures counted { K.count keeper.old ≤ K.count keeper.new }
@@ -91,8 +91,7 @@ fn find_admission<K: Keeper>(
     check_end(at, command.retention)?;
     let lock = find_first_lock(&access.bucket, command.retention, command.hold, at)?;
     check_quota(keeper, &access.bucket.dept, command.content.len() as u64)?;
-    let id = find_id(keeper)?;
-    Ok(new_version(alloc, id, at, who, command, lock)?)
+    Ok(lock)
 }
 
 /// The version that a put admits, with its first setting.
