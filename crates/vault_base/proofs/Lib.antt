@@ -1,1 +1,4 @@
+pub mod Dates
+pub mod DayNumbers
 pub mod Numerals
+pub mod ReadBack

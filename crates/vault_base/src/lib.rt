@@ -1,6 +1,7 @@
 //! Names, moments and refusals of the vault.
 #![tactic(auto)]
 
+mod calendar;
 pub mod content;
 pub mod moment;
 pub mod name;

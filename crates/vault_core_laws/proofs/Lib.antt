@@ -2,4 +2,6 @@ pub mod Bounds
 pub mod Buckets
 pub mod Items
 pub mod Lists
+pub mod Newest
+pub mod Runs
 pub mod Soundness

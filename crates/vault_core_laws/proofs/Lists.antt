@@ -1,6 +1,7 @@
 -- Facts of each element of a list.
-use Rattle.std.proofs.Common.{List, [], ◌∷◌, ◌++◌, map}
+use Rattle.std.proofs.Common.{Bool, true, false, List, [], ◌∷◌, ◌++◌, map}
 use Rattle.std.specs.List.{AllByRecursion}
+use Rattle.std.specs.Prelude.{filter, if◌then◌else◌}
 
 pub All-push : {X : Type 0} (P : X → Type 0) (xs : List X) (x : X) → AllByRecursion P xs → P x → AllByRecursion P (xs ++ x ∷ [])
 All-push P [] x all p = (p, tt)
@@ -14,3 +15,10 @@ All-weaker P Q f (y ∷ ys) all = (f y all.0, All-weaker P Q f ys all.1)
 pub All-map : {X : Type 0} (P Q R : X → Type 0) (g : X → X) → ((x : X) → P x → Q x → R (g x)) → (xs : List X) → AllByRecursion P xs → AllByRecursion Q xs → AllByRecursion R (map g xs)
 All-map P Q R g f [] ps qs = tt
 All-map P Q R g f (x ∷ xs) ps qs = (f x ps.0 qs.0, All-map P Q R g f xs ps.1 qs.1)
+
+-- what is left of a list by a test
+pub All-filter : {X : Type 0} (P : X → Type 0) (p : X → Bool) (xs : List X) → AllByRecursion P xs → AllByRecursion P (filter p xs)
+All-filter P p [] all = tt
+All-filter P p (x ∷ xs) all =
+    elim (p x) as (λ b. AllByRecursion P (if b then x ∷ filter p xs else filter p xs))
+    [ true ↦ (all.0, All-filter P p xs all.1) | false ↦ All-filter P p xs all.1 ]

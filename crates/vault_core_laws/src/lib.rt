@@ -2,15 +2,19 @@
 //! Each is the contract of a public function that does nothing.
 #![tactic(auto)]
 
-ghost use Rattle.std.specs.Prelude.{◌≡◌, ℕ, ◌≤◌, List};
+ghost use Rattle.std.specs.Prelude.{◌≡◌, ◌++◌, ℕ, ◌≤◌, List, Some, None};
 ghost use Rattle.vault_base.specs.Days.{last_moment, day};
 ghost use Rattle.vault_tally.specs.Row.{AreBounded, AreAdmittedBy};
 ghost use Rattle.vault_core_model.specs.declared.change.Change.{Change};
+ghost use Rattle.vault_core_model.specs.declared.command.Timed.{Timed};
+ghost use Rattle.vault_core_model.specs.declared.records.Head.{Head};
+ghost use Rattle.vault_core_model.specs.declared.records.History.{History};
+ghost use Rattle.vault_core_model.specs.declared.reply.Reply.{Reply};
 ghost use Rattle.vault_core_model.specs.Vault.{Vault};
 ghost use Rattle.vault_core_model.specs.Change.{changed};
-ghost use Rattle.vault_core_model.specs.Checks.{content_on_top};
 ghost use Rattle.vault_core_model.specs.Places.{current};
-ghost use Rattle.vault_core_model.specs.Reads.{head_of};
+ghost use Rattle.vault_core_model.specs.Reads.{head_of, entry_of};
+ghost use Rattle.vault_core_model.specs.Step.{Run};
 ghost use Rattle.vault_core_model.specs.Sound.{Sound};
 ghost use Rattle.vault_core_model.specs.Allowed.{Allows};
 ghost use Rattle.vault_core_model.specs.Totals.{items_of};
@@ -25,4 +29,17 @@ pub fn allowed_changes_keep_soundness()
 pub fn sums_of_sound_vaults_are_bounded()
     ensures bounded { (v : Vault) (dept : List ℕ) → Sound v → v.last ≤ last_moment → AreBounded (items_of v dept) }
     ensures admitted { (v : Vault) (dept : List ℕ) (t : ℕ) → Sound v → v.last ≤ t → AreAdmittedBy (day t) (items_of v dept) }
+{}
+
+/// In a sound vault the current entry of a key is the newest that is held: the one that its head names.
+pub fn heads_name_the_current_entry()
+    ensures found { (v : Vault) (bucket key : List ℕ) (head : Head) → Sound v → head_of v bucket key ≡ Some head →
+        (h : History) × (current v bucket key ≡ Some h) × (entry_of v head.newest ≡ Some h.entry) }
+    ensures none { (v : Vault) (bucket key : List ℕ) → head_of v bucket key ≡ None → current v bucket key ≡ None }
+{}
+
+/// One run after another is a run.
+pub fn runs_go_on()
+    ensures { (v mid end : Vault) (cs ds : List Timed) (rs ss : List Reply) →
+        Run v cs rs mid → Run mid ds ss end → Run v (cs ++ ds) (rs ++ ss) end }
 {}

@@ -1,0 +1,59 @@
+//! Script lines from any reader, carried out over any keeper, with their replies to any writer.
+#![tactic(auto)]
+
+ghost use Rattle.std.specs.Prelude.{◌≡◌, ℕ, List, [], OnOk, OnErr};
+ghost use Rattle.std.specs.Io.KnownBytes.{Consumes, IsAtEnd};
+ghost use Rattle.vaultctl_replay.specs.Runs.{AnswersAll, AnswersEnded, AnswersSome};
+
+mod fault;
+mod keeper;
+pub mod laws;
+mod lines;
+mod retry;
+mod writing;
+
+use crate::keeper::Keeper;
+use crate::lines::{feed, finish};
+use crate::retry::read_retrying;
+pub use fault::ReplayFault;
+use std::alloc::Global;
+use std::io::{Read, Write};
+
+/// How many bytes of a line are kept: one more than a line may have, so that a longer one is seen
+/// to be too long.
+const KEPT: usize = 4_194_305;
+
+/// Answers the whole input, a line at a time, and flushes the writer.
+///
+/// A line ends with LF; the last one may lack it. However the reader cuts the input into pieces,
+/// the answer is the same. `Read` comes where the reader fails, or gives `u64::MAX` pieces without
+/// an end; `Write` where the writer fails; `Memory` where room for a line or a reply was refused.
+pub fn replay<R: Read, W: Write, K: Keeper>(
+    alloc: Global,
+    reader: &mut R,
+    writer: &mut W,
+    keeper: &mut K,
+) -> Result<(), ReplayFault>
+    // What is read is the whole input, and what is written is the replies to its lines.
+    ensures ok { K.is_honest keeper.new → OnOk result ((input : List ℕ) × Consumes (R.remaining reader.old) (R.remaining reader.new) input
+        × IsAtEnd (R.remaining reader.new)
+        × AnswersAll K.answers (K.vault keeper.old) (W.contents writer.old) input (K.vault keeper.new) (W.contents writer.new)) }
+    // A beginning of the lines was carried out, and a beginning of their replies written.
+    ensures err { K.is_honest keeper.new → OnErr result ((taken : List ℕ) × Consumes (R.remaining reader.old) (R.remaining reader.new) taken
+        × AnswersSome K.answers (K.vault keeper.old) (W.contents writer.old) taken (K.vault keeper.new) (W.contents writer.new)) }
+    // Where the reader failed, that beginning is each line whose LF was read, and all their replies are written.
+    ensures read { K.is_honest keeper.new → result ≡ Err ReplayFault.Read → (taken : List ℕ) × Consumes (R.remaining reader.old) (R.remaining reader.new) taken
+        × AnswersEnded K.answers (K.vault keeper.old) (W.contents writer.old) taken (K.vault keeper.new) (W.contents writer.new) }
+    ensures honest { K.is_honest keeper.new → K.is_honest keeper.old }
+{
+    let mut part = Vec::new(alloc);
+    let mut piece = [0u8; 65_536];
+    for _turn in 0..u64::MAX {
+        match read_retrying(reader, &mut piece) {
+            Ok(0) => return finish(alloc, keeper, writer, part.as_slice()),
+            Ok(n) => feed(alloc, keeper, writer, &mut part, KEPT, &piece[..n])?,
+            Err(_) => return Err(ReplayFault::Read),
+        }
+    }
+    Err(ReplayFault::Read)
+}

@@ -1,0 +1,125 @@
+//! The lines of an input, whatever pieces it comes in.
+ghost use Rattle.std.specs.Prelude.{◌≡◌, ◌≤◌, [], ◌∷◌, ◌++◌, take, OnOk, OnErr, vec_len};
+ghost use Rattle.vaultctl_replay.specs.Lines.{advance, last_line};
+ghost use Rattle.vaultctl_replay.specs.Runs.{Began, Finished};
+
+use crate::fault::ReplayFault;
+use crate::keeper::Keeper;
+use crate::writing::{flush, write_bytes};
+use std::alloc::Global;
+use std::io::Write;
+
+/// Carries out one line and writes its reply.
+pub fn answer_line<K: Keeper, W: Write>(
+    alloc: Global,
+    keeper: &mut K,
+    writer: &mut W,
+    line: &[u8],
+) -> Result<(), ReplayFault>
+    ensures ok { K.is_honest keeper.new → OnOk result (Finished K.answers (K.vault keeper.old) (W.contents writer.old) (line.now ∷ []) (K.vault keeper.new) (W.contents writer.new)) }
+    ensures err { K.is_honest keeper.new → OnErr result (Began K.answers (K.vault keeper.old) (W.contents writer.old) (line.now ∷ []) (K.vault keeper.new) (W.contents writer.new)) }
+    ensures kind { ¬ (result ≡ Err ReplayFault.Read) }
+    ensures honest { K.is_honest keeper.new → K.is_honest keeper.old }
+{
+    let Ok(reply) = keeper.answer(alloc, line) else {
+        return Err(ReplayFault::Memory);
+    };
+    write_bytes(writer, reply.as_bytes())
+}
+
+/// Adds a byte to a line, of which so many bytes are kept.
+fn push_within(part: &mut Vec<u8>, byte: u8, most: usize) -> Result<(), ReplayFault>
+    requires { vec_len part.old ≤ most }
+    ensures ok { OnOk result (part.new.items ≡ take most (part.old.items ++ byte ∷ [])) }
+    ensures bound { vec_len part.new ≤ most }
+    ensures kind { ¬ (result ≡ Err ReplayFault.Read) }
+{
+    if part.len() < most && part.push(byte).is_err() {
+        return Err(ReplayFault::Memory);
+    }
+    Ok(())
+}
+
+/// Takes the next byte of the input, and answers the line that ends with it. Of a line so many bytes are kept.
+fn take_byte<K: Keeper, W: Write>(
+    alloc: Global,
+    keeper: &mut K,
+    writer: &mut W,
+    part: &mut Vec<u8>,
+    most: usize,
+    byte: u8,
+) -> Result<(), ReplayFault>
+    requires { vec_len part.old ≤ most }
+    ensures ok { K.is_honest keeper.new → OnOk result (Finished K.answers (K.vault keeper.old) (W.contents writer.old) (advance most part.old.items (byte ∷ [])).0 (K.vault keeper.new) (W.contents writer.new)) }
+    ensures part { OnOk result (part.new.items ≡ (advance most part.old.items (byte ∷ [])).1) }
+    ensures err { K.is_honest keeper.new → OnErr result (Began K.answers (K.vault keeper.old) (W.contents writer.old) (advance most part.old.items (byte ∷ [])).0 (K.vault keeper.new) (W.contents writer.new)) }
+    ensures bound { vec_len part.new ≤ most }
+    ensures kind { ¬ (result ≡ Err ReplayFault.Read) }
+    ensures honest { K.is_honest keeper.new → K.is_honest keeper.old }
+{
+    if byte == b'\n' {
+        answer_line(alloc, keeper, writer, part.as_slice())?;
+        part.clear();
+        Ok(())
+    } else {
+        push_within(part, byte, most)
+    }
+}
+
+/// Takes the next bytes of the input, and answers each line that ends in them. Of a line so many bytes are kept.
+pub fn feed<K: Keeper, W: Write>(
+    alloc: Global,
+    keeper: &mut K,
+    writer: &mut W,
+    part: &mut Vec<u8>,
+    most: usize,
+    piece: &[u8],
+) -> Result<(), ReplayFault>
+    requires { vec_len part.old ≤ most }
+    ensures ok { K.is_honest keeper.new → OnOk result (Finished K.answers (K.vault keeper.old) (W.contents writer.old) (advance most part.old.items piece.now).0 (K.vault keeper.new) (W.contents writer.new)) }
+    ensures part { OnOk result (part.new.items ≡ (advance most part.old.items piece.now).1) }
+    ensures err { K.is_honest keeper.new → OnErr result (Began K.answers (K.vault keeper.old) (W.contents writer.old) (advance most part.old.items piece.now).0 (K.vault keeper.new) (W.contents writer.new)) }
+    ensures bound { vec_len part.new ≤ most }
+    ensures kind { ¬ (result ≡ Err ReplayFault.Read) }
+    ensures honest { K.is_honest keeper.new → K.is_honest keeper.old }
+{
+    for byte in piece {
+        take_byte(alloc, keeper, writer, part, most, *byte)?;
+    }
+    Ok(())
+}
+
+/// Answers a last line that lacks its LF, if there is one.
+fn answer_last<K: Keeper, W: Write>(
+    alloc: Global,
+    keeper: &mut K,
+    writer: &mut W,
+    part: &[u8],
+) -> Result<(), ReplayFault>
+    ensures ok { K.is_honest keeper.new → OnOk result (Finished K.answers (K.vault keeper.old) (W.contents writer.old) (last_line part.now) (K.vault keeper.new) (W.contents writer.new)) }
+    ensures err { K.is_honest keeper.new → OnErr result (Began K.answers (K.vault keeper.old) (W.contents writer.old) (last_line part.now) (K.vault keeper.new) (W.contents writer.new)) }
+    ensures kind { ¬ (result ≡ Err ReplayFault.Read) }
+    ensures honest { K.is_honest keeper.new → K.is_honest keeper.old }
+{
+    if part.is_empty() {
+        Ok(())
+    } else {
+        answer_line(alloc, keeper, writer, part)
+    }
+}
+
+/// Answers a last line that lacks its LF, and hands on what the writer holds back.
+pub fn finish<K: Keeper, W: Write>(
+    alloc: Global,
+    keeper: &mut K,
+    writer: &mut W,
+    part: &[u8],
+) -> Result<(), ReplayFault>
+    ensures ok { K.is_honest keeper.new → OnOk result (Finished K.answers (K.vault keeper.old) (W.contents writer.old) (last_line part.now) (K.vault keeper.new) (W.contents writer.new)) }
+    ensures err { K.is_honest keeper.new → OnErr result (Began K.answers (K.vault keeper.old) (W.contents writer.old) (last_line part.now) (K.vault keeper.new) (W.contents writer.new)) }
+    ensures kind { ¬ (result ≡ Err ReplayFault.Read) }
+    ensures honest { K.is_honest keeper.new → K.is_honest keeper.old }
+{
+    answer_last(alloc, keeper, writer, part)?;
+    flush(writer)
+}
