@@ -1,8 +1,7 @@
 -- The last of some settings.
-use Rattle.std.proofs.Common.{◌≡◌, ℕ, ◌-◌, List, [], ◌∷◌, length, Option, Some, None, refl, ap, sym}
+use Rattle.std.proofs.Common.{◌≡◌, ◌-◌, List, [], ◌∷◌, length, Some, ap, sym}
 use native.Mathlib.Numerals.{unary_clauses}
 use Rattle.std.specs.List.{slice_get}
-use Rattle.vault_core_model.specs.declared.records.LastSetting.{LastSetting}
 use Rattle.vault_core_model.specs.declared.records.Setting.{Setting}
 use Rattle.vault_core_model.specs.Reads.{last_setting}
 use Rattle.vault_core_model.specs.Vault.{last_lock}

@@ -1,5 +1,5 @@
 //! Records found by name or id, going over a whole list.
-ghost use Rattle.std.specs.Prelude.{◌≡◌, ◌==◌, Some, None, IfOk, find, option_map, option_and_then, filter};
+ghost use Rattle.std.specs.Prelude.{◌≡◌, ◌==◌, IfOk, find, option_map, option_and_then, filter};
 ghost use Rattle.std.specs.List.{list_any};
 ghost use Rattle.std.specs.Option.{option_copied};
 ghost use Rattle.std.specs.Str.{bytes_eq};
@@ -45,7 +45,10 @@ pub(crate) fn bucket<'a>(buckets: &'a [Bucket], name: &BucketName) -> Option<&'a
 }
 
 /// Whose the bucket of that name is, and its default retention.
-pub(crate) fn config(buckets: &[Bucket], name: &BucketName) -> Result<Option<BucketConfig>, AllocError>
+pub(crate) fn config(
+    buckets: &[Bucket],
+    name: &BucketName,
+) -> Result<Option<BucketConfig>, AllocError>
     ensures { IfOk result (λ found. found ≡ config_in buckets.now name.now) }
 {
     let Some(bucket) = bucket(buckets, name) else {

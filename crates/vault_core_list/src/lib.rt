@@ -4,6 +4,8 @@
 //! and running sums has to answer what this one answers.
 #![tactic(auto)]
 
+mod change;
 mod find;
+pub mod list_keeper;
 mod place;
-
+mod sums;
