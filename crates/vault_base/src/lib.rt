@@ -3,8 +3,11 @@
 
 mod calendar;
 pub mod content;
+pub mod failing;
 pub mod moment;
 pub mod name;
 pub mod refusal;
 pub mod right;
 mod spelling;
+#[cfg(test)]
+mod tests;
