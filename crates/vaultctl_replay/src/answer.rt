@@ -25,7 +25,7 @@ fn reply_to<K: Keeper>(alloc: Global, keeper: &mut K, asked: &Line) -> Result<St
         Line::Skip => Ok(String::new(alloc)),
         Line::Refused(refusal) => reply_line(alloc, &Reply::Refused(*refusal)),
         Line::Command(timed) => {
-            let reply = step(keeper, timed.at, &timed.who, &timed.command);
+            let reply = step(alloc, keeper, timed.at, &timed.who, &timed.command);
             reply_line(alloc, &reply)
         }
     }
