@@ -12,11 +12,11 @@ use Rattle.vault_rules.specs.Due.{due_current, due_noncurrent, due_marker}
 use Rattle.vault_rules.specs.KeyPlan.{ids_rise, newer, first_admission, only_if, mark_rule, removal_rule, lone_rule, mark_steps, removal_steps, lone_steps, id_above, marker_on, marked, kept, key_plan}
 use Rattle.vault_rules.specs.Walk.{dues, unless, last_mark, mark_step, remove_step, lone_step, walk, marked_by, marker_at, removal, removals, keep_if, left_over, lone_removal}
 
-both : (a b : Bool) → IsTrue (a && b) → IsTrue a × IsTrue b
+pub both : (a b : Bool) → IsTrue (a && b) → IsTrue a × IsTrue b
 both true b h = (refl, h)
 both false b h = absurd (cc)
 
-and_true : (a b : Bool) → IsTrue a → IsTrue b → IsTrue (a && b)
+pub and_true : (a b : Bool) → IsTrue a → IsTrue b → IsTrue (a && b)
 and_true true b h k = k
 and_true false b h k = absurd (cc)
 
