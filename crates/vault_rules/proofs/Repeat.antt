@@ -1,5 +1,5 @@
 -- After some steps of a key's plan, the plan is the rest.
-use Rattle.std.proofs.Common.{◌≡◌, ℕ, zero, suc, ◌+◌, ◌<◌, ◌≤◌, ◌++◌, ◌&&◌, ◌==◌, Bool, true, false, nat_lt, nat_le, IsTrue, List, [], ◌∷◌, length, Option, Some, None, take, drop, refl, sym, ap, ◌∙◌, arith, cond}
+use Rattle.std.proofs.Common.{◌≡◌, ℕ, zero, suc, ◌<◌, ◌≤◌, ◌++◌, ◌&&◌, ◌==◌, Bool, true, false, nat_lt, nat_le, IsTrue, List, [], ◌∷◌, length, Option, Some, None, take, drop, refl, sym, ap, ◌∙◌, arith, cond}
 use Rattle.std.specs.Prelude.{not}
 use Rattle.std.specs.List.{list_all}
 use Rattle.std.proofs.lemmas.Bool.Decides.{nat_tests}
@@ -13,7 +13,8 @@ use Rattle.vault_rules.specs.KeyRepeats.{without, made, made_all, is_in_order}
 use Rattle.vault_rules.specs.Walk.{Dues, dues, unless, last_mark, marker_at, marked_by, removal, mark_step, remove_step, lone_step, removals, keep_if, left_over, lone_removal, later_phases, walk}
 use Rattle.vault_rules.proofs.Fit.{IsFalling, fit}
 use Rattle.vault_rules.proofs.Lasts.{walk_unmarked}
-use Rattle.vault_rules.proofs.Sets.{both, and_true, below_above, key_plan-walk}
+use Rattle.vault_rules.proofs.Sets.{below_above, key_plan-walk}
+use Rattle.vault_rules.proofs.Truth.{both, and_true, less_of_test, le_of_test, test_of_less}
 
 -- x is older than each of these, and was admitted no later
 abbrev pub IsBelow : Held → List Held → Type 0
@@ -169,6 +170,7 @@ one_step d f t hs s ss o e = marks (last_mark d hs) refl
         let same : s ≡ Remove a.0 a.1 = let k : u ≡ Remove a.0 a.1 = a.2 in cc in
         let rest : rs ++ lone_removal d (left_over d hs) ≡ ss = cc in
         ap (λ v. walk d t (made t hs v)) same ∙ (removal_goes d f t hs a.0 a.1 rs o m (r ∙ ap (λ v. v ∷ rs) a.2) ∙ rest)
+
     marks : (m : Option ℕ) → last_mark d hs ≡ m → walk d t (made t hs s) ≡ ss
     marks None m = later (removals d hs) m refl (sym (walk_unmarked d t hs m) ∙ e)
     marks (Some r) m =
@@ -202,15 +204,6 @@ up_to_without i t (y ∷ ys) b = cases (not (y.id == i)) (up_to_without i t ys b
     cases : (c : Bool) → IsUpTo t (without i ys) → IsUpTo t (cond c (y ∷ without i ys) (without i ys))
     cases true h = (b.0, h)
     cases false h = h
-
-less_of_test : (m n : ℕ) → IsTrue (nat_lt m n) → m < n
-less_of_test m n h = grind (arith, nat_tests)
-
-le_of_test : (m n : ℕ) → IsTrue (nat_le m n) → m ≤ n
-le_of_test m n h = grind (arith, nat_tests)
-
-test_of_less : (m n : ℕ) → m < n → IsTrue (nat_lt m n)
-test_of_less m n h = grind (arith, nat_tests)
 
 below_push : (x : Held) (l : List Held) (id t : ℕ) → x.id < id → x.admitted ≤ t → IsBelow x l → IsBelow x (l ++ marker_at id t ∷ [])
 below_push x [] id t h a b = (h, a, tt)

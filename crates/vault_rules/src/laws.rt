@@ -6,5 +6,4 @@ ghost use Rattle.vault_rules.specs.KeyRepeats.{KeyPlansRepeat};
 /// admissions don't go back.
 pub fn key_plans_repeat()
     ensures { KeyPlansRepeat }
-{
-}
+{}

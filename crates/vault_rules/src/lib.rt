@@ -6,3 +6,5 @@ pub mod laws;
 pub mod plan;
 pub mod rule;
 pub mod rule_set;
+#[cfg(test)]
+mod tests;
