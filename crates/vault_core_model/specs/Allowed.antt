@@ -25,11 +25,13 @@ pub record IsAdmission (v : Vault) (t : ℕ) (a : Admission) : Type 0 where
   pub fits : admitted_bytes v bucket.dept + a.history.entry.size ≤ quota
 
 -- the entry of that id is held
+abbrev pub IsHeldId : Vault → ℕ → Type 0
+IsHeldId v id = (entry : Entry) × (entry_of v id ≡ Some entry) × (entry.removal ≡ None)
+
+-- the removal, now, of a held entry
 pub record IsRemoval (v : Vault) (t id : ℕ) (r : Removal) : Type 0 where
   pub now : r.at ≡ t
-  pub entry : Entry
-  pub there : entry_of v id ≡ Some entry
-  pub held : entry.removal ≡ None
+  pub held : IsHeldId v id
 
 -- a change that may be made at t: a name that is free, the next entry, or the removal of a held one
 abbrev pub Allows : Vault → ℕ → Change → Type 0

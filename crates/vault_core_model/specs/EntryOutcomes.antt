@@ -11,11 +11,13 @@ use Rattle.vault_core_model.specs.declared.records.Author.TheVariants as author
 use Rattle.vault_core_model.specs.declared.records.Cause.{Cause}
 use Rattle.vault_core_model.specs.declared.records.Cause.TheVariants as cause
 use Rattle.vault_core_model.specs.declared.records.History.{History}
+use Rattle.vault_core_model.specs.declared.records.Removal.{Removal}
 use Rattle.vault_core_model.specs.declared.change.Change.TheVariants as change
 use Rattle.vault_core_model.specs.declared.command.Put.{Put}
 use Rattle.vault_core_model.specs.declared.command.Get.{Get}
 use Rattle.vault_core_model.specs.declared.command.DeleteVersion.{DeleteVersion}
 use Rattle.vault_core_model.specs.declared.reply.Answer.{Answer}
+use Rattle.vault_core_model.specs.declared.reply.Removed.{Removed}
 use Rattle.vault_core_model.specs.declared.reply.Answer.TheVariants as answer
 use Rattle.vault_core_model.specs.declared.access.Access.{Access}
 use Rattle.vault_core_model.specs.Vault.{Vault}
@@ -41,13 +43,19 @@ access_to_put v t who c = do
   _ ← needs_if (is_some c.hold) a.caller right.Hold
   Ok a
 
--- the version that a Put admits: the arguments, the lock, the quota, the id
-abbrev pub admission : Vault → ℕ → List ℕ → Put → Access → Result History Refusal
-admission v t who c a = do
+-- the lock that a Put gives: the arguments, the lock, the quota
+abbrev pub lock_to_admit : Vault → ℕ → Put → Access → Result Lock Refusal
+lock_to_admit v t c a = do
   _ ← small_enough c.content
   _ ← ends_later_if_given t c.retention
   lock ← lock_at_admission a.bucket c.retention c.hold t
   _ ← within_quota v a.bucket.dept (length c.content)
+  Ok lock
+
+-- the version that a Put admits, with the next id
+abbrev pub admission : Vault → ℕ → List ℕ → Put → Access → Result History Refusal
+admission v t who c a = do
+  lock ← lock_to_admit v t c a
   id ← free_id v
   Ok (new_version id t who c lock)
 
@@ -74,10 +82,20 @@ abbrev pub cause_by : Permit → List ℕ → Cause
 cause_by permit.Free who = cause.Request who
 cause_by permit.Bypass who = cause.Bypass who
 
+-- the held entry of the id, and how its lock permits the removal
+abbrev pub removal_permitted : Vault → ℕ → DeleteVersion → Access → Result Removed Refusal
+removal_permitted v t c a = do
+  e ← held_entry v c.bucket c.key c.id
+  p ← permitted (removable (lock_of v c.id) t c.bypass a.caller.rights.bypass)
+  Ok (record { id = c.id; marker = e.marker; permit = p })
+
+-- the removal that a permit gives
+abbrev pub removal_by : ℕ → List ℕ → Permit → Removal
+removal_by t who p = record { at = t; cause = cause_by p who }
+
 -- the entry is removed for good, where no lock denies it (S3 User Guide, "Deleting object versions from a versioning-enabled bucket")
 abbrev pub delete_version : Vault → ℕ → List ℕ → DeleteVersion → Result (Answer × Vault) Refusal
 delete_version v t who c = do
   a ← access v t who c.bucket right.DeleteVersion
-  e ← held_entry v c.bucket c.key c.id
-  p ← permitted (removable (lock_of v c.id) t c.bypass a.caller.rights.bypass)
-  Ok (answer.Removed (record { id = c.id; marker = e.marker; permit = p }), changed v t (change.Remove c.id (record { at = t; cause = cause_by p who })))
+  r ← removal_permitted v t c a
+  Ok (answer.Removed r, changed v t (change.Remove c.id (removal_by t who r.permit)))

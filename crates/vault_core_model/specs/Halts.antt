@@ -35,6 +35,11 @@ abbrev pub is_device : {X : Type 0} → Result X Halt → Bool
 is_device (Ok x) = false
 is_device (Err e) = is_device_halt e
 
+-- a check failed
+abbrev pub is_refused : {X : Type 0} → Result X Halt → Bool
+is_refused (Err (halt.Refused r)) = true
+is_refused _ = false
+
 -- a count of failures rose, or stands at its greatest value
 abbrev pub Rose : ℕ → ℕ → Type 0
 Rose old new = old < 18446744073709551615 → old < new

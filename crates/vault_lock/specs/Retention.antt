@@ -1,6 +1,6 @@
 -- Retention modes and periods, and the first setting of a version.
-use Rattle.std.specs.Prelude.{ℕ, ◌+◌, ◌*◌, Bool, true, false, ◌&&◌, nat_lt, nat_le, Option, Some, None, option_map, if◌then◌else◌}
-use Rattle.vault_base.specs.Days.{day_length, is_moment}
+use Rattle.std.specs.Prelude.{ℕ, ◌<◌, ◌+◌, ◌*◌, Bool, true, false, ◌&&◌, nat_lt, nat_le, Option, Some, None, option_map, if◌then◌else◌}
+use Rattle.vault_base.specs.Days.{day_length, last_moment, is_moment}
 use Rattle.vault_base.specs.Calendar.{years_later}
 use Rattle.vault_lock.specs.declared.retention.Mode.{Mode}
 use Rattle.vault_lock.specs.declared.retention.Mode.TheVariants.{Governance, Compliance}
@@ -39,6 +39,11 @@ end_of (Years n) t = years_later n t
 abbrev pub default_retention : Default → ℕ → Option Retention
 default_retention d t =
     if is_moment (end_of d.period t) then Some (record { mode = d.mode; until = end_of d.period t }) else None
+
+-- the bucket's default applies to a version placed at t, and its period ends past the last moment
+abbrev pub DefaultEndsTooLate : Option Default → Option Retention → ℕ → Type 0
+DefaultEndsTooLate (Some d) None t = last_moment < end_of d.period t
+DefaultEndsTooLate _ _ t = ⊥
 
 -- the first lock of a version placed at t: the retention asked for, else the bucket's default, else none; none at all where the default's end is out of range (S3 User Guide, "Locking objects with Object Lock": Default retention)
 abbrev pub first_lock : Option Default → Option Retention → Bool → ℕ → Option Lock

@@ -3,3 +3,5 @@
 
 pub mod lock;
 pub mod retention;
+#[cfg(test)]
+mod tests;

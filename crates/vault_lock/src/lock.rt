@@ -1,9 +1,9 @@
 //! What a setting says of a version, and who may lift it.
-ghost use Rattle.std.specs.Prelude.{◌≡◌, ◌↔◌, [], ◌∷◌, slice_get, IsTrue, IfErr, Some, Ok};
+ghost use Rattle.std.specs.Prelude.{◌≡◌, ◌↔◌, [], ◌∷◌, slice_get, option_copied, IsTrue, IsNone, IfErr, Some, Ok};
 ghost use Rattle.vault_lock.specs.Lock.{guards, is_locked, removable, retainable, permit_to_lower, KeepsRetention, LowersGovernance, HasInForce};
-ghost use Rattle.vault_lock.specs.Retention.{in_force};
+ghost use Rattle.vault_lock.specs.Retention.{in_force, first_lock, DefaultEndsTooLate};
 
-use crate::retention::{Mode, Retention};
+use crate::retention::{Default, Mode, Retention};
 use vault_base::moment::Moment;
 
 /// What a setting says of a version.
@@ -28,6 +28,28 @@ pub enum Denial {
     Hold,
     Compliance,
     Governance,
+}
+
+/// The first lock of a version that is placed now: the retention that is asked for, else that of
+/// the bucket's default, else none; the hold as asked. None where the default would end past the
+/// last moment.
+pub fn first_lock(
+    default: Option<&Default>,
+    retention: Option<Retention>,
+    hold: bool,
+    now: Moment,
+) -> Option<Lock>
+    ensures exact { result ≡ first_lock (option_copied default.entry) retention hold now }
+    ensures out_of_range { IsNone result ↔ DefaultEndsTooLate (option_copied default.entry) retention now }
+{
+    if retention.is_some() {
+        return Some(Lock { retention, hold });
+    }
+    let Some(default) = default else {
+        return Some(Lock { retention, hold });
+    };
+    let retention = Some(default.retention(now)?);
+    Some(Lock { retention, hold })
 }
 
 /// Whether a version with this lock is guarded now, by its hold or by its retention.

@@ -1,11 +1,17 @@
 -- The plan of a run at one key, from the set of its held entries.
 use Rattle.std.specs.Prelude.{ℕ, ◌+◌, ◌-◌, ◌++◌, ◌&&◌, ◌==◌, Bool, true, false, not, nat_lt, max, List, [], ◌∷◌, length, filter, filter_map, fold, Option, None, is_none, option_map, if◌then◌else◌}
+use Rattle.std.specs.List.{list_all}
 use Rattle.vault_lock.specs.Lock.{is_locked}
 use Rattle.vault_rules.specs.declared.plan.Held.{Held}
 use Rattle.vault_rules.specs.declared.rule.Rule.{Rule}
 use Rattle.vault_rules.specs.declared.plan.Step.{Step}
 use Rattle.vault_rules.specs.declared.plan.Step.TheVariants.{Mark, Remove, RemoveLone}
 use Rattle.vault_rules.specs.Due.{due_current, due_noncurrent, due_marker}
+
+-- each id is below those that stand behind it
+abbrev pub ids_rise : List Held → Bool
+ids_rise [] = true
+ids_rise (x ∷ xs) = list_all (λ y. nat_lt x.id y.id) xs && ids_rise xs
 
 -- the entries of the key that are newer than x
 abbrev pub newer : List Held → Held → List Held

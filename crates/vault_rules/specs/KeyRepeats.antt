@@ -1,5 +1,5 @@
 -- A run that stopped within a key may be given again.
-use Rattle.std.specs.Prelude.{◌≡◌, ℕ, ◌&&◌, ◌==◌, Bool, true, false, not, nat_lt, nat_le, List, [], ◌∷◌, ◌++◌, take, drop, filter, IsTrue}
+use Rattle.std.specs.Prelude.{◌≡◌, ℕ, ◌&&◌, ◌==◌, Bool, not, nat_lt, nat_le, List, [], ◌∷◌, ◌++◌, take, drop, filter, IsTrue}
 use Rattle.vault_rules.specs.declared.plan.Held.{Held}
 use Rattle.vault_rules.specs.declared.rule.Rule.{Rule}
 use Rattle.vault_rules.specs.declared.plan.Step.{Step}

@@ -1,5 +1,5 @@
 -- Which lists of lifecycle rules a bucket may have.
-use Rattle.std.specs.Prelude.{ℕ, Bool, true, false, not, ◌&&◌, ◌||◌, nat_lt, nat_le, List, [], ◌∷◌, length, Option, Some, None, is_some, is_none}
+use Rattle.std.specs.Prelude.{ℕ, Bool, true, false, not, ◌&&◌, ◌||◌, nat_lt, nat_le, List, [], ◌∷◌, ◌++◌, length, Option, Some, None, is_some, is_none}
 use Rattle.std.specs.List.{list_any}
 use Rattle.std.specs.Str.{bytes_eq}
 use Rattle.vault_rules.specs.declared.rule.Noncurrent.{Noncurrent}
@@ -40,10 +40,14 @@ abbrev pub fault_where : Bool → RuleFault → Option RuleFault → Option Rule
 fault_where true fault later = Some fault
 fault_where false fault later = later
 
--- the fault of a rule that stands behind rules of these ids
-abbrev pub fault_of : List (List ℕ) → Rule → Option RuleFault
-fault_of ids r =
-    fault_where (list_any (λ id. bytes_eq id r.id) ids) SameId
+-- a rule of that id is among these
+abbrev pub has_id : List Rule → List ℕ → Bool
+has_id rules id = list_any (λ r. bytes_eq r.id id) rules
+
+-- the fault of a rule that stands behind these
+abbrev pub fault_of : List Rule → Rule → Option RuleFault
+fault_of before r =
+    fault_where (has_id before r.id) SameId
     (fault_where (not (has_action r)) NoAction
     (fault_where (has_days_and_markers r) DaysAndMarkers
     (fault_where (not (is_in_range r)) OutOfRange None)))
@@ -52,10 +56,10 @@ abbrev pub first_of_both : Option RuleFault → Option RuleFault → Option Rule
 first_of_both None later = later
 first_of_both (Some fault) later = Some fault
 
--- the fault of the first rule at fault; the ids are those of the rules before it
-abbrev pub first_fault : List (List ℕ) → List Rule → Option RuleFault
-first_fault ids [] = None
-first_fault ids (r ∷ rs) = first_of_both (fault_of ids r) (first_fault (r.id ∷ ids) rs)
+-- the fault of the first rule at fault, behind those before it
+abbrev pub first_fault : List Rule → List Rule → Option RuleFault
+first_fault before [] = None
+first_fault before (r ∷ rs) = first_of_both (fault_of before r) (first_fault (before ++ r ∷ []) rs)
 
 -- what is wrong with a list of rules, if anything is (S3 User Guide, "Lifecycle configuration elements")
 abbrev pub rules_fault : List Rule → Option RuleFault

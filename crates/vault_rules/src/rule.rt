@@ -1,5 +1,11 @@
 //! A lifecycle rule.
-use vault_base::name::{KeyPrefix, RuleId};
+ghost use Rattle.std.specs.Prelude.{◌≡◌};
+ghost use Rattle.vault_rules.specs.Rules.{is_days, is_newer, is_noncurrent_action, has_action, has_days_and_markers, is_in_range};
+ghost use Rattle.vault_rules.specs.Due.{have_passed, fits, days_have_passed, noncurrent_has_passed};
+
+use std::alloc::AllocError;
+use vault_base::moment::Moment;
+use vault_base::name::{KeyPrefix, ObjectKey, RuleId};
 
 /// The action on noncurrent entries.
 #[derive(Clone, Copy, Debug, PartialEq, Eq)]
@@ -21,4 +27,100 @@ pub struct Rule {
     /// Expiration by ExpiredObjectDeleteMarker.
     pub lone_markers: bool,
     pub noncurrent: Option<Noncurrent>,
+}
+
+impl Clone for Rule {
+    ghost is_clone = { λ s t. t ≡ s };
+
+    fn clone(&self) -> Result<Rule, AllocError> {
+        Ok(Rule {
+            id: self.id.clone()?,
+            prefix: self.prefix.clone()?,
+            enabled: self.enabled,
+            days: self.days,
+            lone_markers: self.lone_markers,
+            noncurrent: self.noncurrent,
+        })
+    }
+}
+
+/// Whether a number of days that a rule names is from 1 to 2,147,483,647.
+fn is_days(days: u32) -> bool
+    ensures { result ≡ is_days days }
+{
+    1 <= days && days <= 2_147_483_647
+}
+
+/// Whether a number of newer noncurrent entries that a rule names is from 1 to 100.
+fn is_newer(newer: u32) -> bool
+    ensures { result ≡ is_newer newer }
+{
+    1 <= newer && newer <= 100
+}
+
+/// Whether the midnight has come that ends so many days from a moment.
+fn have_passed(days: u32, from: Moment, now: Moment) -> bool
+    ensures { result ≡ have_passed days from now }
+{
+    let end = from.secs() + 86_400 * u64::from(days);
+    end.next_multiple_of(86_400) <= now.secs()
+}
+
+impl Noncurrent {
+    /// Whether its numbers are in their ranges.
+    fn is_in_range(&self) -> bool
+        ensures { result ≡ is_noncurrent_action self.now }
+    {
+        is_days(self.days) && self.newer.map_or(true, is_newer)
+    }
+}
+
+impl Rule {
+    /// Whether it has one action at least.
+    pub(crate) fn has_action(&self) -> bool
+        ensures { result ≡ has_action self.now }
+    {
+        self.days.is_some() || self.lone_markers || self.noncurrent.is_some()
+    }
+
+    /// Whether it has both kinds of Expiration at once.
+    pub(crate) fn has_days_and_markers(&self) -> bool
+        ensures { result ≡ has_days_and_markers self.now }
+    {
+        self.days.is_some() && self.lone_markers
+    }
+
+    /// Whether each number that it gives is in its range.
+    pub(crate) fn is_in_range(&self) -> bool
+        ensures { result ≡ is_in_range self.now }
+    {
+        self.days.map_or(true, is_days)
+            && self.noncurrent.map_or(true, |action| action.is_in_range())
+    }
+
+    /// Whether it is for entries of that key and size.
+    pub(crate) fn fits(&self, key: &ObjectKey, _size: u64) -> bool
+        ensures { result ≡ fits self.now key.now _size }
+    {
+        let prefix = self.prefix.as_str().as_bytes();
+        self.enabled && key.as_str().as_bytes().starts_with(prefix)
+    }
+
+    /// Whether its Days have passed since that moment.
+    pub(crate) fn days_have_passed(&self, from: Moment, now: Moment) -> bool
+        ensures { result ≡ days_have_passed self.now.days from now }
+    {
+        self.days.is_some_and(|days| have_passed(days, from, now))
+    }
+
+    /// Whether its NoncurrentDays have passed since that moment, under enough newer noncurrent
+    /// entries.
+    pub(crate) fn noncurrent_has_passed(&self, since: Moment, rank: usize, now: Moment) -> bool
+        ensures { result ≡ noncurrent_has_passed self.now.noncurrent since rank now }
+    {
+        let Some(action) = self.noncurrent else {
+            return false;
+        };
+        have_passed(action.days, since, now) && action.newer.unwrap_or(0) as usize <= rank
+    }
 }

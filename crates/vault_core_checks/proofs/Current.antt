@@ -1,0 +1,28 @@
+-- The entry that a key's head names is the current one.
+use Rattle.std.proofs.Common.{◌≡◌, ℕ, List, Option, Some, None, Result, Ok, Err, refl, sym, ◌∙◌, ap}
+use Rattle.std.specs.Prelude.{IfOk, option_map}
+use Rattle.vault_core_model.specs.declared.halt.Fault.{Fault}
+use Rattle.vault_core_model.specs.declared.records.Entry.{Entry}
+use Rattle.vault_core_model.specs.declared.records.Head.{Head}
+use Rattle.vault_core_model.specs.declared.records.History.{History}
+use Rattle.vault_core_model.specs.Vault.{Vault}
+use Rattle.vault_core_model.specs.Places.{current}
+use Rattle.vault_core_model.specs.Reads.{entry_of, head_of}
+use Rattle.vault_core_model.specs.Sound.{Sound}
+use Rattle.vault_core_laws.proofs.Newest.{current-head, current-no_head}
+
+pub none_found : (v : Vault) (bucket key : List ℕ) (head : Option Head) → head ≡ None → head ≡ head_of v bucket key → None ≡ option_map (λ (h : History). h.entry) (current v bucket key)
+none_found v bucket key head none is = rw (current-no_head v bucket key (sym is ∙ none)) refl
+
+-- what was read at the head's id
+entry_is_current : (v : Vault) (bucket key : List ℕ) (head : Head) → Sound v → head_of v bucket key ≡ Some head → entry_of v head.newest ≡ option_map (λ (h : History). h.entry) (current v bucket key)
+entry_is_current v bucket key head sound e =
+    let law = current-head v bucket key head sound e in rw (law.1, law.2) refl
+
+pub newest_found : (v mid : Vault) (bucket key : List ℕ) (head : Head) (read : Option Head) (found : Result (Option Entry) Fault)
+    → mid ≡ v → Sound v → read ≡ Some head → read ≡ head_of v bucket key
+    → IfOk found (λ e. e ≡ entry_of mid head.newest)
+    → IfOk found (λ e. e ≡ option_map (λ (h : History). h.entry) (current v bucket key))
+newest_found v mid bucket key head read (Ok e) same sound some is found =
+    found ∙ ap (λ w. entry_of w head.newest) same ∙ entry_is_current v bucket key head sound (sym is ∙ some)
+newest_found v mid bucket key head read (Err f) same sound some is found = found

@@ -1,0 +1,69 @@
+//! The arguments of commands.
+ghost use Rattle.std.specs.Prelude.{◌≡◌, ◌≤◌, IsTrue, OnOk, false, length};
+ghost use Rattle.vault_core_model.specs.Halts.{Finds, is_device, Rose};
+ghost use Rattle.vault_core_model.specs.Checks.{small_enough, ends_later_if_given, known_department, known_department_if_given};
+
+use vault_base::content::Content;
+use vault_base::moment::Moment;
+use vault_base::name::DeptName;
+use vault_base::refusal::Refusal;
+use vault_core_model::halt::Halt;
+use vault_core_model::keeper::Keeper;
+use vault_lock::retention::Retention;
+
+/// The greatest content of one version, in bytes.
+pub const MOST_CONTENT: usize = 1_048_576;
+
+/// The content is within the limit of one version.
+pub fn check_size(content: &Content) -> Result<(), Halt>
+    ensures found { Finds result (small_enough content.now) }
+    ensures small { OnOk result (length content.now ≤ 1048576) }
+    ensures device { is_device result ≡ false }
+{
+    if content.len() <= MOST_CONTENT {
+        Ok(())
+    } else {
+        Err(Halt::Refused(Refusal::EntityTooLarge))
+    }
+}
+
+/// A new retention, where one is given, ends after the reading.
+pub fn check_end(at: Moment, retention: Option<Retention>) -> Result<(), Halt>
+    ensures found { Finds result (ends_later_if_given at retention) }
+    ensures device { is_device result ≡ false }
+{
+    match retention {
+        None => Ok(()),
+        Some(retention) if at < retention.until => Ok(()),
+        Some(_) => Err(Halt::Refused(Refusal::InvalidArgument)),
+    }
+}
+
+/// The department is there.
+pub fn check_dept<K: Keeper>(keeper: &mut K, dept: &DeptName) -> Result<(), Halt>
+    ensures found { K.is_honest keeper.new → Finds result (known_department (K.vault keeper.old) dept.now) }
+    ensures same { K.vault keeper.new ≡ K.vault keeper.old }
+    ensures honest { K.is_honest keeper.new → K.is_honest keeper.old }
+    ensures counted { K.count keeper.old ≤ K.count keeper.new }
+    ensures device { IsTrue (is_device result) → Rose (K.count keeper.old) (K.count keeper.new) }
+{
+    if keeper.dept(dept)? {
+        Ok(())
+    } else {
+        Err(Halt::Refused(Refusal::InvalidArgument))
+    }
+}
+
+/// The department, where one is given, is there.
+pub fn check_dept_if_given<K: Keeper>(keeper: &mut K, dept: &Option<DeptName>) -> Result<(), Halt>
+    ensures found { K.is_honest keeper.new → Finds result (known_department_if_given (K.vault keeper.old) dept.now) }
+    ensures same { K.vault keeper.new ≡ K.vault keeper.old }
+    ensures honest { K.is_honest keeper.new → K.is_honest keeper.old }
+    ensures counted { K.count keeper.old ≤ K.count keeper.new }
+    ensures device { IsTrue (is_device result) → Rose (K.count keeper.old) (K.count keeper.new) }
+{
+    match dept {
+        None => Ok(()),
+        Some(dept) => check_dept(keeper, dept),
+    }
+}

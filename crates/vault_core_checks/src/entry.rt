@@ -1,0 +1,190 @@
+//! Which entry is meant, and whether its lock permits its removal.
+ghost use Rattle.std.specs.Prelude.{◌≡◌, ◌≤◌, IsTrue, IfOk, false, Some, None, Err, option_map};
+ghost use Rattle.vault_core_model.specs.Halts.{Finds, is_device, is_refused, Rose};
+ghost use Rattle.vault_core_model.specs.Places.{is_held_at, current};
+ghost use Rattle.vault_core_model.specs.Reads.{entry_of, lock_of};
+ghost use Rattle.vault_core_model.specs.Sound.{Sound};
+ghost use Rattle.vault_core_model.specs.Checks.{content_on_top, held_entry, content_version, version_meant, permitted, refusal_of, lock_at_admission};
+ghost use Rattle.vault_lock.specs.Lock.{removable};
+
+use vault_base::moment::Moment;
+use vault_base::name::{BucketName, ObjectKey, VersionId};
+use vault_base::refusal::{Reason, Refusal};
+use vault_core_model::halt::{Fault, Halt};
+use vault_core_model::keeper::Keeper;
+use vault_core_model::records::{BucketConfig, Entry};
+use vault_lock::lock::{Denial, Lock, Permit, first_lock, may_remove};
+use vault_lock::retention::Retention;
+
+/// Whether the entry is held in that bucket, under that key.
+fn is_held_at(bucket: &BucketName, key: &ObjectKey, entry: &Entry) -> bool
+    ensures { result ≡ is_held_at bucket.now key.now entry.now }
+{
+    entry.bucket == *bucket && entry.key == *key && entry.removal.is_none()
+}
+
+/// The held entry of that id, in that bucket and under that key.
+pub fn find_held<K: Keeper>(
+    keeper: &mut K,
+    bucket: &BucketName,
+    key: &ObjectKey,
+    id: VersionId,
+) -> Result<Entry, Halt>
+    ensures found { K.is_honest keeper.new → Finds result (held_entry (K.vault keeper.old) bucket.now key.now id) }
+    ensures there { K.is_honest keeper.new → IfOk result (λ entry. entry_of (K.vault keeper.old) id ≡ Some entry) }
+    ensures held { IfOk result (λ entry. entry.removal ≡ None) }
+    ensures same { K.vault keeper.new ≡ K.vault keeper.old }
+    ensures honest { K.is_honest keeper.new → K.is_honest keeper.old }
+    ensures counted { K.count keeper.old ≤ K.count keeper.new }
+    ensures device { IsTrue (is_device result) → Rose (K.count keeper.old) (K.count keeper.new) }
+{
+    let Some(entry) = keeper.entry(id)? else {
+        return Err(Halt::Refused(Refusal::NoSuchVersion));
+    };
+    if is_held_at(bucket, key, &entry) {
+        Ok(entry)
+    } else {
+        Err(Halt::Refused(Refusal::NoSuchVersion))
+    }
+}
+
+/// The entry is a content version.
+fn check_version(entry: Entry) -> Result<Entry, Halt>
+    ensures found { Finds result (content_version entry) }
+    ensures device { is_device result ≡ false }
+{
+    if entry.marker {
+        Err(Halt::Refused(Refusal::MethodNotAllowed))
+    } else {
+        Ok(entry)
+    }
+}
+
+/// The newest held entry of a key.
+fn find_newest<K: Keeper>(
+    keeper: &mut K,
+    bucket: &BucketName,
+    key: &ObjectKey,
+) -> Result<Option<Entry>, Fault>
+    requires { K.is_honest keeper.old → Sound (K.vault keeper.old) }
+    ensures value { K.is_honest keeper.new → IfOk result (λ found. found ≡ option_map (λ h. h.entry) (current (K.vault keeper.old) bucket.now key.now)) }
+    ensures same { K.vault keeper.new ≡ K.vault keeper.old }
+    ensures honest { K.is_honest keeper.new → K.is_honest keeper.old }
+    ensures counted { K.count keeper.old ≤ K.count keeper.new }
+    ensures device { result ≡ Err Fault.Device → Rose (K.count keeper.old) (K.count keeper.new) }
+{
+    let Some(head) = keeper.head(bucket, key)? else {
+        return Ok(None);
+    };
+    keeper.entry(head.newest)
+}
+
+/// The content version on top of its key.
+fn find_current<K: Keeper>(
+    keeper: &mut K,
+    bucket: &BucketName,
+    key: &ObjectKey,
+) -> Result<Entry, Halt>
+    requires { K.is_honest keeper.old → Sound (K.vault keeper.old) }
+    ensures found { K.is_honest keeper.new → Finds result (content_on_top (current (K.vault keeper.old) bucket.now key.now)) }
+    ensures same { K.vault keeper.new ≡ K.vault keeper.old }
+    ensures honest { K.is_honest keeper.new → K.is_honest keeper.old }
+    ensures counted { K.count keeper.old ≤ K.count keeper.new }
+    ensures device { IsTrue (is_device result) → Rose (K.count keeper.old) (K.count keeper.new) }
+{
+    let Some(entry) = find_newest(keeper, bucket, key)? else {
+        return Err(Halt::Refused(Refusal::NoSuchKey(false)));
+    };
+    if entry.marker {
+        Err(Halt::Refused(Refusal::NoSuchKey(true)))
+    } else {
+        Ok(entry)
+    }
+}
+
+/// The content version that is meant: the current one, or that of the id.
+pub fn find_version<K: Keeper>(
+    keeper: &mut K,
+    bucket: &BucketName,
+    key: &ObjectKey,
+    id: Option<VersionId>,
+) -> Result<Entry, Halt>
+    requires { K.is_honest keeper.old → Sound (K.vault keeper.old) }
+    ensures found { K.is_honest keeper.new → Finds result (version_meant (K.vault keeper.old) bucket.now key.now id) }
+    ensures same { K.vault keeper.new ≡ K.vault keeper.old }
+    ensures honest { K.is_honest keeper.new → K.is_honest keeper.old }
+    ensures counted { K.count keeper.old ≤ K.count keeper.new }
+    ensures device { IsTrue (is_device result) → Rose (K.count keeper.old) (K.count keeper.new) }
+{
+    let Some(id) = id else {
+        return find_current(keeper, bucket, key);
+    };
+    let entry = find_held(keeper, bucket, key, id)?;
+    check_version(entry)
+}
+
+/// The lock of the entry of that id; a delete marker is not locked.
+pub fn find_lock<K: Keeper>(keeper: &mut K, id: VersionId) -> Result<Lock, Halt>
+    ensures found { K.is_honest keeper.new → IfOk result (λ lock. lock ≡ lock_of (K.vault keeper.old) id) }
+    ensures refused { is_refused result ≡ false }
+    ensures same { K.vault keeper.new ≡ K.vault keeper.old }
+    ensures honest { K.is_honest keeper.new → K.is_honest keeper.old }
+    ensures counted { K.count keeper.old ≤ K.count keeper.new }
+    ensures device { IsTrue (is_device result) → Rose (K.count keeper.old) (K.count keeper.new) }
+{
+    match keeper.setting(id)? {
+        None => Ok(Lock {
+            retention: None,
+            hold: false,
+        }),
+        Some(setting) => Ok(setting.lock),
+    }
+}
+
+fn denial(denial: Denial) -> Refusal
+    ensures { result ≡ refusal_of denial }
+{
+    match denial {
+        Denial::Hold => Refusal::AccessDenied(Reason::LegalHold),
+        Denial::Compliance => Refusal::AccessDenied(Reason::RetentionCompliance),
+        Denial::Governance => Refusal::AccessDenied(Reason::RetentionGovernance),
+    }
+}
+
+/// The lock permits the removal: freely, or by a bypass that is asked for and allowed.
+pub fn check_removal(
+    lock: &Lock,
+    at: Moment,
+    bypass: bool,
+    may_bypass: bool,
+) -> Result<Permit, Halt>
+    ensures found { Finds result (permitted (removable lock.now at bypass may_bypass)) }
+    ensures device { is_device result ≡ false }
+{
+    match may_remove(lock, at, bypass, may_bypass) {
+        Ok(permit) => Ok(permit),
+        Err(guard) => Err(Halt::Refused(denial(guard))),
+    }
+}
+
+/// The first lock of a version placed in a bucket: the retention that is asked for, else the bucket's
+/// default, else none; a hold is on only where ON was asked.
+pub fn find_first_lock(
+    bucket: &BucketConfig,
+    retention: Option<Retention>,
+    hold: Option<bool>,
+    at: Moment,
+) -> Result<Lock, Halt>
+    ensures found { Finds result (lock_at_admission bucket.now retention hold at) }
+    ensures device { is_device result ≡ false }
+{
+    match first_lock(
+        bucket.default.as_ref(),
+        retention,
+        hold.unwrap_or(false),
+        at,
+    ) {
+        Some(lock) => Ok(lock),
+        None => Err(Halt::Refused(Refusal::RetentionOutOfRange)),
+    }
+}

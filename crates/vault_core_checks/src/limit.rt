@@ -1,0 +1,57 @@
+//! The quota of a department, and the ids of the vault.
+ghost use Rattle.std.specs.Prelude.{◌≡◌, ◌≤◌, ◌+◌, IsTrue, IfOk, OnOk, false, Some, None, if◌then◌else◌};
+ghost use Rattle.vault_base.specs.Name.{is_version_id};
+ghost use Rattle.vault_core_model.specs.Halts.{Finds, is_device, Rose};
+ghost use Rattle.vault_core_model.specs.Vault.{next_id};
+ghost use Rattle.vault_core_model.specs.Totals.{admitted_bytes};
+ghost use Rattle.vault_core_model.specs.Checks.{within_quota, free_id, most_ids};
+ghost use Rattle.vault_tally.specs.Row.{quota};
+
+use vault_base::name::{DeptName, VersionId};
+use vault_base::refusal::Refusal;
+use vault_core_model::halt::Halt;
+use vault_core_model::keeper::Keeper;
+
+/// The department may admit so many bytes more.
+pub fn check_quota<K: Keeper>(keeper: &mut K, dept: &DeptName, size: u64) -> Result<(), Halt>
+    ensures found { K.is_honest keeper.new → Finds result (within_quota (K.vault keeper.old) dept.now size) }
+    ensures fits { K.is_honest keeper.new → OnOk result (admitted_bytes (K.vault keeper.old) dept.now + size ≤ quota) }
+    ensures same { K.vault keeper.new ≡ K.vault keeper.old }
+    ensures honest { K.is_honest keeper.new → K.is_honest keeper.old }
+    ensures counted { K.count keeper.old ≤ K.count keeper.new }
+    ensures device { IsTrue (is_device result) → Rose (K.count keeper.old) (K.count keeper.new) }
+{
+    let row = keeper.totals(dept)?;
+    if row.fits(size) {
+        Ok(())
+    } else {
+        Err(Halt::Refused(Refusal::QuotaExceeded))
+    }
+}
+
+/// The id of the next entry, while one is left.
+pub fn find_id<K: Keeper>(keeper: &mut K) -> Result<VersionId, Halt>
+    ensures found { K.is_honest keeper.new → Finds result (free_id (K.vault keeper.old)) }
+    ensures few { K.is_honest keeper.new → OnOk result (next_id (K.vault keeper.old) ≤ most_ids) }
+    ensures next { K.is_honest keeper.new → IfOk result (λ id. id ≡ next_id (K.vault keeper.old)) }
+    ensures same { K.vault keeper.new ≡ K.vault keeper.old }
+    ensures honest { K.is_honest keeper.new → K.is_honest keeper.old }
+    ensures counted { K.count keeper.old ≤ K.count keeper.new }
+    ensures device { IsTrue (is_device result) → Rose (K.count keeper.old) (K.count keeper.new) }
+{
+    let next = keeper.next_id()?;
+    match id_of(next) {
+        Some(id) => Ok(id),
+        None => Err(Halt::Refused(Refusal::VaultFull)),
+    }
+}
+
+/// The id of that number.
+fn id_of(number: u64) -> Option<VersionId>
+    ensures { result ≡ (if is_version_id number then Some number else None) }
+{
+    match u32::try_from(number) {
+        Ok(number) => VersionId::new(number),
+        Err(_) => None,
+    }
+}

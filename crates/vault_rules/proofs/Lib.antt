@@ -1,0 +1,3 @@
+pub mod Fit
+pub mod Lasts
+pub mod Sets

@@ -1,0 +1,91 @@
+-- Where clap takes the words, they ask for a job.
+use Rattle.std.proofs.Common.{◌≡◌, List, [], ◌∷◌, Bool, true, false, cond, not, ◌&&◌, Option, Some, None, is_some, option_map, codes, refl, sym, ap, ◌∙◌, inl, inr}
+use Rattle.std.specs.List.{list_any}
+use Rattle.clap.specs.Words.{App, Row, Shape, Text, built, fault_of, is_simple, subcommand_of}
+use Rattle.clap.specs.Faults.{is_simple_and_free, check_fault, level_fault, entered_fault, defaults_fault, settle_fault, walk_fault}
+use Rattle.clap.specs.Kinds.{HasKind, Kinds, or_else, check_kinds}
+use Rattle.clap.specs.Facts.{explicit_source}
+use Rattle.clap.specs.Takes.{is_given}
+use Rattle.clap.specs.Words.{kind_of}
+use Rattle.clap.specs.declared.error.Error.{Error}
+use Rattle.clap.specs.declared.error.kind.ErrorKind.TheVariants.{OutOfMemory}
+use Rattle.clap.specs.Simple.{argument_words, entered, label_of, names_of, rows_at}
+use Rattle.clap.specs.Walk.{Held, Names, Rule, answers_to, finished, nothing_held, settled, stop_after, walk, walk_from}
+use Rattle.clap.proofs.OnLiterals.{clap_on_literals}
+use Rattle.vaultctl_job.specs.Words.{vaultctl, job_for, job_in}
+use Rattle.vaultctl_job.specs.declared.job.Job.TheVariants.{Replay}
+
+pub is_simple_lem : is_simple vaultctl ≡ true
+unfolding vaultctl clap_on_literals
+is_simple_lem = refl
+
+pub is_free_lem : is_simple_and_free vaultctl ≡ true
+unfolding vaultctl clap_on_literals
+is_free_lem = refl
+
+last_empty : (first next : Kinds) → or_else first next ≡ [] → next ≡ []
+last_empty [] next e = e
+last_empty (k ∷ ks) next e = cc
+
+wanted : (help argument : Bool) → check_kinds help true argument ≡ [] → ⊥
+wanted true argument e = cc
+wanted false argument e = cc
+
+-- no fault comes only where a subcommand that is needed was entered
+needs : (s : Shape) (rows : List Row) (has : Bool) → s.subcommand_required ≡ true → check_fault s rows has ≡ [] → has ≡ true
+needs s rows true required e = refl
+needs s rows false required e =
+    let help = s.arg_required_else_help && not (list_any (λ (r : Row). explicit_source r.source) rows) in
+    let argument = not (s.subcommand_negates_reqs && false) && list_any (λ (a : Rule). a.required && not (is_given a.id rows)) s.rules in
+    absurd (wanted help argument (rw required at e))
+
+module _ (a : App) (s : Shape) (subs : a.subs ≡ s ∷ []) (named : s.name ≡ codes "replay") where
+  met : (rest : List Text) (answers : Bool) → is_some (option_map (λ (t : Shape). rows_at t rest) (cond answers (Some s) None)) ≡ true
+      → job_in (option_map (λ (t : Shape). rows_at t rest) (cond answers (Some s) None)) ≡ Some Replay
+  met rest true h = rw named refl
+  met rest false h = cc
+
+  entered_replay : (stop : Option (Text × List Text)) → is_some (entered a stop) ≡ true → job_in (entered a stop) ≡ Some Replay
+  entered_replay None h = cc
+  entered_replay (Some p) h = rw subs (met p.1 (answers_to p.0 (label_of s)) (rw subs at h))
+
+level_met : (s : Shape) (names : Names) (held : Held) (words : List Text) (has : Bool) (below : Kinds) → s.subcommand_required ≡ true → level_fault s names held words has below ≡ [] → has ≡ true
+level_met s names held words has below required e =
+    let end = (walk s.rules names held words).held in
+    needs s (finished s.rules end) has required
+    (last_empty (defaults_fault (settled s.rules end).rows s.rules) _
+    (last_empty (settle_fault s.rules s.args_override_self end) _
+    (last_empty below _
+    (last_empty (walk_fault s names (walk_from held) words) _ e))))
+
+-- the one subcommand, as it is built
+subcommand : (s : Shape) × ((built vaultctl).subs ≡ s ∷ []) × (s.name ≡ codes "replay")
+unfolding vaultctl
+subcommand = (_, refl, refl)
+
+required : (built vaultctl).top.subcommand_required ≡ true
+unfolding vaultctl
+required = refl
+
+pub replay_asked : (words : List Text) → fault_of vaultctl words ≡ [] → job_for words ≡ Some Replay
+replay_asked words e =
+    let a = built vaultctl in
+    let stop = stop_after a.top.rules (names_of a) (argument_words vaultctl words) in
+    entered_replay a subcommand.0 subcommand.1 subcommand.2 stop
+    (level_met a.top (names_of a) nothing_held (argument_words vaultctl words) (is_some (entered a stop)) (entered_fault a stop) required e)
+
+memory : (e : Error) (kinds : Kinds) → HasKind kinds e → kinds ≡ [] → kind_of e ≡ OutOfMemory
+memory e [] (inl m) none = m
+memory e [] (inr among) none = absurd among
+memory e (k ∷ ks) has none = cc
+
+-- the same of a command that stands for it
+module _ (a : App) (words : List Text) (is : a ≡ vaultctl) where
+  pub job_met : (rows : Option (Text × List Row)) → rows ≡ subcommand_of a words → job_in rows ≡ job_for words
+  job_met rows met = ap job_in (met ∙ ap (λ (b : App). subcommand_of b words) is)
+
+  pub none_of : fault_of a words ≡ [] → fault_of vaultctl words ≡ []
+  none_of none = ap (λ (b : App). fault_of b words) (sym is) ∙ none
+
+  pub refused : (e : Error) → HasKind (fault_of a words) e → fault_of vaultctl words ≡ [] → kind_of e ≡ OutOfMemory
+  refused e has none = memory e (fault_of a words) has (ap (λ (b : App). fault_of b words) is ∙ none)

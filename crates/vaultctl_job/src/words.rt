@@ -1,0 +1,81 @@
+//! The words of a command line.
+ghost use Rattle.std.specs.Prelude.{◌≡◌, ◌≢◌, [], IfOk, IfErr, Some, map, string_bytes, true};
+ghost use Rattle.clap.specs.Words.{app_of, fault_of, kind_of, with_subcommand, subcommand_rows_of};
+ghost use Rattle.vaultctl_job.specs.Words.{vaultctl, job_for, job_in, replay_app, needing_subcommand, IsRefusal};
+
+use crate::fault::WordsFault;
+use crate::job::Job;
+use clap::error::ErrorKind;
+use clap::{ArgMatches, Command, Error};
+use std::alloc::{AllocError, Global};
+
+fn with_replay<'a>(alloc: Global, parent: Command<'a>) -> Result<Command<'a>, AllocError>
+    ensures { IfOk result (λ c. app_of c ≡ with_subcommand (app_of parent.entry) replay_app.top) }
+{
+    let replay = Command::new(alloc, "replay").about(
+        "Answers the script on standard input over a new vault in memory",
+    );
+    parent.subcommand(replay)
+}
+
+fn needs_subcommand<'a>(command: Command<'a>) -> Command<'a>
+    ensures { app_of result ≡ needing_subcommand (app_of command.entry) }
+{
+    command
+        .subcommand_required(true)
+        .disable_help_subcommand(true)
+}
+
+#[tactic(auto, unfolding(crate::specs::Words::vaultctl))]
+fn command<'a>(alloc: Global) -> Result<Command<'a>, AllocError>
+    ensures { IfOk result (λ c. app_of c ≡ vaultctl) }
+{
+    let top = Command::new(alloc, "vaultctl").about(
+        "A records vault: what is put in stays until its retention ends",
+    );
+    with_replay(alloc, needs_subcommand(top))
+}
+
+/// The job of the subcommand that was met.
+fn met<'a>(matches: &ArgMatches<'a>) -> Option<Job>
+    ensures { result ≡ job_in (subcommand_rows_of matches.now) }
+{
+    match matches.subcommand_name() {
+        Some("replay") => Some(Job::Replay),
+        _ => None,
+    }
+}
+
+fn refusal(alloc: Global, error: Error) -> WordsFault
+    ensures { IsRefusal result → kind_of error ≢ ErrorKind.OutOfMemory }
+{
+    if error.kind() == ErrorKind::OutOfMemory {
+        return WordsFault::Memory;
+    }
+    match error.to_string(alloc) {
+        Ok(text) => WordsFault::Refused(text),
+        Err(_) => WordsFault::Memory,
+    }
+}
+
+/// The job that the words ask for; the first word is the program's name.
+///
+/// `Refused` comes exactly where `clap`'s meaning of the command refuses the words, and has the text
+/// that says why; help is asked for by words that are refused.
+pub fn job_of(alloc: Global, words: &[String]) -> Result<Job, WordsFault>
+    ensures ok { IfOk result (λ job. job_for (map string_bytes words.now) ≡ Some job) }
+    ensures taken { IfOk result (λ _. fault_of vaultctl (map string_bytes words.now) ≡ []) }
+    ensures refused { IfErr result (λ e. IsRefusal e → fault_of vaultctl (map string_bytes words.now) ≢ []) }
+{
+    let Ok(command) = command(alloc) else {
+        return Err(WordsFault::Memory);
+    };
+    let matches = match command.try_get_matches_from(words) {
+        Ok(matches) => matches,
+        Err(error) => return Err(refusal(alloc, error)),
+    };
+    let Some(job) = met(&matches) else {
+        unreachable!()
+    };
+    Ok(job)
+}
