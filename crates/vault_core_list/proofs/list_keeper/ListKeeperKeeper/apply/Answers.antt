@@ -1,0 +1,17 @@
+use Rattle.vault_core_laws.proofs.Soundness.{Sound-changed-to}
+use Rattle.vault_core_list.proofs.list_keeper.ListKeeperKeeper.apply.Goals as goal
+
+pub invariant_of-self-in-AddDept : goal.invariant_of-self-in-AddDept
+invariant_of-self-in-AddDept c = rw (c.in_ok-place-in-AddDept.ensures.ok, c.in_ok-clone-in-AddDept.ensures.cases) (Sound-changed-to _ _ _ _ _ c.self.view_is c.in-AddDept.is c.self.invariant (c.requires.in_time tt) (c.requires.allowed tt))
+
+pub invariant_of-self-in-AddCaller : goal.invariant_of-self-in-AddCaller
+invariant_of-self-in-AddCaller c = rw (c.in_ok-place-in-AddCaller.ensures.ok, c.in_ok-clone-in-AddCaller.ensures.cases) (Sound-changed-to _ _ _ _ _ c.self.view_is c.in-AddCaller.is c.self.invariant (c.requires.in_time tt) (c.requires.allowed tt))
+
+pub invariant_of-self-in-AddBucket : goal.invariant_of-self-in-AddBucket
+invariant_of-self-in-AddBucket c = rw (c.in_ok-place-in-AddBucket.ensures.ok, c.in_ok-new_bucket-in-AddBucket.ensures) (Sound-changed-to _ _ _ _ _ c.self.view_is c.in-AddBucket.is c.self.invariant (c.requires.in_time tt) (c.requires.allowed tt))
+
+pub invariant_of-self-in-Admit : goal.invariant_of-self-in-Admit
+invariant_of-self-in-Admit c = rw (c.in_ok-admit-in-Admit.ensures.admitted, c.in_ok-admit-in-Admit.ensures.noted) (Sound-changed-to _ _ _ _ _ c.self.view_is c.in-Admit.is c.self.invariant (c.requires.in_time tt) (c.requires.allowed tt))
+
+pub invariant_of-self-in-Remove : goal.invariant_of-self-in-Remove
+invariant_of-self-in-Remove c = rw (c.remove.ensures, c.in_ok-clone-in-Remove.ensures.cases) (Sound-changed-to _ _ _ _ _ c.self.view_is c.in-Remove.is c.self.invariant (c.requires.in_time tt) (c.requires.allowed tt))

@@ -1,0 +1,130 @@
+//! Records found by name or id, going over a whole list.
+ghost use Rattle.std.specs.Prelude.{◌≡◌, ◌==◌, IfOk, find, option_map, option_and_then, filter};
+ghost use Rattle.std.specs.List.{list_any};
+ghost use Rattle.std.specs.Option.{option_copied};
+ghost use Rattle.std.specs.Str.{bytes_eq};
+ghost use Rattle.vault_core_model.specs.Places.{is_held_at};
+ghost use Rattle.vault_core_model.specs.Reads.{head_over, last_setting};
+ghost use Rattle.vault_core_model.specs.Vault.{bucket_in, config_in};
+
+use std::alloc::AllocError;
+use vault_base::content::Content;
+use vault_base::name::{BucketName, CallerName, DeptName, ObjectKey, VersionId};
+use vault_core_model::records::{
+    Bucket, BucketConfig, Caller, Entry, Head, History, LastSetting, Settings,
+};
+
+/// Whether that department is among them.
+pub(crate) fn has_department(departments: &[DeptName], name: &DeptName) -> bool
+    ensures { result ≡ list_any (λ d. bytes_eq d name.now) departments.now }
+{
+    departments.iter().any(|dept| *dept == *name)
+}
+
+fn named_caller<'a>(callers: &'a [Caller], name: &CallerName) -> Option<&'a Caller>
+    ensures { option_copied result ≡ find (λ c. bytes_eq c.name name.now) callers.now }
+{
+    callers.iter().find(|caller| caller.name == *name)
+}
+
+/// The caller of that name.
+pub(crate) fn caller(callers: &[Caller], name: &CallerName) -> Result<Option<Caller>, AllocError>
+    ensures { IfOk result (λ found. found ≡ find (λ c. bytes_eq c.name name.now) callers.now) }
+{
+    let Some(caller) = named_caller(callers, name) else {
+        return Ok(None);
+    };
+    Ok(Some(caller.clone()?))
+}
+
+/// The bucket of that name.
+pub(crate) fn bucket<'a>(buckets: &'a [Bucket], name: &BucketName) -> Option<&'a Bucket>
+    ensures { option_copied result ≡ bucket_in buckets.now name.now }
+{
+    buckets.iter().find(|bucket| bucket.name == *name)
+}
+
+/// Whose the bucket of that name is, and its default retention.
+pub(crate) fn config(
+    buckets: &[Bucket],
+    name: &BucketName,
+) -> Result<Option<BucketConfig>, AllocError>
+    ensures { IfOk result (λ found. found ≡ config_in buckets.now name.now) }
+{
+    let Some(bucket) = bucket(buckets, name) else {
+        return Ok(None);
+    };
+    Ok(Some(bucket.config.clone()?))
+}
+
+/// The history of that id, held or removed.
+pub(crate) fn history(histories: &[History], id: VersionId) -> Option<&History>
+    ensures { option_copied result ≡ find (λ h. h.entry.id == id) histories.now }
+{
+    histories.iter().find(|history| history.entry.id == id)
+}
+
+/// The entry of that id, held or removed.
+pub(crate) fn entry(histories: &[History], id: VersionId) -> Result<Option<Entry>, AllocError>
+    ensures { IfOk result (λ found. found ≡ option_map (λ h. h.entry) (find (λ h. h.entry.id == id) histories.now)) }
+{
+    let Some(history) = history(histories, id) else {
+        return Ok(None);
+    };
+    Ok(Some(history.entry.clone()?))
+}
+
+/// The bytes of the held version of that id.
+pub(crate) fn content(histories: &[History], id: VersionId) -> Result<Option<Content>, AllocError>
+    ensures { IfOk result (λ found. found ≡ option_and_then (λ h. h.content) (find (λ h. h.entry.id == id) histories.now)) }
+{
+    let Some(history) = history(histories, id) else {
+        return Ok(None);
+    };
+    history.content.clone()
+}
+
+/// The last setting of the version of that id.
+pub(crate) fn setting(histories: &[History], id: VersionId) -> Option<LastSetting>
+    ensures { result ≡ option_and_then (λ h. last_setting h.settings) (find (λ h. h.entry.id == id) histories.now) }
+{
+    let Some(history) = history(histories, id) else {
+        return None;
+    };
+    last_of(&history.settings)
+}
+
+fn last_of(settings: &Settings) -> Option<LastSetting>
+    ensures { result ≡ last_setting settings.now }
+{
+    let settings = settings.as_slice();
+    let Some(last) = settings.last() else {
+        return None;
+    };
+    Some(LastSetting {
+        lock: last.lock,
+        count: settings.len() as u64,
+    })
+}
+
+/// Whether the entry is held in that bucket, under that key.
+fn is_held_at(bucket: &BucketName, key: &ObjectKey, entry: &Entry) -> bool
+    ensures { result ≡ is_held_at bucket.now key.now entry.now }
+{
+    entry.bucket == *bucket && entry.key == *key && entry.removal.is_none()
+}
+
+/// The newest held entry of a key, and how many are held.
+pub(crate) fn head(histories: &[History], bucket: &BucketName, key: &ObjectKey) -> Option<Head>
+    ensures { result ≡ head_over (filter (λ h. is_held_at bucket.now key.now h.entry) histories.now) }
+{
+    let mut newest = None;
+    let mut count = 0;
+    for history in histories {
+        if is_held_at(bucket, key, &history.entry) {
+            newest = Some(history.entry.id);
+            count += 1;
+        }
+    }
+    newest.map(|newest| Head { newest, count })
+}

@@ -1,0 +1,11 @@
+//! The plain program of a vault: one list of whole histories, and records in the order of their names.
+//!
+//! Its reads filter and sum over the whole list, as their definitions do. A keeper that looks up rows
+//! and running sums has to answer what this one answers.
+#![tactic(auto)]
+
+mod change;
+mod find;
+pub mod list_keeper;
+mod place;
+mod sums;

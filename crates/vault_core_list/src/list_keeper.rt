@@ -1,0 +1,201 @@
+//! The keeper that keeps one list of histories.
+ghost use Rattle.std.specs.Prelude.{◌≡◌, IfOk};
+ghost use Rattle.vault_core_model.specs.Change.{new_bucket};
+ghost use Rattle.vault_core_model.specs.Vault as vaults;
+
+use crate::{change, find, place, sums};
+use std::alloc::{AllocError, Global};
+use std::marker::Model;
+use vault_base::content::Content;
+use vault_base::moment::Moment;
+use vault_base::name::{BucketName, CallerName, DeptName, ObjectKey, VersionId};
+use vault_base::right::Right;
+use vault_core_model::change::Change;
+use vault_core_model::halt::Fault;
+use vault_core_model::keeper::Keeper;
+use vault_core_model::records::{
+    Bucket, BucketConfig, Caller, Entry, Head, History, LastSetting, Note,
+};
+use vault_core_model::rights::Rights;
+use vault_tally::row::Row;
+
+/// A vault in memory: one list of whole histories in the order of admission, and the records beside it
+/// in the order of their names.
+///
+/// It has no device, so its answers are always those of its vault, or `Fault::Memory`.
+#[derive(Drop)]
+pub struct ListKeeper {
+    last: Moment,
+    departments: Vec<DeptName>,
+    callers: Vec<Caller>,
+    buckets: Vec<Bucket>,
+    notes: Vec<Note>,
+    histories: Vec<History>,
+}
+
+impl Model for ListKeeper {
+    ghost use Rattle.vault_core_model.specs.Vault.{Vault};
+    ghost use Rattle.vault_core_model.specs.Sound.{Sound};
+
+    ghost Value = { Vault };
+
+    ghost view = { λ k. record { last = k.last; departments = k.departments.items; callers = k.callers.items; buckets = k.buckets.items; notes = k.notes.items; histories = k.histories.items } };
+
+    ghost invariant = { λ k. Sound (record { last = k.last; departments = k.departments.items; callers = k.callers.items; buckets = k.buckets.items; notes = k.notes.items; histories = k.histories.items }) };
+}
+
+/// The caller of a new vault, who may administer it.
+fn registrar(alloc: Global) -> Result<Caller, AllocError>
+    ensures { IfOk result (λ caller. caller ≡ vaults.registrar) }
+{
+    Ok(Caller {
+        name: CallerName::read(alloc, "registrar")?.unwrap(),
+        dept: None,
+        rights: Rights::none().with(Right::Admin),
+        closed: false,
+    })
+}
+
+impl ListKeeper {
+    ghost use Rattle.std.specs.Prelude.{◌≡◌, IfOk};
+    ghost use Rattle.vault_core_model.specs.Vault.{opening};
+
+    /// A new vault: its one caller is `registrar`, who may administer it.
+    pub fn new(alloc: Global) -> Result<ListKeeper, AllocError>
+        ensures { IfOk result (λ keeper. keeper ≡ opening) }
+    {
+        let mut callers = Vec::new(alloc);
+        callers.push(registrar(alloc)?)?;
+        Ok(ListKeeper {
+            last: Moment::from_secs(0).unwrap(),
+            departments: Vec::new(alloc),
+            callers,
+            buckets: Vec::new(alloc),
+            notes: Vec::new(alloc),
+            histories: Vec::new(alloc),
+        })
+    }
+}
+
+impl Keeper for ListKeeper {
+    ghost use Rattle.std.specs.Prelude.{◌≡◌, IsOkAnd};
+    ghost use Rattle.vault_core_model.specs.Reads.{setting_of, head_of};
+    ghost use Rattle.vault_core_model.specs.Sound.{Sound};
+    ghost use Rattle.vault_core_model.specs.Totals.{IsRowFor};
+    ghost use Rattle.vault_core_model.specs.Vault.{has_department, next_id};
+
+    ghost is_honest = { λ _. Unit {0} };
+
+    ghost vault = { λ k. k };
+
+    ghost count = { λ _. 0 };
+
+    fn faults(&self) -> u64 {
+        0
+    }
+
+    fn last(&mut self) -> Result<Moment, Fault>
+        ensures value { result ≡ Ok self.old.last }
+        ensures sound { Sound self.old }
+        ensures same { self.new ≡ self.old }
+    {
+        Ok(self.last)
+    }
+
+    fn next_id(&mut self) -> Result<u64, Fault>
+        ensures value { result ≡ Ok (next_id self.old) }
+        ensures same { self.new ≡ self.old }
+    {
+        Ok(self.histories.len() as u64 + 1)
+    }
+
+    fn caller(&mut self, name: &CallerName) -> Result<Option<Caller>, Fault> {
+        Ok(find::caller(&self.callers, name)?)
+    }
+
+    fn dept(&mut self, name: &DeptName) -> Result<bool, Fault>
+        ensures value { result ≡ Ok (has_department self.old name.now) }
+        ensures same { self.new ≡ self.old }
+    {
+        Ok(find::has_department(&self.departments, name))
+    }
+
+    fn bucket(&mut self, name: &BucketName) -> Result<Option<BucketConfig>, Fault> {
+        Ok(find::config(&self.buckets, name)?)
+    }
+
+    fn head(&mut self, bucket: &BucketName, key: &ObjectKey) -> Result<Option<Head>, Fault>
+        ensures value { result ≡ Ok (head_of self.old bucket.now key.now) }
+        ensures same { self.new ≡ self.old }
+    {
+        Ok(find::head(&self.histories, bucket, key))
+    }
+
+    fn entry(&mut self, id: VersionId) -> Result<Option<Entry>, Fault> {
+        Ok(find::entry(&self.histories, id)?)
+    }
+
+    fn setting(&mut self, id: VersionId) -> Result<Option<LastSetting>, Fault>
+        ensures value { result ≡ Ok (setting_of self.old id) }
+        ensures same { self.new ≡ self.old }
+    {
+        Ok(find::setting(&self.histories, id))
+    }
+
+    fn content(&mut self, id: VersionId) -> Result<Option<Content>, Fault> {
+        Ok(find::content(&self.histories, id)?)
+    }
+
+    fn totals(&mut self, dept: &DeptName) -> Result<Row, Fault>
+        ensures value { IsOkAnd result (λ row. IsRowFor self.old dept.now row) }
+        ensures same { self.new ≡ self.old }
+    {
+        // No day is past that of the last moment, and no department is past its quota: so the sums fit.
+        let _seconds = self.last.secs();
+        Ok(sums::row(&self.buckets, &self.histories, dept))
+    }
+
+    fn apply(&mut self, at: Moment, change: &Change) -> Result<(), Fault> {
+        match change {
+            Change::AddDept(dept) => {
+                place::place(&mut self.departments, dept.clone()?)?;
+                self.last = at;
+                Ok(())
+            }
+            Change::AddCaller(caller) => {
+                place::place(&mut self.callers, caller.clone()?)?;
+                self.last = at;
+                Ok(())
+            }
+            Change::AddBucket(bucket, dept) => {
+                place::place(&mut self.buckets, new_bucket(bucket, dept)?)?;
+                self.last = at;
+                Ok(())
+            }
+            Change::Admit(admission) => {
+                change::admit(&mut self.histories, &mut self.notes, admission)?;
+                self.last = at;
+                Ok(())
+            }
+            Change::Remove(id, removal) => {
+                change::remove(&mut self.histories, *id, removal.clone()?);
+                self.last = at;
+                Ok(())
+            }
+        }
+    }
+}
+
+/// A bucket of that department, without default retention and rules.
+fn new_bucket(name: &BucketName, dept: &DeptName) -> Result<Bucket, AllocError>
+    ensures { IfOk result (λ bucket. bucket ≡ new_bucket name.now dept.now) }
+{
+    Ok(Bucket {
+        name: name.clone()?,
+        config: BucketConfig {
+            dept: dept.clone()?,
+            default: None,
+        },
+        rules: None,
+    })
+}
