@@ -1,15 +1,16 @@
 -- Which changes may be made of a vault.
-use Rattle.std.specs.Prelude.{◌≡◌, ℕ, ◌+◌, ◌≤◌, false, Some, None}
+use Rattle.std.specs.Prelude.{◌≡◌, ℕ, ◌+◌, ◌≤◌, false, Some, None, ◌<◌, IsSome, IsTrue}
 use Rattle.vault_tally.specs.Row.{quota}
 use Rattle.vault_core_model.specs.declared.records.BucketConfig.{BucketConfig}
 use Rattle.vault_core_model.specs.declared.records.Entry.{Entry}
 use Rattle.vault_core_model.specs.declared.records.Removal.{Removal}
+use Rattle.vault_core_model.specs.declared.records.Setting.{Setting}
 use Rattle.vault_core_model.specs.declared.change.Admission.{Admission}
 use Rattle.vault_core_model.specs.declared.change.Change.{Change}
-use Rattle.vault_core_model.specs.declared.change.Change.TheVariants.{AddDept, AddCaller, AddBucket, Admit, Remove}
+use Rattle.vault_core_model.specs.declared.change.Change.TheVariants.{AddDept, AddCaller, CloseCaller, AddBucket, SetDefault, SetRules, Admit, AddSetting, Remove}
 use Rattle.vault_core_model.specs.Vault.{Vault, has_department, caller_of, config_of, next_id}
-use Rattle.vault_core_model.specs.Reads.{entry_of}
-use Rattle.vault_core_model.specs.Checks.{most_ids}
+use Rattle.vault_core_model.specs.Reads.{entry_of, setting_of, count_by}
+use Rattle.vault_core_model.specs.Checks.{most_ids, most_settings, has_period}
 use Rattle.vault_core_model.specs.Sound.{IsWhole}
 use Rattle.vault_core_model.specs.Totals.{admitted_bytes}
 
@@ -33,10 +34,22 @@ pub record IsRemoval (v : Vault) (t id : ℕ) (r : Removal) : Type 0 where
   pub now : r.at ≡ t
   pub held : IsHeldId v id
 
--- a change that may be made at t: a name that is free, the next entry, or the removal of a held one
+-- one setting more, made at t, of a version that has fewer than it may have
+pub record IsNextSetting (v : Vault) (t id : ℕ) (s : Setting) : Type 0 where
+  pub now : s.at ≡ t
+  pub entry : Entry
+  pub there : entry_of v id ≡ Some entry
+  pub version : entry.marker ≡ false
+  pub fits : count_by (setting_of v id) < most_settings
+
+-- a change that may be made at t: of a record that is there or whose name is free, the next entry, one setting more, or the removal of a held entry
 abbrev pub Allows : Vault → ℕ → Change → Type 0
 Allows v t (AddDept name) = has_department v name ≡ false
 Allows v t (AddCaller c) = caller_of v c.name ≡ None
+Allows v t (CloseCaller name) = IsSome (caller_of v name)
 Allows v t (AddBucket name dept) = config_of v name ≡ None
+Allows v t (SetDefault name default) = IsSome (config_of v name) × IsTrue (has_period default)
+Allows v t (SetRules name rules) = IsSome (config_of v name)
 Allows v t (Admit a) = IsAdmission v t a
+Allows v t (AddSetting id s) = IsNextSetting v t id s
 Allows v t (Remove id r) = IsRemoval v t id r

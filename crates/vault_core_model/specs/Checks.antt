@@ -11,7 +11,8 @@ use Rattle.vault_lock.specs.declared.lock.Lock.{Lock}
 use Rattle.vault_lock.specs.declared.lock.Permit.{Permit}
 use Rattle.vault_lock.specs.declared.lock.Denial.{Denial}
 use Rattle.vault_lock.specs.declared.lock.Denial.TheVariants as denial
-use Rattle.vault_lock.specs.Retention.{first_lock}
+use Rattle.vault_lock.specs.declared.retention.Default.{Default}
+use Rattle.vault_lock.specs.Retention.{first_lock, is_period}
 use Rattle.vault_tally.specs.Row.{quota}
 use Rattle.vault_core_model.specs.declared.records.BucketConfig.{BucketConfig}
 use Rattle.vault_core_model.specs.declared.records.Caller.{Caller}
@@ -21,7 +22,7 @@ use Rattle.vault_core_model.specs.declared.access.Access.{Access}
 use Rattle.vault_core_model.specs.Rights.{has}
 use Rattle.vault_core_model.specs.Vault.{Vault, caller_of, config_of, has_department, next_id}
 use Rattle.vault_core_model.specs.Places.{is_held_at, current}
-use Rattle.vault_core_model.specs.Reads.{entry_of}
+use Rattle.vault_core_model.specs.Reads.{entry_of, setting_of, count_by}
 use Rattle.vault_core_model.specs.Totals.{admitted_bytes}
 
 -- one check after another: the first that fails is the answer
@@ -104,6 +105,14 @@ abbrev pub ends_later_if_given : ℕ → Option Retention → Result ⊤ Refusal
 ends_later_if_given t None = Ok tt
 ends_later_if_given t (Some r) = ends_later t r
 
+-- a default's period, where there is a default, is in its range
+abbrev pub has_period : Option Default → Bool
+has_period None = true
+has_period (Some d) = is_period d.period
+
+abbrev pub allowed_default : Option Default → Result ⊤ Refusal
+allowed_default d = check (has_period d) InvalidArgument
+
 abbrev pub known_department : Vault → List ℕ → Result ⊤ Refusal
 known_department v dept = check (has_department v dept) InvalidArgument
 
@@ -172,3 +181,11 @@ most_ids = 1000000000
 -- the next id, while one is left
 abbrev pub free_id : Vault → Result ℕ Refusal
 free_id v = if nat_le (next_id v) most_ids then Ok (next_id v) else Err VaultFull
+
+-- the settings of one version at most
+abbrev pub most_settings : ℕ
+most_settings = 1000000000
+
+-- one setting more may be made of the version of that id
+abbrev pub free_setting : Vault → ℕ → Result ⊤ Refusal
+free_setting v id = check (nat_lt (count_by (setting_of v id)) most_settings) VaultFull

@@ -1,5 +1,5 @@
 -- What the commands that admit, read and remove entries answer, and the vault after them.
-use Rattle.std.specs.Prelude.{ℕ, List, [], ◌∷◌, length, false, Some, None, is_some, unwrap_or, Result, Ok}
+use Rattle.std.specs.Prelude.{ℕ, List, [], ◌∷◌, length, false, Some, None, is_some, unwrap_or, Result, Ok, true}
 use Rattle.sha2.specs.Sha256.{sha256}
 use Rattle.vault_base.specs.declared.refusal.Refusal.{Refusal}
 use Rattle.vault_base.specs.declared.right.Right.TheVariants as right
@@ -7,6 +7,7 @@ use Rattle.vault_lock.specs.declared.lock.Lock.{Lock}
 use Rattle.vault_lock.specs.declared.lock.Permit.{Permit}
 use Rattle.vault_lock.specs.declared.lock.Permit.TheVariants as permit
 use Rattle.vault_lock.specs.Lock.{removable}
+use Rattle.vault_core_model.specs.declared.records.Author.{Author}
 use Rattle.vault_core_model.specs.declared.records.Author.TheVariants as author
 use Rattle.vault_core_model.specs.declared.records.Cause.{Cause}
 use Rattle.vault_core_model.specs.declared.records.Cause.TheVariants as cause
@@ -15,6 +16,8 @@ use Rattle.vault_core_model.specs.declared.records.Removal.{Removal}
 use Rattle.vault_core_model.specs.declared.change.Change.TheVariants as change
 use Rattle.vault_core_model.specs.declared.command.Put.{Put}
 use Rattle.vault_core_model.specs.declared.command.Get.{Get}
+use Rattle.vault_core_model.specs.declared.command.Head.{Head}
+use Rattle.vault_core_model.specs.declared.command.Delete.{Delete}
 use Rattle.vault_core_model.specs.declared.command.DeleteVersion.{DeleteVersion}
 use Rattle.vault_core_model.specs.declared.reply.Answer.{Answer}
 use Rattle.vault_core_model.specs.declared.reply.Removed.{Removed}
@@ -75,7 +78,29 @@ get v t who c = do
   e ← version_meant v c.bucket c.key c.id
   Ok (answer.Version (record { entry = e; lock = lock_of v e.id }) (unwrap_or (content_of v e.id) []), v)
 
+-- the same without the bytes (API Reference, "HeadObject")
+abbrev pub head : Vault → ℕ → List ℕ → Head → Result (Answer × Vault) Refusal
+head v t who c = do
+  _ ← access v t who c.bucket right.Get
+  e ← version_meant v c.bucket c.key c.id
+  Ok (answer.Head (record { entry = e; lock = lock_of v e.id }), v)
+
 -- ---- removal
+
+-- a delete marker admitted at t
+abbrev pub new_marker : ℕ → List ℕ → List ℕ → ℕ → Author → History
+new_marker id bucket key t by = record {
+  entry = record { id = id; bucket = bucket; key = key; marker = true; size = 0; digest = None; admitted = t; by = by; removal = None };
+  content = None;
+  settings = [];
+}
+
+-- a delete marker on top, also over a locked version, a marker or an absent key (S3 User Guide, "Working with delete markers")
+abbrev pub delete : Vault → ℕ → List ℕ → Delete → Result (Answer × Vault) Refusal
+delete v t who c = do
+  _ ← access v t who c.bucket right.Delete
+  id ← free_id v
+  Ok (answer.Marked id, changed v t (change.Admit (record { history = new_marker id c.bucket c.key t (author.Caller who); note = None })))
 
 -- the cause of a removal that was permitted so
 abbrev pub cause_by : Permit → List ℕ → Cause

@@ -3,6 +3,7 @@ pub mod Change
 pub mod Checks
 pub mod EntryOutcomes
 pub mod Halts
+pub mod LockOutcomes
 pub mod Order
 pub mod Places
 pub mod Reads

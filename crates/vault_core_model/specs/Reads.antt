@@ -30,6 +30,11 @@ lock_by (Some s) = s.lock
 abbrev pub lock_of : Vault → ℕ → Lock
 lock_of v id = lock_by (setting_of v id)
 
+-- how many settings a version has
+abbrev pub count_by : Option LastSetting → ℕ
+count_by None = 0
+count_by (Some s) = s.count
+
 -- the bytes of a held version
 abbrev pub content_of : Vault → ℕ → Option (List ℕ)
 content_of v id = option_and_then (λ h. h.content) (history_of v id)

@@ -9,11 +9,7 @@ use Rattle.vault_core_model.specs.declared.records.Removal.{Removal}
 use Rattle.vault_core_model.specs.declared.records.Setting.{Setting}
 use Rattle.vault_core_model.specs.Vault.{Vault, config_of}
 use Rattle.vault_core_model.specs.Totals.{admitted_bytes}
-use Rattle.vault_core_model.specs.Checks.{most_content, most_ids}
-
--- the settings of one version at most
-abbrev pub most_settings : ℕ
-most_settings = 1000000000
+use Rattle.vault_core_model.specs.Checks.{most_content, most_ids, most_settings}
 
 -- the ids are n, n + 1, n + 2 and so on
 abbrev pub AreIdsFrom : ℕ → List History → Type 0

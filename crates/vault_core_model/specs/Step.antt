@@ -11,15 +11,28 @@ use Rattle.vault_core_model.specs.declared.reply.Reply.TheVariants.{Done, Refuse
 use Rattle.vault_core_model.specs.Vault.{Vault, opening}
 use Rattle.vault_core_model.specs.RecordOutcomes as records
 use Rattle.vault_core_model.specs.EntryOutcomes as entries
+use Rattle.vault_core_model.specs.LockOutcomes as locks
 
 -- what a command answers of a vault at t, and the vault after it; or the first check that fails
 abbrev pub outcome_of : Vault → ℕ → List ℕ → Command → Result (Answer × Vault) Refusal
 outcome_of v t who (command.AddDept c) = records.add_dept v t who c
 outcome_of v t who (command.AddCaller c) = records.add_caller v t who c
+outcome_of v t who (command.CloseCaller c) = records.close_caller v t who c
 outcome_of v t who (command.AddBucket c) = records.add_bucket v t who c
+outcome_of v t who (command.SetDefault c) = records.set_default v t who c
+outcome_of v t who (command.GetDefault c) = records.get_default v t who c
+outcome_of v t who (command.SetRules c) = records.set_rules v t who c
+outcome_of v t who (command.GetRules c) = records.get_rules v t who c
+outcome_of v t who (command.DropRules c) = records.drop_rules v t who c
 outcome_of v t who (command.Put c) = entries.put v t who c
 outcome_of v t who (command.Get c) = entries.get v t who c
+outcome_of v t who (command.Head c) = entries.head v t who c
+outcome_of v t who (command.Delete c) = entries.delete v t who c
 outcome_of v t who (command.DeleteVersion c) = entries.delete_version v t who c
+outcome_of v t who (command.SetRetention c) = locks.set_retention v t who c
+outcome_of v t who (command.GetRetention c) = locks.get_retention v t who c
+outcome_of v t who (command.SetHold c) = locks.set_hold v t who c
+outcome_of v t who (command.GetHold c) = locks.get_hold v t who c
 outcome_of v t who (command.Report c) = records.report v t who c
 
 -- want of memory, or a failing device

@@ -1,8 +1,9 @@
 -- The vault: one list of whole histories, removed ones included, and the records beside it.
-use Rattle.std.specs.Prelude.{ℕ, ◌+◌, List, [], ◌∷◌, length, true, false, ◌==◌, Bool, Option, None, find, option_map, codes}
+use Rattle.std.specs.Prelude.{ℕ, ◌+◌, List, [], ◌∷◌, length, true, false, ◌==◌, Bool, Option, None, find, option_map, option_and_then, codes}
 use Rattle.std.specs.List.{list_any}
 use Rattle.std.specs.Str.{bytes_eq}
 use Rattle.vault_lock.specs.declared.lock.Lock.{Lock}
+use Rattle.vault_rules.specs.declared.rule.Rule.{Rule}
 use Rattle.vault_core_model.specs.declared.records.Caller.{Caller}
 use Rattle.vault_core_model.specs.declared.records.Bucket.{Bucket}
 use Rattle.vault_core_model.specs.declared.records.BucketConfig.{BucketConfig}
@@ -52,6 +53,10 @@ config_in buckets name = option_map (λ b. b.config) (bucket_in buckets name)
 -- the department and the default retention of the bucket of that name
 abbrev pub config_of : Vault → List ℕ → Option BucketConfig
 config_of v name = config_in v.buckets name
+
+-- the lifecycle rules of the bucket of that name, in configuration order; none where it has none
+abbrev pub rules_of : Vault → List ℕ → Option (List Rule)
+rules_of v name = option_and_then (λ b. b.rules) (bucket_in v.buckets name)
 
 -- the history of that id, held or removed
 abbrev pub history_of : Vault → ℕ → Option History

@@ -1,6 +1,8 @@
 //! What may change in the vault.
-use crate::records::{Caller, History, Note, Removal};
-use vault_base::name::{BucketName, DeptName, VersionId};
+use crate::records::{Caller, History, Note, Removal, Setting};
+use vault_base::name::{BucketName, CallerName, DeptName, VersionId};
+use vault_lock::retention::Default;
+use vault_rules::rule_set::RuleSet;
 
 /// A new history, and the note of the intake line that it came by.
 #[derive(Drop)]
@@ -14,7 +16,11 @@ pub struct Admission {
 pub enum Change {
     AddDept(DeptName),
     AddCaller(Caller),
+    CloseCaller(CallerName),
     AddBucket(BucketName, DeptName),
+    SetDefault(BucketName, Option<Default>),
+    SetRules(BucketName, Option<RuleSet>),
     Admit(Admission),
+    AddSetting(VersionId, Setting),
     Remove(VersionId, Removal),
 }

@@ -3,13 +3,16 @@ use crate::rights::Rights;
 use vault_base::content::Content;
 use vault_base::moment::Moment;
 use vault_base::name::{BucketName, CallerName, DeptName, ObjectKey, VersionId};
-use vault_lock::retention::Retention;
+use vault_lock::retention::{Default, Retention};
+use vault_rules::rule_set::RuleSet;
 
+/// A department to be added.
 #[derive(Drop)]
 pub struct AddDept {
     pub dept: DeptName,
 }
 
+/// A caller to be added.
 #[derive(Drop)]
 pub struct AddCaller {
     pub caller: CallerName,
@@ -17,10 +20,49 @@ pub struct AddCaller {
     pub rights: Rights,
 }
 
+/// A caller to be closed for good.
+#[derive(Drop)]
+pub struct CloseCaller {
+    pub caller: CallerName,
+}
+
+/// A bucket to be added to a department.
 #[derive(Drop)]
 pub struct AddBucket {
     pub bucket: BucketName,
     pub dept: DeptName,
+}
+
+/// The default retention that a bucket gets; none clears it.
+#[derive(Drop)]
+pub struct SetDefault {
+    pub bucket: BucketName,
+    pub default: Option<Default>,
+}
+
+/// The default retention of a bucket is asked for.
+#[derive(Drop)]
+pub struct GetDefault {
+    pub bucket: BucketName,
+}
+
+/// The lifecycle rules that a bucket gets in place of those it has.
+#[derive(Drop)]
+pub struct SetRules {
+    pub bucket: BucketName,
+    pub rules: RuleSet,
+}
+
+/// The lifecycle rules of a bucket are asked for.
+#[derive(Drop)]
+pub struct GetRules {
+    pub bucket: BucketName,
+}
+
+/// A bucket loses its lifecycle rules.
+#[derive(Drop)]
+pub struct DropRules {
+    pub bucket: BucketName,
 }
 
 /// A content version to be admitted. The hold is ON, OFF or not given.
@@ -41,6 +83,22 @@ pub struct Get {
     pub id: Option<VersionId>,
 }
 
+/// A version without its bytes; with no id, the current entry is meant.
+#[derive(Drop)]
+pub struct Head {
+    pub bucket: BucketName,
+    pub key: ObjectKey,
+    pub id: Option<VersionId>,
+}
+
+/// A key that gets a delete marker on top.
+#[derive(Drop)]
+pub struct Delete {
+    pub bucket: BucketName,
+    pub key: ObjectKey,
+}
+
+/// An entry to be removed for good.
 #[derive(Drop)]
 pub struct DeleteVersion {
     pub bucket: BucketName,
@@ -49,19 +107,68 @@ pub struct DeleteVersion {
     pub bypass: bool,
 }
 
+/// The retention that a version gets; its hold is kept. With no id, the current version is meant.
+#[derive(Drop)]
+pub struct SetRetention {
+    pub bucket: BucketName,
+    pub key: ObjectKey,
+    pub id: Option<VersionId>,
+    pub retention: Retention,
+    pub bypass: bool,
+}
+
+/// The retention of a version; with no id, the current entry is meant.
+#[derive(Drop)]
+pub struct GetRetention {
+    pub bucket: BucketName,
+    pub key: ObjectKey,
+    pub id: Option<VersionId>,
+}
+
+/// Whether a version is on legal hold; its retention is kept. With no id, the current version is meant.
+#[derive(Drop)]
+pub struct SetHold {
+    pub bucket: BucketName,
+    pub key: ObjectKey,
+    pub id: Option<VersionId>,
+    pub hold: bool,
+}
+
+/// Whether a version is on legal hold; with no id, the current entry is meant.
+#[derive(Drop)]
+pub struct GetHold {
+    pub bucket: BucketName,
+    pub key: ObjectKey,
+    pub id: Option<VersionId>,
+}
+
+/// A report on a department.
 #[derive(Drop)]
 pub struct Report {
     pub dept: DeptName,
 }
 
+/// What is asked of the vault.
 #[derive(Drop)]
 pub enum Command {
     AddDept(AddDept),
     AddCaller(AddCaller),
+    CloseCaller(CloseCaller),
     AddBucket(AddBucket),
+    SetDefault(SetDefault),
+    GetDefault(GetDefault),
+    SetRules(SetRules),
+    GetRules(GetRules),
+    DropRules(DropRules),
     Put(Put),
     Get(Get),
+    Head(Head),
+    Delete(Delete),
     DeleteVersion(DeleteVersion),
+    SetRetention(SetRetention),
+    GetRetention(GetRetention),
+    SetHold(SetHold),
+    GetHold(GetHold),
     Report(Report),
 }
 

@@ -1,6 +1,6 @@
 //! What keeps a vault.
 ghost use Rattle.std.specs.Prelude.{◌≡◌, ◌≤◌, ◌<◌, ◌+◌, ℕ, List, length, IfOk, OnOk, OnErr};
-ghost use Rattle.vault_core_model.specs.Vault.{Vault, caller_of, config_of, has_department, next_id};
+ghost use Rattle.vault_core_model.specs.Vault.{Vault, caller_of, config_of, has_department, next_id, rules_of};
 ghost use Rattle.vault_core_model.specs.Reads.{entry_of, setting_of, content_of, head_of};
 ghost use Rattle.vault_core_model.specs.Change.{changed};
 ghost use Rattle.vault_core_model.specs.Allowed.{Allows};
@@ -14,6 +14,7 @@ use crate::records::{BucketConfig, Caller, Entry, Head, LastSetting};
 use vault_base::content::Content;
 use vault_base::moment::Moment;
 use vault_base::name::{BucketName, CallerName, DeptName, ObjectKey, VersionId};
+use vault_rules::rule_set::RuleSet;
 use vault_tally::row::Row;
 
 /// What keeps a vault: a list of histories, or tables in a file.
@@ -72,6 +73,14 @@ pub trait Keeper {
     /// The department and the default retention of a bucket.
     fn bucket(&mut self, name: &BucketName) -> Result<Option<BucketConfig>, Fault>
         ensures value { is_honest self.new → IfOk result (λ found. found ≡ config_of (vault self.old) name.now) }
+        ensures same { vault self.new ≡ vault self.old }
+        ensures honest { is_honest self.new → is_honest self.old }
+        ensures counted { count self.old ≤ count self.new }
+        ensures device { result ≡ Err Fault.Device → Rose (count self.old) (count self.new) };
+
+    /// The lifecycle rules of a bucket; none where it has none.
+    fn rules(&mut self, bucket: &BucketName) -> Result<Option<RuleSet>, Fault>
+        ensures value { is_honest self.new → IfOk result (λ found. found ≡ rules_of (vault self.old) bucket.now) }
         ensures same { vault self.new ≡ vault self.old }
         ensures honest { is_honest self.new → is_honest self.old }
         ensures counted { count self.old ≤ count self.new }

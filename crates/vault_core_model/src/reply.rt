@@ -5,6 +5,8 @@ use vault_base::moment::Moment;
 use vault_base::name::{DeptName, VersionId};
 use vault_base::refusal::Refusal;
 use vault_lock::lock::{Lock, Permit};
+use vault_lock::retention::{Default, Retention};
+use vault_rules::rule_set::RuleSet;
 
 /// A held version and its last lock.
 #[derive(Drop)]
@@ -35,9 +37,15 @@ pub struct Report {
 #[derive(Drop)]
 pub enum Answer {
     Nothing,
+    Default(Option<Default>),
+    Rules(RuleSet),
     Admitted(VersionId),
     Version(Version, Content),
+    Head(Version),
+    Marked(VersionId),
     Removed(Removed),
+    Retention(Option<Retention>),
+    Hold(bool),
     Report(Report),
 }
 
