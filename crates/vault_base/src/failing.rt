@@ -1,5 +1,7 @@
 //! A reader and a writer that fail, for tests of what a fault leaves behind.
-ghost use Rattle.std.specs.Prelude.{◌≡◌, ◌↔◌, ◌+◌, [], length, Some, IsErr, IfOk, OnOk};
+ghost use Rattle.std.specs.Prelude.{◌≡◌, ◌↔◌, ◌+◌, [], length, Some, IsErr, IfErr, IfOk, OnOk};
+ghost use Rattle.std.specs.IoError.{error_kind};
+ghost use Rattle.std.specs.declared.io.ErrorKind.TheVariants.{BrokenPipe};
 ghost use Rattle.std.specs.Io.{ReadsAtMost, WritesAtMost};
 ghost use Rattle.std.specs.Io.KnownBytes.{ReadConsumes, WriteAppends};
 
@@ -40,16 +42,20 @@ pub struct FailingWriter {
 impl Write for FailingWriter {
     ghost contents = { λ w. Some w.written.items };
 
-    /// Fails with `BrokenPipe` where no write is left, and where a growth was refused.
+    /// Fails with `BrokenPipe` exactly where no write is left, and with `OutOfMemory` where a growth is refused.
     fn write(&mut self, buf: &[u8]) -> Result<usize>
         ensures bound { WritesAtMost result buf.now }
         ensures bytes { WriteAppends (Some self.old.written.items) (Some self.new.written.items) result buf.now }
         ensures whole { IfOk result (λ n. n ≡ length buf.now) }
         ensures fails { self.old.writes_left ≡ 0 → IsErr result }
+        ensures broken { IfErr result (λ e. error_kind e ≡ BrokenPipe → self.old.writes_left ≡ 0) }
         ensures counted { OnOk result (self.new.writes_left + 1 ≡ self.old.writes_left) }
     {
-        if self.writes_left == 0 || self.written.extend_from_slice(buf).is_err() {
+        if self.writes_left == 0 {
             return Err(Error::from(ErrorKind::BrokenPipe));
+        }
+        if self.written.extend_from_slice(buf).is_err() {
+            return Err(Error::from(ErrorKind::OutOfMemory));
         }
         self.writes_left -= 1;
         Ok(buf.len())

@@ -1,7 +1,8 @@
 //! The clock, the caller, and what the caller may do.
-ghost use Rattle.std.specs.Prelude.{◌≡◌, ◌≤◌, IsTrue, OnOk, false};
+ghost use Rattle.std.specs.Prelude.{◌≡◌, ◌≤◌, IsTrue, OnOk, IfOk, Some, false};
 ghost use Rattle.vault_core_model.specs.Halts.{Finds, is_device, Rose};
 ghost use Rattle.vault_core_model.specs.Sound.{Sound};
+ghost use Rattle.vault_core_model.specs.Vault.{config_of};
 ghost use Rattle.vault_core_model.specs.Checks.{in_time, asking, administrator, needs, needs_if, is_own, access, may_report};
 
 use vault_base::moment::Moment;
@@ -119,6 +120,7 @@ pub fn find_access<K: Keeper>(
 ) -> Result<Access, Halt>
     ensures found { K.is_honest keeper.new → Finds result (access (K.vault keeper.old) at who.now bucket.now right) }
     ensures in_time { K.is_honest keeper.new → OnOk result ((K.vault keeper.old).last ≤ at) }
+    ensures there { K.is_honest keeper.new → IfOk result (λ access. config_of (K.vault keeper.old) bucket.now ≡ Some access.bucket) }
     ensures sound { K.is_honest keeper.new → Sound (K.vault keeper.old) }
     ensures same { K.vault keeper.new ≡ K.vault keeper.old }
     ensures honest { K.is_honest keeper.new → K.is_honest keeper.old }

@@ -4,7 +4,7 @@ ghost use Rattle.vault_core_model.specs.Halts.{Finds, is_device, is_refused, Ros
 ghost use Rattle.vault_core_model.specs.Places.{is_held_at, current};
 ghost use Rattle.vault_core_model.specs.Reads.{entry_of, lock_of};
 ghost use Rattle.vault_core_model.specs.Sound.{Sound};
-ghost use Rattle.vault_core_model.specs.Checks.{content_on_top, held_entry, content_version, version_meant, permitted, refusal_of};
+ghost use Rattle.vault_core_model.specs.Checks.{content_on_top, held_entry, content_version, version_meant, permitted, refusal_of, lock_at_admission};
 ghost use Rattle.vault_lock.specs.Lock.{removable};
 
 use vault_base::moment::Moment;
@@ -12,8 +12,9 @@ use vault_base::name::{BucketName, ObjectKey, VersionId};
 use vault_base::refusal::{Reason, Refusal};
 use vault_core_model::halt::{Fault, Halt};
 use vault_core_model::keeper::Keeper;
-use vault_core_model::records::Entry;
-use vault_lock::lock::{Denial, Lock, Permit, may_remove};
+use vault_core_model::records::{BucketConfig, Entry};
+use vault_lock::lock::{Denial, Lock, Permit, first_lock, may_remove};
+use vault_lock::retention::Retention;
 
 /// Whether the entry is held in that bucket, under that key.
 fn is_held_at(bucket: &BucketName, key: &ObjectKey, entry: &Entry) -> bool
@@ -163,5 +164,27 @@ pub fn check_removal(
     match may_remove(lock, at, bypass, may_bypass) {
         Ok(permit) => Ok(permit),
         Err(guard) => Err(Halt::Refused(denial(guard))),
+    }
+}
+
+/// The first lock of a version placed in a bucket: the retention that is asked for, else the bucket's
+/// default, else none; a hold is on only where ON was asked.
+pub fn find_first_lock(
+    bucket: &BucketConfig,
+    retention: Option<Retention>,
+    hold: Option<bool>,
+    at: Moment,
+) -> Result<Lock, Halt>
+    ensures found { Finds result (lock_at_admission bucket.now retention hold at) }
+    ensures device { is_device result ≡ false }
+{
+    match first_lock(
+        bucket.default.as_ref(),
+        retention,
+        hold.unwrap_or(false),
+        at,
+    ) {
+        Some(lock) => Ok(lock),
+        None => Err(Halt::Refused(Refusal::RetentionOutOfRange)),
     }
 }

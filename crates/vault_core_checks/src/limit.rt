@@ -4,7 +4,7 @@ ghost use Rattle.vault_base.specs.Name.{is_version_id};
 ghost use Rattle.vault_core_model.specs.Halts.{Finds, is_device, Rose};
 ghost use Rattle.vault_core_model.specs.Vault.{next_id};
 ghost use Rattle.vault_core_model.specs.Totals.{admitted_bytes};
-ghost use Rattle.vault_core_model.specs.Checks.{within_quota, free_id};
+ghost use Rattle.vault_core_model.specs.Checks.{within_quota, free_id, most_ids};
 ghost use Rattle.vault_tally.specs.Row.{quota};
 
 use vault_base::name::{DeptName, VersionId};
@@ -32,6 +32,7 @@ pub fn check_quota<K: Keeper>(keeper: &mut K, dept: &DeptName, size: u64) -> Res
 /// The id of the next entry, while one is left.
 pub fn find_id<K: Keeper>(keeper: &mut K) -> Result<VersionId, Halt>
     ensures found { K.is_honest keeper.new → Finds result (free_id (K.vault keeper.old)) }
+    ensures few { K.is_honest keeper.new → OnOk result (next_id (K.vault keeper.old) ≤ most_ids) }
     ensures next { K.is_honest keeper.new → IfOk result (λ id. id ≡ next_id (K.vault keeper.old)) }
     ensures same { K.vault keeper.new ≡ K.vault keeper.old }
     ensures honest { K.is_honest keeper.new → K.is_honest keeper.old }

@@ -1,5 +1,6 @@
 pub mod Bounds
 pub mod Buckets
+pub mod Conserved
 pub mod Items
 pub mod Lists
 pub mod Newest

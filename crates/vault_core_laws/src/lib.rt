@@ -2,7 +2,7 @@
 //! Each is the contract of a public function that does nothing.
 #![tactic(auto)]
 
-ghost use Rattle.std.specs.Prelude.{◌≡◌, ◌++◌, ℕ, ◌≤◌, List, Some, None};
+ghost use Rattle.std.specs.Prelude.{◌≡◌, ◌+◌, ◌++◌, ℕ, ◌≤◌, List, Some, None};
 ghost use Rattle.vault_base.specs.Days.{last_moment, day};
 ghost use Rattle.vault_tally.specs.Row.{AreBounded, AreAdmittedBy};
 ghost use Rattle.vault_core_model.specs.declared.change.Change.{Change};
@@ -17,7 +17,7 @@ ghost use Rattle.vault_core_model.specs.Reads.{head_of, entry_of};
 ghost use Rattle.vault_core_model.specs.Step.{Run};
 ghost use Rattle.vault_core_model.specs.Sound.{Sound};
 ghost use Rattle.vault_core_model.specs.Allowed.{Allows};
-ghost use Rattle.vault_core_model.specs.Totals.{items_of};
+ghost use Rattle.vault_core_model.specs.Totals.{items_of, admitted_bytes, held_bytes, removed_bytes};
 
 /// A sound vault stays sound under every change that it allows.
 pub fn allowed_changes_keep_soundness()
@@ -42,4 +42,9 @@ pub fn heads_name_the_current_entry()
 pub fn runs_go_on()
     ensures { (v mid end : Vault) (cs ds : List Timed) (rs ss : List Reply) →
         Run v cs rs mid → Run mid ds ss end → Run v (cs ++ ds) (rs ++ ss) end }
+{}
+
+/// Of each department, the bytes that were ever admitted are those held and those removed.
+pub fn admitted_bytes_are_held_or_removed()
+    ensures { (v : Vault) (dept : List ℕ) → admitted_bytes v dept ≡ held_bytes v dept + removed_bytes v dept }
 {}

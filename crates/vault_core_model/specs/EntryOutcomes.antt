@@ -43,13 +43,19 @@ access_to_put v t who c = do
   _ ← needs_if (is_some c.hold) a.caller right.Hold
   Ok a
 
--- the version that a Put admits: the arguments, the lock, the quota, the id
-abbrev pub admission : Vault → ℕ → List ℕ → Put → Access → Result History Refusal
-admission v t who c a = do
+-- the lock that a Put gives: the arguments, the lock, the quota
+abbrev pub lock_to_admit : Vault → ℕ → Put → Access → Result Lock Refusal
+lock_to_admit v t c a = do
   _ ← small_enough c.content
   _ ← ends_later_if_given t c.retention
   lock ← lock_at_admission a.bucket c.retention c.hold t
   _ ← within_quota v a.bucket.dept (length c.content)
+  Ok lock
+
+-- the version that a Put admits, with the next id
+abbrev pub admission : Vault → ℕ → List ℕ → Put → Access → Result History Refusal
+admission v t who c a = do
+  lock ← lock_to_admit v t c a
   id ← free_id v
   Ok (new_version id t who c lock)
 

@@ -13,6 +13,7 @@ use Rattle.vault_rules.specs.declared.rule_set.RuleFault.TheVariants.{SameId, No
 use Rattle.vault_rules.specs.Rules.{is_days, is_newer, passes_if_given, is_noncurrent_action, is_in_range, has_id, has_action, has_days_and_markers, fault_where, fault_of, first_of_both, first_fault, is_rule_set}
 use Rattle.vault_rules.specs.Due.{fits, noncurrent_has_passed, makes_noncurrent_due}
 use Rattle.vault_rules.specs.Walk.{Dues, dues}
+use Rattle.vault_rules.proofs.Truth.{both}
 
 -- a later since or a lower rank makes nothing due
 abbrev pub IsFalling : Dues → Type 0
@@ -31,10 +32,6 @@ HasDays (Some n) = 0 < n.days
 
 abbrev IsTimed : Rule → Type 0
 IsTimed r = HasDays r.noncurrent
-
-both : (a b : Bool) → IsTrue (a && b) → IsTrue a × IsTrue b
-both true b h = (refl, h)
-both false b h = absurd (cc)
 
 -- no fault: neither here nor later
 no_fault : (b : Bool) (f : RuleFault) (later : Option RuleFault) → IsTrue (is_none (fault_where b f later)) → (b ≡ false) × IsTrue (is_none later)

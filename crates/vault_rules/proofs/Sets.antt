@@ -10,15 +10,8 @@ use Rattle.vault_rules.specs.declared.plan.Step.{Step}
 use Rattle.vault_rules.specs.declared.plan.Step.TheVariants.{Mark, Remove, RemoveLone}
 use Rattle.vault_rules.specs.Due.{due_current, due_noncurrent, due_marker}
 use Rattle.vault_rules.specs.KeyPlan.{ids_rise, newer, first_admission, only_if, mark_rule, removal_rule, lone_rule, mark_steps, removal_steps, lone_steps, id_above, marker_on, marked, kept, key_plan}
+use Rattle.vault_rules.proofs.Truth.{both, and_true, test_of_less}
 use Rattle.vault_rules.specs.Walk.{dues, unless, last_mark, mark_step, remove_step, lone_step, walk, marked_by, marker_at, removal, removals, keep_if, left_over, lone_removal}
-
-both : (a b : Bool) → IsTrue (a && b) → IsTrue a × IsTrue b
-both true b h = (refl, h)
-both false b h = absurd (cc)
-
-and_true : (a b : Bool) → IsTrue a → IsTrue b → IsTrue (a && b)
-and_true true b h k = k
-and_true false b h k = absurd (cc)
 
 filter_all : (p : Held → Bool) (xs : List Held) → IsTrue (list_all p xs) → filter p xs ≡ xs
 filter_all p [] h = refl
@@ -147,14 +140,11 @@ not_lower : (a : ℕ) (hs : List Held) → a ≤ fold (λ m x. max m x.id) a hs
 not_lower a [] = omega arith
 not_lower a (x ∷ xs) = let h = not_lower (max a x.id) xs in omega (arith, h)
 
-less_by : (m n : ℕ) → m < n → IsTrue (nat_lt m n)
-less_by m n h = grind (arith, nat_tests)
-
 all_below : (n a : ℕ) (hs : List Held) → fold (λ m x. max m x.id) a hs < n → IsTrue (list_all (λ x. nat_lt x.id n) hs)
 all_below n a [] h = refl
 all_below n a (x ∷ xs) h =
     let k = not_lower (max a x.id) xs in
-    and_true (nat_lt x.id n) (list_all (λ x. nat_lt x.id n) xs) (less_by x.id n (omega (arith, k))) (all_below n (max a x.id) xs h)
+    and_true (nat_lt x.id n) (list_all (λ x. nat_lt x.id n) xs) (test_of_less x.id n (omega (arith, k))) (all_below n (max a x.id) xs h)
 
 pub below_above : (hs : List Held) → IsTrue (list_all (λ x. nat_lt x.id (id_above hs)) hs)
 below_above hs = all_below (id_above hs) 0 hs (omega arith)

@@ -2,6 +2,9 @@
 #![tactic(auto)]
 
 pub mod due;
+pub mod laws;
 pub mod plan;
 pub mod rule;
 pub mod rule_set;
+#[cfg(test)]
+mod tests;

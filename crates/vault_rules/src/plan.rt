@@ -54,6 +54,7 @@ pub fn plan_key(
     if let Some(rule) = mark_of(rules, key, held, now) {
         steps.push(Step::Mark(rule))?;
         remove_noncurrent(rules, key, held, true, now, &mut steps)?;
+        // The content below became noncurrent just now, so it stays, and no marker is alone.
         return Ok(steps);
     }
     let left = remove_noncurrent(rules, key, held, false, now, &mut steps)?;

@@ -1,0 +1,78 @@
+-- The lines of replies.
+use Rattle.std.specs.Prelude.{ℕ, List, [], ◌∷◌, ◌++◌, codes, Bool, if◌then◌else◌, Option, Some, None}
+use Rattle.hex.specs.Hex.{encode_lower}
+use Rattle.serde_json.specs.Data.{Data, null, boolean, string, number, unsigned, object, member, no_members}
+use Rattle.serde_json.specs.Written.{compact_text}
+use Rattle.vault_base.specs.Moment.{moment_text}
+use Rattle.vault_base.specs.Refusal.{name_of, number_of, reason_name}
+use Rattle.vault_base.specs.declared.refusal.Refusal.{Refusal}
+use Rattle.vault_base.specs.declared.refusal.Refusal.TheVariants.{AccessDenied, NoSuchKey}
+use Rattle.vault_core_model.specs.declared.reply.Answer.{Answer}
+use Rattle.vault_core_model.specs.declared.reply.Answer.TheVariants as answer
+use Rattle.vault_core_model.specs.declared.reply.Removed.{Removed}
+use Rattle.vault_core_model.specs.declared.reply.Reply.{Reply}
+use Rattle.vault_core_model.specs.declared.reply.Reply.TheVariants.{Done, Refused}
+use Rattle.vault_core_model.specs.declared.reply.Report.{Report}
+use Rattle.vault_core_model.specs.declared.reply.Version.{Version}
+use Rattle.vault_lock.specs.declared.lock.Permit.{Permit}
+use Rattle.vault_lock.specs.declared.lock.Permit.TheVariants.{Free, Bypass}
+use Rattle.vault_lock.specs.declared.retention.Mode.{Mode}
+use Rattle.vault_lock.specs.declared.retention.Mode.TheVariants.{Governance, Compliance}
+use Rattle.vault_lock.specs.declared.retention.Retention.{Retention}
+
+abbrev pub mode_name : Mode → List ℕ
+mode_name Governance = codes "GOVERNANCE"
+mode_name Compliance = codes "COMPLIANCE"
+
+abbrev pub hold_name : Bool → List ℕ
+hold_name hold = if hold then codes "ON" else codes "OFF"
+
+abbrev pub cause_name : Permit → List ℕ
+cause_name Free = codes "request"
+cause_name Bypass = codes "bypass"
+
+-- a text of ASCII
+abbrev pub text : List ℕ → Data
+text bytes = string bytes
+
+abbrev pub whole : ℕ → Data
+whole n = number (unsigned n)
+
+abbrev pub retention_value : Option Retention → Data
+retention_value None = null
+retention_value (Some r) = object (member (codes "mode") (text (mode_name r.mode)) (member (codes "until") (text (moment_text r.until)) no_members))
+
+-- what has no digest has none to print
+abbrev pub digest_value : Option (List ℕ) → Data
+digest_value None = null
+digest_value (Some digest) = text (encode_lower digest)
+
+abbrev pub version_value : Version → List ℕ → Data
+version_value v content = object (member (codes "admitted") (text (moment_text v.entry.admitted)) (member (codes "hex") (text (encode_lower content)) (member (codes "hold") (text (hold_name v.lock.hold)) (member (codes "retention") (retention_value v.lock.retention) (member (codes "sha256") (digest_value v.entry.digest) (member (codes "size") (whole v.entry.size) (member (codes "version_id") (whole v.entry.id) no_members)))))))
+
+abbrev pub removed_value : Removed → Data
+removed_value r = object (member (codes "cause") (text (cause_name r.permit)) (member (codes "delete_marker") (boolean r.marker) (member (codes "version_id") (whole r.id) no_members)))
+
+abbrev pub report_value : Report → Data
+report_value r = object (member (codes "admitted") (whole r.admitted) (member (codes "at") (text (moment_text r.at)) (member (codes "byte_days") (whole r.byte_days) (member (codes "dept") (text r.dept) (member (codes "held") (whole r.held) (member (codes "removed") (whole r.removed) no_members))))))
+
+abbrev pub answer_value : Answer → Data
+answer_value answer.Nothing = object no_members
+answer_value (answer.Admitted id) = object (member (codes "version_id") (whole id) no_members)
+answer_value (answer.Version version content) = version_value version content
+answer_value (answer.Removed removed) = removed_value removed
+answer_value (answer.Report report) = report_value report
+
+-- a refusal's name and number, and what else it tells
+abbrev pub refusal_value : Refusal → Data
+refusal_value (AccessDenied reason) = object (member (codes "code") (text (name_of (AccessDenied reason))) (member (codes "n") (whole (number_of (AccessDenied reason))) (member (codes "reason") (text (reason_name reason)) no_members)))
+refusal_value (NoSuchKey marker) = object (member (codes "code") (text (name_of (NoSuchKey marker))) (member (codes "marker") (boolean marker) (member (codes "n") (whole (number_of (NoSuchKey marker))) no_members)))
+refusal_value refusal = object (member (codes "code") (text (name_of refusal)) (member (codes "n") (whole (number_of refusal)) no_members))
+
+abbrev pub reply_value : Reply → Data
+reply_value (Done answer) = object (member (codes "ok") (answer_value answer) no_members)
+reply_value (Refused refusal) = object (member (codes "error") (refusal_value refusal) no_members)
+
+-- compact JSON, and an LF
+unfoldable pub reply_text : Reply → List ℕ
+reply_text reply = compact_text (reply_value reply) ++ 10 ∷ []

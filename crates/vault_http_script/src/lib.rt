@@ -1,0 +1,13 @@
+//! Script lines read into commands, and replies printed as lines.
+#![tactic(auto)]
+
+mod document;
+mod entry_lines;
+mod fault;
+mod members;
+pub mod read_line;
+mod record_lines;
+pub mod reply_line;
+#[cfg(test)]
+mod tests;
+mod values;
