@@ -1,6 +1,6 @@
 -- A bucket that is added leaves the others in their place.
 use Rattle.std.proofs.Common.{◌≡◌, ℕ, List, [], ◌∷◌, Bool, true, false, Option, Some, None, refl, sym, ap, subst}
-use Rattle.std.specs.Prelude.{IsSome, find, option_map, if◌then◌else◌}
+use Rattle.std.specs.Prelude.{IsSome, find, map, option_map, if◌then◌else◌}
 use Rattle.std.specs.Str.{bytes_eq}
 use Rattle.std.specs.declared.cmp.Ordering.{Ordering}
 use Rattle.std.specs.declared.cmp.Ordering.TheVariants.{Less, Equal, Greater}
@@ -8,8 +8,11 @@ use Rattle.std.proofs.lemmas.Slice.Eq.{bytes_eq-Decides}
 use Rattle.vault_core_model.specs.declared.records.Bucket.{Bucket}
 use Rattle.vault_core_model.specs.declared.records.BucketConfig.{BucketConfig}
 use Rattle.vault_core_model.specs.Order.{placed, placed_by, bucket_cmp}
-use Rattle.vault_core_model.specs.Vault.{config_in}
-use Rattle.vault_core_model.specs.Change.{new_bucket}
+use Rattle.vault_core_model.specs.Vault.{bucket_in, config_in}
+use Rattle.vault_core_model.specs.Change.{new_bucket, with_default, with_rules}
+use Rattle.vault_core_model.specs.Totals.{is_of_department}
+use Rattle.vault_lock.specs.declared.retention.Default.{Default}
+use Rattle.vault_rules.specs.declared.rule.Rule.{Rule}
 
 -- what x is not is found as before
 pub find-placed : {X : Type 0} (cmp : X → X → Ordering) (p : X → Bool) (x : X) (ys : List X) → p x ≡ false → find p (placed cmp x ys) ≡ find p ys
@@ -34,3 +37,43 @@ pub config_in-placed : (bs : List Bucket) (name dept other : List ℕ) → confi
 config_in-placed bs name dept other free there =
     ap (λ (found : Option Bucket). option_map (λ b. b.config) found)
     (find-placed bucket_cmp (λ b. bytes_eq b.name other) (new_bucket name dept) bs (other_name bs name other (bytes_eq name other) refl free there))
+
+-- ---- a bucket that is set anew keeps its name and its department
+
+-- it is found where it was
+one-mapped : (f : Bucket → Bucket) (b : Bucket) (more rest : Option Bucket) (x y : Bool) → x ≡ y → more ≡ option_map f rest → (if x then Some (f b) else more) ≡ option_map f (if y then Some b else rest)
+one-mapped f b more rest true true e later = refl
+one-mapped f b more rest false false e later = later
+one-mapped f b more rest true false e later = absurd (cc e)
+one-mapped f b more rest false true e later = absurd (cc e)
+
+bucket_in-mapped : (f : Bucket → Bucket) → ((b : Bucket) → (f b).name ≡ b.name) → (bs : List Bucket) (name : List ℕ) → bucket_in (map f bs) name ≡ option_map f (bucket_in bs name)
+bucket_in-mapped f same [] name = refl
+bucket_in-mapped f same (b ∷ bs) name =
+    one-mapped f b (bucket_in (map f bs) name) (bucket_in bs name) (bytes_eq (f b).name name) (bytes_eq b.name name) (ap (λ n. bytes_eq n name) (same b)) (bucket_in-mapped f same bs name)
+
+still_some : (f : Bucket → Bucket) (o : Option Bucket) → IsSome (option_map (λ (b : Bucket). b.config) o) → IsSome (option_map (λ (b : Bucket). b.config) (option_map f o))
+still_some f None there = there
+still_some f (Some b) there = refl
+
+pub placed-mapped : (f : Bucket → Bucket) → ((b : Bucket) → (f b).name ≡ b.name) → (bs : List Bucket) (name : List ℕ) → IsSome (config_in bs name) → IsSome (config_in (map f bs) name)
+placed-mapped f same bs name there = rw (bucket_in-mapped f same bs name) (still_some f (bucket_in bs name) there)
+
+dept_same : (f : Bucket → Bucket) → ((b : Bucket) → (f b).config.dept ≡ b.config.dept) → (dept : List ℕ) (o : Option Bucket) → is_of_department dept (option_map (λ (b : Bucket). b.config) (option_map f o)) ≡ is_of_department dept (option_map (λ (b : Bucket). b.config) o)
+dept_same f same dept None = refl
+dept_same f same dept (Some b) = ap (λ own. bytes_eq own dept) (same b)
+
+pub department-mapped : (f : Bucket → Bucket) → ((b : Bucket) → (f b).name ≡ b.name) → ((b : Bucket) → (f b).config.dept ≡ b.config.dept) → (bs : List Bucket) (dept name : List ℕ) → is_of_department dept (config_in (map f bs) name) ≡ is_of_department dept (config_in bs name)
+department-mapped f same_name same_dept bs dept name = rw (bucket_in-mapped f same_name bs name) (dept_same f same_dept dept (bucket_in bs name))
+
+pub name-with_default : (name : List ℕ) (default : Option Default) (b : Bucket) → (with_default name default b).name ≡ b.name
+name-with_default name default b = elim (bytes_eq b.name name) as (λ x. (if x then record b { config = record { dept = b.config.dept; default = default } } else b).name ≡ b.name) [ true ↦ refl | false ↦ refl ]
+
+pub dept-with_default : (name : List ℕ) (default : Option Default) (b : Bucket) → (with_default name default b).config.dept ≡ b.config.dept
+dept-with_default name default b = elim (bytes_eq b.name name) as (λ x. (if x then record b { config = record { dept = b.config.dept; default = default } } else b).config.dept ≡ b.config.dept) [ true ↦ refl | false ↦ refl ]
+
+pub name-with_rules : (name : List ℕ) (rules : Option (List Rule)) (b : Bucket) → (with_rules name rules b).name ≡ b.name
+name-with_rules name rules b = elim (bytes_eq b.name name) as (λ x. (if x then record b { rules = rules } else b).name ≡ b.name) [ true ↦ refl | false ↦ refl ]
+
+pub dept-with_rules : (name : List ℕ) (rules : Option (List Rule)) (b : Bucket) → (with_rules name rules b).config.dept ≡ b.config.dept
+dept-with_rules name rules b = elim (bytes_eq b.name name) as (λ x. (if x then record b { rules = rules } else b).config.dept ≡ b.config.dept) [ true ↦ refl | false ↦ refl ]

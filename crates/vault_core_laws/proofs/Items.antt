@@ -10,8 +10,9 @@ use Rattle.vault_core_model.specs.declared.records.Bucket.{Bucket}
 use Rattle.vault_core_model.specs.declared.records.BucketConfig.{BucketConfig}
 use Rattle.vault_core_model.specs.declared.records.History.{History}
 use Rattle.vault_core_model.specs.declared.records.Removal.{Removal}
+use Rattle.vault_core_model.specs.declared.records.Setting.{Setting}
 use Rattle.vault_core_model.specs.Vault.{config_in}
-use Rattle.vault_core_model.specs.Change.{removed_by, removed_if}
+use Rattle.vault_core_model.specs.Change.{removed_by, removed_if, with_setting}
 use Rattle.vault_core_model.specs.Totals.{is_of_department, is_version_of, item_of, items_in}
 
 -- what an entry adds to what a department ever admitted
@@ -31,11 +32,11 @@ items_sum buckets dept (h ∷ hs) = omega (
   sum_by-cons (share buckets dept) h hs,
 )
 
-pub share-other : (before after : List Bucket) (dept : List ℕ) (h : History) → config_in after h.entry.bucket ≡ config_in before h.entry.bucket → share after dept h ≡ share before dept h
-share-other before after dept h same = ap (λ c. if not h.entry.marker && is_of_department dept c then h.entry.size else 0) same
+pub share-other : (before after : List Bucket) (dept : List ℕ) (h : History) → is_of_department dept (config_in after h.entry.bucket) ≡ is_of_department dept (config_in before h.entry.bucket) → share after dept h ≡ share before dept h
+share-other before after dept h same = ap (λ b. if not h.entry.marker && b then h.entry.size else 0) same
 
 -- the same, over a list
-pub shares-other : (before after : List Bucket) (dept : List ℕ) (hs : List History) → AllByRecursion (λ h. config_in after h.entry.bucket ≡ config_in before h.entry.bucket) hs → sum_by (share after dept) hs ≡ sum_by (share before dept) hs
+pub shares-other : (before after : List Bucket) (dept : List ℕ) (hs : List History) → AllByRecursion (λ h. is_of_department dept (config_in after h.entry.bucket) ≡ is_of_department dept (config_in before h.entry.bucket)) hs → sum_by (share after dept) hs ≡ sum_by (share before dept) hs
 shares-other before after dept [] same = refl
 shares-other before after dept (h ∷ hs) same = omega (
   arith,
@@ -65,8 +66,24 @@ admitted-push buckets dept hs h = omega (arith, items_sum buckets dept (hs ++ h 
 pub admitted-removed : (buckets : List Bucket) (dept : List ℕ) (id : ℕ) (r : Removal) (hs : List History) → sum_by size_of (items_in buckets dept (map (removed_if id r) hs)) ≡ sum_by size_of (items_in buckets dept hs)
 admitted-removed buckets dept id r hs = items_sum buckets dept (map (removed_if id r) hs) ∙ shares-removed buckets dept id r hs ∙ sym (items_sum buckets dept hs)
 
-pub admitted-other : (before after : List Bucket) (dept : List ℕ) (hs : List History) → AllByRecursion (λ h. config_in after h.entry.bucket ≡ config_in before h.entry.bucket) hs → sum_by size_of (items_in after dept hs) ≡ sum_by size_of (items_in before dept hs)
+pub admitted-other : (before after : List Bucket) (dept : List ℕ) (hs : List History) → AllByRecursion (λ h. is_of_department dept (config_in after h.entry.bucket) ≡ is_of_department dept (config_in before h.entry.bucket)) hs → sum_by size_of (items_in after dept hs) ≡ sum_by size_of (items_in before dept hs)
 admitted-other before after dept hs same = items_sum after dept hs ∙ shares-other before after dept hs same ∙ sym (items_sum before dept hs)
+
+pub share-with_setting : (buckets : List Bucket) (dept : List ℕ) (id : ℕ) (s : Setting) (h : History) → share buckets dept (with_setting id s h) ≡ share buckets dept h
+share-with_setting buckets dept id s h = elim (eqb h.entry.id id) as (λ b. share buckets dept (if b then record h { settings = h.settings ++ s ∷ [] } else h) ≡ share buckets dept h) [ true ↦ refl | false ↦ refl ]
+
+shares-setting : (buckets : List Bucket) (dept : List ℕ) (id : ℕ) (s : Setting) (hs : List History) → sum_by (share buckets dept) (map (with_setting id s) hs) ≡ sum_by (share buckets dept) hs
+shares-setting buckets dept id s [] = refl
+shares-setting buckets dept id s (h ∷ hs) = omega (
+  arith,
+  sum_by-cons (share buckets dept) h hs,
+  sum_by-cons (share buckets dept) (with_setting id s h) (map (with_setting id s) hs),
+  share-with_setting buckets dept id s h,
+  shares-setting buckets dept id s hs,
+)
+
+pub admitted-setting : (buckets : List Bucket) (dept : List ℕ) (id : ℕ) (s : Setting) (hs : List History) → sum_by size_of (items_in buckets dept (map (with_setting id s) hs)) ≡ sum_by size_of (items_in buckets dept hs)
+admitted-setting buckets dept id s hs = items_sum buckets dept (map (with_setting id s) hs) ∙ shares-setting buckets dept id s hs ∙ sym (items_sum buckets dept hs)
 
 -- what fits its own department fits each
 pub share_fits : (buckets : List Bucket) (h : History) (own : BucketConfig) (dept : List ℕ) (most : ℕ) (sum : List ℕ → ℕ) → config_in buckets h.entry.bucket ≡ Some own → sum own.dept + h.entry.size ≤ most → sum dept ≤ most → sum dept + share buckets dept h ≤ most

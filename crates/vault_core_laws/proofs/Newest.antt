@@ -124,7 +124,7 @@ eq_self n = grind arith
 eq_other : (m n : ℕ) → m < n → (m == n) ≡ false
 eq_other m n lt = grind (arith, lt)
 
-finds_itself : (n : ℕ) (hs : List History) → AreIdsFrom n hs → AllByRecursion (λ y. find (λ h. h.entry.id == y.entry.id) hs ≡ Some y) hs
+pub finds_itself : (n : ℕ) (hs : List History) → AreIdsFrom n hs → AllByRecursion (λ y. find (λ h. h.entry.id == y.entry.id) hs ≡ Some y) hs
 finds_itself n [] ids = tt
 finds_itself n (h ∷ hs) ids = (
   rw (eq_self h.entry.id) refl,

@@ -1,25 +1,29 @@
 -- A change that is allowed keeps a vault sound.
-use Rattle.std.proofs.Common.{◌≡◌, ℕ, ◌+◌, ◌≤◌, List, [], ◌∷◌, ◌++◌, length, map, Bool, true, false, Option, Some, None, refl, sym, subst, arith, eqb}
-use Rattle.std.specs.Prelude.{if◌then◌else◌, IsSome}
+use Rattle.std.proofs.Common.{◌≡◌, ℕ, ◌+◌, ◌≤◌, ◌<◌, List, [], ◌∷◌, ◌++◌, length, map, Bool, true, false, Option, Some, None, refl, sym, ap, ◌∙◌, subst, arith, eqb}
+use Rattle.std.specs.Prelude.{if◌then◌else◌, IsSome, find, option_map, option_and_then, ◌==◌}
 use Rattle.std.specs.List.{AllByRecursion}
+use Rattle.std.proofs.lemmas.Bool.{eqb-true}
 use Rattle.std.proofs.lemmas.List.{length-map, length-append}
 use Rattle.vault_tally.specs.Row.{quota}
+use Rattle.vault_core_model.specs.declared.records.Bucket.{Bucket}
 use Rattle.vault_core_model.specs.declared.records.Entry.{Entry}
+use Rattle.vault_core_model.specs.Reads.{setting_of, last_setting, count_by}
 use Rattle.vault_core_model.specs.declared.records.History.{History}
 use Rattle.vault_core_model.specs.declared.records.Removal.{Removal}
 use Rattle.vault_core_model.specs.declared.records.Setting.{Setting}
 use Rattle.vault_core_model.specs.declared.change.Change.{Change}
-use Rattle.vault_core_model.specs.declared.change.Change.TheVariants.{AddDept, AddCaller, AddBucket, Admit, Remove}
-use Rattle.vault_core_model.specs.Checks.{most_ids}
+use Rattle.vault_core_model.specs.declared.change.Change.TheVariants.{AddDept, AddCaller, CloseCaller, AddBucket, SetDefault, SetRules, Admit, AddSetting, Remove}
+use Rattle.vault_core_model.specs.Checks.{most_ids, most_settings}
 use Rattle.vault_core_model.specs.Order.{placed, bucket_cmp}
 use Rattle.vault_core_model.specs.Vault.{Vault, config_in}
-use Rattle.vault_core_model.specs.Change.{changed, removed_by, removed_if, new_bucket}
+use Rattle.vault_core_model.specs.Change.{changed, removed_by, removed_if, new_bucket, with_default, with_rules, with_setting}
 use Rattle.vault_core_model.specs.Sound.{AreIdsFrom, AreInOrder, IsInTime, LiesBetween, HasItsBytes, IsWhole, IsWholeAs, IsPlaced, Sound}
-use Rattle.vault_core_model.specs.Allowed.{Allows}
-use Rattle.vault_core_model.specs.Totals.{admitted_bytes}
+use Rattle.vault_core_model.specs.Allowed.{Allows, IsNextSetting}
+use Rattle.vault_core_model.specs.Totals.{admitted_bytes, is_of_department}
 use Rattle.vault_core_laws.proofs.Lists.{All-push, All-weaker, All-map}
-use Rattle.vault_core_laws.proofs.Buckets.{config_in-placed}
-use Rattle.vault_core_laws.proofs.Items.{admitted-push, admitted-removed, admitted-other, share_fits}
+use Rattle.vault_core_laws.proofs.Buckets.{config_in-placed, placed-mapped, department-mapped, name-with_default, dept-with_default, name-with_rules, dept-with_rules}
+use Rattle.vault_core_laws.proofs.Items.{admitted-push, admitted-removed, admitted-other, admitted-setting, share_fits}
+use Rattle.vault_core_laws.proofs.Newest.{finds_itself}
 
 -- ---- ids
 
@@ -94,6 +98,70 @@ IsPlaced-removed : (v : Vault) (id : ℕ) (r : Removal) (h : History) → IsPlac
 IsPlaced-removed v id r h placed =
     elim (eqb h.entry.id id) as (λ b. IsPlaced v (if b then removed_by r h else h)) [ true ↦ placed | false ↦ placed ]
 
+-- a vault whose buckets are set anew, each with its name and its department
+buckets_set : (v : Vault) (t : ℕ) (f : Bucket → Bucket) → ((b : Bucket) → (f b).name ≡ b.name) → ((b : Bucket) → (f b).config.dept ≡ b.config.dept) → Sound v → v.last ≤ t → Sound (record v { last = t; buckets = map f v.buckets })
+buckets_set v t f same_name same_dept sound le = record {
+  ids = sound.ids;
+  enough_ids = sound.enough_ids;
+  order = AreInOrder-later 0 v.last t v.histories le sound.order;
+  in_time = IsInTime-later v.last t v.histories le sound.in_time;
+  whole = sound.whole;
+  placed = All-weaker (IsPlaced v) (IsPlaced (record v { last = t; buckets = map f v.buckets })) (λ h there. placed-mapped f same_name v.buckets h.entry.bucket there) v.histories sound.placed;
+  within = λ d. rw (admitted-other v.buckets (map f v.buckets) d v.histories (each (λ h. department-mapped f same_name same_dept v.buckets d h.entry.bucket) v.histories)) (sound.within d);
+}
+  where
+    each : {P : History → Type 0} → ((h : History) → P h) → (hs : List History) → AllByRecursion P hs
+    each p [] = tt
+    each p (h ∷ hs) = (p h, each p hs)
+
+-- ---- one setting more
+
+AreIdsFrom-setting : (id : ℕ) (s : Setting) (n : ℕ) (hs : List History) → AreIdsFrom n hs → AreIdsFrom n (map (with_setting id s) hs)
+AreIdsFrom-setting id s n [] ids = tt
+AreIdsFrom-setting id s n (h ∷ hs) ids =
+    elim (eqb h.entry.id id) as (λ b. AreIdsFrom n ((if b then record h { settings = h.settings ++ s ∷ [] } else h) ∷ map (with_setting id s) hs))
+    [ true ↦ (ids.0, AreIdsFrom-setting id s (n + 1) hs ids.1) | false ↦ (ids.0, AreIdsFrom-setting id s (n + 1) hs ids.1) ]
+
+AreInOrder-setting : (id : ℕ) (s : Setting) (from last : ℕ) (hs : List History) → AreInOrder from last hs → AreInOrder from last (map (with_setting id s) hs)
+AreInOrder-setting id s from last [] order = order
+AreInOrder-setting id s from last (h ∷ hs) order =
+    elim (eqb h.entry.id id) as (λ b. AreInOrder from last ((if b then record h { settings = h.settings ++ s ∷ [] } else h) ∷ map (with_setting id s) hs))
+    [ true ↦ (order.0, AreInOrder-setting id s h.entry.admitted last hs order.1) | false ↦ (order.0, AreInOrder-setting id s h.entry.admitted last hs order.1) ]
+
+IsInTime-setting : (t id : ℕ) (s : Setting) (h : History) → IsInTime t h → IsInTime t (with_setting id s h)
+IsInTime-setting t id s h in_time =
+    elim (eqb h.entry.id id) as (λ b. IsInTime t (if b then record h { settings = h.settings ++ s ∷ [] } else h)) [ true ↦ in_time | false ↦ in_time ]
+
+IsPlaced-setting : (v : Vault) (id : ℕ) (s : Setting) (h : History) → IsPlaced v h → IsPlaced v (with_setting id s h)
+IsPlaced-setting v id s h placed =
+    elim (eqb h.entry.id id) as (λ b. IsPlaced v (if b then record h { settings = h.settings ++ s ∷ [] } else h)) [ true ↦ placed | false ↦ placed ]
+
+setting_count : (ss : List Setting) → count_by (last_setting ss) ≡ length ss
+setting_count [] = refl
+setting_count (s ∷ ss) = refl
+
+whole_with_setting : (marker : Bool) (e : Entry) (content : Option (List ℕ)) (settings : List Setting) (s : Setting) → marker ≡ false → length settings < most_settings → IsWholeAs marker e content settings → IsWholeAs marker e content (settings ++ s ∷ [])
+whole_with_setting true e content settings s version fits whole = absurd (cc version)
+whole_with_setting false e content settings s version fits whole =
+    (whole.0, whole.1, omega (arith, length-append settings (s ∷ [])), omega (arith, length-append settings (s ∷ [])))
+
+-- the entry that was found by its id is the one that gets the setting
+IsWhole-setting : (v : Vault) (t id : ℕ) (s : Setting) (h : History) → IsNextSetting v t id s → find (λ g. g.entry.id == h.entry.id) v.histories ≡ Some h → IsWhole h → IsWhole (with_setting id s h)
+IsWhole-setting v t id s h allowed found whole = by_id (eqb h.entry.id id) refl
+  where
+    here : eqb h.entry.id id ≡ true → find (λ g. g.entry.id == id) v.histories ≡ Some h
+    here e = let P : ℕ → Type 0 = λ i. find (λ g. g.entry.id == i) v.histories ≡ Some h in subst P (eqb-true h.entry.id id e) found
+    added : eqb h.entry.id id ≡ true → IsWhole (record h { settings = h.settings ++ s ∷ [] })
+    added e =
+        let same : Some h.entry ≡ Some allowed.entry = sym (ap (λ (o : Option History). option_map (λ g. g.entry) o) (here e)) ∙ allowed.there in
+        let entry : h.entry ≡ allowed.entry = cc same in
+        let version : h.entry.marker ≡ false = ap (λ (x : Entry). x.marker) entry ∙ allowed.version in
+        let count : count_by (setting_of v id) ≡ length h.settings = ap (λ (o : Option History). count_by (option_and_then (λ g. last_setting g.settings) o)) (here e) ∙ setting_count h.settings in
+        whole_with_setting h.entry.marker h.entry h.content h.settings s version (omega (arith, allowed.fits, count)) whole
+    by_id : (b : Bool) → eqb h.entry.id id ≡ b → IsWhole (if b then record h { settings = h.settings ++ s ∷ [] } else h)
+    by_id true e = added e
+    by_id false e = whole
+
 -- ---- the changes
 
 pub Sound-changed : (v : Vault) (t : ℕ) (c : Change) → Sound v → v.last ≤ t → Allows v t c → Sound (changed v t c)
@@ -115,6 +183,26 @@ Sound-changed v t (AddCaller c) sound le allowed = record {
   placed = sound.placed;
   within = sound.within;
 }
+Sound-changed v t (CloseCaller name) sound le allowed = record {
+  ids = sound.ids;
+  enough_ids = sound.enough_ids;
+  order = AreInOrder-later 0 v.last t v.histories le sound.order;
+  in_time = IsInTime-later v.last t v.histories le sound.in_time;
+  whole = sound.whole;
+  placed = sound.placed;
+  within = sound.within;
+}
+Sound-changed v t (SetDefault name default) sound le allowed = buckets_set v t (with_default name default) (name-with_default name default) (dept-with_default name default) sound le
+Sound-changed v t (SetRules name rules) sound le allowed = buckets_set v t (with_rules name rules) (name-with_rules name rules) (dept-with_rules name rules) sound le
+Sound-changed v t (AddSetting id s) sound le allowed = record {
+  ids = AreIdsFrom-setting id s 1 v.histories sound.ids;
+  enough_ids = rw (length-map v.histories (with_setting id s)) sound.enough_ids;
+  order = AreInOrder-setting id s 0 t v.histories (AreInOrder-later 0 v.last t v.histories le sound.order);
+  in_time = All-map (IsInTime t) (IsInTime t) (IsInTime t) (with_setting id s) (λ h in_time same. IsInTime-setting t id s h in_time) v.histories (IsInTime-later v.last t v.histories le sound.in_time) (IsInTime-later v.last t v.histories le sound.in_time);
+  whole = All-map (λ y. find (λ h. h.entry.id == y.entry.id) v.histories ≡ Some y) IsWhole IsWhole (with_setting id s) (λ h found whole. IsWhole-setting v t id s h allowed found whole) v.histories (finds_itself 1 v.histories sound.ids) sound.whole;
+  placed = All-map (IsPlaced v) (IsPlaced v) (IsPlaced v) (with_setting id s) (λ h placed same. IsPlaced-setting v id s h placed) v.histories sound.placed sound.placed;
+  within = λ dept. rw (admitted-setting v.buckets dept id s v.histories) (sound.within dept);
+}
 Sound-changed v t (AddBucket name dept) sound le allowed =
     let buckets = placed bucket_cmp (new_bucket name dept) v.buckets in
     let same = All-weaker (IsPlaced v) (λ h. config_in buckets h.entry.bucket ≡ config_in v.buckets h.entry.bucket) (λ h there. config_in-placed v.buckets name dept h.entry.bucket allowed there) v.histories sound.placed in
@@ -125,7 +213,7 @@ Sound-changed v t (AddBucket name dept) sound le allowed =
       in_time = IsInTime-later v.last t v.histories le sound.in_time;
       whole = sound.whole;
       placed = All-weaker (IsPlaced v) (IsPlaced (changed v t (AddBucket name dept))) (λ h there. rw (config_in-placed v.buckets name dept h.entry.bucket allowed there) there) v.histories sound.placed;
-      within = λ d. rw (admitted-other v.buckets buckets d v.histories same) (sound.within d);
+      within = λ d. rw (admitted-other v.buckets buckets d v.histories (All-weaker (λ h. config_in buckets h.entry.bucket ≡ config_in v.buckets h.entry.bucket) (λ h. is_of_department d (config_in buckets h.entry.bucket) ≡ is_of_department d (config_in v.buckets h.entry.bucket)) (λ h e. ap (is_of_department d) e) v.histories same)) (sound.within d);
     }
 Sound-changed v t (Admit a) sound le allowed = record {
   ids = AreIdsFrom-push 1 v.histories a.history sound.ids allowed.id;
