@@ -1,11 +1,14 @@
 -- Lemmas on the lines of an input.
-use Rattle.std.proofs.Common.{◌≡◌, ◌≢◌, ℕ, zero, suc, List, [], ◌∷◌, ◌++◌, take, drop, map, refl, ap, sym, ◌∙◌, append_assoc, append-nil, Bool, true, false, cond, ◌==◌, ◌<◌, ◌+◌, All, get_or, length, add-one, arith}
+use Rattle.std.proofs.Common.{◌≡◌, ◌≢◌, ℕ, zero, suc, List, [], ◌∷◌, ◌++◌, take, drop, map, refl, ap, ap₂, sym, ◌∙◌, append_assoc, append-nil, Bool, true, false, cond, ◌==◌, ◌<◌, ◌≤◌, ◌+◌, nat_lt, All, get_or, length, add-one, arith}
 use Rattle.std.proofs.Math.Seq.{take-suc}
 use Rattle.std.proofs.lemmas.Bool.Decides.{nat_tests}
 use Rattle.std.proofs.lemmas.List.Elements.{All-nil, All-cons, All-head, All-tail, All-push}
-use Rattle.std.proofs.lemmas.List.{take-append-drop, map-append}
+use Rattle.std.proofs.lemmas.List.{length-take, take-append-drop, take_all, map-append}
+use Rattle.std.proofs.lemmas.Bool.{lt-ltb, ltb-true, ltb-false}
 use Rattle.std.specs.List.{flat_map}
-use Rattle.vaultctl_replay.specs.Lines.{HasNoLf, ended, Splits, last_line, advance}
+use Rattle.vaultctl_replay.specs.Lines.{HasNoLf, ended, Splits, AskFor, EndedAskFor, last_of, unended_of, advance, asked_in}
+use Rattle.vault_http_script.specs.declared.read_line.Line.{Line}
+use Rattle.vault_http_script.specs.ReadLine.{line_of}
 
 -- bytes after bytes
 pub advance-append : (most : ℕ) (part xs ys : List ℕ) → advance most part (xs ++ ys) ≡ ((advance most part xs).0 ++ (advance most (advance most part xs).1 ys).0, (advance most (advance most part xs).1 ys).1)
@@ -29,13 +32,13 @@ take_next s i h = rw (add-one, take-suc s i 0)
 pub whole_cut : (s : List ℕ) (i : ℕ) → i < length s → s ≡ (take i s ++ get_or s i 0 ∷ []) ++ drop (i + 1) s
 whole_cut s i h = rw (← take_next s i h) (sym (take-append-drop (i + 1) s))
 
-pub last_line-some : (part : List ℕ) → (length part == 0) ≡ false → last_line part ≡ part ∷ []
-last_line-some [] e = cc
-last_line-some (b ∷ bs) e = refl
+pub last_of-some : (part : List ℕ) → (length part == 0) ≡ false → last_of part ≡ unended_of part ∷ []
+last_of-some [] e = cc
+last_of-some (b ∷ bs) e = refl
 
-pub last_line-none : (part : List ℕ) → (length part == 0) ≡ true → last_line part ≡ []
-last_line-none [] e = refl
-last_line-none (b ∷ bs) e = absurd (grind arith)
+pub last_of-none : (part : List ℕ) → (length part == 0) ≡ true → last_of part ≡ []
+last_of-none [] e = refl
+last_of-none (b ∷ bs) e = absurd (grind arith)
 
 take-nil : (most : ℕ) → take {A = ℕ} most [] ≡ []
 take-nil zero = refl
@@ -84,14 +87,51 @@ cut most part (x ∷ xs) no_lf =
 pub cut_whole : (most : ℕ) (bytes : List ℕ) → Cuts most bytes (advance most [] bytes)
 cut_whole most bytes = rw (take-nil most) at (cut most [] bytes (All-nil (λ b. b ≢ 10)))
 
-last_line-take : (most : ℕ) (rest : List ℕ) → 0 < most → last_line (take most rest) ≡ map (take most) (last_line rest)
-last_line-take zero rest h = absurd (omega arith)
-last_line-take (suc n) [] h = refl
-last_line-take (suc n) (b ∷ bytes) h = refl
+-- ---- what is kept of a line asks for the same
 
--- all lines that are kept, the last one too
-pub all_cut : (most : ℕ) (lines : List (List ℕ)) (rest : List ℕ) (found : List (List ℕ) × List ℕ) → 0 < most → found ≡ (map (take most) lines, take most rest) → found.0 ++ last_line found.1 ≡ map (take most) (lines ++ last_line rest)
-all_cut most lines rest found h e = rw (e, last_line-take most rest h, map-append) refl
+-- a line that is cut is too long as it is and as it is cut
+line_of-cut : (line cut : List ℕ) → (length line ≤ 4_194_304 → cut ≡ line) → (4_194_304 < length line → 4_194_304 < length cut) → (too_long : Bool) → nat_lt 4_194_304 (length line) ≡ too_long → line_of cut ≡ line_of line
+unfolding line_of
+line_of-cut line cut same long true e =
+    let cut_long : nat_lt 4_194_304 (length cut) ≡ true = lt-ltb 4_194_304 (length cut) (long (ltb-true 4_194_304 (length line) e)) in
+    rw (cut_long, e) refl
+line_of-cut line cut same long false e = ap line_of (same (ltb-false 4_194_304 (length line) e))
+
+pub line_of-take : (line : List ℕ) → line_of (take 4_194_305 line) ≡ line_of line
+line_of-take line =
+    line_of-cut line (take 4_194_305 line) (λ short. take_all 4_194_305 line (omega arith)) (λ long. simp length-take (omega arith)) (nat_lt 4_194_304 (length line)) refl
+
+unended_of-long : (b c : ℕ) (bytes : List ℕ) → unended_of (b ∷ c ∷ bytes) ≡ line_of (b ∷ c ∷ bytes)
+unended_of-long b c bytes =
+    let other : (length (b ∷ c ∷ bytes) == 1) ≡ false = grind (arith, nat_tests) in
+    rw other refl
+
+last_of-take : (rest : List ℕ) → last_of (take 4_194_305 rest) ≡ last_of rest
+last_of-take [] = refl
+last_of-take (b ∷ []) = refl
+last_of-take (b ∷ c ∷ bytes) =
+    ap (λ (l : Line). l ∷ []) (unended_of-long b c (take 4_194_303 bytes) ∙ line_of-take (b ∷ c ∷ bytes) ∙ sym (unended_of-long b c bytes))
+
+lines_of-take : (lines : List (List ℕ)) → map line_of (map (take 4_194_305) lines) ≡ map line_of lines
+lines_of-take [] = refl
+lines_of-take (line ∷ lines) = cc (line_of-take line, lines_of-take lines)
+
+-- what is asked in bytes is what their lines ask for
+pub asked_ended : (bytes : List ℕ) → EndedAskFor bytes (asked_in 4_194_305 [] bytes)
+asked_ended bytes =
+    let found = cut_whole 4_194_305 bytes in
+    (found.0, found.1, found.2, ap (λ (f : List (List ℕ) × List ℕ). map line_of f.0) found.3 ∙ lines_of-take found.0)
+
+pub asked_all : (bytes : List ℕ) → AskFor bytes (asked_in 4_194_305 [] bytes ++ last_of (advance 4_194_305 [] bytes).1)
+asked_all bytes =
+    let found = cut_whole 4_194_305 bytes in
+    let lines = ap (λ (f : List (List ℕ) × List ℕ). map line_of f.0) found.3 ∙ lines_of-take found.0 in
+    let last = ap (λ (f : List (List ℕ) × List ℕ). last_of f.1) found.3 ∙ last_of-take found.1 in
+    (found.0, found.1, found.2, ap₂ (λ (a b : List Line). a ++ b) lines last)
+
+-- what is asked in bytes after bytes
+pub asked_in-append : (most : ℕ) (part xs ys : List ℕ) → asked_in most part (xs ++ ys) ≡ asked_in most part xs ++ asked_in most (advance most part xs).1 ys
+asked_in-append most part xs ys = rw (advance-append most part xs ys, map-append) refl
 
 -- ---- one input has one reading
 

@@ -1,35 +1,46 @@
 -- Lines that are carried out one after another, and what is written of their replies.
 use Rattle.std.specs.Prelude.{◌≡◌, ℕ, List, [], ◌∷◌, ◌++◌, Option, ◌⊎◌}
 use Rattle.std.specs.Io.KnownBytes.{Appends}
-use Rattle.vaultctl_replay.specs.Lines.{Splits, last_line}
+use Rattle.vault_core_model.specs.Step.{Step}
+use Rattle.vault_core_model.specs.Vault.{Vault}
+use Rattle.vault_core_model.specs.declared.reply.Reply.{Reply}
+use Rattle.vault_core_model.specs.declared.reply.Reply.TheVariants as reply
+use Rattle.vault_http_script.specs.ReplyLine.{reply_text}
+use Rattle.vault_http_script.specs.declared.read_line.Line.{Line}
+use Rattle.vault_http_script.specs.declared.read_line.Line.TheVariants.{Skip, Command, Refused}
+use Rattle.vaultctl_replay.specs.Lines.{AskFor, EndedAskFor}
 
--- `step v line out v'`: the line may be answered by these bytes, and lead from v to v'
+-- A line that asks for this may be answered by these bytes, and lead from v to v': an empty one by none, a command by the reply to its step.
+abbrev pub Answers : Vault → Line → List ℕ → Vault → Type 0
+Answers v Skip out v' = (out ≡ []) × (v' ≡ v)
+Answers v (Refused r) out v' = (out ≡ reply_text (reply.Refused r)) × (v' ≡ v)
+Answers v (Command c) out v' = (r : Reply) × Step v c.at c.who c.command r v' × (out ≡ reply_text r)
 
 -- the line was carried out or not, and nothing of its reply is written
-abbrev pub Unwritten : {V : Type 0} → (V → List ℕ → List ℕ → V → Type 0) → V → List ℕ → V → Type 0
-Unwritten step v line v' = (v' ≡ v) ⊎ ((out : List ℕ) × step v line out v')
+abbrev pub Unwritten : Vault → Line → Vault → Type 0
+Unwritten v asked v' = (v' ≡ v) ⊎ ((out : List ℕ) × Answers v asked out v')
 
 -- the lines lead from v to v', one after another, and these are their replies
-abbrev pub Runs : {V : Type 0} → (V → List ℕ → List ℕ → V → Type 0) → V → List (List ℕ) → List ℕ → V → Type 0
-Runs step v [] out v' = (out ≡ []) × (v' ≡ v)
-Runs {V} step v (line ∷ lines) out v' = (mid : V) × (first : List ℕ) × (others : List ℕ) × step v line first mid × Runs step mid lines others v' × (out ≡ first ++ others)
+abbrev pub Runs : Vault → List Line → List ℕ → Vault → Type 0
+Runs v [] out v' = (out ≡ []) × (v' ≡ v)
+Runs v (asked ∷ later) out v' = (mid : Vault) × (first : List ℕ) × (others : List ℕ) × Answers v asked first mid × Runs mid later others v' × (out ≡ first ++ others)
 
 -- the lines were carried out, and their replies written
-abbrev pub Finished : {V : Type 0} → (V → List ℕ → List ℕ → V → Type 0) → V → Option (List ℕ) → List (List ℕ) → V → Option (List ℕ) → Type 0
-Finished step v w lines v' w' = (out : List ℕ) × Runs step v lines out v' × Appends w w' out
+abbrev pub Finished : Vault → Option (List ℕ) → List Line → Vault → Option (List ℕ) → Type 0
+Finished v w asked v' w' = (out : List ℕ) × Runs v asked out v' × Appends w w' out
 
 -- a beginning of the lines was carried out, and a beginning of its replies written
-abbrev pub Began : {V : Type 0} → (V → List ℕ → List ℕ → V → Type 0) → V → Option (List ℕ) → List (List ℕ) → V → Option (List ℕ) → Type 0
-Began step v w lines v' w' = (done : List (List ℕ)) × (later : List (List ℕ)) × (sent : List ℕ) × (unsent : List ℕ) × (lines ≡ done ++ later) × Runs step v done (sent ++ unsent) v' × Appends w w' sent
+abbrev pub Began : Vault → Option (List ℕ) → List Line → Vault → Option (List ℕ) → Type 0
+Began v w asked v' w' = (done : List Line) × (later : List Line) × (sent : List ℕ) × (unsent : List ℕ) × (asked ≡ done ++ later) × Runs v done (sent ++ unsent) v' × Appends w w' sent
 
--- each line of the input was carried out, and its reply written
-abbrev pub AnswersAll : {V : Type 0} → (V → List ℕ → List ℕ → V → Type 0) → V → Option (List ℕ) → List ℕ → V → Option (List ℕ) → Type 0
-AnswersAll step v w input v' w' = (lines : List (List ℕ)) × (rest : List ℕ) × Splits input lines rest × Finished step v w (lines ++ last_line rest) v' w'
+-- all lines of the input were carried out, and their replies written
+abbrev pub AnswersAll : Vault → Option (List ℕ) → List ℕ → Vault → Option (List ℕ) → Type 0
+AnswersAll v w input v' w' = (asked : List Line) × AskFor input asked × Finished v w asked v' w'
 
--- each line that ends in these bytes was carried out, and its reply written
-abbrev pub AnswersEnded : {V : Type 0} → (V → List ℕ → List ℕ → V → Type 0) → V → Option (List ℕ) → List ℕ → V → Option (List ℕ) → Type 0
-AnswersEnded step v w taken v' w' = (lines : List (List ℕ)) × (rest : List ℕ) × Splits taken lines rest × Finished step v w lines v' w'
+-- each line that ends in these bytes was carried out, and their replies written
+abbrev pub AnswersEnded : Vault → Option (List ℕ) → List ℕ → Vault → Option (List ℕ) → Type 0
+AnswersEnded v w taken v' w' = (asked : List Line) × EndedAskFor taken asked × Finished v w asked v' w'
 
 -- a beginning of the lines was carried out, and a beginning of its replies written
-abbrev pub AnswersSome : {V : Type 0} → (V → List ℕ → List ℕ → V → Type 0) → V → Option (List ℕ) → List ℕ → V → Option (List ℕ) → Type 0
-AnswersSome step v w taken v' w' = (lines : List (List ℕ)) × (rest : List ℕ) × Splits taken lines rest × Began step v w (lines ++ last_line rest) v' w'
+abbrev pub AnswersSome : Vault → Option (List ℕ) → List ℕ → Vault → Option (List ℕ) → Type 0
+AnswersSome v w taken v' w' = (asked : List Line) × AskFor taken asked × Began v w asked v' w'

@@ -5,23 +5,24 @@ ghost use Rattle.std.specs.Prelude.{◌≡◌, ℕ, List, [], OnOk, OnErr};
 ghost use Rattle.std.specs.Io.KnownBytes.{Consumes, IsAtEnd};
 ghost use Rattle.vaultctl_replay.specs.Runs.{AnswersAll, AnswersEnded, AnswersSome};
 
+mod answer;
 mod fault;
-mod keeper;
 pub mod laws;
 mod lines;
 mod retry;
 mod writing;
 
-use crate::keeper::Keeper;
 use crate::lines::{feed, finish};
 use crate::retry::read_retrying;
 pub use fault::ReplayFault;
 use std::alloc::Global;
 use std::io::{Read, Write};
+use vault_core_model::keeper::Keeper;
+use vault_http_script::read_line::LONGEST_LINE;
 
 /// How many bytes of a line are kept: one more than a line may have, so that a longer one is seen
 /// to be too long.
-const KEPT: usize = 4_194_305;
+const KEPT: usize = LONGEST_LINE + 1;
 
 /// Answers the whole input, a line at a time, and flushes the writer.
 ///
@@ -37,13 +38,13 @@ pub fn replay<R: Read, W: Write, K: Keeper>(
     // What is read is the whole input, and what is written is the replies to its lines.
     ensures ok { K.is_honest keeper.new → OnOk result ((input : List ℕ) × Consumes (R.remaining reader.old) (R.remaining reader.new) input
         × IsAtEnd (R.remaining reader.new)
-        × AnswersAll K.answers (K.vault keeper.old) (W.contents writer.old) input (K.vault keeper.new) (W.contents writer.new)) }
+        × AnswersAll (K.vault keeper.old) (W.contents writer.old) input (K.vault keeper.new) (W.contents writer.new)) }
     // A beginning of the lines was carried out, and a beginning of their replies written.
     ensures err { K.is_honest keeper.new → OnErr result ((taken : List ℕ) × Consumes (R.remaining reader.old) (R.remaining reader.new) taken
-        × AnswersSome K.answers (K.vault keeper.old) (W.contents writer.old) taken (K.vault keeper.new) (W.contents writer.new)) }
+        × AnswersSome (K.vault keeper.old) (W.contents writer.old) taken (K.vault keeper.new) (W.contents writer.new)) }
     // Where the reader failed, that beginning is each line whose LF was read, and all their replies are written.
     ensures read { K.is_honest keeper.new → result ≡ Err ReplayFault.Read → (taken : List ℕ) × Consumes (R.remaining reader.old) (R.remaining reader.new) taken
-        × AnswersEnded K.answers (K.vault keeper.old) (W.contents writer.old) taken (K.vault keeper.new) (W.contents writer.new) }
+        × AnswersEnded (K.vault keeper.old) (W.contents writer.old) taken (K.vault keeper.new) (W.contents writer.new) }
     ensures honest { K.is_honest keeper.new → K.is_honest keeper.old }
 {
     let mut part = Vec::new(alloc);

@@ -1,31 +1,14 @@
 //! The lines of an input, whatever pieces it comes in.
 ghost use Rattle.std.specs.Prelude.{◌≡◌, ◌≤◌, [], ◌∷◌, ◌++◌, take, OnOk, OnErr, vec_len};
-ghost use Rattle.vaultctl_replay.specs.Lines.{advance, last_line};
+ghost use Rattle.vaultctl_replay.specs.Lines.{advance, asked_in, last_of};
 ghost use Rattle.vaultctl_replay.specs.Runs.{Began, Finished};
 
+use crate::answer::{answer_line, answer_unended};
 use crate::fault::ReplayFault;
-use crate::keeper::Keeper;
-use crate::writing::{flush, write_bytes};
+use crate::writing::flush;
 use std::alloc::Global;
 use std::io::Write;
-
-/// Carries out one line and writes its reply.
-pub fn answer_line<K: Keeper, W: Write>(
-    alloc: Global,
-    keeper: &mut K,
-    writer: &mut W,
-    line: &[u8],
-) -> Result<(), ReplayFault>
-    ensures ok { K.is_honest keeper.new → OnOk result (Finished K.answers (K.vault keeper.old) (W.contents writer.old) (line.now ∷ []) (K.vault keeper.new) (W.contents writer.new)) }
-    ensures err { K.is_honest keeper.new → OnErr result (Began K.answers (K.vault keeper.old) (W.contents writer.old) (line.now ∷ []) (K.vault keeper.new) (W.contents writer.new)) }
-    ensures kind { ¬ (result ≡ Err ReplayFault.Read) }
-    ensures honest { K.is_honest keeper.new → K.is_honest keeper.old }
-{
-    let Ok(reply) = keeper.answer(alloc, line) else {
-        return Err(ReplayFault::Memory);
-    };
-    write_bytes(writer, reply.as_bytes())
-}
+use vault_core_model::keeper::Keeper;
 
 /// Adds a byte to a line, of which so many bytes are kept.
 fn push_within(part: &mut Vec<u8>, byte: u8, most: usize) -> Result<(), ReplayFault>
@@ -50,9 +33,9 @@ fn take_byte<K: Keeper, W: Write>(
     byte: u8,
 ) -> Result<(), ReplayFault>
     requires { vec_len part.old ≤ most }
-    ensures ok { K.is_honest keeper.new → OnOk result (Finished K.answers (K.vault keeper.old) (W.contents writer.old) (advance most part.old.items (byte ∷ [])).0 (K.vault keeper.new) (W.contents writer.new)) }
+    ensures ok { K.is_honest keeper.new → OnOk result (Finished (K.vault keeper.old) (W.contents writer.old) (asked_in most part.old.items (byte ∷ [])) (K.vault keeper.new) (W.contents writer.new)) }
     ensures part { OnOk result (part.new.items ≡ (advance most part.old.items (byte ∷ [])).1) }
-    ensures err { K.is_honest keeper.new → OnErr result (Began K.answers (K.vault keeper.old) (W.contents writer.old) (advance most part.old.items (byte ∷ [])).0 (K.vault keeper.new) (W.contents writer.new)) }
+    ensures err { K.is_honest keeper.new → OnErr result (Began (K.vault keeper.old) (W.contents writer.old) (asked_in most part.old.items (byte ∷ [])) (K.vault keeper.new) (W.contents writer.new)) }
     ensures bound { vec_len part.new ≤ most }
     ensures kind { ¬ (result ≡ Err ReplayFault.Read) }
     ensures honest { K.is_honest keeper.new → K.is_honest keeper.old }
@@ -76,9 +59,9 @@ pub fn feed<K: Keeper, W: Write>(
     piece: &[u8],
 ) -> Result<(), ReplayFault>
     requires { vec_len part.old ≤ most }
-    ensures ok { K.is_honest keeper.new → OnOk result (Finished K.answers (K.vault keeper.old) (W.contents writer.old) (advance most part.old.items piece.now).0 (K.vault keeper.new) (W.contents writer.new)) }
+    ensures ok { K.is_honest keeper.new → OnOk result (Finished (K.vault keeper.old) (W.contents writer.old) (asked_in most part.old.items piece.now) (K.vault keeper.new) (W.contents writer.new)) }
     ensures part { OnOk result (part.new.items ≡ (advance most part.old.items piece.now).1) }
-    ensures err { K.is_honest keeper.new → OnErr result (Began K.answers (K.vault keeper.old) (W.contents writer.old) (advance most part.old.items piece.now).0 (K.vault keeper.new) (W.contents writer.new)) }
+    ensures err { K.is_honest keeper.new → OnErr result (Began (K.vault keeper.old) (W.contents writer.old) (asked_in most part.old.items piece.now) (K.vault keeper.new) (W.contents writer.new)) }
     ensures bound { vec_len part.new ≤ most }
     ensures kind { ¬ (result ≡ Err ReplayFault.Read) }
     ensures honest { K.is_honest keeper.new → K.is_honest keeper.old }
@@ -96,15 +79,15 @@ fn answer_last<K: Keeper, W: Write>(
     writer: &mut W,
     part: &[u8],
 ) -> Result<(), ReplayFault>
-    ensures ok { K.is_honest keeper.new → OnOk result (Finished K.answers (K.vault keeper.old) (W.contents writer.old) (last_line part.now) (K.vault keeper.new) (W.contents writer.new)) }
-    ensures err { K.is_honest keeper.new → OnErr result (Began K.answers (K.vault keeper.old) (W.contents writer.old) (last_line part.now) (K.vault keeper.new) (W.contents writer.new)) }
+    ensures ok { K.is_honest keeper.new → OnOk result (Finished (K.vault keeper.old) (W.contents writer.old) (last_of part.now) (K.vault keeper.new) (W.contents writer.new)) }
+    ensures err { K.is_honest keeper.new → OnErr result (Began (K.vault keeper.old) (W.contents writer.old) (last_of part.now) (K.vault keeper.new) (W.contents writer.new)) }
     ensures kind { ¬ (result ≡ Err ReplayFault.Read) }
     ensures honest { K.is_honest keeper.new → K.is_honest keeper.old }
 {
     if part.is_empty() {
         Ok(())
     } else {
-        answer_line(alloc, keeper, writer, part)
+        answer_unended(alloc, keeper, writer, part)
     }
 }
 
@@ -115,8 +98,8 @@ pub fn finish<K: Keeper, W: Write>(
     writer: &mut W,
     part: &[u8],
 ) -> Result<(), ReplayFault>
-    ensures ok { K.is_honest keeper.new → OnOk result (Finished K.answers (K.vault keeper.old) (W.contents writer.old) (last_line part.now) (K.vault keeper.new) (W.contents writer.new)) }
-    ensures err { K.is_honest keeper.new → OnErr result (Began K.answers (K.vault keeper.old) (W.contents writer.old) (last_line part.now) (K.vault keeper.new) (W.contents writer.new)) }
+    ensures ok { K.is_honest keeper.new → OnOk result (Finished (K.vault keeper.old) (W.contents writer.old) (last_of part.now) (K.vault keeper.new) (W.contents writer.new)) }
+    ensures err { K.is_honest keeper.new → OnErr result (Began (K.vault keeper.old) (W.contents writer.old) (last_of part.now) (K.vault keeper.new) (W.contents writer.new)) }
     ensures kind { ¬ (result ≡ Err ReplayFault.Read) }
     ensures honest { K.is_honest keeper.new → K.is_honest keeper.old }
 {

@@ -1,4 +1,4 @@
-use Rattle.std.proofs.Common.{[], ◌++◌, take, arith, append-nil, lit<}
+use Rattle.std.proofs.Common.{[], ◌++◌, take, arith, append-nil}
 use Rattle.std.proofs.lemmas.Result.{on_ok_weaker, on_err_weaker}
 use Rattle.std.proofs.KnownBytes.{Consumes-trans, Consumes-kept}
 use Rattle.vaultctl_replay.proofs.RunLemmas.{on_err, begun, next_ok, next_part, next_err, answers_all, answers_ended, answers_some, answers_some_last, none_read}
@@ -20,7 +20,7 @@ returns-in-Ok-eq0-clause-ok g c = λ h.
       inv.taken,
       read,
       c.in-Ok-eq0.ensures.end c.in-Ok-eq0.field-0-test (omega arith),
-      answers_all g.K.Keeper.answers 4_194_305 g.met.K.Keeper.cut first last u w inv.taken (lit< tt) mid v c.loop-turn.part.items (inv.finished (c.finish.ensures.honest h)) inv.rest s,
+      answers_all first last u w inv.taken mid v c.loop-turn.part.items (inv.finished (c.finish.ensures.honest h)) inv.rest s,
     ))
     now
 
@@ -39,7 +39,7 @@ returns-in-Ok-eq0-clause-err g c = λ h.
     (λ s. (
       inv.taken,
       read,
-      answers_some_last g.K.Keeper.answers 4_194_305 g.met.K.Keeper.cut first last u w inv.taken (lit< tt) mid v c.loop-turn.part.items (inv.finished (c.finish.ensures.honest h)) inv.rest s,
+      answers_some_last first last u w inv.taken mid v c.loop-turn.part.items (inv.finished (c.finish.ensures.honest h)) inv.rest s,
     ))
     now
 
@@ -53,11 +53,11 @@ returns-in_err-feed-in-Ok-clause-err g c = λ h.
     let v = g.W.Write.contents c.loop-turn.writer in
     let w = g.W.Write.contents c.feed.new.writer in
     let piece = take c.in-Ok.n c.read_retrying.new.buf in
-    let done = next_err g.K.Keeper.answers first mid last u v w 4_194_305 [] c.loop-turn.part.items inv.taken piece (inv.finished (c.feed.ensures.honest h)) inv.rest (c.in_err-feed-in-Ok.ensures.err h) in
+    let done = next_err first mid last u v w 4_194_305 [] c.loop-turn.part.items inv.taken piece (inv.finished (c.feed.ensures.honest h)) inv.rest (c.in_err-feed-in-Ok.ensures.err h) in
     on_err c.from_residual.result (
       inv.taken ++ piece,
       Consumes-trans _ _ _ inv.taken piece inv.read c.in-Ok.ensures.ok,
-      answers_some g.K.Keeper.answers 4_194_305 g.met.K.Keeper.cut first last u w (inv.taken ++ piece) (lit< tt) done,
+      answers_some first last u w (inv.taken ++ piece) done,
     )
 
 pub returns-in-Err-clause-err : goal.returns-in-Err-clause-err
@@ -69,7 +69,7 @@ returns-in-Err-clause-err g c = λ h.
     let w = g.W.Write.contents c.loop-turn.writer in (
       inv.taken,
       Consumes-kept _ _ _ inv.taken inv.read c.in-Err.ensures.err,
-      answers_some g.K.Keeper.answers 4_194_305 g.met.K.Keeper.cut first last u w inv.taken (lit< tt) (begun g.K.Keeper.answers first last u w _ (inv.finished h)),
+      answers_some first last u w inv.taken (begun first last u w _ (inv.finished h)),
     )
 
 pub returns-in-Err-clause-read : goal.returns-in-Err-clause-read
@@ -81,7 +81,7 @@ returns-in-Err-clause-read g c = λ h _.
     let w = g.W.Write.contents c.loop-turn.writer in (
       inv.taken,
       Consumes-kept _ _ _ inv.taken inv.read c.in-Err.ensures.err,
-      answers_ended g.K.Keeper.answers 4_194_305 g.met.K.Keeper.cut first last u w inv.taken (lit< tt) (inv.finished h),
+      answers_ended first last u w inv.taken (inv.finished h),
     )
 
 pub returns-clause-err : goal.returns-clause-err
@@ -93,7 +93,7 @@ returns-clause-err g c = λ h.
     let w = g.W.Write.contents c.loop-turn.writer in (
       inv.taken,
       inv.read,
-      answers_some g.K.Keeper.answers 4_194_305 g.met.K.Keeper.cut first last u w inv.taken (lit< tt) (begun g.K.Keeper.answers first last u w _ (inv.finished h)),
+      answers_some first last u w inv.taken (begun first last u w _ (inv.finished h)),
     )
 
 pub returns-clause-read : goal.returns-clause-read
@@ -105,13 +105,12 @@ returns-clause-read g c = λ h _.
     let w = g.W.Write.contents c.loop-turn.writer in (
       inv.taken,
       inv.read,
-      answers_ended g.K.Keeper.answers 4_194_305 g.met.K.Keeper.cut first last u w inv.taken (lit< tt) (inv.finished h),
+      answers_ended first last u w inv.taken (inv.finished h),
     )
 
 pub loop-turn-preserved : goal.loop-turn-preserved
 loop-turn-preserved g c =
     let inv = c.loop-turn.invariant in
-    let step = g.K.Keeper.answers in
     let first = g.K.Keeper.vault c.args.keeper.now in
     let mid = g.K.Keeper.vault c.loop-turn.keeper in
     let last = g.K.Keeper.vault c.feed.new.keeper in
@@ -124,7 +123,7 @@ loop-turn-preserved g c =
       taken = inv.taken ++ piece;
       read = Consumes-trans _ _ _ inv.taken piece inv.read c.in-Ok.ensures.ok;
       honest = λ h. inv.honest (c.feed.ensures.honest h);
-      finished = λ h. next_ok step first mid last u v w 4_194_305 [] now inv.taken piece (inv.finished (c.feed.ensures.honest h)) inv.rest (c.in_ok-feed-in-Ok.ensures.ok h);
-      rest = next_part step first mid last u v w 4_194_305 [] now inv.taken piece c.feed.new.part.items inv.rest c.in_ok-feed-in-Ok.ensures.part;
+      finished = λ h. next_ok first mid last u v w 4_194_305 [] now inv.taken piece (inv.finished (c.feed.ensures.honest h)) inv.rest (c.in_ok-feed-in-Ok.ensures.ok h);
+      rest = next_part first mid last u v w 4_194_305 [] now inv.taken piece c.feed.new.part.items inv.rest c.in_ok-feed-in-Ok.ensures.part;
       bound = c.feed.ensures.bound;
     }

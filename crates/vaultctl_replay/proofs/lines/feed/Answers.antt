@@ -10,7 +10,6 @@ returns-in_err-take_byte-clause-err g c = λ h.
     let within : i < length s = omega arith in
     let before = c.take_byte.ensures.honest h in
     let inv = c.loop-byte.invariant in
-    let step = g.K.Keeper.answers in
     let first = g.K.Keeper.vault c.args.keeper.now in
     let mid = g.K.Keeper.vault c.loop-byte.keeper in
     let last = g.K.Keeper.vault c.take_byte.new.keeper in
@@ -20,8 +19,8 @@ returns-in_err-take_byte-clause-err g c = λ h.
     let most = c.args.most in
     let part = c.args.part.now.items in
     let now = c.loop-byte.part.items in
-    let done = next_err step first mid last u v w most part now (take i s) (get_or s i 0 ∷ []) (inv.finished before) inv.rest (c.in_err-take_byte.ensures.err h) in
-    let whole = err_more step first last last u w w most part now (take i s ++ get_or s i 0 ∷ []) (drop (i + 1) s) done in
+    let done = next_err first mid last u v w most part now (take i s) (get_or s i 0 ∷ []) (inv.finished before) inv.rest (c.in_err-take_byte.ensures.err h) in
+    let whole = err_more first last last u w w most part now (take i s ++ get_or s i 0 ∷ []) (drop (i + 1) s) done in
     on_err c.from_residual.result (rw (← whole_cut s i within) at whole)
 
 pub loop-byte-preserved : goal.loop-byte-preserved
@@ -30,7 +29,6 @@ loop-byte-preserved g c =
     let s = c.args.piece.now in
     let within : i < length s = omega arith in
     let inv = c.loop-byte.invariant in
-    let step = g.K.Keeper.answers in
     let first = g.K.Keeper.vault c.args.keeper.now in
     let mid = g.K.Keeper.vault c.loop-byte.keeper in
     let last = g.K.Keeper.vault c.take_byte.new.keeper in
@@ -40,11 +38,11 @@ loop-byte-preserved g c =
     let most = c.args.most in
     let part = c.args.part.now.items in
     let now = c.loop-byte.part.items in
-    let left = next_part step first mid last u v w most part now (take i s) (get_or s i 0 ∷ []) c.take_byte.new.part.items inv.rest c.in_ok-take_byte.ensures.part in
+    let left = next_part first mid last u v w most part now (take i s) (get_or s i 0 ∷ []) c.take_byte.new.part.items inv.rest c.in_ok-take_byte.ensures.part in
     record {
       honest = λ h. inv.honest (c.take_byte.ensures.honest h);
       finished = λ h.
-          let done = next_ok step first mid last u v w most part now (take i s) (get_or s i 0 ∷ []) (inv.finished (c.take_byte.ensures.honest h)) inv.rest (c.in_ok-take_byte.ensures.ok h) in
+          let done = next_ok first mid last u v w most part now (take i s) (get_or s i 0 ∷ []) (inv.finished (c.take_byte.ensures.honest h)) inv.rest (c.in_ok-take_byte.ensures.ok h) in
           rw (← take_next s i within) at done;
       rest = rw (← take_next s i within) at left;
       bound = c.take_byte.ensures.bound;

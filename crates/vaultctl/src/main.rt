@@ -1,0 +1,30 @@
+//! The vault's program: reads its words, carries out what they ask for, and answers the status.
+#![tactic(auto)]
+
+use std::io::{self, BufWriter, Write};
+use std::process::ExitCode;
+use std::rt::Runtime;
+use vaultctl_perform::answer_words;
+
+/// How many bytes of replies are held back until they are written together.
+const HELD_BACK: usize = 65_536;
+
+fn main(rt: HostRuntime) -> ExitCode {
+    let mut err = rt.stderr();
+    match run(&rt, &mut err) {
+        Ok(status) => ExitCode::from(status),
+        Err(_) => {
+            // Where even this can't be written, the status tells alone.
+            let _ = writeln!(err, "words: Memory");
+            ExitCode::FAILURE
+        }
+    }
+}
+
+/// The status of what the words ask for; an error where room for the words was refused.
+fn run<R: Runtime + AllocGlobal, E: Write>(rt: &R, err: &mut E) -> io::Result<u8> {
+    let words: Vec<String> = std::env::args(rt)?.collect(rt.alloc())?;
+    let mut out = BufWriter::with_capacity(rt.alloc(), HELD_BACK, io::writer(rt))?;
+    let mut reader = rt.reader();
+    Ok(answer_words(rt.alloc(), words.as_slice(), &mut reader, &mut out, err))
+}

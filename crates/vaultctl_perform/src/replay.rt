@@ -1,0 +1,41 @@
+//! A script over a new vault in memory.
+ghost use Rattle.std.specs.Prelude.{◌≡◌, ◌≢◌, OnOk};
+ghost use Rattle.vaultctl_perform.specs.Replay.{AnswersFromNew};
+
+use std::alloc::Global;
+use std::io::{Read, Write};
+use vault_core_list::list_keeper::ListKeeper;
+use vaultctl_replay::{ReplayFault, replay};
+
+fn answer_all<R: Read, W: Write>(
+    alloc: Global,
+    reader: &mut R,
+    out: &mut W,
+) -> Result<(), ReplayFault>
+    ensures { OnOk result (AnswersFromNew (R.remaining reader.old) (R.remaining reader.new) (W.contents out.old) (W.contents out.new)) }
+{
+    let Ok(mut keeper) = ListKeeper::new(alloc) else {
+        return Err(ReplayFault::Memory);
+    };
+    replay(alloc, reader, out, &mut keeper)
+}
+
+/// Answers the script that the reader gives; a fault is named on `err`, and status 1 answered.
+pub fn from_new<R: Read, W: Write, E: Write>(
+    alloc: Global,
+    reader: &mut R,
+    out: &mut W,
+    err: &mut E,
+) -> u8
+    ensures replayed { result ≡ 0 → AnswersFromNew (R.remaining reader.old) (R.remaining reader.new) (W.contents out.old) (W.contents out.new) }
+    ensures status { result ≢ 2 }
+{
+    match answer_all(alloc, reader, out) {
+        Ok(()) => 0,
+        Err(fault) => {
+            // Where even this can't be written, the status tells alone.
+            let _ = writeln!(err, "replay: {fault}");
+            1
+        }
+    }
+}

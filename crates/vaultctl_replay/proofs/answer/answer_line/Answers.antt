@@ -1,0 +1,6 @@
+use Rattle.std.proofs.Common.{refl}
+use Rattle.vaultctl_replay.proofs.RunLemmas.{kept}
+use Rattle.vaultctl_replay.proofs.answer.answer_line.Goals as goal
+
+pub returns-in_default-clause-err : goal.returns-in_default-clause-err
+returns-in_default-clause-err g c = λ _. kept _ _ _ _ refl

@@ -1,0 +1,92 @@
+//! One line: what it asks for is carried out, and its reply written.
+ghost use Rattle.std.specs.Prelude.{◌≡◌, [], ◌∷◌, IfOk, OnOk, OnErr, string_bytes};
+ghost use Rattle.vault_http_script.specs.ReadLine.{line_of};
+ghost use Rattle.vaultctl_replay.specs.Lines.{unended_of};
+ghost use Rattle.vaultctl_replay.specs.Runs.{Answers, Began, Finished, Unwritten};
+
+use crate::fault::ReplayFault;
+use crate::writing::write_bytes;
+use std::alloc::{AllocError, Global};
+use std::io::Write;
+use vault_base::refusal::Refusal;
+use vault_core::step::step;
+use vault_core_model::keeper::Keeper;
+use vault_core_model::reply::Reply;
+use vault_http_script::read_line::{Line, read_line};
+use vault_http_script::reply_line::reply_line;
+
+/// Carries out what a line asks for. Its reply is a line, or nothing where the line is empty.
+fn reply_to<K: Keeper>(alloc: Global, keeper: &mut K, asked: &Line) -> Result<String, AllocError>
+    ensures ok { K.is_honest keeper.new → IfOk result (λ reply. Answers (K.vault keeper.old) asked.now (string_bytes reply) (K.vault keeper.new)) }
+    ensures err { K.is_honest keeper.new → OnErr result (Unwritten (K.vault keeper.old) asked.now (K.vault keeper.new)) }
+    ensures honest { K.is_honest keeper.new → K.is_honest keeper.old }
+{
+    match asked {
+        Line::Skip => Ok(String::new(alloc)),
+        Line::Refused(refusal) => reply_line(alloc, &Reply::Refused(*refusal)),
+        Line::Command(timed) => {
+            let reply = step(alloc, keeper, timed.at, &timed.who, &timed.command);
+            reply_line(alloc, &reply)
+        }
+    }
+}
+
+/// Carries out what a line asks for, and then writes its reply.
+fn answer<K: Keeper, W: Write>(
+    alloc: Global,
+    keeper: &mut K,
+    writer: &mut W,
+    asked: &Line,
+) -> Result<(), ReplayFault>
+    ensures ok { K.is_honest keeper.new → OnOk result (Finished (K.vault keeper.old) (W.contents writer.old) (asked.now ∷ []) (K.vault keeper.new) (W.contents writer.new)) }
+    ensures err { K.is_honest keeper.new → OnErr result (Began (K.vault keeper.old) (W.contents writer.old) (asked.now ∷ []) (K.vault keeper.new) (W.contents writer.new)) }
+    ensures kind { ¬ (result ≡ Err ReplayFault.Read) }
+    ensures honest { K.is_honest keeper.new → K.is_honest keeper.old }
+{
+    let Ok(reply) = reply_to(alloc, keeper, asked) else {
+        return Err(ReplayFault::Memory);
+    };
+    write_bytes(writer, reply.as_bytes())
+}
+
+/// Carries out a line and writes its reply.
+pub fn answer_line<K: Keeper, W: Write>(
+    alloc: Global,
+    keeper: &mut K,
+    writer: &mut W,
+    line: &[u8],
+) -> Result<(), ReplayFault>
+    ensures ok { K.is_honest keeper.new → OnOk result (Finished (K.vault keeper.old) (W.contents writer.old) (line_of line.now ∷ []) (K.vault keeper.new) (W.contents writer.new)) }
+    ensures err { K.is_honest keeper.new → OnErr result (Began (K.vault keeper.old) (W.contents writer.old) (line_of line.now ∷ []) (K.vault keeper.new) (W.contents writer.new)) }
+    ensures kind { ¬ (result ≡ Err ReplayFault.Read) }
+    ensures honest { K.is_honest keeper.new → K.is_honest keeper.old }
+{
+    let Ok(asked) = read_line(alloc, line) else {
+        return Err(ReplayFault::Memory);
+    };
+    answer(alloc, keeper, writer, &asked)
+}
+
+/// Carries out a last line that lacks its LF, and writes its reply.
+pub fn answer_unended<K: Keeper, W: Write>(
+    alloc: Global,
+    keeper: &mut K,
+    writer: &mut W,
+    line: &[u8],
+) -> Result<(), ReplayFault>
+    ensures ok { K.is_honest keeper.new → OnOk result (Finished (K.vault keeper.old) (W.contents writer.old) (unended_of line.now ∷ []) (K.vault keeper.new) (W.contents writer.new)) }
+    ensures err { K.is_honest keeper.new → OnErr result (Began (K.vault keeper.old) (W.contents writer.old) (unended_of line.now ∷ []) (K.vault keeper.new) (W.contents writer.new)) }
+    ensures kind { ¬ (result ≡ Err ReplayFault.Read) }
+    ensures honest { K.is_honest keeper.new → K.is_honest keeper.old }
+{
+    if line.len() == 1 && line[0] == b'\r' {
+        answer(
+            alloc,
+            keeper,
+            writer,
+            &Line::Refused(Refusal::MalformedBody),
+        )
+    } else {
+        answer_line(alloc, keeper, writer, line)
+    }
+}
