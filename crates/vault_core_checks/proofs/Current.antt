@@ -1,6 +1,6 @@
 -- The entry that a key's head names is the current one.
-use Rattle.std.proofs.Common.{◌≡◌, ℕ, List, Option, Some, None, Result, Ok, Err, refl, sym, ◌∙◌, ap}
-use Rattle.std.specs.Prelude.{IfOk, option_map}
+use Rattle.std.proofs.Common.{◌≡◌, ℕ, List, Option, Some, None, Result, Ok, Err, refl, sym, ◌∙◌, ap, subst}
+use Rattle.std.specs.Prelude.{IfOk, IfSome, option_map}
 use Rattle.vault_core_model.specs.declared.halt.Fault.{Fault}
 use Rattle.vault_core_model.specs.declared.records.Entry.{Entry}
 use Rattle.vault_core_model.specs.declared.records.Head.{Head}
@@ -9,7 +9,7 @@ use Rattle.vault_core_model.specs.Vault.{Vault}
 use Rattle.vault_core_model.specs.Places.{current}
 use Rattle.vault_core_model.specs.Reads.{entry_of, head_of}
 use Rattle.vault_core_model.specs.Sound.{Sound}
-use Rattle.vault_core_laws.proofs.Newest.{current-head, current-no_head}
+use Rattle.vault_core_laws.proofs.Newest.{current-head, current-no_head, entry_of-own}
 
 pub none_found : (v : Vault) (bucket key : List ℕ) (head : Option Head) → head ≡ None → head ≡ head_of v bucket key → None ≡ option_map (λ (h : History). h.entry) (current v bucket key)
 none_found v bucket key head none is = rw (current-no_head v bucket key (sym is ∙ none)) refl
@@ -26,3 +26,12 @@ pub newest_found : (v mid : Vault) (bucket key : List ℕ) (head : Head) (read :
 newest_found v mid bucket key head read (Ok e) same sound some is found =
     found ∙ ap (λ w. entry_of w head.newest) same ∙ entry_is_current v bucket key head sound (sym is ∙ some)
 newest_found v mid bucket key head read (Err f) same sound some is found = found
+
+-- what was read by an id has that id
+pub own_found : (v : Vault) (id : ℕ) (found : Result (Option Entry) Fault) → IfOk found (λ e. e ≡ entry_of v id) → IfOk found (λ e. IfSome e (λ entry. entry_of v entry.id ≡ Some entry))
+own_found v id (Ok e) is = entry_of-own v id e is
+own_found v id (Err f) is = is
+
+-- the same, of an equal vault
+pub own_after : (v mid : Vault) (found : Result (Option Entry) Fault) → mid ≡ v → IfOk found (λ e. IfSome e (λ entry. entry_of mid entry.id ≡ Some entry)) → IfOk found (λ e. IfSome e (λ entry. entry_of v entry.id ≡ Some entry))
+own_after v mid found same own = let P : Vault → Type 0 = λ w. IfOk found (λ e. IfSome e (λ entry. entry_of w entry.id ≡ Some entry)) in subst P same own

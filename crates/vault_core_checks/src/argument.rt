@@ -1,7 +1,8 @@
 //! The arguments of commands.
 ghost use Rattle.std.specs.Prelude.{◌≡◌, ◌≤◌, IsTrue, OnOk, false, length};
 ghost use Rattle.vault_core_model.specs.Halts.{Finds, is_device, Rose};
-ghost use Rattle.vault_core_model.specs.Checks.{small_enough, ends_later_if_given, known_department, known_department_if_given};
+ghost use Rattle.vault_lock.specs.Retention.{is_period};
+ghost use Rattle.vault_core_model.specs.Checks.{small_enough, ends_later_if_given, known_department, known_department_if_given, allowed_default, has_period};
 
 use vault_base::content::Content;
 use vault_base::moment::Moment;
@@ -9,7 +10,7 @@ use vault_base::name::DeptName;
 use vault_base::refusal::Refusal;
 use vault_core_model::halt::Halt;
 use vault_core_model::keeper::Keeper;
-use vault_lock::retention::Retention;
+use vault_lock::retention::{Default, Period, Retention};
 
 /// The greatest content of one version, in bytes.
 pub const MOST_CONTENT: usize = 1_048_576;
@@ -65,5 +66,27 @@ pub fn check_dept_if_given<K: Keeper>(keeper: &mut K, dept: &Option<DeptName>) -
     match dept {
         None => Ok(()),
         Some(dept) => check_dept(keeper, dept),
+    }
+}
+
+/// A default's period, where there is a default, is in its range: 1 to 36,500 days or 1 to 100 years.
+pub fn check_default(default: Option<Default>) -> Result<(), Halt>
+    ensures found { Finds result (allowed_default default) }
+    ensures period { OnOk result (IsTrue (has_period default)) }
+    ensures device { is_device result ≡ false }
+{
+    match default {
+        None => Ok(()),
+        Some(default) if is_period(default.period) => Ok(()),
+        Some(_) => Err(Halt::Refused(Refusal::InvalidArgument)),
+    }
+}
+
+fn is_period(period: Period) -> bool
+    ensures { result ≡ is_period period }
+{
+    match period {
+        Period::Days(days) => days >= 1 && days <= 36_500,
+        Period::Years(years) => years >= 1 && years <= 100,
     }
 }

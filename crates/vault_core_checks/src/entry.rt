@@ -1,19 +1,19 @@
 //! Which entry is meant, and whether its lock permits its removal.
-ghost use Rattle.std.specs.Prelude.{◌≡◌, ◌≤◌, IsTrue, IfOk, false, Some, None, Err, option_map};
+ghost use Rattle.std.specs.Prelude.{◌≡◌, ◌≤◌, IsTrue, IfOk, IfSome, false, Some, None, Err, option_map};
 ghost use Rattle.vault_core_model.specs.Halts.{Finds, is_device, is_refused, Rose};
 ghost use Rattle.vault_core_model.specs.Places.{is_held_at, current};
-ghost use Rattle.vault_core_model.specs.Reads.{entry_of, lock_of};
+ghost use Rattle.vault_core_model.specs.Reads.{entry_of, lock_of, setting_of, count_by};
 ghost use Rattle.vault_core_model.specs.Sound.{Sound};
 ghost use Rattle.vault_core_model.specs.Checks.{content_on_top, held_entry, content_version, version_meant, permitted, refusal_of, lock_at_admission};
-ghost use Rattle.vault_lock.specs.Lock.{removable};
+ghost use Rattle.vault_lock.specs.Lock.{removable, retainable};
 
 use vault_base::moment::Moment;
 use vault_base::name::{BucketName, ObjectKey, VersionId};
 use vault_base::refusal::{Reason, Refusal};
 use vault_core_model::halt::{Fault, Halt};
 use vault_core_model::keeper::Keeper;
-use vault_core_model::records::{BucketConfig, Entry};
-use vault_lock::lock::{Denial, Lock, Permit, first_lock, may_remove};
+use vault_core_model::records::{BucketConfig, Entry, LastSetting};
+use vault_lock::lock::{Denial, Lock, Permit, first_lock, may_remove, may_retain};
 use vault_lock::retention::Retention;
 
 /// Whether the entry is held in that bucket, under that key.
@@ -21,6 +21,18 @@ fn is_held_at(bucket: &BucketName, key: &ObjectKey, entry: &Entry) -> bool
     ensures { result ≡ is_held_at bucket.now key.now entry.now }
 {
     entry.bucket == *bucket && entry.key == *key && entry.removal.is_none()
+}
+
+/// The entry of that id, held or removed, which has that id.
+fn read_entry<K: Keeper>(keeper: &mut K, id: VersionId) -> Result<Option<Entry>, Fault>
+    ensures value { K.is_honest keeper.new → IfOk result (λ found. found ≡ entry_of (K.vault keeper.old) id) }
+    ensures own { K.is_honest keeper.new → IfOk result (λ found. IfSome found (λ entry. entry_of (K.vault keeper.old) entry.id ≡ Some entry)) }
+    ensures same { K.vault keeper.new ≡ K.vault keeper.old }
+    ensures honest { K.is_honest keeper.new → K.is_honest keeper.old }
+    ensures counted { K.count keeper.old ≤ K.count keeper.new }
+    ensures device { result ≡ Err Fault.Device → Rose (K.count keeper.old) (K.count keeper.new) }
+{
+    keeper.entry(id)
 }
 
 /// The held entry of that id, in that bucket and under that key.
@@ -32,13 +44,14 @@ pub fn find_held<K: Keeper>(
 ) -> Result<Entry, Halt>
     ensures found { K.is_honest keeper.new → Finds result (held_entry (K.vault keeper.old) bucket.now key.now id) }
     ensures there { K.is_honest keeper.new → IfOk result (λ entry. entry_of (K.vault keeper.old) id ≡ Some entry) }
+    ensures own { K.is_honest keeper.new → IfOk result (λ entry. entry_of (K.vault keeper.old) entry.id ≡ Some entry) }
     ensures held { IfOk result (λ entry. entry.removal ≡ None) }
     ensures same { K.vault keeper.new ≡ K.vault keeper.old }
     ensures honest { K.is_honest keeper.new → K.is_honest keeper.old }
     ensures counted { K.count keeper.old ≤ K.count keeper.new }
     ensures device { IsTrue (is_device result) → Rose (K.count keeper.old) (K.count keeper.new) }
 {
-    let Some(entry) = keeper.entry(id)? else {
+    let Some(entry) = read_entry(keeper, id)? else {
         return Err(Halt::Refused(Refusal::NoSuchVersion));
     };
     if is_held_at(bucket, key, &entry) {
@@ -51,6 +64,7 @@ pub fn find_held<K: Keeper>(
 /// The entry is a content version.
 fn check_version(entry: Entry) -> Result<Entry, Halt>
     ensures found { Finds result (content_version entry) }
+    ensures kept { IfOk result (λ version. (version ≡ entry) × (version.marker ≡ false)) }
     ensures device { is_device result ≡ false }
 {
     if entry.marker {
@@ -68,6 +82,7 @@ fn find_newest<K: Keeper>(
 ) -> Result<Option<Entry>, Fault>
     requires { K.is_honest keeper.old → Sound (K.vault keeper.old) }
     ensures value { K.is_honest keeper.new → IfOk result (λ found. found ≡ option_map (λ h. h.entry) (current (K.vault keeper.old) bucket.now key.now)) }
+    ensures own { K.is_honest keeper.new → IfOk result (λ found. IfSome found (λ entry. entry_of (K.vault keeper.old) entry.id ≡ Some entry)) }
     ensures same { K.vault keeper.new ≡ K.vault keeper.old }
     ensures honest { K.is_honest keeper.new → K.is_honest keeper.old }
     ensures counted { K.count keeper.old ≤ K.count keeper.new }
@@ -76,7 +91,7 @@ fn find_newest<K: Keeper>(
     let Some(head) = keeper.head(bucket, key)? else {
         return Ok(None);
     };
-    keeper.entry(head.newest)
+    read_entry(keeper, head.newest)
 }
 
 /// The content version on top of its key.
@@ -87,6 +102,8 @@ fn find_current<K: Keeper>(
 ) -> Result<Entry, Halt>
     requires { K.is_honest keeper.old → Sound (K.vault keeper.old) }
     ensures found { K.is_honest keeper.new → Finds result (content_on_top (current (K.vault keeper.old) bucket.now key.now)) }
+    ensures own { K.is_honest keeper.new → IfOk result (λ entry. entry_of (K.vault keeper.old) entry.id ≡ Some entry) }
+    ensures version { IfOk result (λ entry. entry.marker ≡ false) }
     ensures same { K.vault keeper.new ≡ K.vault keeper.old }
     ensures honest { K.is_honest keeper.new → K.is_honest keeper.old }
     ensures counted { K.count keeper.old ≤ K.count keeper.new }
@@ -111,6 +128,8 @@ pub fn find_version<K: Keeper>(
 ) -> Result<Entry, Halt>
     requires { K.is_honest keeper.old → Sound (K.vault keeper.old) }
     ensures found { K.is_honest keeper.new → Finds result (version_meant (K.vault keeper.old) bucket.now key.now id) }
+    ensures own { K.is_honest keeper.new → IfOk result (λ entry. entry_of (K.vault keeper.old) entry.id ≡ Some entry) }
+    ensures version { IfOk result (λ entry. entry.marker ≡ false) }
     ensures same { K.vault keeper.new ≡ K.vault keeper.old }
     ensures honest { K.is_honest keeper.new → K.is_honest keeper.old }
     ensures counted { K.count keeper.old ≤ K.count keeper.new }
@@ -123,9 +142,10 @@ pub fn find_version<K: Keeper>(
     check_version(entry)
 }
 
-/// The lock of the entry of that id; a delete marker is not locked.
-pub fn find_lock<K: Keeper>(keeper: &mut K, id: VersionId) -> Result<Lock, Halt>
-    ensures found { K.is_honest keeper.new → IfOk result (λ lock. lock ≡ lock_of (K.vault keeper.old) id) }
+/// The last setting of the entry of that id; a delete marker has none and is not locked.
+pub fn find_setting<K: Keeper>(keeper: &mut K, id: VersionId) -> Result<LastSetting, Halt>
+    ensures lock { K.is_honest keeper.new → IfOk result (λ last. last.lock ≡ lock_of (K.vault keeper.old) id) }
+    ensures settings { K.is_honest keeper.new → IfOk result (λ last. last.count ≡ count_by (setting_of (K.vault keeper.old) id)) }
     ensures refused { is_refused result ≡ false }
     ensures same { K.vault keeper.new ≡ K.vault keeper.old }
     ensures honest { K.is_honest keeper.new → K.is_honest keeper.old }
@@ -133,11 +153,14 @@ pub fn find_lock<K: Keeper>(keeper: &mut K, id: VersionId) -> Result<Lock, Halt>
     ensures device { IsTrue (is_device result) → Rose (K.count keeper.old) (K.count keeper.new) }
 {
     match keeper.setting(id)? {
-        None => Ok(Lock {
-            retention: None,
-            hold: false,
+        None => Ok(LastSetting {
+            lock: Lock {
+                retention: None,
+                hold: false,
+            },
+            count: 0,
         }),
-        Some(setting) => Ok(setting.lock),
+        Some(last) => Ok(last),
     }
 }
 
@@ -186,5 +209,22 @@ pub fn find_first_lock(
     ) {
         Some(lock) => Ok(lock),
         None => Err(Halt::Refused(Refusal::RetentionOutOfRange)),
+    }
+}
+
+/// The lock permits the new retention: freely, or by a bypass that is asked for and allowed.
+pub fn check_retention(
+    lock: &Lock,
+    retention: Retention,
+    at: Moment,
+    bypass: bool,
+    may_bypass: bool,
+) -> Result<Permit, Halt>
+    ensures found { Finds result (permitted (retainable lock.now retention at bypass may_bypass)) }
+    ensures device { is_device result ≡ false }
+{
+    match may_retain(lock, retention, at, bypass, may_bypass) {
+        Ok(permit) => Ok(permit),
+        Err(guard) => Err(Halt::Refused(denial(guard))),
     }
 }

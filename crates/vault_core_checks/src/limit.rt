@@ -1,16 +1,20 @@
 //! The quota of a department, and the ids of the vault.
-ghost use Rattle.std.specs.Prelude.{◌≡◌, ◌≤◌, ◌+◌, IsTrue, IfOk, OnOk, false, Some, None, if◌then◌else◌};
+ghost use Rattle.std.specs.Prelude.{◌≡◌, ◌≤◌, ◌+◌, IsTrue, IfOk, OnOk, nat_lt, ◌<◌, false, Some, None, if◌then◌else◌};
 ghost use Rattle.vault_base.specs.Name.{is_version_id};
 ghost use Rattle.vault_core_model.specs.Halts.{Finds, is_device, Rose};
 ghost use Rattle.vault_core_model.specs.Vault.{next_id};
 ghost use Rattle.vault_core_model.specs.Totals.{admitted_bytes};
-ghost use Rattle.vault_core_model.specs.Checks.{within_quota, free_id, most_ids};
+ghost use Rattle.vault_core_model.specs.Checks.{check, within_quota, free_id, most_ids, most_settings};
+ghost use Rattle.vault_base.specs.declared.refusal.Refusal.TheVariants.{VaultFull};
 ghost use Rattle.vault_tally.specs.Row.{quota};
 
 use vault_base::name::{DeptName, VersionId};
 use vault_base::refusal::Refusal;
 use vault_core_model::halt::Halt;
 use vault_core_model::keeper::Keeper;
+
+/// The settings of one version at most.
+pub const MOST_SETTINGS: u64 = 1_000_000_000;
 
 /// The department may admit so many bytes more.
 pub fn check_quota<K: Keeper>(keeper: &mut K, dept: &DeptName, size: u64) -> Result<(), Halt>
@@ -53,5 +57,18 @@ fn id_of(number: u64) -> Option<VersionId>
     match u32::try_from(number) {
         Ok(number) => VersionId::new(number),
         Err(_) => None,
+    }
+}
+
+/// One setting more may be made of a version that has so many.
+pub fn check_settings(count: u64) -> Result<(), Halt>
+    ensures found { Finds result (check (nat_lt count most_settings) VaultFull) }
+    ensures fits { OnOk result (count < most_settings) }
+    ensures device { is_device result ≡ false }
+{
+    if count < MOST_SETTINGS {
+        Ok(())
+    } else {
+        Err(Halt::Refused(Refusal::VaultFull))
     }
 }

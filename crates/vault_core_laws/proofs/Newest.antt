@@ -1,9 +1,11 @@
 -- The current entry of a key is the newest held one.
 use Rattle.std.proofs.Common.{◌≡◌, ℕ, ◌+◌, ◌≤◌, ◌<◌, List, [], ◌∷◌, length, Bool, true, false, Option, Some, None, refl, sym, ◌∙◌, ap, subst, arith}
-use Rattle.std.specs.Prelude.{if◌then◌else◌, filter, find, nat_lt, ◌&&◌, ◌==◌, option_map}
+use Rattle.std.specs.Prelude.{if◌then◌else◌, filter, find, nat_lt, ◌&&◌, ◌==◌, option_map, IfSome}
 use Rattle.std.specs.List.{AllByRecursion}
 use Rattle.std.specs.Str.{bytes_eq}
+use Rattle.std.proofs.lemmas.Bool.{eqb-true}
 use Rattle.std.proofs.lemmas.Slice.Eq.{bytes_eq-Decides}
+use Rattle.vault_core_model.specs.declared.records.Entry.{Entry}
 use Rattle.vault_core_model.specs.declared.records.Head.{Head}
 use Rattle.vault_core_model.specs.declared.records.History.{History}
 use Rattle.vault_core_model.specs.Vault.{Vault}
@@ -176,3 +178,23 @@ no_head v (h ∷ hs) e = absurd (cc (sym (head_over-last h hs) ∙ e))
 
 pub current-no_head : (v : Vault) (bucket key : List ℕ) → head_of v bucket key ≡ None → current v bucket key ≡ None
 current-no_head v bucket key e = no_head v (held_at v bucket key) e
+
+-- ---- an entry is found by its own id
+
+passed_or_later : (p : History → Bool) (g : History) (later : Option History) (h : History) (b : Bool) → p g ≡ b → (if b then Some g else later) ≡ Some h → (later ≡ Some h → p h ≡ true) → p h ≡ true
+passed_or_later p g later h true passed e rest = let same : g ≡ h = cc e in let P : History → Type 0 = λ x. p x ≡ true in subst P same passed
+passed_or_later p g later h false passed e rest = rest e
+
+found_passes : (p : History → Bool) (hs : List History) (h : History) → find p hs ≡ Some h → p h ≡ true
+found_passes p [] h e = absurd (cc e)
+found_passes p (g ∷ gs) h e = passed_or_later p g (find p gs) h (p g) refl e (found_passes p gs h)
+
+own_entry : (hs : List History) (id : ℕ) (o : Option History) → find (λ h. h.entry.id == id) hs ≡ o → IfSome (option_map (λ (h : History). h.entry) o) (λ e. option_map (λ (h : History). h.entry) (find (λ h. h.entry.id == e.id) hs) ≡ Some e)
+own_entry hs id None found = tt
+own_entry hs id (Some h) found =
+    let same : h.entry.id ≡ id = eqb-true h.entry.id id (found_passes (λ g. g.entry.id == id) hs h found) in
+    let P : ℕ → Type 0 = λ i. find (λ g. g.entry.id == i) hs ≡ Some h in
+    ap (λ (o : Option History). option_map (λ g. g.entry) o) (subst P (sym same) found)
+
+pub entry_of-own : (v : Vault) (id : ℕ) (o : Option Entry) → o ≡ entry_of v id → IfSome o (λ e. entry_of v e.id ≡ Some e)
+entry_of-own v id o is = let P : Option Entry → Type 0 = λ x. IfSome x (λ e. entry_of v e.id ≡ Some e) in subst P (sym is) (own_entry v.histories id (find (λ h. h.entry.id == id) v.histories) refl)

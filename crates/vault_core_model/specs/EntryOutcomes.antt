@@ -95,11 +95,16 @@ new_marker id bucket key t by = record {
   settings = [];
 }
 
+-- the id of the delete marker that a caller may admit
+abbrev pub marker_id : Vault → ℕ → List ℕ → Delete → Result ℕ Refusal
+marker_id v t who c = do
+  _ ← access v t who c.bucket right.Delete
+  free_id v
+
 -- a delete marker on top, also over a locked version, a marker or an absent key (S3 User Guide, "Working with delete markers")
 abbrev pub delete : Vault → ℕ → List ℕ → Delete → Result (Answer × Vault) Refusal
 delete v t who c = do
-  _ ← access v t who c.bucket right.Delete
-  id ← free_id v
+  id ← marker_id v t who c
   Ok (answer.Marked id, changed v t (change.Admit (record { history = new_marker id c.bucket c.key t (author.Caller who); note = None })))
 
 -- the cause of a removal that was permitted so

@@ -9,6 +9,7 @@ use Rattle.vault_lock.specs.Lock.{retainable}
 use Rattle.vault_core_model.specs.declared.records.Setting.{Setting}
 use Rattle.vault_core_model.specs.declared.access.Access.{Access}
 use Rattle.vault_core_model.specs.declared.change.Change.TheVariants as change
+use Rattle.vault_core_model.specs.declared.change.NextSetting.{NextSetting}
 use Rattle.vault_core_model.specs.declared.command.SetRetention.{SetRetention}
 use Rattle.vault_core_model.specs.declared.command.GetRetention.{GetRetention}
 use Rattle.vault_core_model.specs.declared.command.SetHold.{SetHold}
@@ -27,11 +28,6 @@ is_bypass Bypass = true
 -- a setting of this lock, made at t
 abbrev pub setting : ℕ → List ℕ → Lock → Permit → Setting
 setting t who lock p = record { at = t; by = who; lock = lock; bypass = is_bypass p }
-
--- a version and the setting that it gets
-pub record NextSetting : Type 0 where
-  pub id : ℕ
-  pub setting : Setting
 
 -- the setting with the new retention, where what is in force permits it; the hold is kept
 abbrev pub next_retention : Vault → ℕ → List ℕ → SetRetention → Access → Result NextSetting Refusal

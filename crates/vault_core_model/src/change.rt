@@ -11,6 +11,13 @@ pub struct Admission {
     pub note: Option<Note>,
 }
 
+/// A version, and the setting that it gets.
+#[derive(Drop)]
+pub struct NextSetting {
+    pub id: VersionId,
+    pub setting: Setting,
+}
+
 /// One change of the vault.
 #[derive(Drop)]
 pub enum Change {

@@ -1,1 +1,2 @@
+mod Marker
 mod Report

@@ -1,7 +1,8 @@
 //! Entries: admission, reading, removal.
 ghost use Rattle.std.specs.Prelude.{◌≡◌, ◌≤◌, ◌+◌, length, [], ◌∷◌, IsTrue, IfOk, OnOk, Some, None, false};
 ghost use Rattle.vault_core_model.specs.Halts.{Finds, Meets, is_device, Rose};
-ghost use Rattle.vault_core_model.specs.Allowed.{IsHeldId};
+ghost use Rattle.vault_core_model.specs.declared.records.Author.TheVariants as author;
+ghost use Rattle.vault_core_model.specs.Allowed.{IsAdmission, IsHeldId};
 ghost use Rattle.vault_core_model.specs.EntryOutcomes as outcome;
 ghost use Rattle.vault_core_model.specs.Totals.{admitted_bytes};
 ghost use Rattle.vault_core_model.specs.Vault.{config_of};
@@ -15,12 +16,12 @@ use vault_base::right::Right;
 use vault_core_checks::argument::{check_end, check_size};
 use vault_core_checks::caller::{check_right_if, find_access};
 use vault_core_checks::entry::{
-    check_removal, find_first_lock, find_held, find_lock, find_version,
+    check_removal, find_first_lock, find_held, find_setting, find_version,
 };
 use vault_core_checks::limit::{check_quota, find_id};
 use vault_core_model::access::Access;
 use vault_core_model::change::{Admission, Change};
-use vault_core_model::command::{DeleteVersion, Get, Put};
+use vault_core_model::command::{Delete, DeleteVersion, Get, Head, Put};
 use vault_core_model::halt::Halt;
 use vault_core_model::keeper::Keeper;
 use vault_core_model::records::{Author, Cause, Entry, History, Removal, Setting, Settings};
@@ -157,12 +158,99 @@ pub fn get<K: Keeper>(
 {
     find_access(keeper, at, who, &command.bucket, Right::Get)?;
     let entry = find_version(keeper, &command.bucket, &command.key, command.id)?;
-    let lock = find_lock(keeper, entry.id)?;
+    let lock = find_setting(keeper, entry.id)?.lock;
     let content = match keeper.content(entry.id)? {
         Some(content) => content,
         None => Content::new(Vec::new(alloc)),
     };
     Ok(Answer::Version(Version { entry, lock }, content))
+}
+
+/// Reads a content version without its bytes.
+pub fn head<K: Keeper>(
+    keeper: &mut K,
+    at: Moment,
+    who: &CallerName,
+    command: &Head,
+) -> Result<Answer, Halt>
+    ensures meets { K.is_honest keeper.new → Meets result (K.vault keeper.old) (K.vault keeper.new) (outcome.head (K.vault keeper.old) at who.now command.now) }
+    ensures honest { K.is_honest keeper.new → K.is_honest keeper.old }
+    ensures counted { K.count keeper.old ≤ K.count keeper.new }
+    ensures device { IsTrue (is_device result) → Rose (K.count keeper.old) (K.count keeper.new) }
+{
+    find_access(keeper, at, who, &command.bucket, Right::Get)?;
+    let entry = find_version(keeper, &command.bucket, &command.key, command.id)?;
+    let lock = find_setting(keeper, entry.id)?.lock;
+    Ok(Answer::Head(Version { entry, lock }))
+}
+
+/// Admits a delete marker on top of a key, also over a locked version, a marker or nothing.
+pub fn delete<K: Keeper>(
+    alloc: Global,
+    keeper: &mut K,
+    at: Moment,
+    who: &CallerName,
+    command: &Delete,
+) -> Result<Answer, Halt>
+    ensures meets { K.is_honest keeper.new → Meets result (K.vault keeper.old) (K.vault keeper.new) (outcome.delete (K.vault keeper.old) at who.now command.now) }
+    ensures honest { K.is_honest keeper.new → K.is_honest keeper.old }
+    ensures counted { K.count keeper.old ≤ K.count keeper.new }
+    ensures device { IsTrue (is_device result) → Rose (K.count keeper.old) (K.count keeper.new) }
+{
+    let id = find_marker_id(keeper, at, who, command)?;
+    let admission = Admission {
+        history: new_marker(alloc, id, at, who, command)?,
+        note: None,
+    };
+    keeper.apply(at, &Change::Admit(admission))?;
+    Ok(Answer::Marked(id))
+}
+
+/// The id of the delete marker that a caller may admit.
+fn find_marker_id<K: Keeper>(
+    keeper: &mut K,
+    at: Moment,
+    who: &CallerName,
+    command: &Delete,
+) -> Result<VersionId, Halt>
+    ensures found { K.is_honest keeper.new → Finds result (outcome.marker_id (K.vault keeper.old) at who.now command.now) }
+    ensures in_time { K.is_honest keeper.new → OnOk result ((K.vault keeper.old).last ≤ at) }
+    ensures allowed { K.is_honest keeper.new → IfOk result (λ id. IsAdmission (K.vault keeper.old) at (record { history = outcome.new_marker id command.now.bucket command.now.key at (author.Caller who.now); note = None })) }
+    ensures same { K.vault keeper.new ≡ K.vault keeper.old }
+    ensures honest { K.is_honest keeper.new → K.is_honest keeper.old }
+    ensures counted { K.count keeper.old ≤ K.count keeper.new }
+    ensures device { IsTrue (is_device result) → Rose (K.count keeper.old) (K.count keeper.new) }
+{
+    find_access(keeper, at, who, &command.bucket, Right::Delete)?;
+    find_id(keeper)
+}
+
+/// The delete marker that a caller admits.
+fn new_marker(
+    alloc: Global,
+    id: VersionId,
+    at: Moment,
+    who: &CallerName,
+    command: &Delete,
+) -> Result<History, AllocError>
+    ensures { IfOk result (λ history. history ≡ outcome.new_marker id command.now.bucket command.now.key at (author.Caller who.now)) }
+{
+    let entry = Entry {
+        id,
+        bucket: command.bucket.clone()?,
+        key: command.key.clone()?,
+        marker: true,
+        size: 0,
+        digest: None,
+        admitted: at,
+        by: Author::Caller(who.clone()?),
+        removal: None,
+    };
+    Ok(History {
+        entry,
+        content: None,
+        settings: Settings::new(alloc),
+    })
 }
 
 /// Removes an entry for good, where no lock denies it.
@@ -199,7 +287,7 @@ fn find_removable<K: Keeper>(
     ensures device { IsTrue (is_device result) → Rose (K.count keeper.old) (K.count keeper.new) }
 {
     let entry = find_held(keeper, &command.bucket, &command.key, command.id)?;
-    let lock = find_lock(keeper, command.id)?;
+    let lock = find_setting(keeper, command.id)?.lock;
     let permit = check_removal(&lock, at, command.bypass, access.caller.rights.bypass)?;
     Ok(Removed {
         id: command.id,

@@ -2,5 +2,7 @@
 //! then at most one change; all memory that it takes is taken before the change.
 #![tactic(auto)]
 
+pub mod config;
 pub mod entries;
+pub mod locks;
 pub mod records;

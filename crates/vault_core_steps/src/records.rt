@@ -1,5 +1,5 @@
 //! Departments, callers and buckets, and the report on a department.
-ghost use Rattle.std.specs.Prelude.{◌≡◌, ◌≤◌, IsTrue, IfOk, Err};
+ghost use Rattle.std.specs.Prelude.{◌≡◌, ◌≤◌, IsTrue, IfOk, Err, IsSome};
 ghost use Rattle.vault_core_model.specs.Halts.{Meets, is_device, Rose};
 ghost use Rattle.vault_core_model.specs.Sound.{Sound};
 ghost use Rattle.vault_core_model.specs.RecordOutcomes as outcome;
@@ -11,7 +11,7 @@ use vault_base::refusal::Refusal;
 use vault_core_checks::argument::{check_dept, check_dept_if_given};
 use vault_core_checks::caller::{check_report, find_administrator, find_caller};
 use vault_core_model::change::Change;
-use vault_core_model::command::{AddBucket, AddCaller, AddDept, Report};
+use vault_core_model::command::{AddBucket, AddCaller, AddDept, CloseCaller, Report};
 use vault_core_model::halt::{Fault, Halt};
 use vault_core_model::keeper::Keeper;
 use vault_core_model::records::Caller;
@@ -68,6 +68,37 @@ fn new_caller(command: &AddCaller) -> Result<Caller, AllocError>
         rights: command.rights,
         closed: false,
     })
+}
+
+/// Closes an open caller for good.
+pub fn close_caller<K: Keeper>(
+    keeper: &mut K,
+    at: Moment,
+    who: &CallerName,
+    command: &CloseCaller,
+) -> Result<Answer, Halt>
+    ensures meets { K.is_honest keeper.new → Meets result (K.vault keeper.old) (K.vault keeper.new) (outcome.close_caller (K.vault keeper.old) at who.now command.now) }
+    ensures honest { K.is_honest keeper.new → K.is_honest keeper.old }
+    ensures counted { K.count keeper.old ≤ K.count keeper.new }
+    ensures device { IsTrue (is_device result) → Rose (K.count keeper.old) (K.count keeper.new) }
+{
+    find_administrator(keeper, at, who)?;
+    let found = keeper.caller(&command.caller)?;
+    if !is_open(&found) {
+        return Err(Halt::Refused(Refusal::InvalidArgument));
+    }
+    keeper.apply(at, &Change::CloseCaller(command.caller.clone()?))?;
+    Ok(Answer::Nothing)
+}
+
+fn is_open(found: &Option<Caller>) -> bool
+    ensures open { result ≡ outcome.is_open found.now }
+    ensures there { IsTrue result → IsSome found.now }
+{
+    match found {
+        None => false,
+        Some(caller) => !caller.closed,
+    }
 }
 
 /// Adds a bucket to a department.

@@ -1,4 +1,4 @@
-use Rattle.vault_core_checks.proofs.Current.{newest_found, none_found}
+use Rattle.vault_core_checks.proofs.Current.{newest_found, none_found, own_after}
 use Rattle.vault_core_checks.proofs.entry.find_newest.Goals as goal
 
 -- no entry of the key is held
@@ -9,6 +9,9 @@ returns-in_default-clause-value g c =
 -- the entry that the head names is the current one
 pub returns-clause-value : goal.returns-clause-value
 returns-clause-value g c = λ honest.
-    let before = c.entry.ensures.honest honest in
-    newest_found (g.K.Keeper.vault c.args.keeper.now) (g.K.Keeper.vault c.head.new.self) c.args.bucket.now c.args.key.now c.in-Some.head c.in_ok-head.field-0 c.entry.result
-    c.head.ensures.same (c.requires (c.head.ensures.honest before)) c.in-Some.is (c.in_ok-head.ensures.value before) (c.entry.ensures.value honest)
+    let before = c.read_entry.ensures.honest honest in
+    newest_found (g.K.Keeper.vault c.args.keeper.now) (g.K.Keeper.vault c.head.new.self) c.args.bucket.now c.args.key.now c.in-Some.head c.in_ok-head.field-0 c.read_entry.result
+    c.head.ensures.same (c.requires (c.head.ensures.honest before)) c.in-Some.is (c.in_ok-head.ensures.value before) (c.read_entry.ensures.value honest)
+
+pub returns-clause-own : goal.returns-clause-own
+returns-clause-own g c = λ honest. own_after (g.K.Keeper.vault c.args.keeper.now) (g.K.Keeper.vault c.head.new.self) c.read_entry.result c.head.ensures.same (c.read_entry.ensures.own honest)
