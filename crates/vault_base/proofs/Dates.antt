@@ -89,12 +89,11 @@ unfolding date_of
 date_of_is n h =
     in_year n (year_after 8029 1970 n) (year_after_ends 8029 1970 9999 n (omega arith) (omega (arith, next_year 9999, day_count-end, day_count-epoch)))
 
-jiff_date : (d : Date) → IsDate d → jiff.Date
+abbrev pub jiff_date : (d : Date) → IsDate d → jiff.Date
 jiff_date d is = record { year = pos d.year; month = d.month; day = d.day; year_in = is.0.0; month_in = is.0.1; day_in = is.0.2 }
 
 -- a date of jiff with that day number is the same
 pub date_of_only : (n : ℕ) (d : jiff.Date) → n ≤ 2932896 → epoch_day d ≡ pos n → (d.year ≡ pos (date_of n).year) × (d.month ≡ (date_of n).month) × (d.day ≡ (date_of n).day)
-unfolding days_from_civil jiff_date
 date_of_only n d h e =
     let own = date_of_is n h in
     epoch_day_injective d (jiff_date (date_of n) own.is) (e ∙ sym own.number)

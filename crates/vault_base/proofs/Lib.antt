@@ -5,3 +5,4 @@ pub mod Numerals
 pub mod ReadBack
 pub mod ReadParts
 pub mod Spelled
+pub mod YearsLater

@@ -9,3 +9,5 @@ mod find;
 pub mod list_keeper;
 mod place;
 mod sums;
+#[cfg(test)]
+mod tests;

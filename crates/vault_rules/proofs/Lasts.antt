@@ -65,19 +65,19 @@ pub walk_alone : (d : Dues) (t : ℕ) (hs : List Held) (x : Held) → last_mark 
 walk_alone d t hs x m e h = walk_unmarked d t hs m ∙ ap (λ l. removals d hs ++ lone_removal d l) (left_alone d hs x e h)
 
 -- at least two entries
-abbrev IsLong : List Held → Type 0
+abbrev pub IsLong : List Held → Type 0
 IsLong l = (x : Held) × (y : Held) × (ys : List Held) × (l ≡ x ∷ y ∷ ys)
 
-unless_none : (b : Bool) (o : Option ℕ) → o ≡ None → unless b o ≡ None
+pub unless_none : (b : Bool) (o : Option ℕ) → o ≡ None → unless b o ≡ None
 unless_none true o e = refl
 unless_none false o e = e
 
-long_keep : (x : Held) (o : Option ℕ) (l : List Held) → IsLong l → IsLong (keep_if x o l)
+pub long_keep : (x : Held) (o : Option ℕ) (l : List Held) → IsLong l → IsLong (keep_if x o l)
 long_keep x None l h = (x, h.0, h.1 ∷ h.2, ap (λ l. x ∷ l) h.3)
 long_keep x (Some r) l h = h
 
 -- what a new marker stands above became noncurrent just now, so it stays
-left_long : (d : Dues) (t : ℕ) → IsFit d t → (x : Held) (xs : List Held) (id : ℕ) → IsLong (left_over d (x ∷ xs ++ marker_at id t ∷ []))
+pub left_long : (d : Dues) (t : ℕ) → IsFit d t → (x : Held) (xs : List Held) (id : ℕ) → IsLong (left_over d (x ∷ xs ++ marker_at id t ∷ []))
 left_long d t f x [] id = (x, marker_at id t, [], ap (λ o. keep_if x o (marker_at id t ∷ [])) (unless_none (d.locked x.lock) (d.noncurrent x.size t 0) (f.fresh x.size 0)))
 left_long d t f x (y ∷ ys) id = long_keep x (removal d x (y ∷ ys ++ marker_at id t ∷ [])) (left_over d (y ∷ ys ++ marker_at id t ∷ [])) (left_long d t f y ys id)
 

@@ -76,14 +76,14 @@ module _ (rules : List Rule) (key : List ℕ) (t : ℕ) where
       let n : newer hs x ≡ after = ap (λ l. newer l x) e ∙ newer_behind before x after (subst (λ l. IsTrue (ids_rise l)) e h) in
       ap (λ l. only_if (nat_lt 0 (length l) && not (is_locked x.lock t)) (due_noncurrent rules key x.size (first_admission l) (length l - 1) t)) n ∙ removal_is x after
 
-  removals_from : (hs before l : List Held) → hs ≡ before ++ l → IsTrue (ids_rise hs) → filter_map (λ x. option_map (λ r. Remove x.id r) (removal_rule rules key t hs x)) l ≡ removals (dues rules key t) l
+  pub removals_from : (hs before l : List Held) → hs ≡ before ++ l → IsTrue (ids_rise hs) → filter_map (λ x. option_map (λ r. Remove x.id r) (removal_rule rules key t hs x)) l ≡ removals (dues rules key t) l
   removals_from hs before [] e h = refl
   removals_from hs before (x ∷ xs) e h =
       ap (λ o. cons_option (option_map (λ r. Remove x.id r) o) (filter_map (λ x. option_map (λ r. Remove x.id r) (removal_rule rules key t hs x)) xs)) (removal_at hs before x xs e h)
       ∙ (ap (cons_option (option_map (λ r. Remove x.id r) (removal (dues rules key t) x xs))) (removals_from hs (before ++ x ∷ []) xs (e ∙ sym (append_assoc before (x ∷ []) xs)) h)
       ∙ push_remove x.id (removal (dues rules key t) x xs) (removals (dues rules key t) xs))
 
-  kept_from : (hs before l : List Held) → hs ≡ before ++ l → IsTrue (ids_rise hs) → filter (λ x. is_none (removal_rule rules key t hs x)) l ≡ left_over (dues rules key t) l
+  pub kept_from : (hs before l : List Held) → hs ≡ before ++ l → IsTrue (ids_rise hs) → filter (λ x. is_none (removal_rule rules key t hs x)) l ≡ left_over (dues rules key t) l
   kept_from hs before [] e h = refl
   kept_from hs before (x ∷ xs) e h =
       ap (λ o. cond (is_none o) (x ∷ filter (λ x. is_none (removal_rule rules key t hs x)) xs) (filter (λ x. is_none (removal_rule rules key t hs x)) xs)) (removal_at hs before x xs e h)
@@ -100,7 +100,7 @@ module _ (rules : List Rule) (key : List ℕ) (t : ℕ) where
   push_mark None = refl
   push_mark (Some r) = refl
 
-  marks_from : (hs before l : List Held) → hs ≡ before ++ l → IsTrue (ids_rise hs) → filter_map (λ x. option_map (λ r. Mark r) (mark_rule rules key t hs x)) l ≡ mark_step (last_mark (dues rules key t) l)
+  pub marks_from : (hs before l : List Held) → hs ≡ before ++ l → IsTrue (ids_rise hs) → filter_map (λ x. option_map (λ r. Mark r) (mark_rule rules key t hs x)) l ≡ mark_step (last_mark (dues rules key t) l)
   marks_from hs before [] e h = refl
   marks_from hs before (x ∷ []) e h =
       ap (λ o. cons_option (option_map (λ r. Mark r) o) []) (mark_at hs before x [] e h ∙ only_unless x.marker (due_current rules key x.size x.admitted t))
@@ -129,7 +129,7 @@ module _ (rules : List Rule) (key : List ℕ) (t : ℕ) where
       (ap (λ b. only_if (x.marker && b) (due_marker rules key x.size x.admitted t)) h ∙ only_never x.marker (due_marker rules key x.size x.admitted t))
       ∙ lone_of_more hs xs h
 
-  lone_is : (hs : List Held) → lone_steps rules key t hs ≡ lone_removal (dues rules key t) hs
+  pub lone_is : (hs : List Held) → lone_steps rules key t hs ≡ lone_removal (dues rules key t) hs
   lone_is [] = refl
   lone_is (x ∷ []) = lone_of_one x
   lone_is (x ∷ y ∷ ys) = lone_of_more (x ∷ y ∷ ys) (x ∷ y ∷ ys) (not_one (length ys))

@@ -2,7 +2,6 @@
 #![tactic(auto)]
 
 pub mod due;
-pub mod laws;
 pub mod plan;
 pub mod rule;
 pub mod rule_set;

@@ -9,7 +9,7 @@ use Rattle.vault_rules.specs.declared.plan.Step.{Step}
 use Rattle.vault_rules.specs.declared.plan.Step.TheVariants.{Mark, Remove, RemoveLone}
 use Rattle.vault_rules.specs.Rules.{is_rule_set}
 use Rattle.vault_rules.specs.KeyPlan.{ids_rise, id_above, key_plan}
-use Rattle.vault_rules.specs.KeyRepeats.{without, made, made_all, is_in_order}
+use Rattle.vault_rules_laws.specs.KeyRepeats.{without, made, made_all, is_in_order}
 use Rattle.vault_rules.specs.Walk.{Dues, dues, unless, last_mark, marker_at, marked_by, removal, mark_step, remove_step, lone_step, removals, keep_if, left_over, lone_removal, later_phases, walk}
 use Rattle.vault_rules.proofs.Fit.{IsFalling, fit}
 use Rattle.vault_rules.proofs.Lasts.{walk_unmarked}
@@ -45,14 +45,14 @@ without_below : (x : Held) (l : List Held) → IsBelow x l → without x.id l �
 without_below x [] b = refl
 without_below x (y ∷ ys) b = ap (λ c. cond c (y ∷ without x.id ys) (without x.id ys)) (eq_more y.id x.id b.0) ∙ ap (λ l. y ∷ l) (without_below x ys b.2)
 
-without_first : (x : Held) (l : List Held) → IsBelow x l → without x.id (x ∷ l) ≡ l
+pub without_first : (x : Held) (l : List Held) → IsBelow x l → without x.id (x ∷ l) ≡ l
 without_first x l b = ap (λ c. cond c (x ∷ without x.id l) (without x.id l)) (eq_same x.id) ∙ without_below x l b
 
-without_other : (i : ℕ) (x : Held) (l : List Held) → x.id < i → without i (x ∷ l) ≡ x ∷ without i l
+pub without_other : (i : ℕ) (x : Held) (l : List Held) → x.id < i → without i (x ∷ l) ≡ x ∷ without i l
 without_other i x l h = ap (λ c. cond c (x ∷ without i l) (without i l)) (eq_less x.id i h)
 
 -- a marker on top is no content
-mark_none : (d : Dues) (hs : List Held) (id t : ℕ) → last_mark d (hs ++ marker_at id t ∷ []) ≡ None
+pub mark_none : (d : Dues) (hs : List Held) (id t : ℕ) → last_mark d (hs ++ marker_at id t ∷ []) ≡ None
 mark_none d [] id t = refl
 mark_none d (x ∷ []) id t = refl
 mark_none d (x ∷ y ∷ ys) id t = mark_none d (y ∷ ys) id t
@@ -120,7 +120,7 @@ stepped d f x (y ∷ ys) i r rs o e =
     cases (Some q) n ih = first_goes d x y ys i r q rs o n (ap (λ t. remove_step x.id t ++ removals d (y ∷ ys)) (sym n) ∙ e)
 
 -- where nothing is removed, all are left
-left_all : (d : Dues) (hs : List Held) → removals d hs ≡ [] → left_over d hs ≡ hs
+pub left_all : (d : Dues) (hs : List Held) → removals d hs ≡ [] → left_over d hs ≡ hs
 left_all d [] e = refl
 left_all d (x ∷ xs) e = cases (removal d x xs) refl (left_all d xs)
   where
@@ -132,7 +132,7 @@ left_all d (x ∷ xs) e = cases (removal d x xs) refl (left_all d xs)
         impossible h = cc
 
 -- each step of the second phase is a removal
-removals_are : (d : Dues) (hs : List Held) (s : Step) (ss : List Step) → removals d hs ≡ s ∷ ss → (i : ℕ) × (r : ℕ) × (s ≡ Remove i r)
+pub removals_are : (d : Dues) (hs : List Held) (s : Step) (ss : List Step) → removals d hs ≡ s ∷ ss → (i : ℕ) × (r : ℕ) × (s ≡ Remove i r)
 removals_are d [] s ss e = absurd (cc)
 removals_are d (x ∷ xs) s ss e = cases (removal d x xs) refl (removals_are d xs s ss)
   where
@@ -160,7 +160,7 @@ removal_goes d f t (x ∷ xs) i r rs o m e =
     walk_unmarked d t (without i (x ∷ xs)) (s.same_mark ∙ m) ∙ (ap (λ l. l ++ lone_removal d (left_over d (without i (x ∷ xs)))) s.rest ∙ ap (λ l. rs ++ lone_removal d l) s.same_left)
 
 -- after the first step, the walk is the rest
-one_step : (d : Dues) → IsFalling d → (t : ℕ) (hs : List Held) (s : Step) (ss : List Step) → IsInOrder hs → walk d t hs ≡ s ∷ ss → walk d t (made t hs s) ≡ ss
+pub one_step : (d : Dues) → IsFalling d → (t : ℕ) (hs : List Held) (s : Step) (ss : List Step) → IsInOrder hs → walk d t hs ≡ s ∷ ss → walk d t (made t hs s) ≡ ss
 one_step d f t hs s ss o e = marks (last_mark d hs) refl
   where
     later : (rs : List Step) → last_mark d hs ≡ None → removals d hs ≡ rs → rs ++ lone_removal d (left_over d hs) ≡ s ∷ ss → walk d t (made t hs s) ≡ ss
@@ -189,7 +189,7 @@ below_without i x (y ∷ ys) b = cases (not (y.id == i)) (below_without i x ys b
     cases true h = (b.0, b.1, h)
     cases false h = h
 
-order_without : (i : ℕ) (l : List Held) → IsInOrder l → IsInOrder (without i l)
+pub order_without : (i : ℕ) (l : List Held) → IsInOrder l → IsInOrder (without i l)
 order_without i [] o = tt
 order_without i (y ∷ ys) o = cases (not (y.id == i)) (order_without i ys o.1)
   where
@@ -219,7 +219,7 @@ up_to_push : (l : List Held) (id t : ℕ) → IsUpTo t l → IsUpTo t (l ++ mark
 up_to_push [] id t b = (omega arith, tt)
 up_to_push (y ∷ ys) id t b = (b.0, up_to_push ys id t b.1)
 
-order_made : (t : ℕ) (s : Step) (hs : List Held) → IsUpTo t hs → IsInOrder hs → IsInOrder (made t hs s)
+pub order_made : (t : ℕ) (s : Step) (hs : List Held) → IsUpTo t hs → IsInOrder hs → IsInOrder (made t hs s)
 order_made t (Mark r) hs b o = order_push hs (id_above hs) t (below_above hs) b o
 order_made t (Remove i r) hs b o = order_without i hs o
 order_made t (RemoveLone i r) hs b o = order_without i hs o

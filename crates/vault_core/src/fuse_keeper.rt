@@ -1,0 +1,107 @@
+//! A keeper whose device fails once, for tests.
+use vault_base::content::Content;
+use vault_base::moment::Moment;
+use vault_base::name::{BucketName, CallerName, DeptName, ObjectKey, VersionId};
+use vault_core_model::change::Change;
+use vault_core_model::halt::Fault;
+use vault_core_model::keeper::Keeper;
+use vault_core_model::records::{BucketConfig, Caller, Entry, Head, LastSetting};
+use vault_tally::row::Row;
+
+/// A keeper that passes so many changes on, refuses the next with `Device`, and passes all after.
+#[derive(Drop)]
+pub struct FuseKeeper<K> {
+    keeper: K,
+    /// How many changes are still passed on before the refusal.
+    left: u64,
+    blown: bool,
+}
+
+impl<K> FuseKeeper<K> {
+    /// A keeper over another one, that refuses the change after so many.
+    pub fn new(keeper: K, changes: u64) -> FuseKeeper<K> {
+        FuseKeeper {
+            keeper,
+            left: changes,
+            blown: false,
+        }
+    }
+
+    /// The keeper below.
+    pub fn into_keeper(self) -> K
+    where
+        K: Drop,
+    {
+        self.keeper
+    }
+}
+
+impl<K: Keeper> Keeper for FuseKeeper<K> {
+    ghost use Rattle.vault_core.specs.FuseKeeper.{failures};
+
+    ghost is_honest = { λ k. K.is_honest k.keeper };
+
+    ghost vault = { λ k. K.vault k.keeper };
+
+    ghost count = { λ k. failures k.blown (K.count k.keeper) };
+
+    fn faults(&self) -> u64 {
+        let below = self.keeper.faults();
+        if self.blown {
+            below.saturating_add(1)
+        } else {
+            below
+        }
+    }
+
+    fn last(&mut self) -> Result<Moment, Fault> {
+        self.keeper.last()
+    }
+
+    fn next_id(&mut self) -> Result<u64, Fault> {
+        self.keeper.next_id()
+    }
+
+    fn caller(&mut self, name: &CallerName) -> Result<Option<Caller>, Fault> {
+        self.keeper.caller(name)
+    }
+
+    fn dept(&mut self, name: &DeptName) -> Result<bool, Fault> {
+        self.keeper.dept(name)
+    }
+
+    fn bucket(&mut self, name: &BucketName) -> Result<Option<BucketConfig>, Fault> {
+        self.keeper.bucket(name)
+    }
+
+    fn head(&mut self, bucket: &BucketName, key: &ObjectKey) -> Result<Option<Head>, Fault> {
+        self.keeper.head(bucket, key)
+    }
+
+    fn entry(&mut self, id: VersionId) -> Result<Option<Entry>, Fault> {
+        self.keeper.entry(id)
+    }
+
+    fn setting(&mut self, id: VersionId) -> Result<Option<LastSetting>, Fault> {
+        self.keeper.setting(id)
+    }
+
+    fn content(&mut self, id: VersionId) -> Result<Option<Content>, Fault> {
+        self.keeper.content(id)
+    }
+
+    fn totals(&mut self, dept: &DeptName) -> Result<Row, Fault> {
+        self.keeper.totals(dept)
+    }
+
+    fn apply(&mut self, at: Moment, change: &Change) -> Result<(), Fault> {
+        if !self.blown {
+            if self.left == 0 {
+                self.blown = true;
+                return Err(Fault::Device);
+            }
+            self.left -= 1;
+        }
+        self.keeper.apply(at, change)
+    }
+}

@@ -1,0 +1,64 @@
+-- The histories of a vault's entries, as far as a run over a bucket looks at them, and what the steps of a run make of them.
+use Rattle.std.specs.Prelude.{ℕ, ◌+◌, ◌&&◌, ◌==◌, Bool, true, false, not, List, [], ◌∷◌, ◌++◌, length, filter, map, None, if◌then◌else◌}
+use Rattle.std.specs.Str.{bytes_eq}
+use Rattle.vault_lock.specs.declared.lock.Lock.{Lock}
+use Rattle.vault_rules.specs.declared.plan.Held.{Held}
+use Rattle.vault_rules.specs.declared.plan.Step.{Step}
+use Rattle.vault_rules.specs.declared.plan.Step.TheVariants.{Mark, Remove, RemoveLone}
+
+-- an entry that was ever admitted; its lock is that of its last setting
+pub record History : Type 0 where
+  pub id : ℕ
+  pub bucket : List ℕ
+  pub key : List ℕ
+  pub marker : Bool
+  pub size : ℕ
+  pub admitted : ℕ
+  pub lock : Lock
+  pub removed : Bool
+
+-- held, and of that bucket and that key
+abbrev pub is_at : List ℕ → List ℕ → History → Bool
+is_at bucket key h = not h.removed && (bytes_eq h.bucket bucket && bytes_eq h.key key)
+
+abbrev pub held_of : History → Held
+held_of h = record { id = h.id; marker = h.marker; size = h.size; admitted = h.admitted; lock = h.lock }
+
+-- the held entries of a key, oldest first
+abbrev pub entries : List ℕ → List ℕ → List History → List Held
+entries bucket key v = map held_of (filter (is_at bucket key) v)
+
+-- a delete marker that is admitted at t
+abbrev pub new_marker : ℕ → List ℕ → List ℕ → ℕ → History
+new_marker id bucket key t = record {
+  id = id;
+  bucket = bucket;
+  key = key;
+  marker = true;
+  size = 0;
+  admitted = t;
+  lock = record { retention = None; hold = false };
+  removed = false;
+}
+
+-- the history removed, where it has that id
+abbrev pub removed_by : ℕ → History → History
+removed_by id h = if h.id == id then record h { removed = true } else h
+
+-- a step at a key
+pub record Planned : Type 0 where
+  pub key : List ℕ
+  pub step : Step
+
+abbrev pub made_at : List ℕ → ℕ → List ℕ → List History → Step → List History
+made_at bucket t key v (Mark r) = v ++ new_marker (length v + 1) bucket key t ∷ []
+made_at bucket t key v (Remove id r) = map (removed_by id) v
+made_at bucket t key v (RemoveLone id r) = map (removed_by id) v
+
+-- the histories after a step, and after these, one after another
+abbrev pub made : List ℕ → ℕ → List History → Planned → List History
+made bucket t v p = made_at bucket t p.key v p.step
+
+abbrev pub made_all : List ℕ → ℕ → List History → List Planned → List History
+made_all bucket t v [] = v
+made_all bucket t v (p ∷ ps) = made_all bucket t (made bucket t v p) ps

@@ -1,0 +1,4 @@
+pub mod BucketLaws
+pub mod BucketPlan
+pub mod Histories
+pub mod KeyRepeats
