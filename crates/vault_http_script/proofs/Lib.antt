@@ -6,3 +6,4 @@ pub mod ToldLemmas
 pub mod GrammarLemmas
 pub mod LineLemmas
 pub mod SpelledLemmas
+pub mod RightsLemmas

@@ -16,6 +16,7 @@ use Rattle.vault_http_script.specs.Members.{is_within, as_texts, only, text_of, 
 use Rattle.vault_http_script.specs.ReadLine.{timed_of}
 use Rattle.vault_http_script.specs.RecordLines.{add_dept_of, add_caller_of, add_bucket_of, report_of}
 use Rattle.vault_http_script.specs.Values.{reading_of, asker_of, caller_of, dept_of, optional_dept_of, bucket_of, key_of, id_of, optional_id_of, rights_of, one_of, content_of}
+use Rattle.vault_http_script.proofs.RightsLemmas.{rights-ok}
 use Rattle.vault_http_script.proofs.GrammarLemmas.{passes, chosen}
 
 text-ok : (name : List ℕ) (d : Data) (text : List ℕ) → IsText d name text → text_of name d ≡ Ok text
@@ -219,7 +220,7 @@ reads-timed d at who (command.AddDept c) shape m n s =
     ∙ reads-add-dept d m.0 who c.dept at (within d add_dept_line (passed d (codes "add-dept") shape s.0)) m.2 n.1 s.1
 reads-timed d at who (command.AddCaller c) shape m n s =
     chosen-by d m.0 who (codes "add-caller") m.1 n.0 s.0
-    ∙ reads-add-caller d m.0 who c.caller c.dept s.3.0 c.rights at (within d add_caller_line (passed d (codes "add-caller") shape s.0)) m.2 n.1 s.1 s.2 s.3.1 s.3.2
+    ∙ reads-add-caller d m.0 who c.caller c.dept s.3.0 c.rights at (within d add_caller_line (passed d (codes "add-caller") shape s.0)) m.2 n.1 s.1 s.2 s.3.1 (rights-ok s.3.0 c.rights s.3.2 s.3.3)
 reads-timed d at who (command.AddBucket c) shape m n s =
     chosen-by d m.0 who (codes "add-bucket") m.1 n.0 s.0
     ∙ reads-add-bucket d m.0 who c.bucket c.dept at (within d add_bucket_line (passed d (codes "add-bucket") shape s.0)) m.2 n.1 s.1.0 s.1.1 s.2

@@ -13,6 +13,7 @@ use Rattle.vault_http_script.specs.Grammar.{names_of, add_dept_line, add_caller_
 use Rattle.vault_http_script.specs.Members.{only, text_of, optional_text_of, whole_of, optional_whole_of, texts_of}
 use Rattle.vault_http_script.specs.RecordLines.{add_dept_of, add_caller_of, add_bucket_of, report_of}
 use Rattle.vault_http_script.specs.Values.{reading_of, asker_of, caller_of, dept_of, optional_dept_of, bucket_of, key_of, id_of, optional_id_of, rights_of, one_of, content_of}
+use Rattle.vault_http_script.proofs.RightsLemmas.{is-rights}
 use Rattle.vault_http_script.proofs.ShapeLemmas.{Told, told-asks, told-values, told-last, asked, asks-content, asks-only, asks-text, asks-whole, asks-texts, asks-optional-text, asks-optional-whole, is-text, is-optional-text, is-whole, is-optional-whole, is-no-whole, is-texts}
 use Rattle.vault_http_script.proofs.ValueLemmas.{values-reading, values-asker, values-caller, values-dept, values-optional-dept, values-bucket, values-key, values-id, values-optional-id, values-rights, values-content, is-moment, is-asker, is-caller, is-dept, is-optional-dept, is-bucket, is-key, is-id, is-optional-id, is-content}
 
@@ -57,7 +58,7 @@ told-add-caller d at who at_is who_is do_is =
         do_is,
         is-caller (codes "caller") d caller name (is-text (codes "caller") d caller caller_is) name_is,
         is-optional-dept (codes "dept") d dept of_dept (is-optional-text (codes "dept") d dept dept_is) of_dept_is,
-        (names, is-texts (codes "rights") d names names_are, rights_are),
+        (names, is-texts (codes "rights") d names names_are, (is-rights names rights rights_are).0, (is-rights names rights rights_are).1),
       ),
     )))))))))
 

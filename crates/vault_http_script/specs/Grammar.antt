@@ -8,6 +8,9 @@ use Rattle.serde_json.specs.Data.{Data, string, number, unsigned, array, Items, 
 use Rattle.serde_json.specs.Find.{get, as_str, as_array}
 use Rattle.vault_base.specs.Moment.{moment_of}
 use Rattle.vault_base.specs.Name.{is_bucket_name, is_object_key, is_plain_name, is_version_id}
+use Rattle.vault_base.specs.Right.{right_name, right_of}
+use Rattle.vault_base.specs.declared.right.Right.{Right}
+use Rattle.vault_core_model.specs.Rights.{has}
 use Rattle.vault_core_model.specs.declared.command.Command.{Command}
 use Rattle.vault_core_model.specs.declared.command.Command.TheVariants as command
 use Rattle.vault_core_model.specs.declared.command.Timed.{Timed}
@@ -15,7 +18,6 @@ use Rattle.vault_core_model.specs.declared.rights.Rights.{Rights}
 use Rattle.vault_http_script.specs.Document.{json_of}
 use Rattle.vault_http_script.specs.Members.{as_whole, is_within}
 use Rattle.vault_http_script.specs.ReadLine.{without_cr}
-use Rattle.vault_http_script.specs.Values.{rights_of}
 
 -- ---- shapes
 
@@ -145,10 +147,19 @@ abbrev pub items_of_texts : List (List ℕ) → Items
 items_of_texts [] = no_items
 items_of_texts (text ∷ texts) = item (string text) (items_of_texts texts)
 
--- the member is a list of the names of these rights
+-- each is the name of a right
+abbrev pub are_rights : List (List ℕ) → Bool
+are_rights names = list_all (λ name. is_some (right_of name)) names
+
+-- the right's name is among these
+abbrev pub is_named : List (List ℕ) → Right → Bool
+is_named names right = list_any (λ name. bytes_eq name (right_name right)) names
+
+-- the member is a list of names of rights, and these are the rights that are named
 abbrev pub IsRights : Data → Rights → Type 0
 IsRights d rights =
-    (names : List (List ℕ)) × (get (codes "rights") d ≡ Some (array (items_of_texts names))) × (rights_of names ≡ Ok rights)
+    (names : List (List ℕ)) × (get (codes "rights") d ≡ Some (array (items_of_texts names)))
+    × IsTrue (are_rights names) × ((right : Right) → has rights right ≡ is_named names right)
 
 -- the member is the text of that moment
 abbrev pub IsMoment : Data → ℕ → Type 0
