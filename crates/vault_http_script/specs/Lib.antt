@@ -1,6 +1,7 @@
 pub mod Document
 pub mod EntryLines
 pub mod Fault
+pub mod Grammar
 pub mod Members
 pub mod ReadLine
 pub mod RecordLines

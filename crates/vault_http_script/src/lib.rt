@@ -4,6 +4,7 @@
 mod document;
 mod entry_lines;
 mod fault;
+pub mod laws;
 mod members;
 pub mod read_line;
 mod record_lines;

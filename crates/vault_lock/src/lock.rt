@@ -22,11 +22,14 @@ pub enum Permit {
     Bypass,
 }
 
-/// What denies a removal or a change of retention.
+/// What denies a removal or a change of retention. Of several the first is named.
 #[derive(Clone, Copy, Debug, PartialEq, Eq)]
 pub enum Denial {
+    /// A legal hold.
     Hold,
+    /// A compliance retention in force.
     Compliance,
+    /// A governance retention in force, without a bypass that is asked for and allowed.
     Governance,
 }
 
@@ -40,7 +43,8 @@ pub fn first_lock(
     now: Moment,
 ) -> Option<Lock>
     ensures exact { result ≡ first_lock (option_copied default.entry) retention hold now }
-    ensures out_of_range { IsNone result ↔ DefaultEndsTooLate (option_copied default.entry) retention now }
+    ensures out_of_range { IsNone result ↔
+        DefaultEndsTooLate (option_copied default.entry) retention now }
 {
     if retention.is_some() {
         return Some(Lock { retention, hold });

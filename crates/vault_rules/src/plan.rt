@@ -87,8 +87,8 @@ fn removal_of(
     marked: bool,
     now: Moment,
 ) -> Option<usize>
-    ensures { (id : ℕ) →
-        result ≡ removal (dues rules.now key.now now) entry.now (newer.now ++ marked_above id now marked) }
+    ensures { (id : ℕ) → let above = newer.now ++ marked_above id now marked in
+        result ≡ removal (dues rules.now key.now now) entry.now above }
 {
     if in_force(&entry.lock, now) {
         return None;
@@ -112,11 +112,13 @@ fn remove_noncurrent(
     now: Moment,
     steps: &mut Vec<Step>,
 ) -> Result<usize, AllocError>
-    ensures steps { OnOk result ((id : ℕ) → steps.new.items ≡
-        steps.old.items ++ removals (dues rules.now key.now now) (held.now ++ marked_above id now marked)) }
+    ensures steps { OnOk result ((id : ℕ) →
+        let entries = held.now ++ marked_above id now marked in
+        steps.new.items ≡ steps.old.items ++ removals (dues rules.now key.now now) entries) }
     ensures left { IfOk result (λ left. (id : ℕ) →
-        left + length (left_over (dues rules.now key.now now) (marked_above id now marked))
-        ≡ length (left_over (dues rules.now key.now now) (held.now ++ marked_above id now marked))) }
+        let d = dues rules.now key.now now in
+        let above = marked_above id now marked in
+        left + length (left_over d above) ≡ length (left_over d (held.now ++ above))) }
 {
     let mut left = 0;
     for (i, entry) in held.iter().enumerate() {

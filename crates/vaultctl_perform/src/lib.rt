@@ -60,3 +60,6 @@ pub fn answer_words<R: Read, W: Write, E: Write>(
         }
     }
 }
+
+#[cfg(test)]
+mod tests;

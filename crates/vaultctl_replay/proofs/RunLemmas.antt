@@ -1,13 +1,13 @@
 -- Lemmas on lines that are carried out one after another.
-use Rattle.std.proofs.Common.{◌≡◌, ℕ, List, [], ◌∷◌, ◌++◌, refl, ap, sym, ◌∙◌, append_assoc, append-nil, subst, take, Option, Some, None, Result, Ok, Err, OnErr, inl, inr}
+use Rattle.std.proofs.Common.{◌≡◌, ℕ, List, [], ◌∷◌, ◌++◌, refl, ap, sym, ◌∙◌, append_assoc, append-nil, subst, take, Option, Some, None, Result, Ok, Err, OnOk, OnErr, inl, inr}
 use Rattle.std.specs.Io.KnownBytes.{Appends, Consumes, Keeps}
 use Rattle.std.proofs.KnownBytes.{Appends-nil, Appends-trans}
-use Rattle.vault_core_model.specs.Step.{Step}
-use Rattle.vault_core_model.specs.Vault.{Vault}
+use Rattle.vault_core_model.specs.Step.{Run, Reached, Step}
+use Rattle.vault_core_model.specs.Vault.{Vault, opening}
 use Rattle.vault_core_model.specs.declared.command.Timed.{Timed}
 use Rattle.vault_core_model.specs.declared.reply.Reply.{Reply}
 use Rattle.vault_http_script.specs.ReplyLine.{reply_text}
-use Rattle.vault_http_script.specs.declared.read_line.Line.TheVariants.{Command}
+use Rattle.vault_http_script.specs.declared.read_line.Line.TheVariants.{Command, Refused, Skip}
 use Rattle.vault_http_script.specs.declared.read_line.Line.{Line}
 use Rattle.vaultctl_replay.specs.Lines.{advance, asked_in, last_of}
 use Rattle.vaultctl_replay.specs.Runs.{Answers, Runs, Finished, Began, Unwritten, AnswersAll, AnswersEnded, AnswersSome}
@@ -108,6 +108,37 @@ module _ (a b : Vault) (u v : Option (List ℕ)) (bytes : List ℕ) where
 
     pub answers_some_last : Began mid w (last_of part) b v → AnswersSome a u bytes b v
     answers_some_last s = (asked_in 4_194_305 [] bytes ++ last_of (advance 4_194_305 [] bytes).1, asked_all bytes, rw (← e) (Finished-began a mid b u w v (asked_in 4_194_305 [] bytes) (last_of part) r s))
+
+-- ---- vaults that runs lead to
+
+Run-then : (a b c : Vault) (cs ds : List Timed) (rs ss : List Reply) → Run a cs rs b → Run b ds ss c → Run a (cs ++ ds) (rs ++ ss) c
+Run-then a b c [] ds [] ss r s =
+    let P : Vault → Type 0 = λ v. Run v ds ss c in
+    subst P r s
+Run-then a b c [] ds (x ∷ rs) ss r s = absurd r
+Run-then a b c (x ∷ cs) ds [] ss r s = absurd r
+Run-then a b c (x ∷ cs) ds (y ∷ rs) ss r s = (r.0, r.1, Run-then r.0 b c cs ds rs ss r.2 s)
+
+Answers-reached : (v v' : Vault) (asked : Line) (out : List ℕ) → Answers v asked out v' → Reached v → Reached v'
+Answers-reached v v' Skip out a q = subst Reached (sym a.1) q
+Answers-reached v v' (Refused r) out a q = subst Reached (sym a.1) q
+Answers-reached v v' (Command c) out a q =
+    (q.0 ++ c ∷ [], q.1 ++ a.0 ∷ [], Run-then opening v v' q.0 (c ∷ []) q.1 (a.0 ∷ []) q.2 (v', a.1, refl))
+
+Runs-reached : (v v' : Vault) (asked : List Line) (out : List ℕ) → Runs v asked out v' → Reached v → Reached v'
+Runs-reached v v' [] out r q = subst Reached (sym r.1) q
+Runs-reached v v' (line ∷ asked) out r q = Runs-reached r.0 v' asked r.2 r.4 (Answers-reached v r.0 line r.1 r.3 q)
+
+module _ (a b : Vault) (u v : Option (List ℕ)) (asked : List Line) where
+  pub finished_reached : Finished a u asked b v → Reached a → Reached b
+  finished_reached r = Runs-reached a b asked r.0 r.1
+
+  pub began_reached : Began a u asked b v → Reached a → Reached b
+  began_reached r = Runs-reached a b r.0 (r.2 ++ r.3) r.5
+
+  pub either_reached : {T E : Type 0} (r : Result T E) → OnOk r (Finished a u asked b v) → OnErr r (Began a u asked b v) → Reached a → Reached b
+  either_reached (Ok x) ok err = finished_reached ok
+  either_reached (Err e) ok err = began_reached err
 
 -- ---- results and reads
 

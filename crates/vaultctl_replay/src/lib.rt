@@ -3,6 +3,7 @@
 
 ghost use Rattle.std.specs.Prelude.{◌≡◌, ℕ, List, [], OnOk, OnErr};
 ghost use Rattle.std.specs.Io.KnownBytes.{Consumes, IsAtEnd};
+ghost use Rattle.vault_core_model.specs.Step.{Reached};
 ghost use Rattle.vaultctl_replay.specs.Runs.{AnswersAll, AnswersEnded, AnswersSome};
 
 mod answer;
@@ -45,6 +46,8 @@ pub fn replay<R: Read, W: Write, K: Keeper>(
     // Where the reader failed, that beginning is each line whose LF was read, and all their replies are written.
     ensures read { K.is_honest keeper.new → result ≡ Err ReplayFault.Read → (taken : List ℕ) × Consumes (R.remaining reader.old) (R.remaining reader.new) taken
         × AnswersEnded (K.vault keeper.old) (W.contents writer.old) taken (K.vault keeper.new) (W.contents writer.new) }
+    // Whatever comes of the input, a vault that runs lead to from a new one is left as such a vault.
+    ensures reached { K.is_honest keeper.new → Reached (K.vault keeper.old) → Reached (K.vault keeper.new) }
     ensures honest { K.is_honest keeper.new → K.is_honest keeper.old }
 {
     let mut part = Vec::new(alloc);

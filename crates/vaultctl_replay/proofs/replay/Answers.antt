@@ -1,7 +1,7 @@
 use Rattle.std.proofs.Common.{[], ◌++◌, take, arith, append-nil}
 use Rattle.std.proofs.lemmas.Result.{on_ok_weaker, on_err_weaker}
 use Rattle.std.proofs.KnownBytes.{Consumes-trans, Consumes-kept}
-use Rattle.vaultctl_replay.proofs.RunLemmas.{on_err, begun, next_ok, next_part, next_err, answers_all, answers_ended, answers_some, answers_some_last, none_read}
+use Rattle.vaultctl_replay.proofs.RunLemmas.{on_err, begun, next_ok, next_part, next_err, answers_all, answers_ended, answers_some, answers_some_last, none_read, finished_reached, began_reached, either_reached}
 use Rattle.vaultctl_replay.proofs.replay.Goals as goal
 
 pub returns-in-Ok-eq0-clause-ok : goal.returns-in-Ok-eq0-clause-ok
@@ -127,3 +127,21 @@ loop-turn-preserved g c =
       rest = next_part first mid last u v w 4_194_305 [] now inv.taken piece c.feed.new.part.items inv.rest c.in_ok-feed-in-Ok.ensures.part;
       bound = c.feed.ensures.bound;
     }
+
+pub returns-in-Ok-eq0-clause-reached : goal.returns-in-Ok-eq0-clause-reached
+returns-in-Ok-eq0-clause-reached g c = λ h q.
+    let inv = c.loop-turn.invariant in
+    either_reached _ _ _ _ _ c.finish.result (c.finish.ensures.ok h) (c.finish.ensures.err h)
+    (finished_reached _ _ _ _ _ (inv.finished (c.finish.ensures.honest h)) q)
+
+pub returns-in_err-feed-in-Ok-clause-reached : goal.returns-in_err-feed-in-Ok-clause-reached
+returns-in_err-feed-in-Ok-clause-reached g c = λ h q.
+    let inv = c.loop-turn.invariant in
+    began_reached _ _ _ _ _ (c.in_err-feed-in-Ok.ensures.err h)
+    (finished_reached _ _ _ _ _ (inv.finished (c.feed.ensures.honest h)) q)
+
+pub returns-in-Err-clause-reached : goal.returns-in-Err-clause-reached
+returns-in-Err-clause-reached g c = λ h q. finished_reached _ _ _ _ _ (c.loop-turn.invariant.finished h) q
+
+pub returns-clause-reached : goal.returns-clause-reached
+returns-clause-reached g c = λ h q. finished_reached _ _ _ _ _ (c.loop-turn.invariant.finished h) q

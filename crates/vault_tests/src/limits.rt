@@ -1,0 +1,172 @@
+//! Limits: exactly at each all is well, and one above it is refused.
+use crate::rigged_keeper::RiggedKeeper;
+use crate::script::{opened, play, replies};
+use std::alloc::Global;
+use std::test::Fail;
+use vault_base::content::Content;
+use vault_base::moment::Moment;
+use vault_base::name::{BucketName, CallerName, ObjectKey};
+use vault_base::refusal::Refusal;
+use vault_core::run::run;
+use vault_core_model::command::{Command, Put, Timed};
+use vault_core_model::reply::{Answer, Reply};
+
+/// Ann puts so many bytes.
+fn put(alloc: Global, size: usize) -> Result<Timed, Fail> {
+    let content = b"a".as_slice().repeat(alloc, size)?;
+    let command = Put {
+        bucket: BucketName::read(alloc, "docs")?.ok().ok_or("bucket")?,
+        key: ObjectKey::read(alloc, "a")?.ok().ok_or("key")?,
+        content: Content::new(content),
+        retention: None,
+        hold: None,
+    };
+    Ok(Timed {
+        at: Moment::read("2024-01-15T10:30:00Z").ok().ok_or("at")?,
+        who: CallerName::read(alloc, "ann")?.ok().ok_or("who")?,
+        command: Command::Put(command),
+    })
+}
+
+fn is_admitted(reply: Option<&Reply>, number: u32) -> bool {
+    matches!(reply, Some(Reply::Done(Answer::Admitted(id))) if id.number() == number)
+}
+
+#[test]
+fn a_version_has_up_to_1048576_bytes(rt: HostRuntime) -> Result<(), Fail> {
+    let alloc = rt.alloc();
+    let mut keeper = opened(&rt, alloc)?;
+    let mut commands = Vec::new(alloc);
+    for size in [1_048_576, 1_048_577, 1] {
+        commands.push(put(alloc, size)?)?;
+    }
+    let replies = run(alloc, &mut keeper, commands.as_slice())?;
+    assert_eq!(rt; replies.len(), 3);
+    assert!(rt; is_admitted(replies.get(0), 1));
+    assert!(rt;
+        matches!(
+            replies.get(1),
+            Some(Reply::Refused(Refusal::EntityTooLarge))
+        )
+    );
+    assert!(rt; is_admitted(replies.get(2), 2));
+    play(
+        &rt,
+        alloc,
+        &mut keeper,
+        r#"
+{"at":"2024-01-15T10:30:00Z","as":"ann","do":"report","dept":"records"}
+  {"ok":{"admitted":1048577,"at":"2024-01-15T10:30:00Z","byte_days":0,"dept":"records","held":1048577,"removed":0}}
+"#,
+    )
+}
+
+#[test]
+fn a_key_has_up_to_1024_bytes(rt: HostRuntime) -> Result<(), Fail> {
+    let alloc = rt.alloc();
+    let mut keeper = opened(&rt, alloc)?;
+    let keys = [
+        ("a".repeat(alloc, 1_024)?, "{\"ok\":{\"version_id\":1}}\n"),
+        (
+            "a".repeat(alloc, 1_025)?,
+            "{\"error\":{\"code\":\"KeyTooLongError\",\"n\":14}}\n",
+        ),
+        // Bytes count, and not characters.
+        ("é".repeat(alloc, 512)?, "{\"ok\":{\"version_id\":2}}\n"),
+        (
+            "é".repeat(alloc, 513)?,
+            "{\"error\":{\"code\":\"KeyTooLongError\",\"n\":14}}\n",
+        ),
+    ];
+    for (key, want) in &keys {
+        let line = format!(in alloc;
+            "{{\"at\":\"2024-01-15T10:30:00Z\",\"as\":\"ann\",\"do\":\"put\",\"bucket\":\"docs\",\"key\":\"{key}\",\"text\":\"\"}}"
+        )?;
+        let reply = replies(alloc, &mut keeper, line.as_bytes())?;
+        assert_eq!(rt; reply.as_str(), *want);
+    }
+    Ok(())
+}
+
+/// A change that passes all checks is asked of the keeper, which refuses it with `Memory`.
+#[test]
+fn a_department_admits_up_to_1000000000000_bytes(rt: HostRuntime) -> Result<(), Fail> {
+    let alloc = rt.alloc();
+    let mut keeper = RiggedKeeper::new(opened(&rt, alloc)?, 999_999_999_995, 1);
+    play(
+        &rt,
+        alloc,
+        &mut keeper,
+        r#"
+{"at":"2024-01-15T10:30:00Z","as":"ann","do":"put","bucket":"docs","key":"a","text":"hello!"}
+  {"error":{"code":"QuotaExceeded","n":19}}
+"#,
+    )?;
+    assert_eq!(rt; keeper.asked(), 0);
+    play(
+        &rt,
+        alloc,
+        &mut keeper,
+        r#"
+{"at":"2024-01-15T10:30:00Z","as":"ann","do":"put","bucket":"docs","key":"a","text":"hello"}
+  {"error":{"code":"Memory","n":22}}
+"#,
+    )?;
+    assert_eq!(rt; keeper.asked(), 1);
+    Ok(())
+}
+
+#[test]
+fn a_full_department_admits_empty_versions(rt: HostRuntime) -> Result<(), Fail> {
+    let alloc = rt.alloc();
+    let mut keeper = RiggedKeeper::new(opened(&rt, alloc)?, 1_000_000_000_000, 1);
+    play(
+        &rt,
+        alloc,
+        &mut keeper,
+        r#"
+{"at":"2024-01-15T10:30:00Z","as":"ann","do":"put","bucket":"docs","key":"a","text":"x"}
+  {"error":{"code":"QuotaExceeded","n":19}}
+{"at":"2024-01-15T10:30:00Z","as":"ann","do":"put","bucket":"docs","key":"a","text":""}
+  {"error":{"code":"Memory","n":22}}
+"#,
+    )?;
+    assert_eq!(rt; keeper.asked(), 1);
+    Ok(())
+}
+
+/// The quota is looked at before the id.
+#[test]
+fn ids_end_at_1000000000(rt: HostRuntime) -> Result<(), Fail> {
+    let alloc = rt.alloc();
+    let line = r#"
+{"at":"2024-01-15T10:30:00Z","as":"ann","do":"put","bucket":"docs","key":"a","text":"x"}
+"#;
+    let limits = [
+        (
+            999_999_999_999,
+            1_000_000_000,
+            "{\"error\":{\"code\":\"Memory\",\"n\":22}}\n",
+            1,
+        ),
+        (
+            999_999_999_999,
+            1_000_000_001,
+            "{\"error\":{\"code\":\"VaultFull\",\"n\":20}}\n",
+            0,
+        ),
+        (
+            1_000_000_000_000,
+            1_000_000_001,
+            "{\"error\":{\"code\":\"QuotaExceeded\",\"n\":19}}\n",
+            0,
+        ),
+    ];
+    for (admitted, next_id, want, asked) in limits {
+        let mut keeper = RiggedKeeper::new(opened(&rt, alloc)?, admitted, next_id);
+        let reply = replies(alloc, &mut keeper, line.as_bytes())?;
+        assert_eq!(rt; reply.as_str(), want);
+        assert_eq!(rt; keeper.asked(), asked);
+    }
+    Ok(())
+}

@@ -1,0 +1,97 @@
+//! A keeper that lies, for tests of limits that no vault can be filled up to.
+use vault_base::content::Content;
+use vault_base::moment::Moment;
+use vault_base::name::{BucketName, CallerName, DeptName, ObjectKey, VersionId};
+use vault_core_list::list_keeper::ListKeeper;
+use vault_core_model::change::Change;
+use vault_core_model::halt::Fault;
+use vault_core_model::keeper::Keeper;
+use vault_core_model::records::{BucketConfig, Caller, Entry, Head, LastSetting};
+use vault_tally::row::Row;
+
+/// Answers what a list keeper does, but for the bytes admitted and the next id, and makes no change: the
+/// first that is asked of it, as all after it, is refused with `Memory`.
+#[derive(Drop)]
+pub struct RiggedKeeper {
+    keeper: ListKeeper,
+    admitted: u64,
+    next_id: u64,
+    asked: u64,
+}
+
+impl RiggedKeeper {
+    /// A keeper that tells of so many bytes admitted to each department, and of this next id.
+    pub fn new(keeper: ListKeeper, admitted: u64, next_id: u64) -> RiggedKeeper {
+        RiggedKeeper {
+            keeper,
+            admitted,
+            next_id,
+            asked: 0,
+        }
+    }
+
+    /// How many changes were asked of it, that is, passed all checks.
+    pub fn asked(&self) -> u64 {
+        self.asked
+    }
+}
+
+impl Keeper for RiggedKeeper {
+    // What it answers holds of no vault.
+    ghost is_honest = { λ _. ⊥ };
+
+    ghost vault = { λ k. k.keeper };
+
+    ghost count = { λ _. 0 };
+
+    fn faults(&self) -> u64 {
+        0
+    }
+
+    fn last(&mut self) -> Result<Moment, Fault> {
+        self.keeper.last()
+    }
+
+    fn next_id(&mut self) -> Result<u64, Fault> {
+        Ok(self.next_id)
+    }
+
+    fn caller(&mut self, name: &CallerName) -> Result<Option<Caller>, Fault> {
+        self.keeper.caller(name)
+    }
+
+    fn dept(&mut self, name: &DeptName) -> Result<bool, Fault> {
+        self.keeper.dept(name)
+    }
+
+    fn bucket(&mut self, name: &BucketName) -> Result<Option<BucketConfig>, Fault> {
+        self.keeper.bucket(name)
+    }
+
+    fn head(&mut self, bucket: &BucketName, key: &ObjectKey) -> Result<Option<Head>, Fault> {
+        self.keeper.head(bucket, key)
+    }
+
+    fn entry(&mut self, id: VersionId) -> Result<Option<Entry>, Fault> {
+        self.keeper.entry(id)
+    }
+
+    fn setting(&mut self, id: VersionId) -> Result<Option<LastSetting>, Fault> {
+        self.keeper.setting(id)
+    }
+
+    fn content(&mut self, id: VersionId) -> Result<Option<Content>, Fault> {
+        self.keeper.content(id)
+    }
+
+    fn totals(&mut self, dept: &DeptName) -> Result<Row, Fault> {
+        let mut row = self.keeper.totals(dept)?;
+        row.admitted = self.admitted;
+        Ok(row)
+    }
+
+    fn apply(&mut self, _at: Moment, _change: &Change) -> Result<(), Fault> {
+        self.asked = self.asked.saturating_add(1);
+        Err(Fault::Memory)
+    }
+}

@@ -1,0 +1,16 @@
+use Rattle.std.proofs.Common.{subst}
+use Rattle.std.proofs.lemmas.Result.{on_ok_weaker}
+use Rattle.vault_core_model.specs.Vault.{Vault}
+use Rattle.vaultctl_replay.specs.Runs.{AnswersAll}
+use Rattle.vaultctl_perform.proofs.replay.answer_all.Goals as goal
+
+pub returns : goal.returns
+returns g c =
+    let before = g.W.Write.contents c.args.out.now in
+    let after = g.W.Write.contents c.replay.new.writer in
+    let last = c.replay.new.keeper in
+    on_ok_weaker c.replay.result
+    (λ s.
+    let P : Vault → Type 0 = λ v. AnswersAll v before s.0 last after in
+    (s.0, s.1, s.2, (last, subst P c.in-Ok.ensures s.3)))
+    (c.replay.ensures.ok tt)
