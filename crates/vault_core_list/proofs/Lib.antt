@@ -1,5 +1,5 @@
+pub mod ById
 pub mod Heads
 pub mod LastSettings
 pub mod Places
-pub mod Removed
 pub mod Rows

@@ -1,14 +1,18 @@
 //! Changes of the list of histories.
-ghost use Rattle.std.specs.Prelude.{◌≡◌, ◌==◌, [], ◌∷◌, ◌++◌, map, position, OnOk, OnErr};
-ghost use Rattle.vault_core_model.specs.Change.{removed_if};
+ghost use Rattle.std.specs.Prelude.{◌≡◌, ◌==◌, [], ◌∷◌, ◌++◌, map, position, IfOk, OnOk, OnErr};
+ghost use Rattle.vault_core_model.specs.Change.{closed_if, removed_if, with_default, with_rules, with_setting};
 ghost use Rattle.vault_core_model.specs.Order.{note_cmp, placed_if_given};
 ghost use Rattle.vault_core_model.specs.Sound.{AreIdsFrom};
 
 use crate::place;
-use std::alloc::AllocError;
-use vault_base::name::VersionId;
+use std::alloc::{AllocError, Global};
+use vault_base::name::{BucketName, CallerName, VersionId};
 use vault_core_model::change::Admission;
-use vault_core_model::records::{History, Note, Removal};
+use vault_core_model::records::{
+    Bucket, BucketConfig, Caller, History, Note, Removal, Setting, Settings,
+};
+use vault_lock::retention::Default;
+use vault_rules::rule_set::RuleSet;
 
 /// Puts a history behind the others, and its note, where it has one, at its place: both or neither.
 pub(crate) fn admit(
@@ -65,4 +69,142 @@ fn remove_among(histories: &mut [History], id: VersionId, removal: Removal)
     let history = &mut histories[index];
     history.content = None;
     history.entry.removal = Some(removal);
+}
+
+/// The settings of a version and one more.
+fn settings_with(settings: &Settings, setting: &Setting) -> Result<Settings, AllocError>
+    ensures { IfOk result (λ list. list ≡ settings.now ++ setting.now ∷ []) }
+{
+    let mut list = settings.clone()?;
+    list.push(setting.clone()?)?;
+    Ok(list)
+}
+
+/// Adds a setting to the version of that id.
+pub(crate) fn add_setting(
+    histories: &mut Vec<History>,
+    id: VersionId,
+    setting: &Setting,
+) -> Result<(), AllocError>
+    requires { AreIdsFrom 1 histories.old.items }
+    ensures ok { OnOk result (histories.new.items ≡ map (with_setting id setting.now) histories.old.items) }
+    ensures err { OnErr result (histories.new.items ≡ histories.old.items) }
+{
+    add_setting_among(histories, id, setting)
+}
+
+fn add_setting_among(
+    histories: &mut [History],
+    id: VersionId,
+    setting: &Setting,
+) -> Result<(), AllocError>
+    requires { AreIdsFrom 1 histories.old }
+    ensures ok { OnOk result (histories.new ≡ map (with_setting id setting.now) histories.old) }
+    ensures err { OnErr result (histories.new ≡ histories.old) }
+{
+    let Some(index) = index_of(histories, id) else {
+        return Ok(());
+    };
+    let history = &mut histories[index];
+    history.settings = settings_with(&history.settings, setting)?;
+    Ok(())
+}
+
+/// The callers, with the one of that name closed.
+pub(crate) fn closed(
+    alloc: Global,
+    callers: &[Caller],
+    name: &CallerName,
+) -> Result<Vec<Caller>, AllocError>
+    ensures { IfOk result (λ list. list.items ≡ map (closed_if name.now) callers.now) }
+{
+    let mut list = Vec::new(alloc);
+    for caller in callers {
+        list.push(closed_if(caller, name)?)?;
+    }
+    Ok(list)
+}
+
+fn closed_if(caller: &Caller, name: &CallerName) -> Result<Caller, AllocError>
+    ensures { IfOk result (λ found. found ≡ closed_if name.now caller.now) }
+{
+    Ok(Caller {
+        name: caller.name.clone()?,
+        dept: caller.dept.clone()?,
+        rights: caller.rights,
+        closed: caller.closed || caller.name == *name,
+    })
+}
+
+/// The buckets, with that default at the one of that name.
+pub(crate) fn with_default(
+    alloc: Global,
+    buckets: &[Bucket],
+    name: &BucketName,
+    default: Option<Default>,
+) -> Result<Vec<Bucket>, AllocError>
+    ensures { IfOk result (λ list. list.items ≡ map (with_default name.now default) buckets.now) }
+{
+    let mut list = Vec::new(alloc);
+    for bucket in buckets {
+        list.push(with_default_if(bucket, name, default)?)?;
+    }
+    Ok(list)
+}
+
+fn with_default_if(
+    bucket: &Bucket,
+    name: &BucketName,
+    default: Option<Default>,
+) -> Result<Bucket, AllocError>
+    ensures { IfOk result (λ found. found ≡ with_default name.now default bucket.now) }
+{
+    let is_named = bucket.name == *name;
+    Ok(Bucket {
+        name: bucket.name.clone()?,
+        config: BucketConfig {
+            dept: bucket.config.dept.clone()?,
+            default: if is_named {
+                default
+            } else {
+                bucket.config.default
+            },
+        },
+        rules: bucket.rules.clone()?,
+    })
+}
+
+/// The buckets, with those rules at the one of that name.
+pub(crate) fn with_rules(
+    alloc: Global,
+    buckets: &[Bucket],
+    name: &BucketName,
+    rules: &Option<RuleSet>,
+) -> Result<Vec<Bucket>, AllocError>
+    ensures { IfOk result (λ list. list.items ≡ map (with_rules name.now rules.now) buckets.now) }
+{
+    let mut list = Vec::new(alloc);
+    for bucket in buckets {
+        list.push(with_rules_if(bucket, name, rules)?)?;
+    }
+    Ok(list)
+}
+
+fn with_rules_if(
+    bucket: &Bucket,
+    name: &BucketName,
+    rules: &Option<RuleSet>,
+) -> Result<Bucket, AllocError>
+    ensures { IfOk result (λ found. found ≡ with_rules name.now rules.now bucket.now) }
+{
+    let rules = if bucket.name == *name {
+        rules
+    } else {
+        &bucket.rules
+    };
+    Ok(Bucket {
+        name: bucket.name.clone()?,
+        config: bucket.config.clone()?,
+        rules: rules.clone()?,
+    })
 }

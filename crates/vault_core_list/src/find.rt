@@ -13,6 +13,7 @@ use vault_base::name::{BucketName, CallerName, DeptName, ObjectKey, VersionId};
 use vault_core_model::records::{
     Bucket, BucketConfig, Caller, Entry, Head, History, LastSetting, Settings,
 };
+use vault_rules::rule_set::RuleSet;
 
 /// Whether that department is among them.
 pub(crate) fn has_department(departments: &[DeptName], name: &DeptName) -> bool
@@ -55,6 +56,16 @@ pub(crate) fn config(
         return Ok(None);
     };
     Ok(Some(bucket.config.clone()?))
+}
+
+/// The lifecycle rules of the bucket of that name, where it has any.
+pub(crate) fn rules(buckets: &[Bucket], name: &BucketName) -> Result<Option<RuleSet>, AllocError>
+    ensures { IfOk result (λ found. found ≡ option_and_then (λ b. b.rules) (bucket_in buckets.now name.now)) }
+{
+    let Some(bucket) = bucket(buckets, name) else {
+        return Ok(None);
+    };
+    Ok(bucket.rules.clone()?)
 }
 
 /// The history of that id, held or removed.

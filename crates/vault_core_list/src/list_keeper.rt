@@ -17,6 +17,7 @@ use vault_core_model::records::{
     Bucket, BucketConfig, Caller, Entry, Head, History, LastSetting, Note,
 };
 use vault_core_model::rights::Rights;
+use vault_rules::rule_set::RuleSet;
 use vault_tally::row::Row;
 
 /// A vault in memory: one list of whole histories in the order of admission, and the records beside it
@@ -25,6 +26,7 @@ use vault_tally::row::Row;
 /// It has no device, so its answers are always those of its vault, or `Fault::Memory`.
 #[derive(Drop)]
 pub struct ListKeeper {
+    alloc: Global,
     last: Moment,
     departments: Vec<DeptName>,
     callers: Vec<Caller>,
@@ -67,6 +69,7 @@ impl ListKeeper {
         let mut callers = Vec::new(alloc);
         callers.push(registrar(alloc)?)?;
         Ok(ListKeeper {
+            alloc,
             last: Moment::from_secs(0).unwrap(),
             departments: Vec::new(alloc),
             callers,
@@ -124,6 +127,10 @@ impl Keeper for ListKeeper {
         Ok(find::config(&self.buckets, name)?)
     }
 
+    fn rules(&mut self, bucket: &BucketName) -> Result<Option<RuleSet>, Fault> {
+        Ok(find::rules(&self.buckets, bucket)?)
+    }
+
     fn head(&mut self, bucket: &BucketName, key: &ObjectKey) -> Result<Option<Head>, Fault>
         ensures value { result ≡ Ok (head_of self.old bucket.now key.now) }
         ensures same { self.new ≡ self.old }
@@ -167,13 +174,33 @@ impl Keeper for ListKeeper {
                 self.last = at;
                 Ok(())
             }
+            Change::CloseCaller(name) => {
+                self.callers = change::closed(self.alloc, &self.callers, name)?;
+                self.last = at;
+                Ok(())
+            }
             Change::AddBucket(bucket, dept) => {
                 place::place(&mut self.buckets, new_bucket(bucket, dept)?)?;
                 self.last = at;
                 Ok(())
             }
+            Change::SetDefault(bucket, default) => {
+                self.buckets = change::with_default(self.alloc, &self.buckets, bucket, *default)?;
+                self.last = at;
+                Ok(())
+            }
+            Change::SetRules(bucket, rules) => {
+                self.buckets = change::with_rules(self.alloc, &self.buckets, bucket, rules)?;
+                self.last = at;
+                Ok(())
+            }
             Change::Admit(admission) => {
                 change::admit(&mut self.histories, &mut self.notes, admission)?;
+                self.last = at;
+                Ok(())
+            }
+            Change::AddSetting(id, setting) => {
+                change::add_setting(&mut self.histories, *id, setting)?;
                 self.last = at;
                 Ok(())
             }

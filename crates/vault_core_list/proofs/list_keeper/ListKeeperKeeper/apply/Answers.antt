@@ -15,3 +15,15 @@ invariant_of-self-in-Admit c = rw (c.in_ok-admit-in-Admit.ensures.admitted, c.in
 
 pub invariant_of-self-in-Remove : goal.invariant_of-self-in-Remove
 invariant_of-self-in-Remove c = rw (c.remove.ensures, c.in_ok-clone-in-Remove.ensures.cases) (Sound-changed-to _ _ _ _ _ c.self.view_is c.in-Remove.is c.self.invariant (c.requires.in_time tt) (c.requires.allowed tt))
+
+pub invariant_of-self-in-CloseCaller : goal.invariant_of-self-in-CloseCaller
+invariant_of-self-in-CloseCaller c = rw (c.in_ok-self-inside-in-CloseCaller.ensures, c.deref.ensures.value) (Sound-changed-to _ _ _ _ _ c.self.view_is c.in-CloseCaller.is c.self.invariant (c.requires.in_time tt) (c.requires.allowed tt))
+
+pub invariant_of-self-in-SetDefault : goal.invariant_of-self-in-SetDefault
+invariant_of-self-in-SetDefault c = rw (c.in_ok-self-inside-in-SetDefault.ensures, c.deref-in-SetDefault.ensures.value) (Sound-changed-to _ _ _ _ _ c.self.view_is c.in-SetDefault.is c.self.invariant (c.requires.in_time tt) (c.requires.allowed tt))
+
+pub invariant_of-self-in-SetRules : goal.invariant_of-self-in-SetRules
+invariant_of-self-in-SetRules c = rw (c.in_ok-self-inside-in-SetRules.ensures, c.deref-in-SetRules.ensures.value) (Sound-changed-to _ _ _ _ _ c.self.view_is c.in-SetRules.is c.self.invariant (c.requires.in_time tt) (c.requires.allowed tt))
+
+pub invariant_of-self-in-AddSetting : goal.invariant_of-self-in-AddSetting
+invariant_of-self-in-AddSetting c = rw c.in_ok-add_setting-in-AddSetting.ensures.ok (Sound-changed-to _ _ _ _ _ c.self.view_is c.in-AddSetting.is c.self.invariant (c.requires.in_time tt) (c.requires.allowed tt))
