@@ -80,9 +80,9 @@ fn a_longer_line_is_malformed(rt: HostRuntime) -> Result<(), Fail> {
     Ok(())
 }
 
-/// The bytes of a version go through a line and back unchanged, whichever they are.
+/// An escape in a text stands for its character; the digest is that of `abc` in FIPS 180-4's examples.
 #[test]
-fn texts_are_kept_as_their_bytes(rt: HostRuntime) -> Result<(), Fail> {
+fn escapes_are_read(rt: HostRuntime) -> Result<(), Fail> {
     let alloc = rt.alloc();
     let mut keeper = opened(&rt, alloc)?;
     play(

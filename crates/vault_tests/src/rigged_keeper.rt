@@ -9,8 +9,8 @@ use vault_core_model::keeper::Keeper;
 use vault_core_model::records::{BucketConfig, Caller, Entry, Head, LastSetting};
 use vault_tally::row::Row;
 
-/// Answers what a list keeper does, but for the bytes admitted and the next id, and makes no change: the
-/// first that is asked of it, as all after it, is refused with `Memory`.
+/// Answers what a list keeper does, but for the bytes admitted and the next id, and refuses every change
+/// with `Memory`.
 #[derive(Drop)]
 pub struct RiggedKeeper {
     keeper: ListKeeper,
