@@ -6,6 +6,7 @@ use vault_core_model::change::Change;
 use vault_core_model::halt::Fault;
 use vault_core_model::keeper::Keeper;
 use vault_core_model::records::{BucketConfig, Caller, Entry, Head, LastSetting};
+use vault_rules::rule_set::RuleSet;
 use vault_tally::row::Row;
 
 /// A keeper that passes so many changes on, refuses the next with `Device`, and passes all after.
@@ -72,6 +73,10 @@ impl<K: Keeper> Keeper for FuseKeeper<K> {
 
     fn bucket(&mut self, name: &BucketName) -> Result<Option<BucketConfig>, Fault> {
         self.keeper.bucket(name)
+    }
+
+    fn rules(&mut self, bucket: &BucketName) -> Result<Option<RuleSet>, Fault> {
+        self.keeper.rules(bucket)
     }
 
     fn head(&mut self, bucket: &BucketName, key: &ObjectKey) -> Result<Option<Head>, Fault> {

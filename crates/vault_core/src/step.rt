@@ -11,8 +11,10 @@ use vault_core_model::command::Command;
 use vault_core_model::halt::{Fault, Halt};
 use vault_core_model::keeper::Keeper;
 use vault_core_model::reply::{Answer, Reply};
-use vault_core_steps::entries::{delete_version, get, put};
-use vault_core_steps::records::{add_bucket, add_caller, add_dept, report};
+use vault_core_steps::config::{drop_rules, get_default, get_rules, set_default, set_rules};
+use vault_core_steps::entries::{delete, delete_version, get, head, put};
+use vault_core_steps::locks::{get_hold, get_retention, set_hold, set_retention};
+use vault_core_steps::records::{add_bucket, add_caller, add_dept, close_caller, report};
 
 fn answer<K: Keeper>(
     alloc: Global,
@@ -29,10 +31,22 @@ fn answer<K: Keeper>(
     match command {
         Command::AddDept(command) => add_dept(keeper, at, who, command),
         Command::AddCaller(command) => add_caller(keeper, at, who, command),
+        Command::CloseCaller(command) => close_caller(keeper, at, who, command),
         Command::AddBucket(command) => add_bucket(keeper, at, who, command),
+        Command::SetDefault(command) => set_default(keeper, at, who, command),
+        Command::GetDefault(command) => get_default(keeper, at, who, command),
+        Command::SetRules(command) => set_rules(keeper, at, who, command),
+        Command::GetRules(command) => get_rules(keeper, at, who, command),
+        Command::DropRules(command) => drop_rules(keeper, at, who, command),
         Command::Put(command) => put(alloc, keeper, at, who, command),
         Command::Get(command) => get(alloc, keeper, at, who, command),
+        Command::Head(command) => head(keeper, at, who, command),
+        Command::Delete(command) => delete(alloc, keeper, at, who, command),
         Command::DeleteVersion(command) => delete_version(keeper, at, who, command),
+        Command::SetRetention(command) => set_retention(keeper, at, who, command),
+        Command::GetRetention(command) => get_retention(keeper, at, who, command),
+        Command::SetHold(command) => set_hold(keeper, at, who, command),
+        Command::GetHold(command) => get_hold(keeper, at, who, command),
         Command::Report(command) => report(keeper, at, who, command),
     }
 }

@@ -151,6 +151,7 @@ IsWhole-setting v t id s h allowed found whole = by_id (eqb h.entry.id id) refl
   where
     here : eqb h.entry.id id ≡ true → find (λ g. g.entry.id == id) v.histories ≡ Some h
     here e = let P : ℕ → Type 0 = λ i. find (λ g. g.entry.id == i) v.histories ≡ Some h in subst P (eqb-true h.entry.id id e) found
+
     added : eqb h.entry.id id ≡ true → IsWhole (record h { settings = h.settings ++ s ∷ [] })
     added e =
         let same : Some h.entry ≡ Some allowed.entry = sym (ap (λ (o : Option History). option_map (λ g. g.entry) o) (here e)) ∙ allowed.there in
@@ -158,6 +159,7 @@ IsWhole-setting v t id s h allowed found whole = by_id (eqb h.entry.id id) refl
         let version : h.entry.marker ≡ false = ap (λ (x : Entry). x.marker) entry ∙ allowed.version in
         let count : count_by (setting_of v id) ≡ length h.settings = ap (λ (o : Option History). count_by (option_and_then (λ g. last_setting g.settings) o)) (here e) ∙ setting_count h.settings in
         whole_with_setting h.entry.marker h.entry h.content h.settings s version (omega (arith, allowed.fits, count)) whole
+
     by_id : (b : Bool) → eqb h.entry.id id ≡ b → IsWhole (if b then record h { settings = h.settings ++ s ∷ [] } else h)
     by_id true e = added e
     by_id false e = whole

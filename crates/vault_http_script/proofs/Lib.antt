@@ -1,9 +1,10 @@
-pub mod NameLemmas
-pub mod TextsLemmas
-pub mod ShapeLemmas
-pub mod ValueLemmas
-pub mod ToldLemmas
 pub mod GrammarLemmas
 pub mod LineLemmas
-pub mod SpelledLemmas
+pub mod NameLemmas
+pub mod ReplyLemmas
 pub mod RightsLemmas
+pub mod ShapeLemmas
+pub mod SpelledLemmas
+pub mod TextsLemmas
+pub mod ToldLemmas
+pub mod ValueLemmas

@@ -238,3 +238,4 @@ reads-timed d at who (command.DeleteVersion c) shape m n s =
 reads-timed d at who (command.Report c) shape m n s =
     chosen-by d m.0 who (codes "report") m.1 n.0 s.0
     ∙ reads-report d m.0 who c.dept at (within d report_line (passed d (codes "report") shape s.0)) m.2 n.1 s.1
+reads-timed d at who _ shape m n s = absurd s

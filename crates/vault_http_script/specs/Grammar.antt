@@ -182,6 +182,8 @@ SpellsCommand d (command.Get c) =
 SpellsCommand d (command.DeleteVersion c) =
     IsText d (codes "do") (codes "delete-version") × IsBucket d c.bucket × IsKey d c.key × IsId d c.id × (c.bypass ≡ false)
 SpellsCommand d (command.Report c) = IsText d (codes "do") (codes "report") × IsName d (codes "dept") c.dept
+-- no line asks for another command yet
+SpellsCommand d _ = ⊥
 
 -- the members spell that command, with its reading and the caller who asks
 abbrev pub Spells : Data → Timed → Type 0

@@ -1,7 +1,8 @@
 -- The lines of replies.
-use Rattle.std.specs.Prelude.{ℕ, List, [], ◌∷◌, ◌++◌, codes, Bool, if◌then◌else◌, Option, Some, None}
+use Rattle.std.specs.Prelude.{ℕ, List, [], ◌∷◌, ◌++◌, codes, Bool, true, false, if◌then◌else◌, map, Option, Some, None, option_map}
 use Rattle.hex.specs.Hex.{encode_lower}
-use Rattle.serde_json.specs.Data.{Data, null, boolean, string, number, unsigned, object, member, no_members}
+use Rattle.serde_json.specs.Data.{Data, null, boolean, string, number, unsigned, array, object, Members, member, no_members}
+use Rattle.serde_json.specs.View.{items_of}
 use Rattle.serde_json.specs.Written.{compact_text}
 use Rattle.vault_base.specs.Moment.{moment_text}
 use Rattle.vault_base.specs.Refusal.{name_of, number_of, reason_name}
@@ -19,6 +20,11 @@ use Rattle.vault_lock.specs.declared.lock.Permit.TheVariants.{Free, Bypass}
 use Rattle.vault_lock.specs.declared.retention.Mode.{Mode}
 use Rattle.vault_lock.specs.declared.retention.Mode.TheVariants.{Governance, Compliance}
 use Rattle.vault_lock.specs.declared.retention.Retention.{Retention}
+use Rattle.vault_lock.specs.declared.retention.Default.{Default}
+use Rattle.vault_lock.specs.declared.retention.Period.{Period}
+use Rattle.vault_lock.specs.declared.retention.Period.TheVariants.{Days, Years}
+use Rattle.vault_rules.specs.declared.rule.Noncurrent.{Noncurrent}
+use Rattle.vault_rules.specs.declared.rule.Rule.{Rule}
 
 abbrev pub mode_name : Mode → List ℕ
 mode_name Governance = codes "GOVERNANCE"
@@ -50,6 +56,46 @@ digest_value (Some digest) = text (encode_lower digest)
 abbrev pub version_value : Version → List ℕ → Data
 version_value v content = object (member (codes "admitted") (text (moment_text v.entry.admitted)) (member (codes "hex") (text (encode_lower content)) (member (codes "hold") (text (hold_name v.lock.hold)) (member (codes "retention") (retention_value v.lock.retention) (member (codes "sha256") (digest_value v.entry.digest) (member (codes "size") (whole v.entry.size) (member (codes "version_id") (whole v.entry.id) no_members)))))))
 
+-- the same without the bytes
+abbrev pub head_value : Version → Data
+head_value v = object (member (codes "admitted") (text (moment_text v.entry.admitted)) (member (codes "hold") (text (hold_name v.lock.hold)) (member (codes "retention") (retention_value v.lock.retention) (member (codes "sha256") (digest_value v.entry.digest) (member (codes "size") (whole v.entry.size) (member (codes "version_id") (whole v.entry.id) no_members))))))
+
+abbrev pub period_value : Mode → Period → Data
+period_value mode (Days n) = object (member (codes "days") (whole n) (member (codes "mode") (text (mode_name mode)) no_members))
+period_value mode (Years n) = object (member (codes "mode") (text (mode_name mode)) (member (codes "years") (whole n) no_members))
+
+abbrev pub default_value : Option Default → Data
+default_value None = null
+default_value (Some d) = period_value d.mode d.period
+
+-- ---- lifecycle rules, as S3's JSON has them
+
+-- a member that may be absent
+abbrev pub if_there : List ℕ → Option Data → Members → Members
+if_there name None others = others
+if_there name (Some value) others = member name value others
+
+abbrev pub expiration_of : Option ℕ → Bool → Option Data
+expiration_of (Some days) lone = Some (object (member (codes "Days") (whole days) no_members))
+expiration_of None true = Some (object (member (codes "ExpiredObjectDeleteMarker") (boolean true) no_members))
+expiration_of None false = None
+
+abbrev pub noncurrent_value : Noncurrent → Data
+noncurrent_value n = object (if_there (codes "NewerNoncurrentVersions") (option_map whole n.newer) (member (codes "NoncurrentDays") (whole n.days) no_members))
+
+abbrev pub rule_status : Bool → List ℕ
+rule_status enabled = if enabled then codes "Enabled" else codes "Disabled"
+
+abbrev pub rule_value : Rule → Data
+rule_value r =
+    object (if_there (codes "Expiration") (expiration_of r.days r.lone_markers)
+    (member (codes "ID") (text r.id)
+    (if_there (codes "NoncurrentVersionExpiration") (option_map noncurrent_value r.noncurrent)
+    (member (codes "Prefix") (text r.prefix) (member (codes "Status") (text (rule_status r.enabled)) no_members)))))
+
+abbrev pub rules_value : List Rule → Data
+rules_value rules = object (member (codes "rules") (array (items_of (map rule_value rules))) no_members)
+
 abbrev pub removed_value : Removed → Data
 removed_value r = object (member (codes "cause") (text (cause_name r.permit)) (member (codes "delete_marker") (boolean r.marker) (member (codes "version_id") (whole r.id) no_members)))
 
@@ -58,9 +104,15 @@ report_value r = object (member (codes "admitted") (whole r.admitted) (member (c
 
 abbrev pub answer_value : Answer → Data
 answer_value answer.Nothing = object no_members
+answer_value (answer.Default default) = object (member (codes "default") (default_value default) no_members)
+answer_value (answer.Rules rules) = rules_value rules
 answer_value (answer.Admitted id) = object (member (codes "version_id") (whole id) no_members)
 answer_value (answer.Version version content) = version_value version content
+answer_value (answer.Head version) = head_value version
+answer_value (answer.Marked id) = object (member (codes "delete_marker") (boolean true) (member (codes "version_id") (whole id) no_members))
 answer_value (answer.Removed removed) = removed_value removed
+answer_value (answer.Retention retention) = object (member (codes "retention") (retention_value retention) no_members)
+answer_value (answer.Hold hold) = object (member (codes "hold") (text (hold_name hold)) no_members)
 answer_value (answer.Report report) = report_value report
 
 -- a refusal's name and number, and what else it tells

@@ -9,6 +9,7 @@ mod members;
 pub mod read_line;
 mod record_lines;
 pub mod reply_line;
+mod rule_value;
 #[cfg(test)]
 mod tests;
 mod values;

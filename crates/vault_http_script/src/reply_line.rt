@@ -3,13 +3,14 @@ ghost use Rattle.std.specs.Prelude.{◌≡◌, IfOk, option_map, string_bytes};
 ghost use Rattle.serde_json.specs.View.{view};
 ghost use Rattle.vault_http_script.specs.ReplyLine as spec;
 
+use crate::rule_value::rules_value;
 use serde_json::{Value, json};
 use std::alloc::{AllocError, Global};
 use vault_base::content::{Content, Digest};
 use vault_base::refusal::Refusal;
 use vault_core_model::reply::{Answer, Removed, Reply, Report, Version};
 use vault_lock::lock::Permit;
-use vault_lock::retention::{Mode, Retention};
+use vault_lock::retention::{Default, Mode, Period, Retention};
 
 fn mode_name(mode: Mode) -> &'static str
     ensures { result.now ≡ spec.mode_name mode }
@@ -74,6 +75,36 @@ fn version_value(alloc: Global, version: &Version, content: &Content) -> Result<
     })
 }
 
+fn head_value(alloc: Global, version: &Version) -> Result<Value, AllocError>
+    ensures { IfOk result (λ value. view value ≡ spec.head_value version.now) }
+{
+    let entry = &version.entry;
+    let admitted = entry.admitted.text(alloc)?;
+    let retention = retention_value(alloc, version.lock.retention)?;
+    let sha256 = digest_value(alloc, entry.digest.as_ref())?;
+    json!(in alloc; {
+        "admitted": admitted.as_str(),
+        "hold": hold_name(version.lock.hold),
+        "retention": retention,
+        "sha256": sha256,
+        "size": entry.size,
+        "version_id": entry.id.number()
+    })
+}
+
+fn default_value(alloc: Global, default: Option<Default>) -> Result<Value, AllocError>
+    ensures { IfOk result (λ value. view value ≡ spec.default_value default) }
+{
+    let Some(default) = default else {
+        return Ok(Value::Null);
+    };
+    let mode = mode_name(default.mode);
+    match default.period {
+        Period::Days(days) => json!(in alloc; {"days": days, "mode": mode}),
+        Period::Years(years) => json!(in alloc; {"mode": mode, "years": years}),
+    }
+}
+
 fn removed_value(alloc: Global, removed: Removed) -> Result<Value, AllocError>
     ensures { IfOk result (λ value. view value ≡ spec.removed_value removed) }
 {
@@ -103,9 +134,23 @@ fn answer_value(alloc: Global, answer: &Answer) -> Result<Value, AllocError>
 {
     match answer {
         Answer::Nothing => json!(in alloc; {}),
+        Answer::Default(default) => {
+            let default = default_value(alloc, *default)?;
+            json!(in alloc; {"default": default})
+        }
+        Answer::Rules(rules) => rules_value(alloc, rules),
         Answer::Admitted(id) => json!(in alloc; {"version_id": id.number()}),
         Answer::Version(version, content) => version_value(alloc, version, content),
+        Answer::Head(version) => head_value(alloc, version),
+        Answer::Marked(id) => {
+            json!(in alloc; {"delete_marker": true, "version_id": id.number()})
+        }
         Answer::Removed(removed) => removed_value(alloc, *removed),
+        Answer::Retention(retention) => {
+            let retention = retention_value(alloc, *retention)?;
+            json!(in alloc; {"retention": retention})
+        }
+        Answer::Hold(hold) => json!(in alloc; {"hold": hold_name(*hold)}),
         Answer::Report(report) => report_value(alloc, report),
     }
 }
