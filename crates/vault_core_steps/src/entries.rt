@@ -198,11 +198,11 @@ pub fn delete<K: Keeper>(
     ensures device { IsTrue (is_device result) → Rose (K.count keeper.old) (K.count keeper.new) }
 {
     let id = find_marker_id(keeper, at, who, command)?;
-    let admission = Admission {
+    let marker = Admission {
         history: new_marker(alloc, id, at, who, command)?,
         note: None,
     };
-    keeper.apply(at, &Change::Admit(admission))?;
+    keeper.apply(at, &Change::Admit(marker))?;
     Ok(Answer::Marked(id))
 }
 

@@ -1,5 +1,8 @@
 -- Lemmas on lines that are carried out one after another.
 use Rattle.std.proofs.Common.{◌≡◌, ℕ, List, [], ◌∷◌, ◌++◌, refl, ap, sym, ◌∙◌, append_assoc, append-nil, subst, take, Option, Some, None, Result, Ok, Err, OnOk, OnErr, inl, inr}
+use Rattle.std.specs.Prelude.{IfOk, String, string_bytes}
+use Rattle.std.specs.declared.alloc.AllocError.{AllocError}
+use Rattle.std.specs.declared.alloc.Global.{Global}
 use Rattle.std.specs.Io.KnownBytes.{Appends, Consumes, Keeps}
 use Rattle.std.proofs.KnownBytes.{Appends-nil, Appends-trans}
 use Rattle.vault_core_model.specs.Step.{Run, Reached, Step}
@@ -41,6 +44,11 @@ pub command_unwritten : (v v' : Vault) (asked : Line) (c : Timed) (r : Reply) �
 command_unwritten v v' asked c r is s =
     let P : Line → Type 0 = λ a. Unwritten v a v' in
     subst P (sym is) (inr (reply_text r, (r, s, refl)))
+
+-- a step whose reply was made
+pub command_answered : (v v' : Vault) (asked : Line) (c : Timed) (r : Reply) (made : Result (String Global) AllocError) → asked ≡ Command c → Step v c.at c.who c.command r v' → IfOk made (λ text. string_bytes text ≡ reply_text r) → IfOk made (λ text. Answers v asked (string_bytes text) v')
+command_answered v v' asked c r (Ok text) is s told = let P : Line → Type 0 = λ a. Answers v a (string_bytes text) v' in subst P (sym is) (r, s, told)
+command_answered v v' asked c r (Err e) is s told = told
 
 -- a run may be joined to one that follows it
 Runs-then : (a b c : Vault) (ls ms : List Line) (x y : List ℕ) → Runs a ls x b → Runs b ms y c → Runs a (ls ++ ms) (x ++ y) c
