@@ -3,6 +3,8 @@
 #![tactic(auto)]
 
 #[cfg(test)]
+mod asks;
+#[cfg(test)]
 mod faults;
 #[cfg(test)]
 mod first_path;
@@ -10,6 +12,8 @@ mod first_path;
 mod limits;
 #[cfg(test)]
 mod lines;
+#[cfg(test)]
+mod locks;
 #[cfg(test)]
 mod refusals;
 #[cfg(test)]

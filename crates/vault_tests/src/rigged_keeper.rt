@@ -7,6 +7,7 @@ use vault_core_model::change::Change;
 use vault_core_model::halt::Fault;
 use vault_core_model::keeper::Keeper;
 use vault_core_model::records::{BucketConfig, Caller, Entry, Head, LastSetting};
+use vault_rules::rule_set::RuleSet;
 use vault_tally::row::Row;
 
 /// Answers what a list keeper does, but for the bytes admitted and the next id, and refuses every change
@@ -66,6 +67,10 @@ impl Keeper for RiggedKeeper {
 
     fn bucket(&mut self, name: &BucketName) -> Result<Option<BucketConfig>, Fault> {
         self.keeper.bucket(name)
+    }
+
+    fn rules(&mut self, bucket: &BucketName) -> Result<Option<RuleSet>, Fault> {
+        self.keeper.rules(bucket)
     }
 
     fn head(&mut self, bucket: &BucketName, key: &ObjectKey) -> Result<Option<Head>, Fault> {
