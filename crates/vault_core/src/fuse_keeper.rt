@@ -19,8 +19,14 @@ pub struct FuseKeeper<K> {
 }
 
 impl<K> FuseKeeper<K> {
+    ghost use Rattle.std.specs.Prelude.{◌≡◌, false};
+
     /// A keeper over another one, that refuses the change after so many.
-    pub fn new(keeper: K, changes: u64) -> FuseKeeper<K> {
+    pub fn new(keeper: K, changes: u64) -> FuseKeeper<K>
+        ensures below { result.keeper ≡ keeper }
+        ensures left { result.left ≡ changes }
+        ensures whole { result.blown ≡ false }
+    {
         FuseKeeper {
             keeper,
             left: changes,
@@ -32,6 +38,7 @@ impl<K> FuseKeeper<K> {
     pub fn into_keeper(self) -> K
     where
         K: Drop,
+        ensures { result ≡ self.keeper }
     {
         self.keeper
     }
