@@ -25,6 +25,21 @@ fn asked(alloc: Global, members: &str) -> Result<Result<Command, Refusal>, Fail>
     }
 }
 
+fn refused(alloc: Global, line: &[u8]) -> Result<Option<Refusal>, Fail> {
+    match read_line(alloc, line)? {
+        Line::Refused(refusal) => Ok(Some(refusal)),
+        _ => Ok(None),
+    }
+}
+
+fn is_skipped(alloc: Global, line: &[u8]) -> Result<bool, Fail> {
+    Ok(matches!(read_line(alloc, line)?, Line::Skip))
+}
+
+fn is_command(alloc: Global, line: &[u8]) -> Result<bool, Fail> {
+    Ok(matches!(read_line(alloc, line)?, Line::Command(_)))
+}
+
 fn refusal(alloc: Global, members: &str) -> Result<Option<Refusal>, Fail> {
     Ok(asked(alloc, members)?.err())
 }
@@ -55,20 +70,29 @@ fn lines_on_records_are_read(rt: HostRuntime) -> Result<(), Fail> {
 }
 
 #[test]
-fn lines_on_entries_are_read(rt: HostRuntime) -> Result<(), Fail> {
-    let alloc = rt.alloc();
+fn puts_are_read(rt: HostRuntime) -> Result<(), Fail> {
     let put = command(
-        alloc,
+        rt.alloc(),
         "\"do\":\"put\",\"bucket\":\"docs\",\"key\":\"a\",\"hex\":\"6A6b\"",
     )?;
     assert!(rt; matches!(&put, Command::Put(c) if c.content.as_slice() == b"jk".as_slice()));
+    Ok(())
+}
+
+#[test]
+fn gets_are_read(rt: HostRuntime) -> Result<(), Fail> {
     let get = command(
-        alloc,
+        rt.alloc(),
         "\"do\":\"get\",\"bucket\":\"docs\",\"key\":\"a\",\"id\":7",
     )?;
     assert!(rt; matches!(&get, Command::Get(c) if c.id == VersionId::new(7)));
+    Ok(())
+}
+
+#[test]
+fn removals_are_read(rt: HostRuntime) -> Result<(), Fail> {
     let delete = command(
-        alloc,
+        rt.alloc(),
         "\"do\":\"delete-version\",\"bucket\":\"docs\",\"key\":\"a\",\"id\":1000000000",
     )?;
     assert!(rt; matches!(&delete, Command::DeleteVersion(c) if c.id.number() == 1_000_000_000));
@@ -176,23 +200,23 @@ fn the_first_bad_value_answers(rt: HostRuntime) -> Result<(), Fail> {
         ("{}", Refusal::MalformedBody),
     ];
     for (line, want) in lines {
-        let read = read_line(alloc, line.as_bytes())?;
-        assert!(rt;
-            matches!(read, Line::Refused(refusal) if refusal == want),
-            "{line}"
-        );
+        assert_eq!(rt; refused(alloc, line.as_bytes())?, Some(want), "{line}");
     }
-    assert!(rt; matches!(read_line(alloc, b"\r".as_slice())?, Line::Skip));
-    assert!(rt; matches!(read_line(alloc, b"".as_slice())?, Line::Skip));
-    assert!(rt;
-        matches!(
-            read_line(alloc, b"\xff".as_slice())?,
-            Line::Refused(Refusal::MalformedBody)
-        )
+    assert_eq!(rt;
+        refused(alloc, b"\xff".as_slice())?,
+        Some(Refusal::MalformedBody)
     );
+    Ok(())
+}
+
+#[test]
+fn carriage_returns_are_dropped(rt: HostRuntime) -> Result<(), Fail> {
+    let alloc = rt.alloc();
+    assert!(rt; is_skipped(alloc, b"\r".as_slice())?);
+    assert!(rt; is_skipped(alloc, b"".as_slice())?);
     let report =
         "{\"at\":\"2024-01-15T10:30:00Z\",\"as\":\"ann\",\"do\":\"report\",\"dept\":\"d\"}\r";
-    assert!(rt; matches!(read_line(alloc, report.as_bytes())?, Line::Command(_)));
+    assert!(rt; is_command(alloc, report.as_bytes())?);
     Ok(())
 }
 
