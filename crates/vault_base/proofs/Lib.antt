@@ -1,8 +1,1 @@
-pub mod Dates
-pub mod DayNumbers
-pub mod MomentGrammar
 pub mod Numerals
-pub mod ReadBack
-pub mod ReadParts
-pub mod Spelled
-pub mod YearsLater

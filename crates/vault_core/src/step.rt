@@ -1,61 +1,60 @@
 //! One step of the history machine.
-ghost use Rattle.std.specs.Prelude.{◌≡◌, ◌≤◌, IsTrue};
-ghost use Rattle.vault_core_model.specs.Halts.{Meets, is_device, Rose};
-ghost use Rattle.vault_core_model.specs.Step.{outcome_of, Step};
+ghost use Rattle.std.specs.Prelude.{◌≡◌, ◌≤◌, IsTrue, Result};
+ghost use Rattle.vault_base.specs.declared.refusal.Refusal.{Refusal};
+ghost use Rattle.vault_core_model.specs.declared.reply.Answer.{Answer};
+ghost use Rattle.vault_core_model.specs.Halts.{Meets, is_device, is_device_reply, Rose};
+ghost use Rattle.vault_core_model.specs.Step.{Answers, Step, Reached};
+ghost use Rattle.vault_core_model.specs.Vault.{Vault};
+ghost use Rattle.vault_worm_laws.specs.Once.{Extends};
+ghost use Rattle.vault_worm_laws.specs.Removals.{RemovalsWerePermitted};
+ghost use Rattle.vault_worm_laws.specs.Worm.{Worm};
 
 use std::alloc::Global;
 use vault_base::moment::Moment;
 use vault_base::name::CallerName;
 use vault_base::refusal::Refusal;
+use vault_core_admission::intake::intake;
+use vault_core_admission::put::put;
+use vault_core_listing::certificates::certificate;
+use vault_core_listing::listings::list_versions;
 use vault_core_model::command::Command;
 use vault_core_model::halt::{Fault, Halt};
 use vault_core_model::keeper::Keeper;
 use vault_core_model::reply::{Answer, Reply};
-use vault_core_steps::config::{drop_rules, get_default, get_rules, set_default, set_rules};
-use vault_core_steps::entries::{delete, delete_version, get, head, put};
+use vault_core_records::config::{drop_rules, get_default, get_rules, set_default, set_rules};
+use vault_core_records::records::{add_bucket, add_caller, add_dept, close_caller, report};
+use vault_core_runs::run::run_rules;
+use vault_core_steps::entries::{delete, delete_version, get, head};
 use vault_core_steps::locks::{get_hold, get_retention, set_hold, set_retention};
-use vault_core_steps::records::{add_bucket, add_caller, add_dept, close_caller, report};
 
-fn answer<K: Keeper>(
+/// One step of the history machine: what a command of a caller, given at a reading, answers and changes.
+///
+/// The checks are made in their order, and the first that fails is the answer. `Memory` and `Device` may
+/// come in the place of any answer. Every refusal leaves the vault as it was; a lifecycle run that stops
+/// has made the changes that it tells, the first ones of its plan.
+pub fn step<K: Keeper>(
     alloc: Global,
     keeper: &mut K,
     at: Moment,
     who: &CallerName,
     command: &Command,
-) -> Result<Answer, Halt>
-    ensures meets { K.is_honest keeper.new → Meets result (K.vault keeper.old) (K.vault keeper.new) (outcome_of (K.vault keeper.old) at who.now command.now) }
+) -> Reply
+    ensures step { K.is_honest keeper.new → Step (K.vault keeper.old) at who.now command.now result (K.vault keeper.new) }
+    // A vault that is reached from a new one leads to such a vault. Of each, the removals were permitted,
+    // retention and holds were kept, and what was admitted is neither lost nor altered.
+    ensures reached { K.is_honest keeper.new → Reached (K.vault keeper.old) → Reached (K.vault keeper.new) }
+    ensures permitted { K.is_honest keeper.new → Reached (K.vault keeper.old) → RemovalsWerePermitted (K.vault keeper.new) }
+    ensures worm { K.is_honest keeper.new → Reached (K.vault keeper.old) → Worm (K.vault keeper.new) }
+    ensures once { K.is_honest keeper.new → Reached (K.vault keeper.old) → Extends (K.vault keeper.old).histories (K.vault keeper.new).histories }
     ensures honest { K.is_honest keeper.new → K.is_honest keeper.old }
     ensures counted { K.count keeper.old ≤ K.count keeper.new }
-    ensures device { IsTrue (is_device result) → Rose (K.count keeper.old) (K.count keeper.new) }
+    ensures device { IsTrue (is_device_reply result) → Rose (K.count keeper.old) (K.count keeper.new) }
 {
-    match command {
-        Command::AddDept(command) => add_dept(keeper, at, who, command),
-        Command::AddCaller(command) => add_caller(keeper, at, who, command),
-        Command::CloseCaller(command) => close_caller(keeper, at, who, command),
-        Command::AddBucket(command) => add_bucket(keeper, at, who, command),
-        Command::SetDefault(command) => set_default(keeper, at, who, command),
-        Command::GetDefault(command) => get_default(keeper, at, who, command),
-        Command::SetRules(command) => set_rules(keeper, at, who, command),
-        Command::GetRules(command) => get_rules(keeper, at, who, command),
-        Command::DropRules(command) => drop_rules(keeper, at, who, command),
-        Command::Put(command) => put(alloc, keeper, at, who, command),
-        Command::Get(command) => get(alloc, keeper, at, who, command),
-        Command::Head(command) => head(keeper, at, who, command),
-        Command::Delete(command) => delete(alloc, keeper, at, who, command),
-        Command::DeleteVersion(command) => delete_version(keeper, at, who, command),
-        Command::SetRetention(command) => set_retention(keeper, at, who, command),
-        Command::GetRetention(command) => get_retention(keeper, at, who, command),
-        Command::SetHold(command) => set_hold(keeper, at, who, command),
-        Command::GetHold(command) => get_hold(keeper, at, who, command),
-        Command::Report(command) => report(keeper, at, who, command),
-    }
+    carry_out(alloc, keeper, at, who, command)
 }
 
-/// One step of the history machine: what a command of a caller, given at a reading, answers and changes.
-///
-/// The checks are made in their order, and the first that fails is the answer. `Memory` and `Device` may
-/// come in the place of any answer. Every refusal leaves the vault as it was.
-pub fn step<K: Keeper>(
+/// What a command answers and changes.
+fn carry_out<K: Keeper>(
     alloc: Global,
     keeper: &mut K,
     at: Moment,
@@ -65,9 +64,41 @@ pub fn step<K: Keeper>(
     ensures step { K.is_honest keeper.new → Step (K.vault keeper.old) at who.now command.now result (K.vault keeper.new) }
     ensures honest { K.is_honest keeper.new → K.is_honest keeper.old }
     ensures counted { K.count keeper.old ≤ K.count keeper.new }
-    ensures device { result ≡ Reply.Refused Refusal.Device → Rose (K.count keeper.old) (K.count keeper.new) }
+    ensures device { IsTrue (is_device_reply result) → Rose (K.count keeper.old) (K.count keeper.new) }
 {
-    match answer(alloc, keeper, at, who, command) {
+    match command {
+        Command::AddDept(command) => reply_to(add_dept(keeper, at, who, command)),
+        Command::AddCaller(command) => reply_to(add_caller(keeper, at, who, command)),
+        Command::CloseCaller(command) => reply_to(close_caller(keeper, at, who, command)),
+        Command::AddBucket(command) => reply_to(add_bucket(keeper, at, who, command)),
+        Command::SetDefault(command) => reply_to(set_default(keeper, at, who, command)),
+        Command::GetDefault(command) => reply_to(get_default(keeper, at, who, command)),
+        Command::SetRules(command) => reply_to(set_rules(keeper, at, who, command)),
+        Command::GetRules(command) => reply_to(get_rules(keeper, at, who, command)),
+        Command::DropRules(command) => reply_to(drop_rules(keeper, at, who, command)),
+        Command::Put(command) => reply_to(put(alloc, keeper, at, who, command)),
+        Command::Get(command) => reply_to(get(alloc, keeper, at, who, command)),
+        Command::Head(command) => reply_to(head(keeper, at, who, command)),
+        Command::ListVersions(command) => reply_to(list_versions(alloc, keeper, at, who, command)),
+        Command::Delete(command) => reply_to(delete(alloc, keeper, at, who, command)),
+        Command::DeleteVersion(command) => reply_to(delete_version(keeper, at, who, command)),
+        Command::SetRetention(command) => reply_to(set_retention(keeper, at, who, command)),
+        Command::GetRetention(command) => reply_to(get_retention(keeper, at, who, command)),
+        Command::SetHold(command) => reply_to(set_hold(keeper, at, who, command)),
+        Command::GetHold(command) => reply_to(get_hold(keeper, at, who, command)),
+        Command::Run(command) => run_rules(alloc, keeper, at, who, command),
+        Command::Report(command) => reply_to(report(keeper, at, who, command)),
+        Command::Certificate(command) => reply_to(certificate(keeper, at, who, command)),
+        Command::Intake(command) => reply_to(intake(alloc, keeper, at, who, command)),
+    }
+}
+
+/// The reply that tells what a command gave.
+fn reply_to(given: Result<Answer, Halt>) -> Reply
+    ensures told { (v v' : Vault) (judged : Result (Answer × Vault) Refusal) → Meets given v v' judged → Answers judged v result v' }
+    ensures device { is_device_reply result ≡ is_device given }
+{
+    match given {
         Ok(answer) => Reply::Done(answer),
         Err(Halt::Refused(refusal)) => Reply::Refused(refusal),
         Err(Halt::Fault(Fault::Memory)) => Reply::Refused(Refusal::Memory),

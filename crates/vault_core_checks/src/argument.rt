@@ -1,6 +1,6 @@
 //! The arguments of commands.
-ghost use Rattle.std.specs.Prelude.{◌≡◌, ◌≤◌, IsTrue, OnOk, false, length};
-ghost use Rattle.vault_core_model.specs.Halts.{Finds, is_device, Rose};
+ghost use Rattle.std.specs.Prelude.{◌≡◌, ◌≤◌, IsTrue, IfErr, OnOk, false, length};
+ghost use Rattle.vault_core_model.specs.Halts.{Finds, is_device, is_device_refusal, Rose};
 ghost use Rattle.vault_lock.specs.Retention.{is_period};
 ghost use Rattle.vault_core_model.specs.Checks.{small_enough, ends_later_if_given, known_department, known_department_if_given, allowed_default, has_period};
 
@@ -16,27 +16,27 @@ use vault_lock::retention::{Default, Period, Retention};
 pub const MOST_CONTENT: usize = 1_048_576;
 
 /// The content is within the limit of one version.
-pub fn check_size(content: &Content) -> Result<(), Halt>
-    ensures found { Finds result (small_enough content.now) }
+pub fn check_size(content: &Content) -> Result<(), Refusal>
+    ensures exact { result ≡ small_enough content.now }
     ensures small { OnOk result (length content.now ≤ 1048576) }
-    ensures device { is_device result ≡ false }
+    ensures device { IfErr result (λ refusal. is_device_refusal refusal ≡ false) }
 {
     if content.len() <= MOST_CONTENT {
         Ok(())
     } else {
-        Err(Halt::Refused(Refusal::EntityTooLarge))
+        Err(Refusal::EntityTooLarge)
     }
 }
 
 /// A new retention, where one is given, ends after the reading.
-pub fn check_end(at: Moment, retention: Option<Retention>) -> Result<(), Halt>
-    ensures found { Finds result (ends_later_if_given at retention) }
-    ensures device { is_device result ≡ false }
+pub fn check_end(at: Moment, retention: Option<Retention>) -> Result<(), Refusal>
+    ensures exact { result ≡ ends_later_if_given at retention }
+    ensures device { IfErr result (λ refusal. is_device_refusal refusal ≡ false) }
 {
     match retention {
         None => Ok(()),
         Some(retention) if at < retention.until => Ok(()),
-        Some(_) => Err(Halt::Refused(Refusal::InvalidArgument)),
+        Some(_) => Err(Refusal::InvalidArgument),
     }
 }
 
@@ -70,15 +70,15 @@ pub fn check_dept_if_given<K: Keeper>(keeper: &mut K, dept: &Option<DeptName>) -
 }
 
 /// A default's period, where there is a default, is in its range: 1 to 36,500 days or 1 to 100 years.
-pub fn check_default(default: Option<Default>) -> Result<(), Halt>
-    ensures found { Finds result (allowed_default default) }
+pub fn check_default(default: Option<Default>) -> Result<(), Refusal>
+    ensures exact { result ≡ allowed_default default }
     ensures period { OnOk result (IsTrue (has_period default)) }
-    ensures device { is_device result ≡ false }
+    ensures device { IfErr result (λ refusal. is_device_refusal refusal ≡ false) }
 {
     match default {
         None => Ok(()),
         Some(default) if is_period(default.period) => Ok(()),
-        Some(_) => Err(Halt::Refused(Refusal::InvalidArgument)),
+        Some(_) => Err(Refusal::InvalidArgument),
     }
 }
 

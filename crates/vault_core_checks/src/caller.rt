@@ -1,6 +1,6 @@
 //! The clock, the caller, and what the caller may do.
-ghost use Rattle.std.specs.Prelude.{◌≡◌, ◌≤◌, IsTrue, OnOk, IfOk, Some, false};
-ghost use Rattle.vault_core_model.specs.Halts.{Finds, is_device, Rose};
+ghost use Rattle.std.specs.Prelude.{◌≡◌, ◌≤◌, IsTrue, OnOk, IfOk, IfErr, Some, false};
+ghost use Rattle.vault_core_model.specs.Halts.{Finds, is_device, is_device_refusal, Rose};
 ghost use Rattle.vault_core_model.specs.Sound.{Sound};
 ghost use Rattle.vault_core_model.specs.Vault.{config_of};
 ghost use Rattle.vault_core_model.specs.Checks.{in_time, asking, administrator, needs, needs_if, is_own, access, may_report};
@@ -59,21 +59,21 @@ pub fn find_caller<K: Keeper>(keeper: &mut K, at: Moment, who: &CallerName) -> R
 }
 
 /// The caller has the right.
-pub fn check_right(caller: &Caller, right: Right) -> Result<(), Halt>
-    ensures found { Finds result (needs caller.now right) }
-    ensures device { is_device result ≡ false }
+pub fn check_right(caller: &Caller, right: Right) -> Result<(), Refusal>
+    ensures exact { result ≡ needs caller.now right }
+    ensures device { IfErr result (λ refusal. is_device_refusal refusal ≡ false) }
 {
     if caller.rights.has(right) {
         Ok(())
     } else {
-        Err(denied(Reason::Right(right)))
+        Err(Refusal::AccessDenied(Reason::Right(right)))
     }
 }
 
 /// The caller has the right, where what needs it is asked for.
-pub fn check_right_if(asked: bool, caller: &Caller, right: Right) -> Result<(), Halt>
-    ensures found { Finds result (needs_if asked caller.now right) }
-    ensures device { is_device result ≡ false }
+pub fn check_right_if(asked: bool, caller: &Caller, right: Right) -> Result<(), Refusal>
+    ensures exact { result ≡ needs_if asked caller.now right }
+    ensures device { IfErr result (λ refusal. is_device_refusal refusal ≡ false) }
 {
     if asked {
         check_right(caller, right)
@@ -139,15 +139,15 @@ pub fn find_access<K: Keeper>(
 }
 
 /// A report is for administrators, and of the own department for those with the right.
-pub fn check_report(caller: &Caller, dept: &DeptName) -> Result<(), Halt>
-    ensures found { Finds result (may_report caller.now dept.now) }
-    ensures device { is_device result ≡ false }
+pub fn check_report(caller: &Caller, dept: &DeptName) -> Result<(), Refusal>
+    ensures exact { result ≡ may_report caller.now dept.now }
+    ensures device { IfErr result (λ refusal. is_device_refusal refusal ≡ false) }
 {
     if !caller.rights.admin && !is_own(&caller.dept, dept) {
-        return Err(denied(Reason::Department));
+        return Err(Refusal::AccessDenied(Reason::Department));
     }
     if !caller.rights.admin && !caller.rights.report {
-        return Err(denied(Reason::Right(Right::Report)));
+        return Err(Refusal::AccessDenied(Reason::Right(Right::Report)));
     }
     Ok(())
 }

@@ -1,6 +1,6 @@
 //! Which entry is meant, and whether its lock permits its removal.
-ghost use Rattle.std.specs.Prelude.{◌≡◌, ◌≤◌, IsTrue, IfOk, IfSome, false, Some, None, Err, option_map};
-ghost use Rattle.vault_core_model.specs.Halts.{Finds, is_device, is_refused, Rose};
+ghost use Rattle.std.specs.Prelude.{◌≡◌, ◌≤◌, IsTrue, IfOk, IfErr, IfSome, false, Some, None, Err, option_map};
+ghost use Rattle.vault_core_model.specs.Halts.{Finds, is_device, is_device_refusal, is_refused, Rose};
 ghost use Rattle.vault_core_model.specs.Places.{is_held_at, current};
 ghost use Rattle.vault_core_model.specs.Reads.{entry_of, lock_of, setting_of, count_by};
 ghost use Rattle.vault_core_model.specs.Sound.{Sound};
@@ -62,13 +62,13 @@ pub fn find_held<K: Keeper>(
 }
 
 /// The entry is a content version.
-fn check_version(entry: Entry) -> Result<Entry, Halt>
-    ensures found { Finds result (content_version entry) }
+fn check_version(entry: Entry) -> Result<Entry, Refusal>
+    ensures exact { result ≡ content_version entry }
     ensures kept { IfOk result (λ version. (version ≡ entry) × (version.marker ≡ false)) }
-    ensures device { is_device result ≡ false }
+    ensures device { IfErr result (λ refusal. is_device_refusal refusal ≡ false) }
 {
     if entry.marker {
-        Err(Halt::Refused(Refusal::MethodNotAllowed))
+        Err(Refusal::MethodNotAllowed)
     } else {
         Ok(entry)
     }
@@ -139,7 +139,7 @@ pub fn find_version<K: Keeper>(
         return find_current(keeper, bucket, key);
     };
     let entry = find_held(keeper, bucket, key, id)?;
-    check_version(entry)
+    Ok(check_version(entry)?)
 }
 
 /// The last setting of the entry of that id; a delete marker has none and is not locked.
@@ -180,13 +180,13 @@ pub fn check_removal(
     at: Moment,
     bypass: bool,
     may_bypass: bool,
-) -> Result<Permit, Halt>
-    ensures found { Finds result (permitted (removable lock.now at bypass may_bypass)) }
-    ensures device { is_device result ≡ false }
+) -> Result<Permit, Refusal>
+    ensures exact { result ≡ permitted (removable lock.now at bypass may_bypass) }
+    ensures device { IfErr result (λ refusal. is_device_refusal refusal ≡ false) }
 {
     match may_remove(lock, at, bypass, may_bypass) {
         Ok(permit) => Ok(permit),
-        Err(guard) => Err(Halt::Refused(denial(guard))),
+        Err(guard) => Err(denial(guard)),
     }
 }
 
@@ -197,19 +197,12 @@ pub fn find_first_lock(
     retention: Option<Retention>,
     hold: Option<bool>,
     at: Moment,
-) -> Result<Lock, Halt>
-    ensures found { Finds result (lock_at_admission bucket.now retention hold at) }
-    ensures device { is_device result ≡ false }
+) -> Result<Lock, Refusal>
+    ensures exact { result ≡ lock_at_admission bucket.now retention hold at }
+    ensures device { IfErr result (λ refusal. is_device_refusal refusal ≡ false) }
 {
-    match first_lock(
-        bucket.default.as_ref(),
-        retention,
-        hold.unwrap_or(false),
-        at,
-    ) {
-        Some(lock) => Ok(lock),
-        None => Err(Halt::Refused(Refusal::RetentionOutOfRange)),
-    }
+    let hold = hold.unwrap_or(false);
+    first_lock(bucket.default.as_ref(), retention, hold, at).ok_or(Refusal::RetentionOutOfRange)
 }
 
 /// The lock permits the new retention: freely, or by a bypass that is asked for and allowed.
@@ -219,12 +212,12 @@ pub fn check_retention(
     at: Moment,
     bypass: bool,
     may_bypass: bool,
-) -> Result<Permit, Halt>
-    ensures found { Finds result (permitted (retainable lock.now retention at bypass may_bypass)) }
-    ensures device { is_device result ≡ false }
+) -> Result<Permit, Refusal>
+    ensures exact { result ≡ permitted (retainable lock.now retention at bypass may_bypass) }
+    ensures device { IfErr result (λ refusal. is_device_refusal refusal ≡ false) }
 {
     match may_retain(lock, retention, at, bypass, may_bypass) {
         Ok(permit) => Ok(permit),
-        Err(guard) => Err(Halt::Refused(denial(guard))),
+        Err(guard) => Err(denial(guard)),
     }
 }

@@ -1,7 +1,7 @@
 //! The quota of a department, and the ids of the vault.
-ghost use Rattle.std.specs.Prelude.{◌≡◌, ◌≤◌, ◌+◌, IsTrue, IfOk, OnOk, nat_lt, ◌<◌, false, Some, None, if◌then◌else◌};
+ghost use Rattle.std.specs.Prelude.{◌≡◌, ◌≤◌, ◌+◌, IsTrue, IfOk, IfErr, OnOk, nat_lt, ◌<◌, false, Some, None, if◌then◌else◌};
 ghost use Rattle.vault_base.specs.Name.{is_version_id};
-ghost use Rattle.vault_core_model.specs.Halts.{Finds, is_device, Rose};
+ghost use Rattle.vault_core_model.specs.Halts.{Finds, is_device, is_device_refusal, Rose};
 ghost use Rattle.vault_core_model.specs.Vault.{next_id};
 ghost use Rattle.vault_core_model.specs.Totals.{admitted_bytes};
 ghost use Rattle.vault_core_model.specs.Checks.{check, within_quota, free_id, most_ids, most_settings};
@@ -61,14 +61,14 @@ fn id_of(number: u64) -> Option<VersionId>
 }
 
 /// One setting more may be made of a version that has so many.
-pub fn check_settings(count: u64) -> Result<(), Halt>
-    ensures found { Finds result (check (nat_lt count most_settings) VaultFull) }
+pub fn check_settings(count: u64) -> Result<(), Refusal>
+    ensures exact { result ≡ check (nat_lt count most_settings) VaultFull }
     ensures fits { OnOk result (count < most_settings) }
-    ensures device { is_device result ≡ false }
+    ensures device { IfErr result (λ refusal. is_device_refusal refusal ≡ false) }
 {
     if count < MOST_SETTINGS {
         Ok(())
     } else {
-        Err(Halt::Refused(Refusal::VaultFull))
+        Err(Refusal::VaultFull)
     }
 }

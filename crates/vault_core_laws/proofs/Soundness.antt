@@ -1,26 +1,32 @@
 -- A change that is allowed keeps a vault sound.
 use Rattle.std.proofs.Common.{◌≡◌, ℕ, ◌+◌, ◌≤◌, ◌<◌, List, [], ◌∷◌, ◌++◌, length, map, Bool, true, false, Option, Some, None, refl, sym, ap, ◌∙◌, subst, arith, eqb}
 use Rattle.std.specs.Prelude.{if◌then◌else◌, IsSome, find, option_map, option_and_then, ◌==◌}
+use Rattle.std.specs.Prelude.{IsTrue}
 use Rattle.std.specs.List.{AllByRecursion}
+use Rattle.std.specs.Str.{bytes_eq}
 use Rattle.std.proofs.lemmas.Bool.{eqb-true}
 use Rattle.std.proofs.lemmas.List.{length-map, length-append}
+use Rattle.vault_lock.specs.declared.retention.Default.{Default}
+use Rattle.vault_rules.specs.declared.rule.Rule.{Rule}
+use Rattle.vault_rules.specs.Rules.{is_rule_set, passes_if_given}
 use Rattle.vault_tally.specs.Row.{quota}
 use Rattle.vault_core_model.specs.declared.records.Bucket.{Bucket}
 use Rattle.vault_core_model.specs.declared.records.Entry.{Entry}
 use Rattle.vault_core_model.specs.Reads.{setting_of, last_setting, count_by}
 use Rattle.vault_core_model.specs.declared.records.History.{History}
+use Rattle.vault_core_model.specs.declared.records.Note.{Note}
 use Rattle.vault_core_model.specs.declared.records.Removal.{Removal}
 use Rattle.vault_core_model.specs.declared.records.Setting.{Setting}
 use Rattle.vault_core_model.specs.declared.change.Change.{Change}
 use Rattle.vault_core_model.specs.declared.change.Change.TheVariants.{AddDept, AddCaller, CloseCaller, AddBucket, SetDefault, SetRules, Admit, AddSetting, Remove}
 use Rattle.vault_core_model.specs.Checks.{most_ids, most_settings}
-use Rattle.vault_core_model.specs.Order.{placed, bucket_cmp}
+use Rattle.vault_core_model.specs.Order.{placed, placed_if_given, bucket_cmp, note_cmp}
 use Rattle.vault_core_model.specs.Vault.{Vault, config_in}
 use Rattle.vault_core_model.specs.Change.{changed, removed_by, removed_if, new_bucket, with_default, with_rules, with_setting}
-use Rattle.vault_core_model.specs.Sound.{AreIdsFrom, AreInOrder, IsInTime, LiesBetween, HasItsBytes, IsWhole, IsWholeAs, IsPlaced, Sound}
-use Rattle.vault_core_model.specs.Allowed.{Allows, IsNextSetting}
+use Rattle.vault_core_model.specs.Sound.{AreIdsFrom, AreInOrder, IsInTime, LiesBetween, HasItsBytes, IsWhole, IsWholeAs, IsPlaced, IsNoted, NamesItsVersion, HasRuleSet, Sound}
+use Rattle.vault_core_model.specs.Allowed.{Allows, IsNextSetting, IsFirstNote}
 use Rattle.vault_core_model.specs.Totals.{admitted_bytes, is_of_department}
-use Rattle.vault_core_laws.proofs.Lists.{All-push, All-weaker, All-map}
+use Rattle.vault_core_laws.proofs.Lists.{All-push, All-last, All-placed, All-weaker, All-map}
 use Rattle.vault_core_laws.proofs.Buckets.{config_in-placed, placed-mapped, department-mapped, name-with_default, dept-with_default, name-with_rules, dept-with_rules}
 use Rattle.vault_core_laws.proofs.Items.{admitted-push, admitted-removed, admitted-other, admitted-setting, share_fits}
 use Rattle.vault_core_laws.proofs.Newest.{finds_itself}
@@ -98,9 +104,89 @@ IsPlaced-removed : (v : Vault) (id : ℕ) (r : Removal) (h : History) → IsPlac
 IsPlaced-removed v id r h placed =
     elim (eqb h.entry.id id) as (λ b. IsPlaced v (if b then removed_by r h else h)) [ true ↦ placed | false ↦ placed ]
 
+-- ---- notes and rules
+
+-- what is found by an id, after one more entry
+noted-found : (n : Note) (h : History) (b : Bool) (rest more : Option History) → (IsNoted n (option_map (λ g. g.entry) rest) → IsNoted n (option_map (λ g. g.entry) more)) → IsNoted n (option_map (λ g. g.entry) (if b then Some h else rest)) → IsNoted n (option_map (λ g. g.entry) (if b then Some h else more))
+noted-found n h true rest more later noted = noted
+noted-found n h false rest more later noted = later noted
+
+IsNoted-push : (n : Note) (id : ℕ) (hs : List History) (x : History) → IsNoted n (option_map (λ g. g.entry) (find (λ g. g.entry.id == id) hs)) → IsNoted n (option_map (λ g. g.entry) (find (λ g. g.entry.id == id) (hs ++ x ∷ [])))
+IsNoted-push n id [] x noted = absurd noted
+IsNoted-push n id (h ∷ hs) x noted =
+    noted-found n h (h.entry.id == id) (find (λ g. g.entry.id == id) hs) (find (λ g. g.entry.id == id) (hs ++ x ∷ [])) (IsNoted-push n id hs x) noted
+
+-- the same, where each entry is altered but keeps its id and what a note tells
+noted-mapped : (n : Note) (h g : History) (b : Bool) (rest more : Option History) → g.entry.bucket ≡ h.entry.bucket → g.entry.key ≡ h.entry.key → g.entry.size ≡ h.entry.size → g.entry.digest ≡ h.entry.digest → (IsNoted n (option_map (λ x. x.entry) rest) → IsNoted n (option_map (λ x. x.entry) more)) → IsNoted n (option_map (λ x. x.entry) (if b then Some h else rest)) → IsNoted n (option_map (λ x. x.entry) (if b then Some g else more))
+noted-mapped n h g true rest more bucket key size digest later noted =
+    (bucket ∙ noted.0, key ∙ noted.1, size ∙ noted.2, digest ∙ noted.3)
+noted-mapped n h g false rest more bucket key size digest later noted = later noted
+
+-- an alteration of a history that a note doesn't tell of
+record IsUntold (f : History → History) : Type 0 where
+  id : (h : History) → (f h).entry.id ≡ h.entry.id
+  bucket : (h : History) → (f h).entry.bucket ≡ h.entry.bucket
+  key : (h : History) → (f h).entry.key ≡ h.entry.key
+  size : (h : History) → (f h).entry.size ≡ h.entry.size
+  digest : (h : History) → (f h).entry.digest ≡ h.entry.digest
+
+IsNoted-map : (f : History → History) → IsUntold f → (n : Note) (id : ℕ) (hs : List History) → IsNoted n (option_map (λ g. g.entry) (find (λ g. g.entry.id == id) hs)) → IsNoted n (option_map (λ g. g.entry) (find (λ g. g.entry.id == id) (map f hs)))
+IsNoted-map f same n id [] noted = noted
+IsNoted-map f same n id (h ∷ hs) noted =
+    let P : ℕ → Type 0 = λ i. IsNoted n (option_map (λ g. g.entry) (if eqb i id then Some (f h) else find (λ g. g.entry.id == id) (map f hs))) in
+    subst P (sym (same.id h)) (noted-mapped n h (f h) (eqb h.entry.id id) (find (λ g. g.entry.id == id) hs) (find (λ g. g.entry.id == id) (map f hs)) (same.bucket h) (same.key h) (same.size h) (same.digest h) (IsNoted-map f same n id hs) noted)
+
+untold-removed : (id : ℕ) (r : Removal) → IsUntold (removed_if id r)
+untold-removed id r = record {
+  id = λ h. elim (eqb h.entry.id id) as (λ b. (if b then removed_by r h else h).entry.id ≡ h.entry.id) [ true ↦ refl | false ↦ refl ];
+  bucket = λ h. elim (eqb h.entry.id id) as (λ b. (if b then removed_by r h else h).entry.bucket ≡ h.entry.bucket) [ true ↦ refl | false ↦ refl ];
+  key = λ h. elim (eqb h.entry.id id) as (λ b. (if b then removed_by r h else h).entry.key ≡ h.entry.key) [ true ↦ refl | false ↦ refl ];
+  size = λ h. elim (eqb h.entry.id id) as (λ b. (if b then removed_by r h else h).entry.size ≡ h.entry.size) [ true ↦ refl | false ↦ refl ];
+  digest = λ h. elim (eqb h.entry.id id) as (λ b. (if b then removed_by r h else h).entry.digest ≡ h.entry.digest) [ true ↦ refl | false ↦ refl ];
+}
+
+untold-setting : (id : ℕ) (s : Setting) → IsUntold (with_setting id s)
+untold-setting id s = record {
+  id = λ h. elim (eqb h.entry.id id) as (λ b. (if b then record h { settings = h.settings ++ s ∷ [] } else h).entry.id ≡ h.entry.id) [ true ↦ refl | false ↦ refl ];
+  bucket = λ h. elim (eqb h.entry.id id) as (λ b. (if b then record h { settings = h.settings ++ s ∷ [] } else h).entry.bucket ≡ h.entry.bucket) [ true ↦ refl | false ↦ refl ];
+  key = λ h. elim (eqb h.entry.id id) as (λ b. (if b then record h { settings = h.settings ++ s ∷ [] } else h).entry.key ≡ h.entry.key) [ true ↦ refl | false ↦ refl ];
+  size = λ h. elim (eqb h.entry.id id) as (λ b. (if b then record h { settings = h.settings ++ s ∷ [] } else h).entry.size ≡ h.entry.size) [ true ↦ refl | false ↦ refl ];
+  digest = λ h. elim (eqb h.entry.id id) as (λ b. (if b then record h { settings = h.settings ++ s ∷ [] } else h).entry.digest ≡ h.entry.digest) [ true ↦ refl | false ↦ refl ];
+}
+
+-- the notes of a vault whose histories are so altered
+notes_mapped : (f : History → History) → IsUntold f → (hs : List History) (ns : List Note) → AllByRecursion (λ n. IsNoted n (option_map (λ g. g.entry) (find (λ g. g.entry.id == n.id) hs))) ns → AllByRecursion (λ n. IsNoted n (option_map (λ g. g.entry) (find (λ g. g.entry.id == n.id) (map f hs)))) ns
+notes_mapped f same hs ns all =
+    All-weaker (λ n. IsNoted n (option_map (λ g. g.entry) (find (λ g. g.entry.id == n.id) hs))) (λ n. IsNoted n (option_map (λ g. g.entry) (find (λ g. g.entry.id == n.id) (map f hs)))) (λ n noted. IsNoted-map f same n n.id hs noted) ns all
+
+-- the note of the entry that is admitted
+noted_itself : (hs : List History) (h : History) (n : Note) → AreIdsFrom 1 (hs ++ h ∷ []) → n.id ≡ h.entry.id → IsNoted n (Some h.entry) → IsNoted n (option_map (λ g. g.entry) (find (λ g. g.entry.id == n.id) (hs ++ h ∷ [])))
+noted_itself hs h n ids same noted =
+    let P : ℕ → Type 0 = λ i. IsNoted n (option_map (λ g. g.entry) (find (λ g. g.entry.id == i) (hs ++ h ∷ []))) in
+    let Q : Option History → Type 0 = λ o. IsNoted n (option_map (λ g. g.entry) o) in
+    let found : find (λ g. g.entry.id == h.entry.id) (hs ++ h ∷ []) ≡ Some h = All-last (λ y. find (λ g. g.entry.id == y.entry.id) (hs ++ h ∷ []) ≡ Some y) hs h (finds_itself 1 (hs ++ h ∷ []) ids) in
+    subst P (sym same) (subst Q (sym found) noted)
+
+notes_kept : (v : Vault) (h : History) → Sound v → AllByRecursion (λ n. IsNoted n (option_map (λ g. g.entry) (find (λ g. g.entry.id == n.id) (v.histories ++ h ∷ [])))) v.notes
+notes_kept v h sound =
+    All-weaker (NamesItsVersion v) (λ n. IsNoted n (option_map (λ g. g.entry) (find (λ g. g.entry.id == n.id) (v.histories ++ h ∷ [])))) (λ n noted. IsNoted-push n n.id v.histories h noted) v.notes sound.notes
+
+notes_admitted : (v : Vault) (h : History) (o : Option Note) → Sound v → AreIdsFrom 1 (v.histories ++ h ∷ []) → IsFirstNote v h.entry o → AllByRecursion (λ n. IsNoted n (option_map (λ g. g.entry) (find (λ g. g.entry.id == n.id) (v.histories ++ h ∷ [])))) (placed_if_given note_cmp o v.notes)
+notes_admitted v h None sound ids first = notes_kept v h sound
+notes_admitted v h (Some n) sound ids first =
+    All-placed (λ x. IsNoted x (option_map (λ g. g.entry) (find (λ g. g.entry.id == x.id) (v.histories ++ h ∷ [])))) note_cmp n v.notes (noted_itself v.histories h n ids first.1 first.2) (notes_kept v h sound)
+
+HasRuleSet-rules : (name : List ℕ) (rules : Option (List Rule)) → IsTrue (passes_if_given is_rule_set rules) → (b : Bucket) → HasRuleSet b → HasRuleSet (with_rules name rules b)
+HasRuleSet-rules name rules given b has =
+    elim (bytes_eq b.name name) as (λ x. HasRuleSet (if x then record b { rules = rules } else b)) [ true ↦ given | false ↦ has ]
+
+HasRuleSet-default : (name : List ℕ) (default : Option Default) (b : Bucket) → HasRuleSet b → HasRuleSet (with_default name default b)
+HasRuleSet-default name default b has =
+    elim (bytes_eq b.name name) as (λ x. HasRuleSet (if x then record b { config = record { dept = b.config.dept; default = default } } else b)) [ true ↦ has | false ↦ has ]
+
 -- a vault whose buckets are set anew, each with its name and its department
-buckets_set : (v : Vault) (t : ℕ) (f : Bucket → Bucket) → ((b : Bucket) → (f b).name ≡ b.name) → ((b : Bucket) → (f b).config.dept ≡ b.config.dept) → Sound v → v.last ≤ t → Sound (record v { last = t; buckets = map f v.buckets })
-buckets_set v t f same_name same_dept sound le = record {
+buckets_set : (v : Vault) (t : ℕ) (f : Bucket → Bucket) → ((b : Bucket) → (f b).name ≡ b.name) → ((b : Bucket) → (f b).config.dept ≡ b.config.dept) → ((b : Bucket) → HasRuleSet b → HasRuleSet (f b)) → Sound v → v.last ≤ t → Sound (record v { last = t; buckets = map f v.buckets })
+buckets_set v t f same_name same_dept same_rules sound le = record {
   ids = sound.ids;
   enough_ids = sound.enough_ids;
   order = AreInOrder-later 0 v.last t v.histories le sound.order;
@@ -108,6 +194,8 @@ buckets_set v t f same_name same_dept sound le = record {
   whole = sound.whole;
   placed = All-weaker (IsPlaced v) (IsPlaced (record v { last = t; buckets = map f v.buckets })) (λ h there. placed-mapped f same_name v.buckets h.entry.bucket there) v.histories sound.placed;
   within = λ d. rw (admitted-other v.buckets (map f v.buckets) d v.histories (each (λ h. department-mapped f same_name same_dept v.buckets d h.entry.bucket) v.histories)) (sound.within d);
+  rule_sets = All-map HasRuleSet HasRuleSet HasRuleSet f (λ b has same. same_rules b has) v.buckets sound.rule_sets sound.rule_sets;
+  notes = sound.notes;
 }
   where
     each : {P : History → Type 0} → ((h : History) → P h) → (hs : List History) → AllByRecursion P hs
@@ -175,6 +263,8 @@ Sound-changed v t (AddDept name) sound le allowed = record {
   whole = sound.whole;
   placed = sound.placed;
   within = sound.within;
+  rule_sets = sound.rule_sets;
+  notes = sound.notes;
 }
 Sound-changed v t (AddCaller c) sound le allowed = record {
   ids = sound.ids;
@@ -184,6 +274,8 @@ Sound-changed v t (AddCaller c) sound le allowed = record {
   whole = sound.whole;
   placed = sound.placed;
   within = sound.within;
+  rule_sets = sound.rule_sets;
+  notes = sound.notes;
 }
 Sound-changed v t (CloseCaller name) sound le allowed = record {
   ids = sound.ids;
@@ -193,9 +285,11 @@ Sound-changed v t (CloseCaller name) sound le allowed = record {
   whole = sound.whole;
   placed = sound.placed;
   within = sound.within;
+  rule_sets = sound.rule_sets;
+  notes = sound.notes;
 }
-Sound-changed v t (SetDefault name default) sound le allowed = buckets_set v t (with_default name default) (name-with_default name default) (dept-with_default name default) sound le
-Sound-changed v t (SetRules name rules) sound le allowed = buckets_set v t (with_rules name rules) (name-with_rules name rules) (dept-with_rules name rules) sound le
+Sound-changed v t (SetDefault name default) sound le allowed = buckets_set v t (with_default name default) (name-with_default name default) (dept-with_default name default) (HasRuleSet-default name default) sound le
+Sound-changed v t (SetRules name rules) sound le allowed = buckets_set v t (with_rules name rules) (name-with_rules name rules) (dept-with_rules name rules) (HasRuleSet-rules name rules allowed.1) sound le
 Sound-changed v t (AddSetting id s) sound le allowed = record {
   ids = AreIdsFrom-setting id s 1 v.histories sound.ids;
   enough_ids = rw (length-map v.histories (with_setting id s)) sound.enough_ids;
@@ -204,6 +298,8 @@ Sound-changed v t (AddSetting id s) sound le allowed = record {
   whole = All-map (λ y. find (λ h. h.entry.id == y.entry.id) v.histories ≡ Some y) IsWhole IsWhole (with_setting id s) (λ h found whole. IsWhole-setting v t id s h allowed found whole) v.histories (finds_itself 1 v.histories sound.ids) sound.whole;
   placed = All-map (IsPlaced v) (IsPlaced v) (IsPlaced v) (with_setting id s) (λ h placed same. IsPlaced-setting v id s h placed) v.histories sound.placed sound.placed;
   within = λ dept. rw (admitted-setting v.buckets dept id s v.histories) (sound.within dept);
+  rule_sets = sound.rule_sets;
+  notes = notes_mapped (with_setting id s) (untold-setting id s) v.histories v.notes sound.notes;
 }
 Sound-changed v t (AddBucket name dept) sound le allowed =
     let buckets = placed bucket_cmp (new_bucket name dept) v.buckets in
@@ -216,6 +312,8 @@ Sound-changed v t (AddBucket name dept) sound le allowed =
       whole = sound.whole;
       placed = All-weaker (IsPlaced v) (IsPlaced (changed v t (AddBucket name dept))) (λ h there. rw (config_in-placed v.buckets name dept h.entry.bucket allowed there) there) v.histories sound.placed;
       within = λ d. rw (admitted-other v.buckets buckets d v.histories (All-weaker (λ h. config_in buckets h.entry.bucket ≡ config_in v.buckets h.entry.bucket) (λ h. is_of_department d (config_in buckets h.entry.bucket) ≡ is_of_department d (config_in v.buckets h.entry.bucket)) (λ h e. ap (is_of_department d) e) v.histories same)) (sound.within d);
+      rule_sets = All-placed HasRuleSet bucket_cmp (new_bucket name dept) v.buckets refl sound.rule_sets;
+      notes = sound.notes;
     }
 Sound-changed v t (Admit a) sound le allowed = record {
   ids = AreIdsFrom-push 1 v.histories a.history sound.ids allowed.id;
@@ -225,6 +323,8 @@ Sound-changed v t (Admit a) sound le allowed = record {
   whole = All-push IsWhole v.histories a.history sound.whole allowed.whole;
   placed = All-push (IsPlaced v) v.histories a.history sound.placed (rw allowed.placed refl);
   within = λ dept. rw (admitted-push v.buckets dept v.histories a.history) (share_fits v.buckets a.history allowed.bucket dept quota (admitted_bytes v) allowed.placed allowed.fits (sound.within dept));
+  rule_sets = sound.rule_sets;
+  notes = notes_admitted v a.history a.note sound (AreIdsFrom-push 1 v.histories a.history sound.ids allowed.id) allowed.noted;
 }
 Sound-changed v t (Remove id r) sound le allowed = record {
   ids = AreIdsFrom-removed id r 1 v.histories sound.ids;
@@ -234,6 +334,8 @@ Sound-changed v t (Remove id r) sound le allowed = record {
   whole = All-map IsWhole IsWhole IsWhole (removed_if id r) (λ h whole same. IsWhole-removed id r h whole) v.histories sound.whole sound.whole;
   placed = All-map (IsPlaced v) (IsPlaced v) (IsPlaced v) (removed_if id r) (λ h placed same. IsPlaced-removed v id r h placed) v.histories sound.placed sound.placed;
   within = λ dept. rw (admitted-removed v.buckets dept id r v.histories) (sound.within dept);
+  rule_sets = sound.rule_sets;
+  notes = notes_mapped (removed_if id r) (untold-removed id r) v.histories v.notes sound.notes;
 }
 
 -- the same, where the vault and the change are known by equations

@@ -13,3 +13,7 @@ last_lock-at r (q ∷ qs) s is = last_lock-at q qs s is
 pub last_setting-at : (ss : List Setting) (s : Setting) → slice_get ss (length ss - 1) ≡ Some s → Some (record { lock = s.lock; count = length ss }) ≡ last_setting ss
 last_setting-at [] s is = absurd (cc is)
 last_setting-at (r ∷ rs) s is = ap (λ lock. Some (record { lock = lock; count = length (r ∷ rs) })) (sym (last_lock-at r rs s (simp unary_clauses at is)))
+
+pub last_lock-last : (ss : List Setting) (s : Setting) → slice_get ss (length ss - 1) ≡ Some s → s.lock ≡ last_lock ss
+last_lock-last [] s is = absurd (cc is)
+last_lock-last (r ∷ rs) s is = sym (last_lock-at r rs s (simp unary_clauses at is))

@@ -1,18 +1,20 @@
 //! Records found by name or id, going over a whole list.
-ghost use Rattle.std.specs.Prelude.{◌≡◌, ◌==◌, IfOk, find, option_map, option_and_then, filter};
+ghost use Rattle.std.specs.Prelude.{◌≡◌, ◌==◌, ◌&&◌, IfOk, find, map, option_map, option_and_then, filter};
 ghost use Rattle.std.specs.List.{list_any};
 ghost use Rattle.std.specs.Option.{option_copied};
 ghost use Rattle.std.specs.Str.{bytes_eq};
 ghost use Rattle.vault_core_model.specs.Places.{is_held_at};
-ghost use Rattle.vault_core_model.specs.Reads.{head_over, last_setting};
-ghost use Rattle.vault_core_model.specs.Vault.{bucket_in, config_in};
+ghost use Rattle.vault_core_model.specs.Reads.{head_over, held_of, last_setting};
+ghost use Rattle.vault_core_model.specs.Vault.{bucket_in, config_in, last_lock};
 
-use std::alloc::AllocError;
+use std::alloc::{AllocError, Global};
 use vault_base::content::Content;
-use vault_base::name::{BucketName, CallerName, DeptName, ObjectKey, VersionId};
+use vault_base::name::{BatchName, BucketName, CallerName, DeptName, ObjectKey, VersionId};
 use vault_core_model::records::{
-    Bucket, BucketConfig, Caller, Entry, Head, History, LastSetting, Settings,
+    Bucket, BucketConfig, Caller, Entry, Head, History, LastSetting, Note, Settings,
 };
+use vault_lock::lock::Lock;
+use vault_rules::plan::Held;
 use vault_rules::rule_set::RuleSet;
 
 /// Whether that department is among them.
@@ -66,6 +68,32 @@ pub(crate) fn rules(buckets: &[Bucket], name: &BucketName) -> Result<Option<Rule
         return Ok(None);
     };
     Ok(bucket.rules.clone()?)
+}
+
+fn noted<'a>(
+    notes: &'a [Note],
+    bucket: &BucketName,
+    batch: &BatchName,
+    line: u32,
+) -> Option<&'a Note>
+    ensures { option_copied result ≡ find (λ n. bytes_eq n.bucket bucket.now && (bytes_eq n.batch batch.now && n.line == line)) notes.now }
+{
+    notes.iter().find(|note| note.bucket == *bucket && note.batch == *batch && note.line == line)
+}
+
+/// The note of that line of an intake batch.
+pub(crate) fn note(
+    notes: &[Note],
+    bucket: &BucketName,
+    batch: &BatchName,
+    line: u32,
+) -> Result<Option<Note>, AllocError>
+    ensures { IfOk result (λ found. found ≡ find (λ n. bytes_eq n.bucket bucket.now && (bytes_eq n.batch batch.now && n.line == line)) notes.now) }
+{
+    let Some(note) = noted(notes, bucket, batch, line) else {
+        return Ok(None);
+    };
+    Ok(Some(note.clone()?))
 }
 
 /// The history of that id, held or removed.
@@ -138,4 +166,47 @@ pub(crate) fn head(histories: &[History], bucket: &BucketName, key: &ObjectKey) 
         }
     }
     newest.map(|newest| Head { newest, count })
+}
+
+/// The lock of the last setting; a marker has none.
+fn last_lock(settings: &Settings) -> Lock
+    ensures { result ≡ last_lock settings.now }
+{
+    let Some(last) = settings.as_slice().last() else {
+        return Lock {
+            retention: None,
+            hold: false,
+        };
+    };
+    last.lock
+}
+
+/// What a lifecycle run looks at of a held entry.
+fn held_of(history: &History) -> Held
+    ensures { result ≡ held_of history.now }
+{
+    let entry = &history.entry;
+    Held {
+        id: entry.id,
+        marker: entry.marker,
+        size: entry.size,
+        admitted: entry.admitted,
+        lock: last_lock(&history.settings),
+    }
+}
+
+/// The held entries of a key, oldest first.
+pub(crate) fn entries(
+    alloc: Global,
+    histories: &[History],
+    bucket: &BucketName,
+    key: &ObjectKey,
+) -> Result<Vec<Held>, AllocError>
+    ensures { IfOk result (λ held. held.items ≡ map held_of (filter (λ h. is_held_at bucket.now key.now h.entry) histories.now)) }
+{
+    histories
+        .iter()
+        .filter(|history| is_held_at(bucket, key, &history.entry))
+        .map(held_of)
+        .collect(alloc)
 }

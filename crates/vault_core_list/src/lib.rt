@@ -6,8 +6,10 @@
 
 mod change;
 mod find;
+mod keys;
 pub mod list_keeper;
 mod place;
+mod removed;
 mod sums;
 #[cfg(test)]
 mod tests;

@@ -3,20 +3,23 @@ ghost use Rattle.std.specs.Prelude.{◌≡◌, IfOk};
 ghost use Rattle.vault_core_model.specs.Change.{new_bucket};
 ghost use Rattle.vault_core_model.specs.Vault as vaults;
 
-use crate::{change, find, place, sums};
+use crate::{change, find, keys, place, removed, sums};
 use std::alloc::{AllocError, Global};
 use std::marker::Model;
 use vault_base::content::Content;
 use vault_base::moment::Moment;
-use vault_base::name::{BucketName, CallerName, DeptName, ObjectKey, VersionId};
+use vault_base::name::{
+    BatchName, BucketName, CallerName, DeptName, KeyPrefix, ObjectKey, VersionId,
+};
 use vault_base::right::Right;
 use vault_core_model::change::Change;
 use vault_core_model::halt::Fault;
-use vault_core_model::keeper::Keeper;
+use vault_core_model::keeper::{Keeper, Sink};
 use vault_core_model::records::{
     Bucket, BucketConfig, Caller, Entry, Head, History, LastSetting, Note,
 };
 use vault_core_model::rights::Rights;
+use vault_rules::plan::Held;
 use vault_rules::rule_set::RuleSet;
 use vault_tally::row::Row;
 
@@ -82,7 +85,8 @@ impl ListKeeper {
 
 impl Keeper for ListKeeper {
     ghost use Rattle.std.specs.Prelude.{◌≡◌, IsOkAnd};
-    ghost use Rattle.vault_core_model.specs.Reads.{setting_of, head_of};
+    ghost use Rattle.vault_core_model.specs.Handing.{Hands};
+    ghost use Rattle.vault_core_model.specs.Reads.{setting_of, head_of, removed_entries};
     ghost use Rattle.vault_core_model.specs.Sound.{Sound};
     ghost use Rattle.vault_core_model.specs.Totals.{IsRowFor};
     ghost use Rattle.vault_core_model.specs.Vault.{has_department, next_id};
@@ -138,6 +142,10 @@ impl Keeper for ListKeeper {
         Ok(find::head(&self.histories, bucket, key))
     }
 
+    fn entries(&mut self, bucket: &BucketName, key: &ObjectKey) -> Result<Vec<Held>, Fault> {
+        Ok(find::entries(self.alloc, &self.histories, bucket, key)?)
+    }
+
     fn entry(&mut self, id: VersionId) -> Result<Option<Entry>, Fault> {
         Ok(find::entry(&self.histories, id)?)
     }
@@ -151,6 +159,31 @@ impl Keeper for ListKeeper {
 
     fn content(&mut self, id: VersionId) -> Result<Option<Content>, Fault> {
         Ok(find::content(&self.histories, id)?)
+    }
+
+    fn keys(
+        &mut self,
+        bucket: &BucketName,
+        after: &KeyPrefix,
+        most: u32,
+    ) -> Result<Vec<ObjectKey>, Fault> {
+        Ok(keys::behind(self.alloc, &self.histories, bucket, after, most)?)
+    }
+
+    fn note(
+        &mut self,
+        bucket: &BucketName,
+        batch: &BatchName,
+        line: u32,
+    ) -> Result<Option<Note>, Fault> {
+        Ok(find::note(&self.notes, bucket, batch, line)?)
+    }
+
+    fn walk_removed<S: Sink>(&mut self, sink: &mut S) -> Result<bool, Fault>
+        ensures value { IsOkAnd result (λ all. Hands S.takes sink.old (removed_entries self.old) (Ok all) sink.new) }
+        ensures same { self.new ≡ self.old }
+    {
+        Ok(removed::walk(&self.histories, sink))
     }
 
     fn totals(&mut self, dept: &DeptName) -> Result<Row, Fault>

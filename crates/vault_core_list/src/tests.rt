@@ -113,7 +113,13 @@ fn founded(alloc: Global, at: Moment, tax: &DeptName, docs: &BucketName) -> Resu
     Ok(keeper)
 }
 
-fn note(alloc: Global, docs: &BucketName, history: &History) -> Result<Note, Fail> {
+fn note(alloc: Global, docs: &BucketName, history: &History) -> Result<Note, Fail>
+    ensures id { IfOk result (λ n. n.id ≡ history.now.entry.id) }
+    ensures bucket { IfOk result (λ n. n.bucket ≡ docs.now) }
+    ensures key { IfOk result (λ n. history.now.entry.key ≡ n.key) }
+    ensures size { IfOk result (λ n. history.now.entry.size ≡ n.size) }
+    ensures digest { IfOk result (λ n. history.now.entry.digest ≡ Some n.digest) }
+{
     let entry = &history.entry;
     Ok(Note {
         bucket: docs.clone()?,

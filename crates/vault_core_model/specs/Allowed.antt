@@ -1,18 +1,25 @@
 -- Which changes may be made of a vault.
-use Rattle.std.specs.Prelude.{◌≡◌, ℕ, ◌+◌, ◌≤◌, false, Some, None, ◌<◌, IsSome, IsTrue}
+use Rattle.std.specs.Prelude.{◌≡◌, ℕ, ◌+◌, ◌≤◌, false, Option, Some, None, ◌<◌, IsSome, IsTrue}
+use Rattle.vault_rules.specs.Rules.{is_rule_set, passes_if_given}
 use Rattle.vault_tally.specs.Row.{quota}
 use Rattle.vault_core_model.specs.declared.records.BucketConfig.{BucketConfig}
 use Rattle.vault_core_model.specs.declared.records.Entry.{Entry}
+use Rattle.vault_core_model.specs.declared.records.Note.{Note}
 use Rattle.vault_core_model.specs.declared.records.Removal.{Removal}
 use Rattle.vault_core_model.specs.declared.records.Setting.{Setting}
 use Rattle.vault_core_model.specs.declared.change.Admission.{Admission}
 use Rattle.vault_core_model.specs.declared.change.Change.{Change}
 use Rattle.vault_core_model.specs.declared.change.Change.TheVariants.{AddDept, AddCaller, CloseCaller, AddBucket, SetDefault, SetRules, Admit, AddSetting, Remove}
-use Rattle.vault_core_model.specs.Vault.{Vault, has_department, caller_of, config_of, next_id}
+use Rattle.vault_core_model.specs.Vault.{Vault, has_department, caller_of, config_of, next_id, note_of}
 use Rattle.vault_core_model.specs.Reads.{entry_of, setting_of, count_by}
 use Rattle.vault_core_model.specs.Checks.{most_ids, most_settings, has_period}
-use Rattle.vault_core_model.specs.Sound.{IsWhole}
+use Rattle.vault_core_model.specs.Sound.{IsWhole, IsNoted}
 use Rattle.vault_core_model.specs.Totals.{admitted_bytes}
+
+-- the note, where there is one, is the first of its line and tells of that entry
+abbrev pub IsFirstNote : Vault → Entry → Option Note → Type 0
+IsFirstNote v e None = Unit {0}
+IsFirstNote v e (Some n) = (note_of v n.bucket n.batch n.line ≡ None) × (n.id ≡ e.id) × IsNoted n (Some e)
 
 -- the next entry, admitted at t to a bucket that is there, within the quota of its department
 pub record IsAdmission (v : Vault) (t : ℕ) (a : Admission) : Type 0 where
@@ -24,6 +31,7 @@ pub record IsAdmission (v : Vault) (t : ℕ) (a : Admission) : Type 0 where
   pub bucket : BucketConfig
   pub placed : config_of v a.history.entry.bucket ≡ Some bucket
   pub fits : admitted_bytes v bucket.dept + a.history.entry.size ≤ quota
+  pub noted : IsFirstNote v a.history.entry a.note
 
 -- the entry of that id is held
 abbrev pub IsHeldId : Vault → ℕ → Type 0
@@ -49,7 +57,7 @@ Allows v t (AddCaller c) = caller_of v c.name ≡ None
 Allows v t (CloseCaller name) = IsSome (caller_of v name)
 Allows v t (AddBucket name dept) = config_of v name ≡ None
 Allows v t (SetDefault name default) = IsSome (config_of v name) × IsTrue (has_period default)
-Allows v t (SetRules name rules) = IsSome (config_of v name)
+Allows v t (SetRules name rules) = IsSome (config_of v name) × IsTrue (passes_if_given is_rule_set rules)
 Allows v t (Admit a) = IsAdmission v t a
 Allows v t (AddSetting id s) = IsNextSetting v t id s
 Allows v t (Remove id r) = IsRemoval v t id r

@@ -5,6 +5,10 @@ use Rattle.vault_base.specs.declared.refusal.Refusal.TheVariants as refusal
 use Rattle.vault_core_model.specs.declared.halt.Fault.TheVariants as fault
 use Rattle.vault_core_model.specs.declared.halt.Halt.{Halt}
 use Rattle.vault_core_model.specs.declared.halt.Halt.TheVariants as halt
+use Rattle.vault_core_model.specs.declared.reply.Reply.{Reply}
+use Rattle.vault_core_model.specs.declared.reply.Reply.TheVariants as reply
+use Rattle.vault_core_model.specs.declared.reply.Stop.{Stop}
+use Rattle.vault_core_model.specs.declared.reply.Stop.TheVariants as stop
 
 -- a fault says nothing of the definition; a refusal is its refusal
 abbrev pub Fails : {X : Type 0} → Halt → Result X Refusal → Type 0
@@ -35,10 +39,21 @@ abbrev pub is_device : {X : Type 0} → Result X Halt → Bool
 is_device (Ok x) = false
 is_device (Err e) = is_device_halt e
 
+abbrev pub is_device_stop : Stop → Bool
+is_device_stop stop.Memory = false
+is_device_stop stop.Device = true
+is_device_stop stop.VaultFull = false
+
 -- a check failed
 abbrev pub is_refused : {X : Type 0} → Result X Halt → Bool
 is_refused (Err (halt.Refused r)) = true
 is_refused _ = false
+
+-- the reply is that the device failed
+abbrev pub is_device_reply : Reply → Bool
+is_device_reply (reply.Done a) = false
+is_device_reply (reply.Refused r) = is_device_refusal r
+is_device_reply (reply.Stopped n s) = is_device_stop s
 
 -- a count of failures rose, or stands at its greatest value
 abbrev pub Rose : ℕ → ℕ → Type 0

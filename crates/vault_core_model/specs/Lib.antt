@@ -3,12 +3,17 @@ pub mod Change
 pub mod Checks
 pub mod EntryOutcomes
 pub mod Halts
+pub mod Handing
+pub mod IntakeOutcome
+pub mod ListingOutcome
 pub mod LockOutcomes
 pub mod Order
 pub mod Places
+pub mod Plan
 pub mod Reads
 pub mod RecordOutcomes
 pub mod Rights
+pub mod RunOutcome
 pub mod Sound
 pub mod Step
 pub mod Totals

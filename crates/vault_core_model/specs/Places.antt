@@ -1,6 +1,10 @@
--- Which entries are held, and which are current.
-use Rattle.std.specs.Prelude.{ℕ, ◌&&◌, ◌==◌, Bool, nat_lt, List, length, filter, find, Option, is_none}
+-- Which entries are held, which are current, and which keys have one.
+use Rattle.std.specs.Prelude.{ℕ, ◌&&◌, ◌||◌, ◌==◌, Bool, nat_lt, List, [], ◌∷◌, length, map, filter, find, Option, is_none}
+use Rattle.std.specs.Cmp.Lexicographic.{slice_cmp}
+use Rattle.std.specs.Ordering.{nat_cmp, is_gt}
 use Rattle.std.specs.Str.{bytes_eq}
+use Rattle.std.specs.declared.cmp.Ordering.{Ordering}
+use Rattle.std.specs.declared.cmp.Ordering.TheVariants.{Less, Equal, Greater}
 use Rattle.vault_core_model.specs.declared.records.Entry.{Entry}
 use Rattle.vault_core_model.specs.declared.records.History.{History}
 use Rattle.vault_core_model.specs.Vault.{Vault}
@@ -28,3 +32,31 @@ is_current v h = is_held h.entry && (length (newer v h) == 0)
 -- the current entry of a key
 abbrev pub current : Vault → List ℕ → List ℕ → Option History
 current v bucket key = find (is_current v) (held_at v bucket key)
+
+-- the key comes behind that one, by their bytes; every key comes behind the empty text
+abbrev pub is_behind : List ℕ → List ℕ → Bool
+is_behind key after = length after == 0 || is_gt (slice_cmp nat_cmp key after)
+
+-- k before the keys x and xs, or x before the rest, or k once, by how k compares with x
+abbrev pub with_key_by : Ordering → List ℕ → List ℕ → List (List ℕ) → List (List ℕ) → List (List ℕ)
+with_key_by Less k x xs with_k = k ∷ x ∷ xs
+with_key_by Equal k x xs with_k = x ∷ xs
+with_key_by Greater k x xs with_k = x ∷ with_k
+
+-- the keys with k among them
+abbrev pub with_key : List ℕ → List (List ℕ) → List (List ℕ)
+with_key k [] = k ∷ []
+with_key k (x ∷ xs) = with_key_by (slice_cmp nat_cmp k x) k x xs (with_key k xs)
+
+-- the set of these keys, by their bytes
+abbrev pub key_set : List (List ℕ) → List (List ℕ)
+key_set [] = []
+key_set (k ∷ ks) = with_key k (key_set ks)
+
+-- held in that bucket
+abbrev pub is_held_in : List ℕ → Entry → Bool
+is_held_in bucket e = bytes_eq e.bucket bucket && is_held e
+
+-- the keys of a bucket that have a held entry, by their bytes
+abbrev pub keys_of : Vault → List ℕ → List (List ℕ)
+keys_of v bucket = key_set (map (λ h. h.entry.key) (filter (λ h. is_held_in bucket h.entry) v.histories))

@@ -1,13 +1,14 @@
 -- What a keeper reads of a vault.
-use Rattle.std.specs.Prelude.{ℕ, List, [], ◌∷◌, length, Option, Some, None, option_map, option_and_then, false}
+use Rattle.std.specs.Prelude.{ℕ, List, [], ◌∷◌, length, map, filter, take, Option, Some, None, option_map, option_and_then, false, not}
 use Rattle.vault_lock.specs.declared.lock.Lock.{Lock}
+use Rattle.vault_rules.specs.declared.plan.Held.{Held}
 use Rattle.vault_core_model.specs.declared.records.Entry.{Entry}
 use Rattle.vault_core_model.specs.declared.records.Head.{Head}
 use Rattle.vault_core_model.specs.declared.records.History.{History}
 use Rattle.vault_core_model.specs.declared.records.LastSetting.{LastSetting}
 use Rattle.vault_core_model.specs.declared.records.Setting.{Setting}
 use Rattle.vault_core_model.specs.Vault.{Vault, history_of, last_lock}
-use Rattle.vault_core_model.specs.Places.{held_at}
+use Rattle.vault_core_model.specs.Places.{held_at, is_held, is_behind, keys_of}
 
 -- the entry of that id, held or removed
 abbrev pub entry_of : Vault → ℕ → Option Entry
@@ -47,3 +48,19 @@ head_over (h ∷ g ∷ gs) = option_map (λ x. record { newest = x.newest; count
 
 abbrev pub head_of : Vault → List ℕ → List ℕ → Option Head
 head_of v bucket key = head_over (held_at v bucket key)
+
+-- what a lifecycle run looks at of a held entry
+abbrev pub held_of : History → Held
+held_of h = record { id = h.entry.id; marker = h.entry.marker; size = h.entry.size; admitted = h.entry.admitted; lock = last_lock h.settings }
+
+-- the held entries of a key, oldest first
+abbrev pub entries_of : Vault → List ℕ → List ℕ → List Held
+entries_of v bucket key = map held_of (held_at v bucket key)
+
+-- the first of the bucket's keys behind that one
+abbrev pub keys_after : Vault → List ℕ → List ℕ → ℕ → List (List ℕ)
+keys_after v bucket after most = take most (filter (λ k. is_behind k after) (keys_of v bucket))
+
+-- the removed entries, by rising id
+abbrev pub removed_entries : Vault → List Entry
+removed_entries v = map (λ h. h.entry) (filter (λ h. not (is_held h.entry)) v.histories)

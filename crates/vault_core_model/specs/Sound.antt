@@ -1,13 +1,17 @@
 -- What holds of every vault that a keeper has.
-use Rattle.std.specs.Prelude.{◌≡◌, ℕ, ◌+◌, ◌≤◌, Bool, true, false, List, [], ◌∷◌, length, Option, Some, None, IsSome}
+use Rattle.std.specs.Prelude.{◌≡◌, ℕ, ◌+◌, ◌≤◌, Bool, true, false, List, [], ◌∷◌, length, Option, Some, None, IsSome, IsTrue}
 use Rattle.std.specs.List.{AllByRecursion}
 use Rattle.sha2.specs.Sha256.{sha256}
 use Rattle.vault_tally.specs.Row.{quota}
+use Rattle.vault_rules.specs.Rules.{is_rule_set, passes_if_given}
+use Rattle.vault_core_model.specs.declared.records.Bucket.{Bucket}
 use Rattle.vault_core_model.specs.declared.records.Entry.{Entry}
 use Rattle.vault_core_model.specs.declared.records.History.{History}
+use Rattle.vault_core_model.specs.declared.records.Note.{Note}
 use Rattle.vault_core_model.specs.declared.records.Removal.{Removal}
 use Rattle.vault_core_model.specs.declared.records.Setting.{Setting}
 use Rattle.vault_core_model.specs.Vault.{Vault, config_of}
+use Rattle.vault_core_model.specs.Reads.{entry_of}
 use Rattle.vault_core_model.specs.Totals.{admitted_bytes}
 use Rattle.vault_core_model.specs.Checks.{most_content, most_ids, most_settings}
 
@@ -49,6 +53,18 @@ IsWhole h = IsWholeAs h.entry.marker h.entry h.content h.settings
 abbrev pub IsPlaced : Vault → History → Type 0
 IsPlaced v h = IsSome (config_of v h.entry.bucket)
 
+-- the entry is the version that a note tells of: of its bucket, key, size and digest
+abbrev pub IsNoted : Note → Option Entry → Type 0
+IsNoted n None = ⊥
+IsNoted n (Some e) = (e.bucket ≡ n.bucket) × (e.key ≡ n.key) × (e.size ≡ n.size) × (e.digest ≡ Some n.digest)
+
+abbrev pub NamesItsVersion : Vault → Note → Type 0
+NamesItsVersion v n = IsNoted n (entry_of v n.id)
+
+-- a bucket has no rules, or a list that it may have
+abbrev pub HasRuleSet : Bucket → Type 0
+HasRuleSet b = IsTrue (passes_if_given is_rule_set b.rules)
+
 -- what holds of every vault that is kept
 pub record Sound (v : Vault) : Type 0 where
   pub ids : AreIdsFrom 1 v.histories
@@ -58,3 +74,5 @@ pub record Sound (v : Vault) : Type 0 where
   pub whole : AllByRecursion IsWhole v.histories
   pub placed : AllByRecursion (IsPlaced v) v.histories
   pub within : (dept : List ℕ) → admitted_bytes v dept ≤ quota
+  pub rule_sets : AllByRecursion HasRuleSet v.buckets
+  pub notes : AllByRecursion (NamesItsVersion v) v.notes

@@ -1,5 +1,5 @@
 -- The vault: one list of whole histories, removed ones included, and the records beside it.
-use Rattle.std.specs.Prelude.{ℕ, ◌+◌, List, [], ◌∷◌, length, true, false, ◌==◌, Bool, Option, None, find, option_map, option_and_then, codes}
+use Rattle.std.specs.Prelude.{ℕ, ◌+◌, List, [], ◌∷◌, length, true, false, ◌==◌, ◌&&◌, Bool, Option, None, find, option_map, option_and_then, codes}
 use Rattle.std.specs.List.{list_any}
 use Rattle.std.specs.Str.{bytes_eq}
 use Rattle.vault_lock.specs.declared.lock.Lock.{Lock}
@@ -57,6 +57,10 @@ config_of v name = config_in v.buckets name
 -- the lifecycle rules of the bucket of that name, in configuration order; none where it has none
 abbrev pub rules_of : Vault → List ℕ → Option (List Rule)
 rules_of v name = option_and_then (λ b. b.rules) (bucket_in v.buckets name)
+
+-- the note of an accepted line of an intake batch
+abbrev pub note_of : Vault → List ℕ → List ℕ → ℕ → Option Note
+note_of v bucket batch line = find (λ n. bytes_eq n.bucket bucket && (bytes_eq n.batch batch && n.line == line)) v.notes
 
 -- the history of that id, held or removed
 abbrev pub history_of : Vault → ℕ → Option History

@@ -2,7 +2,9 @@
 use crate::rights::Rights;
 use vault_base::content::Content;
 use vault_base::moment::Moment;
-use vault_base::name::{BucketName, CallerName, DeptName, ObjectKey, VersionId};
+use vault_base::name::{
+    BatchName, BucketName, CallerName, DeptName, KeyPrefix, ObjectKey, VersionId,
+};
 use vault_lock::retention::{Default, Retention};
 use vault_rules::rule_set::RuleSet;
 
@@ -91,6 +93,20 @@ pub struct Head {
     pub id: Option<VersionId>,
 }
 
+/// A listing of the held entries of a bucket: keys by their bytes, within a key newest first.
+#[derive(Drop)]
+pub struct ListVersions {
+    pub bucket: BucketName,
+    /// Only keys that begin so are listed.
+    pub prefix: KeyPrefix,
+    /// Only what comes behind this key is listed, and with `after_id` also the key's older entries.
+    pub after_key: KeyPrefix,
+    /// The entry of `after_key` behind which the listing begins; with none, behind all of them.
+    pub after_id: Option<VersionId>,
+    /// How many entries are listed at most: 1 to 1,000.
+    pub most: u32,
+}
+
 /// A key that gets a delete marker on top.
 #[derive(Drop)]
 pub struct Delete {
@@ -142,10 +158,32 @@ pub struct GetHold {
     pub id: Option<VersionId>,
 }
 
+/// A run of the lifecycle rules over a bucket.
+#[derive(Drop)]
+pub struct Run {
+    pub bucket: BucketName,
+}
+
 /// A report on a department.
 #[derive(Drop)]
 pub struct Report {
     pub dept: DeptName,
+}
+
+/// A certificate of destruction of a removed content version.
+#[derive(Drop)]
+pub struct Certificate {
+    pub bucket: BucketName,
+    pub id: VersionId,
+}
+
+/// A line of an intake batch, and the version that it asks for.
+#[derive(Drop)]
+pub struct Intake {
+    pub batch: BatchName,
+    /// From 1 on.
+    pub line: u32,
+    pub put: Put,
 }
 
 /// What is asked of the vault.
@@ -163,13 +201,17 @@ pub enum Command {
     Put(Put),
     Get(Get),
     Head(Head),
+    ListVersions(ListVersions),
     Delete(Delete),
     DeleteVersion(DeleteVersion),
     SetRetention(SetRetention),
     GetRetention(GetRetention),
     SetHold(SetHold),
     GetHold(GetHold),
+    Run(Run),
     Report(Report),
+    Certificate(Certificate),
+    Intake(Intake),
 }
 
 /// A command with the reading and the caller that it is given with.

@@ -1,21 +1,35 @@
 //! What keeps a vault.
 ghost use Rattle.std.specs.Prelude.{◌≡◌, ◌≤◌, ◌<◌, ◌+◌, ℕ, List, length, IfOk, OnOk, OnErr};
-ghost use Rattle.vault_core_model.specs.Vault.{Vault, caller_of, config_of, has_department, next_id, rules_of};
-ghost use Rattle.vault_core_model.specs.Reads.{entry_of, setting_of, content_of, head_of};
+ghost use Rattle.vault_core_model.specs.Vault.{Vault, caller_of, config_of, has_department, next_id, note_of, rules_of};
+ghost use Rattle.vault_core_model.specs.Reads.{content_of, entries_of, entry_of, head_of, keys_after, removed_entries, setting_of};
 ghost use Rattle.vault_core_model.specs.Change.{changed};
 ghost use Rattle.vault_core_model.specs.Allowed.{Allows};
 ghost use Rattle.vault_core_model.specs.Sound.{Sound};
 ghost use Rattle.vault_core_model.specs.Halts.{Rose};
+ghost use Rattle.vault_core_model.specs.Handing.{Hands, Taking};
 ghost use Rattle.vault_core_model.specs.Totals.{IsRowFor};
 
 use crate::change::Change;
 use crate::halt::Fault;
-use crate::records::{BucketConfig, Caller, Entry, Head, LastSetting};
+use crate::records::{BucketConfig, Caller, Entry, Head, LastSetting, Note};
 use vault_base::content::Content;
 use vault_base::moment::Moment;
-use vault_base::name::{BucketName, CallerName, DeptName, ObjectKey, VersionId};
+use vault_base::name::{
+    BatchName, BucketName, CallerName, DeptName, KeyPrefix, ObjectKey, VersionId,
+};
+use vault_rules::plan::Held;
 use vault_rules::rule_set::RuleSet;
 use vault_tally::row::Row;
+
+/// What takes the removed entries that a keeper hands on.
+pub trait Sink {
+    /// What it does with an entry: the sink before, the entry, whether it took it, the sink after.
+    ghost takes: { Taking Self };
+
+    /// Takes an entry, or refuses it and every one behind it.
+    fn take(&mut self, entry: &Entry) -> bool
+        ensures { takes self.old entry.now result self.new };
+}
 
 /// What keeps a vault: a list of histories, or tables in a file.
 ///
@@ -94,6 +108,14 @@ pub trait Keeper {
         ensures counted { count self.old ≤ count self.new }
         ensures device { result ≡ Err Fault.Device → Rose (count self.old) (count self.new) };
 
+    /// The held entries of a key, oldest first.
+    fn entries(&mut self, bucket: &BucketName, key: &ObjectKey) -> Result<Vec<Held>, Fault>
+        ensures value { is_honest self.new → IfOk result (λ held. held.items ≡ entries_of (vault self.old) bucket.now key.now) }
+        ensures same { vault self.new ≡ vault self.old }
+        ensures honest { is_honest self.new → is_honest self.old }
+        ensures counted { count self.old ≤ count self.new }
+        ensures device { result ≡ Err Fault.Device → Rose (count self.old) (count self.new) };
+
     /// The entry of an id, held or removed.
     fn entry(&mut self, id: VersionId) -> Result<Option<Entry>, Fault>
         ensures value { is_honest self.new → IfOk result (λ found. found ≡ entry_of (vault self.old) id) }
@@ -113,6 +135,40 @@ pub trait Keeper {
     /// The bytes of a held version.
     fn content(&mut self, id: VersionId) -> Result<Option<Content>, Fault>
         ensures value { is_honest self.new → IfOk result (λ found. found ≡ content_of (vault self.old) id) }
+        ensures same { vault self.new ≡ vault self.old }
+        ensures honest { is_honest self.new → is_honest self.old }
+        ensures counted { count self.old ≤ count self.new }
+        ensures device { result ≡ Err Fault.Device → Rose (count self.old) (count self.new) };
+
+    /// The first of the bucket's keys behind `after` that have a held entry, by their bytes: at most `most`.
+    fn keys(
+        &mut self,
+        bucket: &BucketName,
+        after: &KeyPrefix,
+        most: u32,
+    ) -> Result<Vec<ObjectKey>, Fault>
+        ensures value { is_honest self.new → IfOk result (λ keys. keys.items ≡ keys_after (vault self.old) bucket.now after.now most) }
+        ensures same { vault self.new ≡ vault self.old }
+        ensures honest { is_honest self.new → is_honest self.old }
+        ensures counted { count self.old ≤ count self.new }
+        ensures device { result ≡ Err Fault.Device → Rose (count self.old) (count self.new) };
+
+    /// The note of an accepted line of an intake batch.
+    fn note(
+        &mut self,
+        bucket: &BucketName,
+        batch: &BatchName,
+        line: u32,
+    ) -> Result<Option<Note>, Fault>
+        ensures value { is_honest self.new → IfOk result (λ found. found ≡ note_of (vault self.old) bucket.now batch.now line) }
+        ensures same { vault self.new ≡ vault self.old }
+        ensures honest { is_honest self.new → is_honest self.old }
+        ensures counted { count self.old ≤ count self.new }
+        ensures device { result ≡ Err Fault.Device → Rose (count self.old) (count self.new) };
+
+    /// Hands on each removed entry by rising id: true after all of them, false where the sink refused.
+    fn walk_removed<S: Sink>(&mut self, sink: &mut S) -> Result<bool, Fault>
+        ensures value { is_honest self.new → Hands S.takes sink.old (removed_entries (vault self.old)) result sink.new }
         ensures same { vault self.new ≡ vault self.old }
         ensures honest { is_honest self.new → is_honest self.old }
         ensures counted { count self.old ≤ count self.new }

@@ -1,5 +1,9 @@
 //! What the vault answers.
+ghost use Rattle.std.specs.Prelude.{◌≡◌, [], ◌∷◌, ◌++◌, OnOk, OnErr};
+
 use crate::records::Entry;
+use std::alloc::{AllocError, Global};
+use std::marker::Model;
 use vault_base::content::Content;
 use vault_base::moment::Moment;
 use vault_base::name::{DeptName, VersionId};
@@ -15,12 +19,80 @@ pub struct Version {
     pub lock: Lock,
 }
 
+/// An entry of a listing.
+#[derive(Drop)]
+pub struct Listed {
+    pub entry: Entry,
+    pub current: bool,
+}
+
+/// The entries of a listing, in order.
+#[derive(Drop)]
+pub struct Listing {
+    entries: Vec<Listed>,
+}
+
+impl Model for Listing {
+    ghost use Rattle.std.specs.Prelude.{List};
+    ghost use Rattle.vault_core_model.specs.declared.reply.Listed.{Listed};
+
+    ghost Value = { List Listed };
+
+    ghost view = { λ l. l.entries.items };
+}
+
+impl Listing {
+    /// No entry.
+    pub fn new(alloc: Global) -> Listing
+        ensures { result ≡ [] }
+    {
+        Listing {
+            entries: Vec::new(alloc),
+        }
+    }
+
+    /// One entry more, the last.
+    pub fn push(&mut self, entry: Listed) -> Result<(), AllocError>
+        ensures ok { OnOk result (self.new ≡ self.old ++ entry ∷ []) }
+        ensures err { OnErr result (self.new ≡ self.old) }
+    {
+        self.entries.push(entry)?;
+        Ok(())
+    }
+
+    /// The entries, in order.
+    pub fn as_slice(&self) -> &[Listed]
+        ensures { result.now ≡ self.now }
+    {
+        self.entries.as_slice()
+    }
+}
+
+/// A listing, and whether entries behind it were left out.
+#[derive(Drop)]
+pub struct Page {
+    pub entries: Listing,
+    pub more: bool,
+}
+
 /// A removed entry, and how its removal was permitted.
 #[derive(Clone, Copy, PartialEq, Eq)]
 pub struct Removed {
     pub id: VersionId,
     pub marker: bool,
     pub permit: Permit,
+}
+
+/// How many changes a lifecycle run made, and of which kind.
+#[derive(Clone, Copy, Debug, PartialEq, Eq)]
+pub struct Counts {
+    pub changes: u64,
+    /// Delete markers put on top.
+    pub marked: u64,
+    /// Noncurrent entries removed.
+    pub removed: u64,
+    /// Markers removed that were their key's only entry.
+    pub lone: u64,
 }
 
 /// The sums of a department at a moment.
@@ -34,6 +106,13 @@ pub struct Report {
     pub byte_days: u64,
 }
 
+/// The version of an intake line, and whether it was there before.
+#[derive(Clone, Copy, PartialEq, Eq)]
+pub struct TakenIn {
+    pub id: VersionId,
+    pub again: bool,
+}
+
 #[derive(Drop)]
 pub enum Answer {
     Nothing,
@@ -42,15 +121,32 @@ pub enum Answer {
     Admitted(VersionId),
     Version(Version, Content),
     Head(Version),
+    Versions(Page),
     Marked(VersionId),
     Removed(Removed),
     Retention(Option<Retention>),
     Hold(bool),
+    Ran(Counts),
     Report(Report),
+    Certificate(Entry),
+    TakenIn(TakenIn),
+}
+
+/// What stops a lifecycle run.
+#[derive(Clone, Copy, Debug, PartialEq, Eq)]
+pub enum Stop {
+    /// No memory was left for a growth.
+    Memory,
+    /// The device failed.
+    Device,
+    /// No id was left for a delete marker.
+    VaultFull,
 }
 
 #[derive(Drop)]
 pub enum Reply {
     Done(Answer),
     Refused(Refusal),
+    /// A lifecycle run stopped after that many changes, which stand.
+    Stopped(u64, Stop),
 }

@@ -1,2 +1,1 @@
 mod Marker
-mod Report

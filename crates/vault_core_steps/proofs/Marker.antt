@@ -18,4 +18,5 @@ marker_allowed v t id bucket key by config sound there next few = record {
   bucket = config;
   placed = there;
   fits = omega (arith, sound.within config.dept);
+  noted = tt;
 }

@@ -1,8 +1,6 @@
-//! What each command answers and changes, over any keeper. A command makes its checks in their order,
-//! then at most one change; all memory that it takes is taken before the change.
+//! What each command on entries and their locks answers and changes, over any keeper. A command makes
+//! its checks in their order, then at most one change; all memory that it takes is taken before the change.
 #![tactic(auto)]
 
-pub mod config;
 pub mod entries;
 pub mod locks;
-pub mod records;

@@ -1,73 +1,80 @@
--- Lines and their grammar: a line has a reading exactly where its members spell one, and is malformed exactly where it isn't an object of just the members of its `do`.
-use Rattle.std.proofs.Common.{◌≡◌, ℕ, Bool, true, List, refl, sym, ◌∙◌, ap, subst, codes}
-use Rattle.std.specs.Prelude.{◌&&◌, if◌then◌else◌, Option, Some, Result, Err}
-use Rattle.std.specs.List.{list_any}
+-- Lines and their grammar: what a value that has the shape of a line is read as, and any other.
+use Rattle.std.proofs.Common.{◌≡◌, ◌≢◌, ℕ, Bool, true, false, List, [], ◌∷◌, refl, sym, ◌∙◌, ap, subst, codes}
+use Rattle.std.specs.Prelude.{if◌then◌else◌, IsTrue, Option, Some, None, option_and_then, Result, Ok, Err}
+use Rattle.std.specs.List.{find}
+use Rattle.std.specs.Option.{option_map_or}
 use Rattle.std.specs.Str.{bytes_eq}
 use Rattle.std.proofs.lemmas.Slice.Eq.{bytes_eq-Decides}
-use Rattle.serde_json.specs.Data.{Data, string}
-use Rattle.serde_json.specs.Find.{get}
+use Rattle.serde_json.specs.Data.{Data, null, boolean, string, number, array, object}
+use Rattle.serde_json.specs.Find.{get, as_str}
 use Rattle.vault_base.specs.declared.refusal.Refusal.{Refusal}
 use Rattle.vault_base.specs.declared.refusal.Refusal.TheVariants.{MalformedBody}
 use Rattle.vault_core_model.specs.declared.command.Timed.{Timed}
-use Rattle.vault_http_script.specs.EntryLines.{put_of, get_of, delete_version_of}
-use Rattle.vault_http_script.specs.Grammar.{shapes, common, has_members, has_shape, is_text, add_dept_line, add_caller_line, add_bucket_line, put_line, get_line, delete_version_line, report_line, IsText, Spells}
-use Rattle.vault_http_script.specs.Members.{text_of}
-use Rattle.vault_http_script.specs.ReadLine.{timed_of}
-use Rattle.vault_http_script.specs.RecordLines.{add_dept_of, add_caller_of, add_bucket_of, report_of}
-use Rattle.vault_http_script.proofs.ShapeLemmas.{Told, told-asks, told-chosen, each_and-is, has_members-is, asks-text, is-text}
-use Rattle.vault_http_script.proofs.ToldLemmas.{told-add-dept, told-add-caller, told-add-bucket, told-put, told-get, told-delete-version, told-report}
+use Rattle.vault_http_values.specs.Fault.{◌>>=◌, or_malformed}
+use Rattle.vault_http_values.specs.Members.{text_of}
+use Rattle.vault_http_values.specs.Values.{reading_of, asker_of}
+use Rattle.vault_http_values.proofs.ReadLemmas.{Reads, reads-then, left-of}
+use Rattle.vault_http_values.proofs.ValueLemmas.{reads-reading, reads-asker}
+use Rattle.vault_http_script.specs.Grammar.{IsDo, verb_in, has_shape, Spells}
+use Rattle.vault_http_script.specs.ReadLine.{if_shaped, verb_of, values_of, timed_of}
+use Rattle.vault_http_script.specs.Verb.{verb_name, verbs, verb_named, is_shaped}
+use Rattle.vault_http_script.specs.declared.verb.Verb.{Verb}
+use Rattle.vault_http_script.specs.declared.verb.Verb.TheVariants as verb
+use Rattle.vault_http_script.proofs.CommandLemmas.{Fit, all-fit, reads-values, heading-fits}
 
-same-text : (a b : List ℕ) → bytes_eq a b ≡ true → a ≡ b
-same-text a b e = (bytes_eq-Decides a b).0 e
+-- what a reading gives, of a line that has the shape or hasn't
+abbrev pub Told : {A : Type 0} → Bool → (A → Type 0) → Result A Refusal → Type 0
+Told true P r = Reads P r
+Told false P r = r ≡ Err MalformedBody
 
--- some line has that `do` and these members
-abbrev pub passes : Data → Option Data → Bool
-passes d found = list_any (λ shape. is_text shape.verb found && has_members d shape) shapes
+-- ---- the verb
 
-abbrev pub chosen : List ℕ → List ℕ → List ℕ → Data → Result Timed Refusal
-chosen name at who d =
-    if bytes_eq name (codes "add-dept") then add_dept_of at who d
-    else if bytes_eq name (codes "add-caller") then add_caller_of at who d
-    else if bytes_eq name (codes "add-bucket") then add_bucket_of at who d
-    else if bytes_eq name (codes "put") then put_of at who d
-    else if bytes_eq name (codes "get") then get_of at who d
-    else if bytes_eq name (codes "delete-version") then delete_version_of at who d
-    else if bytes_eq name (codes "report") then report_of at who d
-    else Err MalformedBody
+passes-here : (test : Verb → Bool) (vs : List Verb) (v w : Verb) (b : Bool) → test v ≡ b → (find test vs ≡ Some w → test w ≡ true) → (let found : Option Verb = if b then Some v else find test vs in found) ≡ Some w → test w ≡ true
+passes-here test vs v w true e later f =
+    let same : v ≡ w = cc in
+    cc
+passes-here test vs v w false e later f = later f
 
-told-chosen-line : (d : Data) (at who name : List ℕ) → IsText d (codes "at") at → IsText d (codes "as") who → IsText d (codes "do") name → Told (passes d (Some (string name))) (Spells d) (chosen name at who d)
-told-chosen-line d at who name at_is who_is do_is =
-    let verb : (word : List ℕ) → bytes_eq name word ≡ true → IsText d (codes "do") word = λ word e. do_is ∙ ap (λ v. Some (string v)) (same-text name word e) in
-    told-chosen (bytes_eq name (codes "add-dept")) (has_members d add_dept_line) _ (Spells d) _ _
-    (λ e. subst (λ b. Told b (Spells d) (add_dept_of at who d)) (has_members-is d add_dept_line) (told-add-dept d at who at_is who_is (verb _ e)))
-    (λ e. rw (same-text name (codes "add-dept") e) refl)
-    (told-chosen (bytes_eq name (codes "add-caller")) (has_members d add_caller_line) _ (Spells d) _ _
-    (λ e. subst (λ b. Told b (Spells d) (add_caller_of at who d)) (has_members-is d add_caller_line) (told-add-caller d at who at_is who_is (verb _ e)))
-    (λ e. rw (same-text name (codes "add-caller") e) refl)
-    (told-chosen (bytes_eq name (codes "add-bucket")) (has_members d add_bucket_line) _ (Spells d) _ _
-    (λ e. subst (λ b. Told b (Spells d) (add_bucket_of at who d)) (has_members-is d add_bucket_line) (told-add-bucket d at who at_is who_is (verb _ e)))
-    (λ e. rw (same-text name (codes "add-bucket") e) refl)
-    (told-chosen (bytes_eq name (codes "put")) (has_members d put_line) _ (Spells d) _ _
-    (λ e. subst (λ b. Told b (Spells d) (put_of at who d)) (has_members-is d put_line) (told-put d at who at_is who_is (verb _ e)))
-    (λ e. rw (same-text name (codes "put") e) refl)
-    (told-chosen (bytes_eq name (codes "get")) (has_members d get_line) _ (Spells d) _ _
-    (λ e. subst (λ b. Told b (Spells d) (get_of at who d)) (has_members-is d get_line) (told-get d at who at_is who_is (verb _ e)))
-    (λ e. rw (same-text name (codes "get") e) refl)
-    (told-chosen (bytes_eq name (codes "delete-version")) (has_members d delete_version_line) _ (Spells d) _ _
-    (λ e. subst (λ b. Told b (Spells d) (delete_version_of at who d)) (has_members-is d delete_version_line) (told-delete-version d at who at_is who_is (verb _ e)))
-    (λ e. rw (same-text name (codes "delete-version") e) refl)
-    (told-chosen (bytes_eq name (codes "report")) (has_members d report_line) _ (Spells d) _ _
-    (λ e. subst (λ b. Told b (Spells d) (report_of at who d)) (has_members-is d report_line) (told-report d at who at_is who_is (verb _ e)))
-    (λ e. refl)
-    refl))))))
+found-passes : (test : Verb → Bool) (vs : List Verb) (w : Verb) → find test vs ≡ Some w → test w ≡ true
+found-passes test [] w e = absurd cc
+found-passes test (v ∷ vs) w e = passes-here test vs v w (test v) refl (found-passes test vs w) e
+
+is-name : (name : List ℕ) (verb : Verb) → verb_named name ≡ Some verb → name ≡ verb_name verb
+is-name name verb e = (bytes_eq-Decides name (verb_name verb)).0 (found-passes (λ v. bytes_eq name (verb_name v)) verbs verb e)
+
+-- the verb of a value that has its shape, or of none
+verb-chosen : (d : Data) (name : List ℕ) (found : Option Verb) → get (codes "do") d ≡ Some (string name) → verb_named name ≡ found → Told (option_map_or (λ verb. is_shaped verb d) found false) (λ verb. IsDo d verb × IsTrue (is_shaped verb d)) (if_shaped found d)
+verb-chosen d name None e f = refl
+verb-chosen d name (Some verb) e f = shaped (is_shaped verb d) refl
+  where
+    shaped : (b : Bool) → is_shaped verb d ≡ b → Told b (λ verb. IsDo d verb × IsTrue (is_shaped verb d)) (if b then Ok verb else Err MalformedBody)
+    shaped true g = (e ∙ ap (λ t. Some (string t)) (is-name name verb f), g)
+    shaped false g = refl
+
+verb-found : (d : Data) (found : Option Data) → get (codes "do") d ≡ found → Told (option_map_or (λ verb. is_shaped verb d) (option_and_then verb_named (option_and_then as_str found)) false) (λ verb. IsDo d verb × IsTrue (is_shaped verb d)) (or_malformed (option_and_then as_str found) >>= (λ name. if_shaped (verb_named name) d))
+verb-found d None e = refl
+verb-found d (Some null) e = refl
+verb-found d (Some (boolean b)) e = refl
+verb-found d (Some (number n)) e = refl
+verb-found d (Some (string name)) e = verb-chosen d name (verb_named name) e refl
+verb-found d (Some (array ds)) e = refl
+verb-found d (Some (object ms)) e = refl
+
+told-verb : (d : Data) → Told (has_shape d) (λ verb. IsDo d verb × IsTrue (is_shaped verb d)) (verb_of d)
+unfolding verb_of text_of
+told-verb d = verb-found d (get (codes "do") d) refl
+
+-- ---- lines
+
+told-then : {A B : Type 0} (b : Bool) (P : A → Type 0) (Q : B → Type 0) (x : Result A Refusal) (f : A → Result B Refusal) → Told b P x → ((a : A) → P a → Reads Q (f a)) → Told b Q (x >>= f)
+told-then true P Q x f told next = reads-then P Q x f told next
+told-then false P Q x f told next = rw told refl
 
 pub told-timed : (d : Data) → Told (has_shape d) (Spells d) (timed_of d)
 unfolding timed_of
 told-timed d =
-    subst (λ b. Told b (Spells d) (timed_of d)) (sym (each_and-is common d (passes d (get (codes "do") d))))
-    (told-asks _ _ (Spells d) (text_of (codes "at") d) _ (asks-text (codes "at") d) (λ at at_is.
-    told-asks _ _ (Spells d) (text_of (codes "as") d) _ (asks-text (codes "as") d) (λ who who_is.
-    told-asks _ (passes d (get (codes "do") d)) (Spells d) (text_of (codes "do") d) _ (asks-text (codes "do") d) (λ name name_is.
-    let do_is = is-text (codes "do") d name name_is in
-    subst (λ b. Told b (Spells d) (chosen name at who d)) (ap (λ found. passes d found) (sym do_is))
-    (told-chosen-line d at who name (is-text (codes "at") d at at_is) (is-text (codes "as") d who who_is) do_is)))))
+    told-then (has_shape d) _ (Spells d) (verb_of d) _ (told-verb d) (λ verb verb_is.
+    reads-then _ (Spells d) (reading_of d) _ (reads-reading d (heading-fits verb d verb_is.1).0) (λ at at_is.
+    reads-then _ (Spells d) (asker_of d) _ (reads-asker d (heading-fits verb d verb_is.1).1) (λ who who_is.
+    reads-then _ (Spells d) (values_of verb d) _ (reads-values verb d verb_is.0 verb_is.1) (λ command command_is.
+    (at_is, who_is, command_is)))))

@@ -1,10 +1,4 @@
+pub mod CommandLemmas
 pub mod GrammarLemmas
 pub mod LineLemmas
-pub mod NameLemmas
-pub mod ReplyLemmas
-pub mod RightsLemmas
-pub mod ShapeLemmas
 pub mod SpelledLemmas
-pub mod TextsLemmas
-pub mod ToldLemmas
-pub mod ValueLemmas

@@ -11,12 +11,11 @@ use Rattle.vault_base.specs.declared.refusal.Refusal.TheVariants.{MalformedBody}
 use Rattle.vault_core_model.specs.declared.command.Timed.{Timed}
 use Rattle.vault_http_script.specs.declared.read_line.Line.{Line}
 use Rattle.vault_http_script.specs.declared.read_line.Line.TheVariants as line
-use Rattle.vault_http_script.specs.Document.{json_of}
-use Rattle.vault_http_script.specs.Fault.{◌>>=◌, or_malformed}
+use Rattle.vault_http_values.specs.Document.{json_of}
+use Rattle.vault_http_values.specs.Fault.{◌>>=◌, or_malformed}
 use Rattle.vault_http_script.specs.Grammar.{has_shape, HasShape, IsLineOf, Spells}
 use Rattle.vault_http_script.specs.ReadLine.{timed_of, command_of, without_cr, told, line_of}
-use Rattle.vault_http_script.proofs.GrammarLemmas.{told-timed}
-use Rattle.vault_http_script.proofs.ShapeLemmas.{Told}
+use Rattle.vault_http_script.proofs.GrammarLemmas.{Told, told-timed}
 use Rattle.vault_http_script.proofs.SpelledLemmas.{reads-timed}
 
 -- what is told of a line by whether it is too long or empty, and the value that it is

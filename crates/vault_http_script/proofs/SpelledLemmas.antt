@@ -1,241 +1,231 @@
 -- Members that spell a command are read as that command.
-use Rattle.std.proofs.Common.{◌≡◌, ℕ, Bool, true, false, List, [], ◌∷◌, refl, sym, ◌∙◌, ap, inl, inr, codes}
-use Rattle.std.specs.Prelude.{◌&&◌, ◌||◌, not, Option, Some, None, is_some, MatchOption, Ok, IsTrue}
-use Rattle.hex.specs.Hex.{decode_of}
-use Rattle.serde_json.specs.Data.{Data, string, number, unsigned, array}
-use Rattle.serde_json.specs.Find.{get}
-use Rattle.vault_base.specs.Moment.{moment_of}
-use Rattle.vault_base.specs.Name.{is_bucket_name, is_object_key, is_plain_name, is_version_id}
+use Rattle.std.proofs.Common.{◌≡◌, ℕ, Bool, true, false, List, refl, sym, ◌∙◌, ap, inl, inr, codes}
+use Rattle.std.specs.Prelude.{IsTrue, if◌then◌else◌, Option, Some, None, is_some, option_and_then, Result, Ok, Err}
+use Rattle.std.specs.Option.{option_map_or}
+use Rattle.serde_json.specs.Data.{Data, string}
+use Rattle.serde_json.specs.Find.{get, as_str}
+use Rattle.vault_base.specs.declared.refusal.Refusal.{Refusal}
+use Rattle.vault_base.specs.declared.refusal.Refusal.TheVariants.{MalformedBody}
 use Rattle.vault_core_model.specs.declared.command.Command.{Command}
 use Rattle.vault_core_model.specs.declared.command.Command.TheVariants as command
-use Rattle.vault_core_model.specs.declared.rights.Rights.{Rights}
-use Rattle.vault_http_script.specs.declared.members.Whole.TheVariants.{Natural}
-use Rattle.vault_http_script.specs.EntryLines.{put_of, put_values, get_of, delete_version_of}
-use Rattle.vault_http_script.specs.Grammar.{Shape, common, fits_each, has_members, has_shape, has_one_content, names_of, items_of_texts, add_dept_line, add_caller_line, add_bucket_line, put_line, get_line, delete_version_line, report_line, IsText, IsName, IsId, IsContent, IsMoment, SpellsCommand}
-use Rattle.vault_http_script.specs.Members.{is_within, as_texts, only, text_of, optional_text_of, whole_of, optional_whole_of, texts_of}
-use Rattle.vault_http_script.specs.ReadLine.{timed_of}
-use Rattle.vault_http_script.specs.RecordLines.{add_dept_of, add_caller_of, add_bucket_of, report_of}
-use Rattle.vault_http_script.specs.Values.{reading_of, asker_of, caller_of, dept_of, optional_dept_of, bucket_of, key_of, id_of, optional_id_of, rights_of, one_of, content_of}
-use Rattle.vault_http_script.proofs.RightsLemmas.{rights-ok}
-use Rattle.vault_http_script.proofs.GrammarLemmas.{passes, chosen}
+use Rattle.vault_core_model.specs.declared.command.AddBucket.{AddBucket}
+use Rattle.vault_core_model.specs.declared.command.AddCaller.{AddCaller}
+use Rattle.vault_core_model.specs.declared.command.AddDept.{AddDept}
+use Rattle.vault_core_model.specs.declared.command.CloseCaller.{CloseCaller}
+use Rattle.vault_core_model.specs.declared.command.Delete.{Delete}
+use Rattle.vault_core_model.specs.declared.command.DeleteVersion.{DeleteVersion}
+use Rattle.vault_core_model.specs.declared.command.DropRules.{DropRules}
+use Rattle.vault_core_model.specs.declared.command.Get.{Get}
+use Rattle.vault_core_model.specs.declared.command.GetDefault.{GetDefault}
+use Rattle.vault_core_model.specs.declared.command.GetHold.{GetHold}
+use Rattle.vault_core_model.specs.declared.command.GetRetention.{GetRetention}
+use Rattle.vault_core_model.specs.declared.command.GetRules.{GetRules}
+use Rattle.vault_core_model.specs.declared.command.Head.{Head}
+use Rattle.vault_core_model.specs.declared.command.Intake.{Intake}
+use Rattle.vault_core_model.specs.declared.command.ListVersions.{ListVersions}
+use Rattle.vault_core_model.specs.declared.command.Put.{Put}
+use Rattle.vault_core_model.specs.declared.command.Report.{Report}
+use Rattle.vault_core_model.specs.declared.command.Run.{Run}
+use Rattle.vault_core_model.specs.declared.command.SetDefault.{SetDefault}
+use Rattle.vault_core_model.specs.declared.command.SetHold.{SetHold}
+use Rattle.vault_core_model.specs.declared.command.SetRetention.{SetRetention}
+use Rattle.vault_core_model.specs.declared.command.SetRules.{SetRules}
+use Rattle.vault_core_model.specs.declared.command.Timed.{Timed}
+use Rattle.vault_http_values.specs.Fault.{◌>>=◌}
+use Rattle.vault_http_values.specs.Members.{text_of}
+use Rattle.vault_http_values.specs.Spelling.{IsText, IsName, IsMoment}
+use Rattle.vault_http_values.specs.Values.{reading_of, asker_of}
+use Rattle.vault_http_values.proofs.SpelledLemmas.{reading-ok, asker-ok, caller-ok, dept-ok, optional-dept-ok, batch-ok, bucket-ok, key-ok, prefix-ok, number-ok, optional-number-ok, id-ok, optional-id-ok, rights-are, content-ok, retention-ok, optional-retention-ok, hold-ok, optional-hold-ok, bypass-ok, default-ok, rules-ok}
+use Rattle.vault_http_script.specs.ConfigLines.{set_default_of, get_default_of, set_rules_of, get_rules_of, drop_rules_of, run_of}
+use Rattle.vault_http_script.specs.EntryLines.{put_in, put_of, get_of, head_of, delete_of, delete_version_of, intake_of}
+use Rattle.vault_http_script.specs.Grammar.{IsDo, IsPut, IsAfterId, IsMost, has_shape, SpellsCommand}
+use Rattle.vault_http_script.specs.ListLine.{after_id_of, most_of, list_versions_of}
+use Rattle.vault_http_script.specs.LockLines.{set_retention_of, get_retention_of, set_hold_of, get_hold_of}
+use Rattle.vault_http_script.specs.ReadLine.{if_shaped, verb_of, values_of, timed_of}
+use Rattle.vault_http_script.specs.RecordLines.{add_dept_of, add_caller_of, close_caller_of, add_bucket_of, report_of}
+use Rattle.vault_http_script.specs.Verb.{verb_name, verb_named, is_shaped}
+use Rattle.vault_http_script.specs.declared.verb.Verb.{Verb}
+use Rattle.vault_http_script.specs.declared.verb.Verb.TheVariants as verb
 
-text-ok : (name : List ℕ) (d : Data) (text : List ℕ) → IsText d name text → text_of name d ≡ Ok text
-unfolding text_of
-text-ok name d text e = rw e refl
+-- ---- values
 
-some-text-ok : (name : List ℕ) (d : Data) (text : List ℕ) → IsText d name text → optional_text_of name d ≡ Ok (Some text)
-unfolding optional_text_of
-some-text-ok name d text e = rw e refl
+after-id-ok : (d : Data) (id : Option ℕ) → IsAfterId d id → after_id_of d ≡ Ok id
+unfolding after_id_of
+after-id-ok d None h = rw (optional-id-ok (codes "after_id") d None h) refl
+after-id-ok d (Some id) h = rw (optional-id-ok (codes "after_id") d (Some id) h.0, h.1) refl
 
-no-text-ok : (name : List ℕ) (d : Data) → get name d ≡ None → optional_text_of name d ≡ Ok None
-unfolding optional_text_of
-no-text-ok name d e = rw e refl
+most-ok : (d : Data) (most : ℕ) → IsMost d most → most_of d ≡ Ok most
+unfolding most_of
+most-ok d most (inl e) = rw (optional-number-ok (codes "most") d (Some most) e) refl
+most-ok d most (inr (e, f)) = rw (optional-number-ok (codes "most") d None e, f) refl
 
-whole-ok : (name : List ℕ) (d : Data) (n : ℕ) → get name d ≡ Some (number (unsigned n)) → whole_of name d ≡ Ok (Natural n)
-unfolding whole_of
-whole-ok name d n e = rw e refl
-
-some-whole-ok : (name : List ℕ) (d : Data) (n : ℕ) → get name d ≡ Some (number (unsigned n)) → optional_whole_of name d ≡ Ok (Some (Natural n))
-unfolding optional_whole_of
-some-whole-ok name d n e = rw e refl
-
-no-whole-ok : (name : List ℕ) (d : Data) → get name d ≡ None → optional_whole_of name d ≡ Ok None
-unfolding optional_whole_of
-no-whole-ok name d e = rw e refl
-
-items-ok : (texts : List (List ℕ)) → as_texts (items_of_texts texts) ≡ Ok texts
-items-ok [] = refl
-items-ok (text ∷ texts) = rw (items-ok texts) refl
-
-texts-ok : (name : List ℕ) (d : Data) (texts : List (List ℕ)) → get name d ≡ Some (array (items_of_texts texts)) → texts_of name d ≡ Ok texts
-unfolding texts_of
-texts-ok name d texts e = rw e (items-ok texts)
-
-only-ok : (names : List (List ℕ)) (d : Data) → is_within names d ≡ true → only names d ≡ Ok tt
-unfolding only
-only-ok names d e = rw e refl
-
-reading-ok : (text : List ℕ) (at : ℕ) → moment_of text ≡ Ok at → reading_of text ≡ Ok at
-unfolding reading_of
-reading-ok text at e = rw e refl
-
-asker-ok : (name : List ℕ) → IsTrue (is_plain_name name) → asker_of name ≡ Ok name
-unfolding asker_of
-asker-ok name e = rw e refl
-
-caller-ok : (name : List ℕ) → IsTrue (is_plain_name name) → caller_of name ≡ Ok name
-unfolding caller_of
-caller-ok name e = rw e refl
-
-dept-ok : (name : List ℕ) → IsTrue (is_plain_name name) → dept_of name ≡ Ok name
-unfolding dept_of
-dept-ok name e = rw e refl
-
-some-dept-ok : (name : List ℕ) → IsTrue (is_plain_name name) → optional_dept_of (Some name) ≡ Ok (Some name)
-unfolding optional_dept_of
-some-dept-ok name e = rw (dept-ok name e) refl
-
-no-dept-ok : optional_dept_of None ≡ Ok None
-unfolding optional_dept_of
-no-dept-ok = refl
-
-bucket-ok : (name : List ℕ) → IsTrue (is_bucket_name name) → bucket_of name ≡ Ok name
-unfolding bucket_of
-bucket-ok name e = rw e refl
-
-key-ok : (name : List ℕ) → IsTrue (is_object_key name) → key_of name ≡ Ok name
-unfolding key_of
-key-ok name e = rw e refl
-
-id-ok : (n : ℕ) → IsTrue (is_version_id n) → id_of (Natural n) ≡ Ok n
-unfolding id_of
-id-ok n e = rw e refl
-
-some-id-ok : (n : ℕ) → IsTrue (is_version_id n) → optional_id_of (Some (Natural n)) ≡ Ok (Some n)
-unfolding optional_id_of
-some-id-ok n e = rw (id-ok n e) refl
-
-no-id-ok : optional_id_of None ≡ Ok None
-unfolding optional_id_of
-no-id-ok = refl
-
--- ---- the shape of a line whose `do` is known
-
-left-of : (a b : Bool) → a && b ≡ true → a ≡ true
-left-of true b e = refl
-left-of false b e = e
-
-right-of : (a b : Bool) → a && b ≡ true → b ≡ true
-right-of true b e = e
-right-of false b e = cc
-
-or-none : (b : Bool) → b || false ≡ true → b ≡ true
-or-none true e = refl
-or-none false e = e
-
-passed : (d : Data) (verb : List ℕ) → IsTrue (has_shape d) → IsText d (codes "do") verb → passes d (Some (string verb)) ≡ true
-passed d verb shape do_is = ap (λ found. passes d found) (sym do_is) ∙ right-of (fits_each common d) (passes d (get (codes "do") d)) shape
-
-within : (d : Data) (shape : Shape) → has_members d shape || false ≡ true → is_within (names_of shape) d ≡ true
-within d shape e = left-of (is_within (names_of shape) d) _ (or-none (has_members d shape) e)
+put-in-ok : (d : Data) (c : Put) → IsPut d c → put_in c.bucket d ≡ Ok c
+unfolding put_in
+put-in-ok d c h = rw (key-ok d c.key h.1, content-ok d c.content h.2, optional-retention-ok d c.retention h.3, optional-hold-ok d c.hold h.4) refl
 
 -- ---- lines
 
-chosen-by : (d : Data) (at who verb : List ℕ) → IsText d (codes "at") at → IsText d (codes "as") who → IsText d (codes "do") verb → timed_of d ≡ chosen verb at who d
-unfolding timed_of
-chosen-by d at who verb at_is who_is do_is = rw (text-ok (codes "at") d at at_is, text-ok (codes "as") d who who_is, text-ok (codes "do") d verb do_is) refl
-
-reads-add-dept : (d : Data) (text who dept : List ℕ) (at : ℕ) → is_within (names_of add_dept_line) d ≡ true → moment_of text ≡ Ok at → IsTrue (is_plain_name who) → IsName d (codes "dept") dept → add_dept_of text who d ≡ Ok (record { at = at; who = who; command = command.AddDept (record { dept = dept }) })
+reads-add-dept : (d : Data) (c : AddDept) → SpellsCommand d (command.AddDept c) → add_dept_of d ≡ Ok (command.AddDept c)
 unfolding add_dept_of
-reads-add-dept d text who dept at in_line at_is who_is dept_is =
-    rw (only-ok (names_of add_dept_line) d in_line, text-ok (codes "dept") d dept dept_is.0, reading-ok text at at_is, asker-ok who who_is, dept-ok dept dept_is.1) refl
+reads-add-dept d c s = rw (dept-ok d c.dept s.1) refl
 
-reads-report : (d : Data) (text who dept : List ℕ) (at : ℕ) → is_within (names_of report_line) d ≡ true → moment_of text ≡ Ok at → IsTrue (is_plain_name who) → IsName d (codes "dept") dept → report_of text who d ≡ Ok (record { at = at; who = who; command = command.Report (record { dept = dept }) })
-unfolding report_of
-reads-report d text who dept at in_line at_is who_is dept_is =
-    rw (only-ok (names_of report_line) d in_line, text-ok (codes "dept") d dept dept_is.0, reading-ok text at at_is, asker-ok who who_is, dept-ok dept dept_is.1) refl
-
-reads-add-caller : (d : Data) (text who caller : List ℕ) (dept : Option (List ℕ)) (names : List (List ℕ)) (rights : Rights) (at : ℕ) → is_within (names_of add_caller_line) d ≡ true → moment_of text ≡ Ok at → IsTrue (is_plain_name who) → IsName d (codes "caller") caller → MatchOption dept (get (codes "dept") d ≡ None) (λ dept. IsName d (codes "dept") dept) → get (codes "rights") d ≡ Some (array (items_of_texts names)) → rights_of names ≡ Ok rights → add_caller_of text who d ≡ Ok (record { at = at; who = who; command = command.AddCaller (record { caller = caller; dept = dept; rights = rights }) })
+reads-add-caller : (d : Data) (c : AddCaller) → SpellsCommand d (command.AddCaller c) → add_caller_of d ≡ Ok (command.AddCaller c)
 unfolding add_caller_of
-reads-add-caller d text who caller None names rights at in_line at_is who_is caller_is dept_is names_are rights_are =
-    rw (only-ok (names_of add_caller_line) d in_line, text-ok (codes "caller") d caller caller_is.0, no-text-ok (codes "dept") d dept_is, texts-ok (codes "rights") d names names_are, reading-ok text at at_is, asker-ok who who_is, caller-ok caller caller_is.1, no-dept-ok, rights_are) refl
-reads-add-caller d text who caller (Some dept) names rights at in_line at_is who_is caller_is dept_is names_are rights_are =
-    rw (only-ok (names_of add_caller_line) d in_line, text-ok (codes "caller") d caller caller_is.0, some-text-ok (codes "dept") d dept dept_is.0, texts-ok (codes "rights") d names names_are, reading-ok text at at_is, asker-ok who who_is, caller-ok caller caller_is.1, some-dept-ok dept dept_is.1, rights_are) refl
+reads-add-caller d c s = rw (caller-ok d c.caller s.1, optional-dept-ok d c.dept s.2, rights-are d c.rights s.3) refl
 
-reads-add-bucket : (d : Data) (text who bucket dept : List ℕ) (at : ℕ) → is_within (names_of add_bucket_line) d ≡ true → moment_of text ≡ Ok at → IsTrue (is_plain_name who) → IsText d (codes "bucket") bucket → IsTrue (is_bucket_name bucket) → IsName d (codes "dept") dept → add_bucket_of text who d ≡ Ok (record { at = at; who = who; command = command.AddBucket (record { bucket = bucket; dept = dept }) })
+reads-close-caller : (d : Data) (c : CloseCaller) → SpellsCommand d (command.CloseCaller c) → close_caller_of d ≡ Ok (command.CloseCaller c)
+unfolding close_caller_of
+reads-close-caller d c s = rw (caller-ok d c.caller s.1) refl
+
+reads-add-bucket : (d : Data) (c : AddBucket) → SpellsCommand d (command.AddBucket c) → add_bucket_of d ≡ Ok (command.AddBucket c)
 unfolding add_bucket_of
-reads-add-bucket d text who bucket dept at in_line at_is who_is bucket_is bucket_ok dept_is =
-    rw (only-ok (names_of add_bucket_line) d in_line, text-ok (codes "bucket") d bucket bucket_is, text-ok (codes "dept") d dept dept_is.0, reading-ok text at at_is, asker-ok who who_is, bucket-ok bucket bucket_ok, dept-ok dept dept_is.1) refl
+reads-add-bucket d c s = rw (bucket-ok d c.bucket s.1, dept-ok d c.dept s.2) refl
 
--- what writes the content: the text, or else the digits
-pub record Written (d : Data) (content : List ℕ) : Type 0 where
-  pub text : Option (List ℕ)
-  pub hex : Option (List ℕ)
-  pub text_is : optional_text_of (codes "text") d ≡ Ok text
-  pub hex_is : optional_text_of (codes "hex") d ≡ Ok hex
-  pub one : one_of text hex ≡ Ok tt
-  pub bytes : content_of text hex ≡ Ok content
+reads-set-default : (d : Data) (c : SetDefault) → SpellsCommand d (command.SetDefault c) → set_default_of d ≡ Ok (command.SetDefault c)
+unfolding set_default_of
+reads-set-default d c s = rw (bucket-ok d c.bucket s.1, default-ok d c.default s.2) refl
 
-absent : (found other : Option Data) (value : Data) → other ≡ Some value → (is_some found && not (is_some other)) || (is_some other && not (is_some found)) ≡ true → found ≡ None
-absent None other value e one = refl
-absent (Some x) other value e one = absurd (true-false (rw e at one))
-  where
-    true-false : false ≡ true → ⊥
-    true-false q = cc
+reads-get-default : (d : Data) (c : GetDefault) → SpellsCommand d (command.GetDefault c) → get_default_of d ≡ Ok (command.GetDefault c)
+unfolding get_default_of
+reads-get-default d c s = rw (bucket-ok d c.bucket s.1) refl
 
-swapped : (a b : Bool) → a || b ≡ true → b || a ≡ true
-swapped true true e = refl
-swapped true false e = refl
-swapped false true e = refl
-swapped false false e = e
+reads-set-rules : (d : Data) (c : SetRules) → SpellsCommand d (command.SetRules c) → set_rules_of d ≡ Ok (command.SetRules c)
+unfolding set_rules_of
+reads-set-rules d c s = rw (bucket-ok d c.bucket s.1, rules-ok d c.rules s.2) refl
 
-decoded : (digits bytes : List ℕ) → decode_of digits ≡ Ok bytes → content_of None (Some digits) ≡ Ok bytes
-unfolding content_of
-decoded digits bytes e = rw e refl
+reads-get-rules : (d : Data) (c : GetRules) → SpellsCommand d (command.GetRules c) → get_rules_of d ≡ Ok (command.GetRules c)
+unfolding get_rules_of
+reads-get-rules d c s = rw (bucket-ok d c.bucket s.1) refl
 
-one-text : (bytes : List ℕ) → one_of (Some bytes) None ≡ Ok tt
-unfolding one_of
-one-text bytes = refl
+reads-drop-rules : (d : Data) (c : DropRules) → SpellsCommand d (command.DropRules c) → drop_rules_of d ≡ Ok (command.DropRules c)
+unfolding drop_rules_of
+reads-drop-rules d c s = rw (bucket-ok d c.bucket s.1) refl
 
-one-hex : (digits : List ℕ) → one_of None (Some digits) ≡ Ok tt
-unfolding one_of
-one-hex digits = refl
+reads-put : (d : Data) (c : Put) → SpellsCommand d (command.Put c) → put_of d ≡ Ok (command.Put c)
+unfolding put_of
+reads-put d c s = rw (bucket-ok d c.bucket s.1.0, put-in-ok d c s.1) refl
 
-text-bytes : (bytes : List ℕ) → content_of (Some bytes) None ≡ Ok bytes
-unfolding content_of
-text-bytes bytes = refl
-
-written : (d : Data) (content : List ℕ) → has_one_content d ≡ true → IsContent d content → Written d content
-written d content one (inl text_is) =
-    let none = absent (get (codes "hex") d) (get (codes "text") d) _ text_is (swapped (is_some (get (codes "text") d) && not (is_some (get (codes "hex") d))) (is_some (get (codes "hex") d) && not (is_some (get (codes "text") d))) one) in
-    record { text = Some content; hex = None; text_is = some-text-ok (codes "text") d content text_is; hex_is = no-text-ok (codes "hex") d none; one = one-text content; bytes = text-bytes content }
-written d content one (inr (digits, hex_is, bytes_are)) =
-    let none = absent (get (codes "text") d) (get (codes "hex") d) _ hex_is one in
-    record { text = None; hex = Some digits; text_is = no-text-ok (codes "text") d none; hex_is = some-text-ok (codes "hex") d digits hex_is; one = one-hex digits; bytes = decoded digits content bytes_are }
-
-reads-put : (d : Data) (text who bucket key content : List ℕ) (at : ℕ) → is_within (names_of put_line) d ≡ true → has_one_content d ≡ true → moment_of text ≡ Ok at → IsTrue (is_plain_name who) → IsText d (codes "bucket") bucket → IsTrue (is_bucket_name bucket) → IsText d (codes "key") key → IsTrue (is_object_key key) → IsContent d content → put_of text who d ≡ Ok (record { at = at; who = who; command = command.Put (record { bucket = bucket; key = key; content = content; retention = None; hold = None }) })
-unfolding put_of put_values
-reads-put d text who bucket key content at in_line one at_is who_is bucket_is bucket_ok key_is key_ok content_is =
-    let w = written d content one content_is in
-    rw (only-ok (names_of put_line) d in_line, text-ok (codes "bucket") d bucket bucket_is, text-ok (codes "key") d key key_is, w.text_is, w.hex_is, w.one, reading-ok text at at_is, asker-ok who who_is, bucket-ok bucket bucket_ok, key-ok key key_ok, w.bytes) refl
-
-reads-get : (d : Data) (text who bucket key : List ℕ) (id : Option ℕ) (at : ℕ) → is_within (names_of get_line) d ≡ true → moment_of text ≡ Ok at → IsTrue (is_plain_name who) → IsText d (codes "bucket") bucket → IsTrue (is_bucket_name bucket) → IsText d (codes "key") key → IsTrue (is_object_key key) → MatchOption id (get (codes "id") d ≡ None) (λ id. IsId d id) → get_of text who d ≡ Ok (record { at = at; who = who; command = command.Get (record { bucket = bucket; key = key; id = id }) })
+reads-get : (d : Data) (c : Get) → SpellsCommand d (command.Get c) → get_of d ≡ Ok (command.Get c)
 unfolding get_of
-reads-get d text who bucket key None at in_line at_is who_is bucket_is bucket_ok key_is key_ok id_is =
-    rw (only-ok (names_of get_line) d in_line, text-ok (codes "bucket") d bucket bucket_is, text-ok (codes "key") d key key_is, no-whole-ok (codes "id") d id_is, reading-ok text at at_is, asker-ok who who_is, bucket-ok bucket bucket_ok, key-ok key key_ok, no-id-ok) refl
-reads-get d text who bucket key (Some id) at in_line at_is who_is bucket_is bucket_ok key_is key_ok id_is =
-    rw (only-ok (names_of get_line) d in_line, text-ok (codes "bucket") d bucket bucket_is, text-ok (codes "key") d key key_is, some-whole-ok (codes "id") d id id_is.0, reading-ok text at at_is, asker-ok who who_is, bucket-ok bucket bucket_ok, key-ok key key_ok, some-id-ok id id_is.1) refl
+reads-get d c s = rw (bucket-ok d c.bucket s.1.0, key-ok d c.key s.1.1, optional-id-ok (codes "id") d c.id s.1.2) refl
 
-reads-delete-version : (d : Data) (text who bucket key : List ℕ) (id at : ℕ) → is_within (names_of delete_version_line) d ≡ true → moment_of text ≡ Ok at → IsTrue (is_plain_name who) → IsText d (codes "bucket") bucket → IsTrue (is_bucket_name bucket) → IsText d (codes "key") key → IsTrue (is_object_key key) → IsId d id → delete_version_of text who d ≡ Ok (record { at = at; who = who; command = command.DeleteVersion (record { bucket = bucket; key = key; id = id; bypass = false }) })
+reads-head : (d : Data) (c : Head) → SpellsCommand d (command.Head c) → head_of d ≡ Ok (command.Head c)
+unfolding head_of
+reads-head d c s = rw (bucket-ok d c.bucket s.1.0, key-ok d c.key s.1.1, optional-id-ok (codes "id") d c.id s.1.2) refl
+
+reads-list-versions : (d : Data) (c : ListVersions) → SpellsCommand d (command.ListVersions c) → list_versions_of d ≡ Ok (command.ListVersions c)
+unfolding list_versions_of
+reads-list-versions d c s = rw (bucket-ok d c.bucket s.1.0, prefix-ok (codes "prefix") d c.prefix s.1.1, prefix-ok (codes "after_key") d c.after_key s.1.2, after-id-ok d c.after_id s.1.3, most-ok d c.most s.1.4) refl
+
+reads-delete : (d : Data) (c : Delete) → SpellsCommand d (command.Delete c) → delete_of d ≡ Ok (command.Delete c)
+unfolding delete_of
+reads-delete d c s = rw (bucket-ok d c.bucket s.1, key-ok d c.key s.2) refl
+
+reads-delete-version : (d : Data) (c : DeleteVersion) → SpellsCommand d (command.DeleteVersion c) → delete_version_of d ≡ Ok (command.DeleteVersion c)
 unfolding delete_version_of
-reads-delete-version d text who bucket key id at in_line at_is who_is bucket_is bucket_ok key_is key_ok id_is =
-    rw (only-ok (names_of delete_version_line) d in_line, text-ok (codes "bucket") d bucket bucket_is, text-ok (codes "key") d key key_is, whole-ok (codes "id") d id id_is.0, reading-ok text at at_is, asker-ok who who_is, bucket-ok bucket bucket_ok, key-ok key key_ok, id-ok id id_is.1) refl
+reads-delete-version d c s = rw (bucket-ok d c.bucket s.1, key-ok d c.key s.2, id-ok d c.id s.3, bypass-ok d c.bypass s.4) refl
 
-one-content-of : (d : Data) → has_members d put_line || false ≡ true → has_one_content d ≡ true
-one-content-of d e = right-of (fits_each put_line.members d) _ (right-of (is_within (names_of put_line) d) _ (or-none (has_members d put_line) e))
+reads-set-retention : (d : Data) (c : SetRetention) → SpellsCommand d (command.SetRetention c) → set_retention_of d ≡ Ok (command.SetRetention c)
+unfolding set_retention_of
+reads-set-retention d c s = rw (bucket-ok d c.bucket s.1.0, key-ok d c.key s.1.1, optional-id-ok (codes "id") d c.id s.1.2, retention-ok d c.retention s.2, bypass-ok d c.bypass s.3) refl
 
-pub reads-timed : (d : Data) (at : ℕ) (who : List ℕ) (c : Command) → IsTrue (has_shape d) → IsMoment d at → IsName d (codes "as") who → SpellsCommand d c → timed_of d ≡ Ok (record { at = at; who = who; command = c })
-reads-timed d at who (command.AddDept c) shape m n s =
-    chosen-by d m.0 who (codes "add-dept") m.1 n.0 s.0
-    ∙ reads-add-dept d m.0 who c.dept at (within d add_dept_line (passed d (codes "add-dept") shape s.0)) m.2 n.1 s.1
-reads-timed d at who (command.AddCaller c) shape m n s =
-    chosen-by d m.0 who (codes "add-caller") m.1 n.0 s.0
-    ∙ reads-add-caller d m.0 who c.caller c.dept s.3.0 c.rights at (within d add_caller_line (passed d (codes "add-caller") shape s.0)) m.2 n.1 s.1 s.2 s.3.1 (rights-ok s.3.0 c.rights s.3.2 s.3.3)
-reads-timed d at who (command.AddBucket c) shape m n s =
-    chosen-by d m.0 who (codes "add-bucket") m.1 n.0 s.0
-    ∙ reads-add-bucket d m.0 who c.bucket c.dept at (within d add_bucket_line (passed d (codes "add-bucket") shape s.0)) m.2 n.1 s.1.0 s.1.1 s.2
-reads-timed d at who (command.Put c) shape m n s =
-    chosen-by d m.0 who (codes "put") m.1 n.0 s.0
-    ∙ reads-put d m.0 who c.bucket c.key c.content at (within d put_line (passed d (codes "put") shape s.0)) (one-content-of d (passed d (codes "put") shape s.0)) m.2 n.1 s.1.0 s.1.1 s.2.0 s.2.1 s.3
-    ∙ rw (s.4, s.5) refl
-reads-timed d at who (command.Get c) shape m n s =
-    chosen-by d m.0 who (codes "get") m.1 n.0 s.0
-    ∙ reads-get d m.0 who c.bucket c.key c.id at (within d get_line (passed d (codes "get") shape s.0)) m.2 n.1 s.1.0 s.1.1 s.2.0 s.2.1 s.3
-reads-timed d at who (command.DeleteVersion c) shape m n s =
-    chosen-by d m.0 who (codes "delete-version") m.1 n.0 s.0
-    ∙ reads-delete-version d m.0 who c.bucket c.key c.id at (within d delete_version_line (passed d (codes "delete-version") shape s.0)) m.2 n.1 s.1.0 s.1.1 s.2.0 s.2.1 s.3
-    ∙ rw s.4 refl
-reads-timed d at who (command.Report c) shape m n s =
-    chosen-by d m.0 who (codes "report") m.1 n.0 s.0
-    ∙ reads-report d m.0 who c.dept at (within d report_line (passed d (codes "report") shape s.0)) m.2 n.1 s.1
-reads-timed d at who _ shape m n s = absurd s
+reads-get-retention : (d : Data) (c : GetRetention) → SpellsCommand d (command.GetRetention c) → get_retention_of d ≡ Ok (command.GetRetention c)
+unfolding get_retention_of
+reads-get-retention d c s = rw (bucket-ok d c.bucket s.1.0, key-ok d c.key s.1.1, optional-id-ok (codes "id") d c.id s.1.2) refl
+
+reads-set-hold : (d : Data) (c : SetHold) → SpellsCommand d (command.SetHold c) → set_hold_of d ≡ Ok (command.SetHold c)
+unfolding set_hold_of
+reads-set-hold d c s = rw (bucket-ok d c.bucket s.1.0, key-ok d c.key s.1.1, optional-id-ok (codes "id") d c.id s.1.2, hold-ok d c.hold s.2) refl
+
+reads-get-hold : (d : Data) (c : GetHold) → SpellsCommand d (command.GetHold c) → get_hold_of d ≡ Ok (command.GetHold c)
+unfolding get_hold_of
+reads-get-hold d c s = rw (bucket-ok d c.bucket s.1.0, key-ok d c.key s.1.1, optional-id-ok (codes "id") d c.id s.1.2) refl
+
+reads-run : (d : Data) (c : Run) → SpellsCommand d (command.Run c) → run_of d ≡ Ok (command.Run c)
+unfolding run_of
+reads-run d c s = rw (bucket-ok d c.bucket s.1) refl
+
+reads-report : (d : Data) (c : Report) → SpellsCommand d (command.Report c) → report_of d ≡ Ok (command.Report c)
+unfolding report_of
+reads-report d c s = rw (dept-ok d c.dept s.1) refl
+
+reads-intake : (d : Data) (c : Intake) → SpellsCommand d (command.Intake c) → intake_of d ≡ Ok (command.Intake c)
+unfolding intake_of
+reads-intake d c s = rw (bucket-ok d c.put.bucket s.3.0, batch-ok d c.batch s.1, number-ok (codes "line") d c.line s.2, put-in-ok d c.put s.3) refl
+
+-- ---- the verb
+
+-- each verb is found by its name
+named : (verb : Verb) → verb_named (verb_name verb) ≡ Some verb
+named verb.AddDept = refl
+named verb.AddCaller = refl
+named verb.CloseCaller = refl
+named verb.AddBucket = refl
+named verb.SetDefault = refl
+named verb.GetDefault = refl
+named verb.SetRules = refl
+named verb.GetRules = refl
+named verb.DropRules = refl
+named verb.Put = refl
+named verb.Get = refl
+named verb.Head = refl
+named verb.ListVersions = refl
+named verb.Delete = refl
+named verb.DeleteVersion = refl
+named verb.SetRetention = refl
+named verb.GetRetention = refl
+named verb.SetHold = refl
+named verb.GetHold = refl
+named verb.Run = refl
+named verb.Report = refl
+named verb.Intake = refl
+
+do-ok : (d : Data) (verb : Verb) → IsDo d verb → text_of (codes "do") d ≡ Ok (verb_name verb)
+unfolding text_of
+do-ok d verb e = rw e refl
+
+abbrev shape_of : Option Data → Data → Bool
+shape_of found d = option_map_or (λ v. is_shaped v d) (option_and_then verb_named (option_and_then as_str found)) false
+
+is-shaped : (d : Data) (verb : Verb) → IsDo d verb → has_shape d ≡ true → is_shaped verb d ≡ true
+is-shaped d verb e shape =
+    ap (λ found. option_map_or (λ v. is_shaped v d) found false) (sym (named verb)) ∙ ap (λ found. shape_of found d) (sym e) ∙ shape
+
+chosen : (verb : Verb) (b : Bool) → b ≡ true → (let r : Result Verb Refusal = if b then Ok verb else Err MalformedBody in r) ≡ Ok verb
+chosen verb true e = refl
+chosen verb false e = absurd cc
+
+verb-ok : (d : Data) (verb : Verb) → IsDo d verb → is_shaped verb d ≡ true → verb_of d ≡ Ok verb
+unfolding verb_of
+verb-ok d verb e shaped =
+    ap (λ r. r >>= (λ name. if_shaped (verb_named name) d)) (do-ok d verb e) ∙ ap (λ found. if_shaped found d) (named verb) ∙ chosen verb (is_shaped verb d) shaped
+
+reads-as-verb : (verb : Verb) (d : Data) (at : ℕ) (who : List ℕ) (c : Command) → IsDo d verb → IsTrue (has_shape d) → IsMoment d (codes "at") at → IsName d (codes "as") who → values_of verb d ≡ Ok c → timed_of d ≡ Ok (record { at = at; who = who; command = c })
+unfolding timed_of
+reads-as-verb verb d at who c do_is shape at_is who_is values =
+    rw (verb-ok d verb do_is (is-shaped d verb do_is shape), reading-ok d at at_is, asker-ok d who who_is, values) refl
+
+pub reads-timed : (d : Data) (at : ℕ) (who : List ℕ) (c : Command) → IsTrue (has_shape d) → IsMoment d (codes "at") at → IsName d (codes "as") who → SpellsCommand d c → timed_of d ≡ Ok (record { at = at; who = who; command = c })
+reads-timed d at who (command.AddDept c) shape m n s = reads-as-verb verb.AddDept d at who _ s.0 shape m n (reads-add-dept d c s)
+reads-timed d at who (command.AddCaller c) shape m n s = reads-as-verb verb.AddCaller d at who _ s.0 shape m n (reads-add-caller d c s)
+reads-timed d at who (command.CloseCaller c) shape m n s = reads-as-verb verb.CloseCaller d at who _ s.0 shape m n (reads-close-caller d c s)
+reads-timed d at who (command.AddBucket c) shape m n s = reads-as-verb verb.AddBucket d at who _ s.0 shape m n (reads-add-bucket d c s)
+reads-timed d at who (command.SetDefault c) shape m n s = reads-as-verb verb.SetDefault d at who _ s.0 shape m n (reads-set-default d c s)
+reads-timed d at who (command.GetDefault c) shape m n s = reads-as-verb verb.GetDefault d at who _ s.0 shape m n (reads-get-default d c s)
+reads-timed d at who (command.SetRules c) shape m n s = reads-as-verb verb.SetRules d at who _ s.0 shape m n (reads-set-rules d c s)
+reads-timed d at who (command.GetRules c) shape m n s = reads-as-verb verb.GetRules d at who _ s.0 shape m n (reads-get-rules d c s)
+reads-timed d at who (command.DropRules c) shape m n s = reads-as-verb verb.DropRules d at who _ s.0 shape m n (reads-drop-rules d c s)
+reads-timed d at who (command.Put c) shape m n s = reads-as-verb verb.Put d at who _ s.0 shape m n (reads-put d c s)
+reads-timed d at who (command.Get c) shape m n s = reads-as-verb verb.Get d at who _ s.0 shape m n (reads-get d c s)
+reads-timed d at who (command.Head c) shape m n s = reads-as-verb verb.Head d at who _ s.0 shape m n (reads-head d c s)
+reads-timed d at who (command.ListVersions c) shape m n s = reads-as-verb verb.ListVersions d at who _ s.0 shape m n (reads-list-versions d c s)
+reads-timed d at who (command.Delete c) shape m n s = reads-as-verb verb.Delete d at who _ s.0 shape m n (reads-delete d c s)
+reads-timed d at who (command.DeleteVersion c) shape m n s = reads-as-verb verb.DeleteVersion d at who _ s.0 shape m n (reads-delete-version d c s)
+reads-timed d at who (command.SetRetention c) shape m n s = reads-as-verb verb.SetRetention d at who _ s.0 shape m n (reads-set-retention d c s)
+reads-timed d at who (command.GetRetention c) shape m n s = reads-as-verb verb.GetRetention d at who _ s.0 shape m n (reads-get-retention d c s)
+reads-timed d at who (command.SetHold c) shape m n s = reads-as-verb verb.SetHold d at who _ s.0 shape m n (reads-set-hold d c s)
+reads-timed d at who (command.GetHold c) shape m n s = reads-as-verb verb.GetHold d at who _ s.0 shape m n (reads-get-hold d c s)
+reads-timed d at who (command.Run c) shape m n s = reads-as-verb verb.Run d at who _ s.0 shape m n (reads-run d c s)
+reads-timed d at who (command.Report c) shape m n s = reads-as-verb verb.Report d at who _ s.0 shape m n (reads-report d c s)
+reads-timed d at who (command.Intake c) shape m n s = reads-as-verb verb.Intake d at who _ s.0 shape m n (reads-intake d c s)
+reads-timed d at who (command.Certificate c) shape m n s = absurd s

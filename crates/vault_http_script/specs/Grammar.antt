@@ -1,193 +1,85 @@
 -- The grammar of lines: which members the line of each `do` has, and what their values spell.
-use Rattle.std.specs.Prelude.{◌≡◌, ◌≤◌, ◌⊎◌, ℕ, List, [], ◌∷◌, ◌++◌, ◌&&◌, ◌||◌, not, map, length, codes, Bool, true, false, IsTrue, Option, Some, None, is_some, option_and_then, MatchOption, Ok}
-use Rattle.std.specs.List.{list_all, list_any}
+use Rattle.std.specs.Prelude.{◌≡◌, ◌≤◌, ◌⊎◌, ℕ, List, length, codes, Bool, false, IsTrue, Option, Some, None, is_some, option_and_then, MatchOption}
 use Rattle.std.specs.Option.{option_map_or}
-use Rattle.std.specs.Str.{bytes_eq}
-use Rattle.hex.specs.Hex.{decode_of}
-use Rattle.serde_json.specs.Data.{Data, string, number, unsigned, array, Items, no_items, item}
-use Rattle.serde_json.specs.Find.{get, as_str, as_array}
-use Rattle.vault_base.specs.Moment.{moment_of}
-use Rattle.vault_base.specs.Name.{is_bucket_name, is_object_key, is_plain_name, is_version_id}
-use Rattle.vault_base.specs.Right.{right_name, right_of}
-use Rattle.vault_base.specs.declared.right.Right.{Right}
-use Rattle.vault_core_model.specs.Rights.{has}
+use Rattle.serde_json.specs.Data.{Data}
+use Rattle.serde_json.specs.Find.{get, as_str}
 use Rattle.vault_core_model.specs.declared.command.Command.{Command}
 use Rattle.vault_core_model.specs.declared.command.Command.TheVariants as command
+use Rattle.vault_core_model.specs.declared.command.ListVersions.{ListVersions}
+use Rattle.vault_core_model.specs.declared.command.Put.{Put}
 use Rattle.vault_core_model.specs.declared.command.Timed.{Timed}
-use Rattle.vault_core_model.specs.declared.rights.Rights.{Rights}
-use Rattle.vault_http_script.specs.Document.{json_of}
-use Rattle.vault_http_script.specs.Members.{as_whole, is_within}
+use Rattle.vault_http_values.specs.Document.{json_of}
+use Rattle.vault_http_values.specs.Spelling.{IsAbsent, IsText, IsName, IsBucket, IsKey, IsPrefix, IsMoment, IsSmall, IsId, IsOptionalId, IsFlag, IsRights, IsContent, IsRetention, IsOptionalRetention, IsHold, IsOptionalHold, IsDefault, IsRules}
 use Rattle.vault_http_script.specs.ReadLine.{without_cr}
+use Rattle.vault_http_script.specs.Verb.{verb_name, verb_named, is_shaped}
+use Rattle.vault_http_script.specs.declared.verb.Verb.{Verb}
+use Rattle.vault_http_script.specs.declared.verb.Verb.TheVariants as verb
 
 -- ---- shapes
 
--- the JSON types of members
-pub data Kind : Type 0 where
-  Text : Kind
-  Number : Kind
-  Texts : Kind
+-- the verb that the member `do` names
+abbrev pub verb_in : Data → Option Verb
+verb_in d = option_and_then verb_named (option_and_then as_str (get (codes "do") d))
 
-pub record Member : Type 0 where
-  pub name : List ℕ
-  pub kind : Kind
-  pub is_needed : Bool
-
--- the line of a `do`: its members beside those that every line has, and whether exactly one of text and hex is to be there
-pub record Shape : Type 0 where
-  pub verb : List ℕ
-  pub members : List Member
-  pub has_content : Bool
-
-abbrev pub needed : Kind → List ℕ → Member
-needed kind name = record { name = name; kind = kind; is_needed = true }
-
-abbrev pub optional : Kind → List ℕ → Member
-optional kind name = record { name = name; kind = kind; is_needed = false }
-
--- the members that every line has
-abbrev pub common : List Member
-common = needed Text (codes "at") ∷ needed Text (codes "as") ∷ needed Text (codes "do") ∷ []
-
-abbrev pub line : List ℕ → List Member → Shape
-line verb members = record { verb = verb; members = members; has_content = false }
-
-abbrev pub content_line : List ℕ → List Member → Shape
-content_line verb members = record { verb = verb; members = members; has_content = true }
-
-abbrev pub add_dept_line : Shape
-add_dept_line = line (codes "add-dept") (needed Text (codes "dept") ∷ [])
-
-abbrev pub add_caller_line : Shape
-add_caller_line = line (codes "add-caller") (needed Text (codes "caller") ∷ optional Text (codes "dept") ∷ needed Texts (codes "rights") ∷ [])
-
-abbrev pub add_bucket_line : Shape
-add_bucket_line = line (codes "add-bucket") (needed Text (codes "bucket") ∷ needed Text (codes "dept") ∷ [])
-
-abbrev pub put_line : Shape
-put_line = content_line (codes "put") (needed Text (codes "bucket") ∷ needed Text (codes "key") ∷ optional Text (codes "text") ∷ optional Text (codes "hex") ∷ [])
-
-abbrev pub get_line : Shape
-get_line = line (codes "get") (needed Text (codes "bucket") ∷ needed Text (codes "key") ∷ optional Number (codes "id") ∷ [])
-
-abbrev pub delete_version_line : Shape
-delete_version_line = line (codes "delete-version") (needed Text (codes "bucket") ∷ needed Text (codes "key") ∷ needed Number (codes "id") ∷ [])
-
-abbrev pub report_line : Shape
-report_line = line (codes "report") (needed Text (codes "dept") ∷ [])
-
--- the lines that there are
-abbrev pub shapes : List Shape
-shapes = add_dept_line ∷ add_caller_line ∷ add_bucket_line ∷ put_line ∷ get_line ∷ delete_version_line ∷ report_line ∷ []
-
-abbrev pub are_texts : Items → Bool
-are_texts no_items = true
-are_texts (item d ds) = is_some (as_str d) && are_texts ds
-
--- a value is of that JSON type
-abbrev pub is_of : Kind → Data → Bool
-is_of Text d = is_some (as_str d)
-is_of Number d = is_some (as_whole d)
-is_of Texts d = option_map_or are_texts (as_array d) false
-
-abbrev pub fits : Member → Option Data → Bool
-fits m None = not m.is_needed
-fits m (Some value) = is_of m.kind value
-
--- each of these members is there with its type, or may be left out and is
-abbrev pub fits_each : List Member → Data → Bool
-fits_each members d = list_all (λ m. fits m (get m.name d)) members
-
--- exactly one of text and hex is there
-abbrev pub has_one_content : Data → Bool
-has_one_content d = (is_some (get (codes "text") d) && not (is_some (get (codes "hex") d))) || (is_some (get (codes "hex") d) && not (is_some (get (codes "text") d)))
-
--- the value is the text
-abbrev pub is_text : List ℕ → Option Data → Bool
-is_text text found = option_map_or (λ bytes. bytes_eq bytes text) (option_and_then as_str found) false
-
-abbrev pub names_of : Shape → List (List ℕ)
-names_of shape = map (λ m. m.name) (common ++ shape.members)
-
--- the value is an object, its members are those of that line, and what they must be holds
-abbrev pub has_members : Data → Shape → Bool
-has_members d shape =
-    is_within (names_of shape) d && (fits_each shape.members d && (not shape.has_content || has_one_content d))
-
--- the value is an object with just the members of the line of its `do`
+-- the value is an object with just the members of the line of its `do`, each of its kind
 abbrev pub has_shape : Data → Bool
-has_shape d = fits_each common d && list_any (λ shape. is_text shape.verb (get (codes "do") d) && has_members d shape) shapes
+has_shape d = option_map_or (λ verb. is_shaped verb d) (verb_in d) false
 
 -- ---- values
 
--- the member is that text
-abbrev pub IsText : Data → List ℕ → List ℕ → Type 0
-IsText d name text = get name d ≡ Some (string text)
+abbrev pub IsDo : Data → Verb → Type 0
+IsDo d verb = IsText d (codes "do") (verb_name verb)
 
--- the member is that name of a caller or a department
-abbrev pub IsName : Data → List ℕ → List ℕ → Type 0
-IsName d name text = IsText d name text × IsTrue (is_plain_name text)
+-- a bucket, a key, and an id that may be left out
+abbrev pub IsPlace : Data → List ℕ → List ℕ → Option ℕ → Type 0
+IsPlace d bucket key id = IsBucket d bucket × IsKey d key × IsOptionalId d (codes "id") id
 
-abbrev pub IsBucket : Data → List ℕ → Type 0
-IsBucket d text = IsText d (codes "bucket") text × IsTrue (is_bucket_name text)
+abbrev pub IsPut : Data → Put → Type 0
+IsPut d c = IsBucket d c.bucket × IsKey d c.key × IsContent d c.content × IsOptionalRetention d c.retention × IsOptionalHold d c.hold
 
-abbrev pub IsKey : Data → List ℕ → Type 0
-IsKey d text = IsText d (codes "key") text × IsTrue (is_object_key text)
+-- an id is given with the key that it belongs to
+abbrev pub IsAfterId : Data → Option ℕ → Type 0
+IsAfterId d id = MatchOption id (IsAbsent d (codes "after_id")) (λ id. IsId d (codes "after_id") id × IsTrue (is_some (get (codes "after_key") d)))
 
-abbrev pub IsId : Data → ℕ → Type 0
-IsId d id = (get (codes "id") d ≡ Some (number (unsigned id))) × IsTrue (is_version_id id)
+-- 1,000 where it is left out
+abbrev pub IsMost : Data → ℕ → Type 0
+IsMost d most = IsSmall d (codes "most") most ⊎ (IsAbsent d (codes "most") × (most ≡ 1000))
 
--- the bytes are those of the member text, or those that the digits of the member hex write
-abbrev pub IsContent : Data → List ℕ → Type 0
-IsContent d bytes =
-    IsText d (codes "text") bytes
-    ⊎ ((digits : List ℕ) × IsText d (codes "hex") digits × (decode_of digits ≡ Ok bytes))
-
--- the items are these texts
-abbrev pub items_of_texts : List (List ℕ) → Items
-items_of_texts [] = no_items
-items_of_texts (text ∷ texts) = item (string text) (items_of_texts texts)
-
--- each is the name of a right
-abbrev pub are_rights : List (List ℕ) → Bool
-are_rights names = list_all (λ name. is_some (right_of name)) names
-
--- the right's name is among these
-abbrev pub is_named : List (List ℕ) → Right → Bool
-is_named names right = list_any (λ name. bytes_eq name (right_name right)) names
-
--- the member is a list of names of rights, and these are the rights that are named
-abbrev pub IsRights : Data → Rights → Type 0
-IsRights d rights =
-    (names : List (List ℕ)) × (get (codes "rights") d ≡ Some (array (items_of_texts names)))
-    × IsTrue (are_rights names) × ((right : Right) → has rights right ≡ is_named names right)
-
--- the member is the text of that moment
-abbrev pub IsMoment : Data → ℕ → Type 0
-IsMoment d at = (text : List ℕ) × IsText d (codes "at") text × (moment_of text ≡ Ok at)
+abbrev pub IsListing : Data → ListVersions → Type 0
+IsListing d c =
+    IsBucket d c.bucket × IsPrefix d (codes "prefix") c.prefix × IsPrefix d (codes "after_key") c.after_key
+    × IsAfterId d c.after_id × IsMost d c.most
 
 -- the members beside `at` and `as` are those of that command
 abbrev pub SpellsCommand : Data → Command → Type 0
-SpellsCommand d (command.AddDept c) = IsText d (codes "do") (codes "add-dept") × IsName d (codes "dept") c.dept
-SpellsCommand d (command.AddCaller c) =
-    IsText d (codes "do") (codes "add-caller") × IsName d (codes "caller") c.caller
-    × MatchOption c.dept (get (codes "dept") d ≡ None) (λ dept. IsName d (codes "dept") dept) × IsRights d c.rights
-SpellsCommand d (command.AddBucket c) =
-    IsText d (codes "do") (codes "add-bucket") × IsBucket d c.bucket × IsName d (codes "dept") c.dept
-SpellsCommand d (command.Put c) =
-    IsText d (codes "do") (codes "put") × IsBucket d c.bucket × IsKey d c.key × IsContent d c.content
-    × (c.retention ≡ None) × (c.hold ≡ None)
-SpellsCommand d (command.Get c) =
-    IsText d (codes "do") (codes "get") × IsBucket d c.bucket × IsKey d c.key
-    × MatchOption c.id (get (codes "id") d ≡ None) (λ id. IsId d id)
-SpellsCommand d (command.DeleteVersion c) =
-    IsText d (codes "do") (codes "delete-version") × IsBucket d c.bucket × IsKey d c.key × IsId d c.id × (c.bypass ≡ false)
-SpellsCommand d (command.Report c) = IsText d (codes "do") (codes "report") × IsName d (codes "dept") c.dept
--- no line asks for another command yet
-SpellsCommand d _ = ⊥
+SpellsCommand d (command.AddDept c) = IsDo d verb.AddDept × IsName d (codes "dept") c.dept
+SpellsCommand d (command.AddCaller c) = IsDo d verb.AddCaller × IsName d (codes "caller") c.caller × MatchOption c.dept (IsAbsent d (codes "dept")) (λ dept. IsName d (codes "dept") dept) × IsRights d c.rights
+SpellsCommand d (command.CloseCaller c) = IsDo d verb.CloseCaller × IsName d (codes "caller") c.caller
+SpellsCommand d (command.AddBucket c) = IsDo d verb.AddBucket × IsBucket d c.bucket × IsName d (codes "dept") c.dept
+SpellsCommand d (command.SetDefault c) = IsDo d verb.SetDefault × IsBucket d c.bucket × IsDefault d c.default
+SpellsCommand d (command.GetDefault c) = IsDo d verb.GetDefault × IsBucket d c.bucket
+SpellsCommand d (command.SetRules c) = IsDo d verb.SetRules × IsBucket d c.bucket × IsRules d c.rules
+SpellsCommand d (command.GetRules c) = IsDo d verb.GetRules × IsBucket d c.bucket
+SpellsCommand d (command.DropRules c) = IsDo d verb.DropRules × IsBucket d c.bucket
+SpellsCommand d (command.Put c) = IsDo d verb.Put × IsPut d c
+SpellsCommand d (command.Get c) = IsDo d verb.Get × IsPlace d c.bucket c.key c.id
+SpellsCommand d (command.Head c) = IsDo d verb.Head × IsPlace d c.bucket c.key c.id
+SpellsCommand d (command.ListVersions c) = IsDo d verb.ListVersions × IsListing d c
+SpellsCommand d (command.Delete c) = IsDo d verb.Delete × IsBucket d c.bucket × IsKey d c.key
+SpellsCommand d (command.DeleteVersion c) = IsDo d verb.DeleteVersion × IsBucket d c.bucket × IsKey d c.key × IsId d (codes "id") c.id × IsFlag d (codes "bypass") c.bypass
+SpellsCommand d (command.SetRetention c) = IsDo d verb.SetRetention × IsPlace d c.bucket c.key c.id × IsRetention d c.retention × IsFlag d (codes "bypass") c.bypass
+SpellsCommand d (command.GetRetention c) = IsDo d verb.GetRetention × IsPlace d c.bucket c.key c.id
+SpellsCommand d (command.SetHold c) = IsDo d verb.SetHold × IsPlace d c.bucket c.key c.id × IsHold d c.hold
+SpellsCommand d (command.GetHold c) = IsDo d verb.GetHold × IsPlace d c.bucket c.key c.id
+SpellsCommand d (command.Run c) = IsDo d verb.Run × IsBucket d c.bucket
+SpellsCommand d (command.Report c) = IsDo d verb.Report × IsName d (codes "dept") c.dept
+SpellsCommand d (command.Intake c) = IsDo d verb.Intake × IsName d (codes "batch") c.batch × IsSmall d (codes "line") c.line × IsPut d c.put
+-- no line asks for a certificate
+SpellsCommand d (command.Certificate c) = ⊥
 
 -- the members spell that command, with its reading and the caller who asks
 abbrev pub Spells : Data → Timed → Type 0
-Spells d t = IsMoment d t.at × IsName d (codes "as") t.who × SpellsCommand d t.command
+Spells d t = IsMoment d (codes "at") t.at × IsName d (codes "as") t.who × SpellsCommand d t.command
 
 -- ---- lines
 

@@ -1,9 +1,9 @@
-pub mod Document
+pub mod ConfigLines
 pub mod EntryLines
-pub mod Fault
 pub mod Grammar
-pub mod Members
+pub mod ListLine
+pub mod LockLines
 pub mod ReadLine
 pub mod RecordLines
-pub mod ReplyLine
-pub mod Values
+pub mod Verb
+pub use Rattle.vault_http_reply.specs.ReplyLine

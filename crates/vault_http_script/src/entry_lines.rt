@@ -1,101 +1,92 @@
 //! Lines on content versions and delete markers.
-ghost use Rattle.std.specs.Prelude.{option_map};
 ghost use Rattle.serde_json.specs.View.{view};
+ghost use Rattle.vault_http_values.specs.Fault.{Gives};
 ghost use Rattle.vault_http_script.specs.EntryLines as spec;
-ghost use Rattle.vault_http_script.specs.Fault.{Gives};
 
-use crate::fault::LineFault;
-use crate::members::{only, optional_text_of, optional_whole_of, text_of, whole_of};
-use crate::values;
 use serde_json::Value;
 use std::alloc::Global;
-use vault_core_model::command::{Command, DeleteVersion, Get, Put, Timed};
-
-#[tactic(auto, unfolding(crate::specs::EntryLines::put_values))]
-fn put_values(
-    alloc: Global,
-    at: &str,
-    who: &str,
-    bucket: &str,
-    key: &str,
-    text: Option<&str>,
-    hex: Option<&str>,
-) -> Result<Timed, LineFault>
-    ensures { Gives (λ x. x) result (spec.put_values at.now who.now bucket.now key.now
-        (option_map (λ t. t.now) text.entry) (option_map (λ t. t.now) hex.entry)) }
-{
-    let at = values::reading(at)?;
-    let who = values::asker(alloc, who)?;
-    let bucket = values::bucket(alloc, bucket)?;
-    let key = values::key(alloc, key)?;
-    let content = values::content(alloc, text, hex)?;
-    Ok(Timed {
-        at,
-        who,
-        command: Command::Put(Put {
-            bucket,
-            key,
-            content,
-            retention: None,
-            hold: None,
-        }),
-    })
-}
-
-#[tactic(auto, unfolding(crate::specs::EntryLines::put_of, crate::specs::Members::only))]
-pub fn put(alloc: Global, at: &str, who: &str, value: &Value) -> Result<Timed, LineFault>
-    ensures { Gives (λ x. x) result (spec.put_of at.now who.now (view value.now)) }
-{
-    only(value, &["at", "as", "do", "bucket", "key", "text", "hex"])?;
-    let bucket = text_of("bucket", value)?;
-    let key = text_of("key", value)?;
-    let text = optional_text_of("text", value)?;
-    let hex = optional_text_of("hex", value)?;
-    values::one_of(text, hex)?;
-    put_values(alloc, at, who, bucket, key, text, hex)
-}
+use vault_base::name::BucketName;
+use vault_core_model::command::{Command, Delete, DeleteVersion, Get, Head, Intake, Put};
+use vault_http_values::fault::LineFault;
+use vault_http_values::{locks, values};
 
 #[tactic(auto, unfolding(crate::specs::EntryLines::get_of))]
-pub fn get(alloc: Global, at: &str, who: &str, value: &Value) -> Result<Timed, LineFault>
-    ensures { Gives (λ x. x) result (spec.get_of at.now who.now (view value.now)) }
+pub fn get(alloc: Global, value: &Value) -> Result<Command, LineFault>
+    ensures { Gives (λ x. x) result (spec.get_of (view value.now)) }
 {
-    only(value, &["at", "as", "do", "bucket", "key", "id"])?;
-    let bucket = text_of("bucket", value)?;
-    let key = text_of("key", value)?;
-    let id = optional_whole_of("id", value)?;
-    let at = values::reading(at)?;
-    let who = values::asker(alloc, who)?;
-    let bucket = values::bucket(alloc, bucket)?;
-    let key = values::key(alloc, key)?;
-    let id = values::optional_id(id)?;
-    Ok(Timed {
-        at,
-        who,
-        command: Command::Get(Get { bucket, key, id }),
-    })
+    let bucket = values::bucket(alloc, value)?;
+    let key = values::key(alloc, value)?;
+    let id = values::optional_id("id", value)?;
+    Ok(Command::Get(Get { bucket, key, id }))
+}
+
+#[tactic(auto, unfolding(crate::specs::EntryLines::head_of))]
+pub fn head(alloc: Global, value: &Value) -> Result<Command, LineFault>
+    ensures { Gives (λ x. x) result (spec.head_of (view value.now)) }
+{
+    let bucket = values::bucket(alloc, value)?;
+    let key = values::key(alloc, value)?;
+    let id = values::optional_id("id", value)?;
+    Ok(Command::Head(Head { bucket, key, id }))
+}
+
+#[tactic(auto, unfolding(crate::specs::EntryLines::delete_of))]
+pub fn delete(alloc: Global, value: &Value) -> Result<Command, LineFault>
+    ensures { Gives (λ x. x) result (spec.delete_of (view value.now)) }
+{
+    let bucket = values::bucket(alloc, value)?;
+    let key = values::key(alloc, value)?;
+    Ok(Command::Delete(Delete { bucket, key }))
 }
 
 #[tactic(auto, unfolding(crate::specs::EntryLines::delete_version_of))]
-pub fn delete_version(alloc: Global, at: &str, who: &str, value: &Value) -> Result<Timed, LineFault>
-    ensures { Gives (λ x. x) result (spec.delete_version_of at.now who.now (view value.now)) }
+pub fn delete_version(alloc: Global, value: &Value) -> Result<Command, LineFault>
+    ensures { Gives (λ x. x) result (spec.delete_version_of (view value.now)) }
 {
-    only(value, &["at", "as", "do", "bucket", "key", "id"])?;
-    let bucket = text_of("bucket", value)?;
-    let key = text_of("key", value)?;
-    let id = whole_of("id", value)?;
-    let at = values::reading(at)?;
-    let who = values::asker(alloc, who)?;
-    let bucket = values::bucket(alloc, bucket)?;
-    let key = values::key(alloc, key)?;
-    let id = values::id(id)?;
-    Ok(Timed {
-        at,
-        who,
-        command: Command::DeleteVersion(DeleteVersion {
-            bucket,
-            key,
-            id,
-            bypass: false,
-        }),
+    let bucket = values::bucket(alloc, value)?;
+    let key = values::key(alloc, value)?;
+    let id = values::id(value)?;
+    let bypass = locks::bypass(value)?;
+    Ok(Command::DeleteVersion(DeleteVersion {
+        bucket,
+        key,
+        id,
+        bypass,
+    }))
+}
+
+#[tactic(auto, unfolding(crate::specs::EntryLines::put_in))]
+fn put_in(alloc: Global, bucket: BucketName, value: &Value) -> Result<Put, LineFault>
+    ensures { Gives (λ x. x) result (spec.put_in bucket (view value.now)) }
+{
+    let key = values::key(alloc, value)?;
+    let content = values::content(alloc, value)?;
+    let retention = locks::optional_retention(value)?;
+    let hold = locks::optional_hold(value)?;
+    Ok(Put {
+        bucket,
+        key,
+        content,
+        retention,
+        hold,
     })
+}
+
+#[tactic(auto, unfolding(crate::specs::EntryLines::put_of))]
+pub fn put(alloc: Global, value: &Value) -> Result<Command, LineFault>
+    ensures { Gives (λ x. x) result (spec.put_of (view value.now)) }
+{
+    let bucket = values::bucket(alloc, value)?;
+    Ok(Command::Put(put_in(alloc, bucket, value)?))
+}
+
+#[tactic(auto, unfolding(crate::specs::EntryLines::intake_of))]
+pub fn intake(alloc: Global, value: &Value) -> Result<Command, LineFault>
+    ensures { Gives (λ x. x) result (spec.intake_of (view value.now)) }
+{
+    let bucket = values::bucket(alloc, value)?;
+    let batch = values::batch(alloc, value)?;
+    let line = values::number_of("line", value)?;
+    let put = put_in(alloc, bucket, value)?;
+    Ok(Command::Intake(Intake { batch, line, put }))
 }

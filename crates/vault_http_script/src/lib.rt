@@ -1,15 +1,15 @@
 //! Script lines read into commands, and replies printed as lines.
+//!
+//! What a line's members spell is read by `vault_http_values`; replies are `vault_http_reply`'s.
 #![tactic(auto)]
 
-mod document;
+mod config_lines;
 mod entry_lines;
-mod fault;
 pub mod laws;
-mod members;
+mod list_line;
+mod lock_lines;
 pub mod read_line;
 mod record_lines;
-pub mod reply_line;
-mod rule_value;
-#[cfg(test)]
-mod tests;
-mod values;
+pub mod verb;
+
+pub use vault_http_reply::reply_line;

@@ -1,17 +1,19 @@
 //! Lines to commands.
 ghost use Rattle.std.specs.Prelude.{◌≡◌, IfOk};
 ghost use Rattle.serde_json.specs.View.{view};
-ghost use Rattle.vault_http_script.specs.Fault.{Gives};
-ghost use Rattle.vault_http_script.specs.ReadLine.{timed_of, command_of, without_cr, line_of};
+ghost use Rattle.vault_http_values.specs.Fault.{Gives};
+ghost use Rattle.vault_http_script.specs.ReadLine.{verb_of, values_of, timed_of, command_of, without_cr, line_of};
 
-use crate::document::document;
-use crate::fault::LineFault;
-use crate::members::text_of;
-use crate::{entry_lines, record_lines};
+use crate::verb::Verb;
+use crate::{config_lines, entry_lines, list_line, lock_lines, record_lines};
 use serde_json::Value;
 use std::alloc::{AllocError, Global};
 use vault_base::refusal::Refusal;
-use vault_core_model::command::Timed;
+use vault_core_model::command::{Command, Timed};
+use vault_http_values::document::document;
+use vault_http_values::fault::LineFault;
+use vault_http_values::members::text_of;
+use vault_http_values::values::{asker, reading};
 
 /// The greatest size of a line in bytes, its LF not counted.
 pub const LONGEST_LINE: usize = 4_194_304;
@@ -25,22 +27,61 @@ pub enum Line {
     Refused(Refusal),
 }
 
+/// The verb of a line, where the value has the shape of its line.
+#[tactic(auto, unfolding(crate::specs::ReadLine::verb_of))]
+fn verb(value: &Value) -> Result<Verb, LineFault>
+    ensures { Gives (λ x. x) result (verb_of (view value.now)) }
+{
+    let name = text_of("do", value)?;
+    let Some(verb) = Verb::read(name) else {
+        return Err(LineFault::Refused(Refusal::MalformedBody));
+    };
+    if verb.is_shaped(value) {
+        Ok(verb)
+    } else {
+        Err(LineFault::Refused(Refusal::MalformedBody))
+    }
+}
+
+/// What a line of that verb asks for.
+fn values(alloc: Global, verb: Verb, value: &Value) -> Result<Command, LineFault>
+    ensures { Gives (λ x. x) result (values_of verb (view value.now)) }
+{
+    match verb {
+        Verb::AddDept => record_lines::add_dept(alloc, value),
+        Verb::AddCaller => record_lines::add_caller(alloc, value),
+        Verb::CloseCaller => record_lines::close_caller(alloc, value),
+        Verb::AddBucket => record_lines::add_bucket(alloc, value),
+        Verb::SetDefault => config_lines::set_default(alloc, value),
+        Verb::GetDefault => config_lines::get_default(alloc, value),
+        Verb::SetRules => config_lines::set_rules(alloc, value),
+        Verb::GetRules => config_lines::get_rules(alloc, value),
+        Verb::DropRules => config_lines::drop_rules(alloc, value),
+        Verb::Put => entry_lines::put(alloc, value),
+        Verb::Get => entry_lines::get(alloc, value),
+        Verb::Head => entry_lines::head(alloc, value),
+        Verb::ListVersions => list_line::list_versions(alloc, value),
+        Verb::Delete => entry_lines::delete(alloc, value),
+        Verb::DeleteVersion => entry_lines::delete_version(alloc, value),
+        Verb::SetRetention => lock_lines::set_retention(alloc, value),
+        Verb::GetRetention => lock_lines::get_retention(alloc, value),
+        Verb::SetHold => lock_lines::set_hold(alloc, value),
+        Verb::GetHold => lock_lines::get_hold(alloc, value),
+        Verb::Run => config_lines::run(alloc, value),
+        Verb::Report => record_lines::report(alloc, value),
+        Verb::Intake => entry_lines::intake(alloc, value),
+    }
+}
+
 #[tactic(auto, unfolding(crate::specs::ReadLine::timed_of))]
 fn timed(alloc: Global, value: &Value) -> Result<Timed, LineFault>
     ensures { Gives (λ x. x) result (timed_of (view value.now)) }
 {
-    let at = text_of("at", value)?;
-    let who = text_of("as", value)?;
-    match text_of("do", value)? {
-        "add-dept" => record_lines::add_dept(alloc, at, who, value),
-        "add-caller" => record_lines::add_caller(alloc, at, who, value),
-        "add-bucket" => record_lines::add_bucket(alloc, at, who, value),
-        "put" => entry_lines::put(alloc, at, who, value),
-        "get" => entry_lines::get(alloc, at, who, value),
-        "delete-version" => entry_lines::delete_version(alloc, at, who, value),
-        "report" => record_lines::report(alloc, at, who, value),
-        _ => Err(LineFault::Refused(Refusal::MalformedBody)),
-    }
+    let verb = verb(value)?;
+    let at = reading(value)?;
+    let who = asker(alloc, value)?;
+    let command = values(alloc, verb, value)?;
+    Ok(Timed { at, who, command })
 }
 
 #[tactic(auto, unfolding(crate::specs::ReadLine::command_of))]

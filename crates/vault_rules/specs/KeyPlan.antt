@@ -1,5 +1,5 @@
 -- The plan of a run at one key, from the set of its held entries.
-use Rattle.std.specs.Prelude.{ℕ, ◌+◌, ◌-◌, ◌++◌, ◌&&◌, ◌==◌, Bool, true, false, not, nat_lt, max, List, [], ◌∷◌, length, filter, filter_map, fold, Option, None, is_none, option_map, if◌then◌else◌}
+use Rattle.std.specs.Prelude.{ℕ, ◌+◌, ◌-◌, ◌++◌, ◌&&◌, ◌==◌, Bool, true, false, not, nat_lt, max, List, [], ◌∷◌, length, map, filter, filter_map, fold, Option, None, is_none, option_map, if◌then◌else◌}
 use Rattle.std.specs.List.{list_all}
 use Rattle.vault_lock.specs.Lock.{is_locked}
 use Rattle.vault_rules.specs.declared.plan.Held.{Held}
@@ -82,3 +82,11 @@ abbrev pub key_plan : List Rule → List ℕ → List Held → ℕ → List Step
 key_plan rules key hs t =
     mark_steps rules key t hs ++ removal_steps rules key t (marked rules key t hs)
     ++ lone_steps rules key t (kept rules key t (marked rules key t hs))
+
+-- a step at a key
+pub record Planned : Type 0 where
+  pub key : List ℕ
+  pub step : Step
+
+abbrev pub at_key : List ℕ → List Step → List Planned
+at_key key steps = map (λ s. record { key = key; step = s }) steps

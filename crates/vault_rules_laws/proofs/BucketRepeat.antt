@@ -5,9 +5,9 @@ use Rattle.std.specs.Str.{bytes_eq}
 use Rattle.vault_rules.specs.declared.rule.Rule.{Rule}
 use Rattle.vault_rules.specs.declared.plan.Step.{Step}
 use Rattle.vault_rules.specs.declared.plan.Step.TheVariants.{Mark, Remove, RemoveLone}
-use Rattle.vault_rules.specs.KeyPlan.{key_plan}
-use Rattle.vault_rules_laws.specs.Histories.{History, entries, new_marker, removed_by, Planned, made_at, made, made_all}
-use Rattle.vault_rules_laws.specs.BucketPlan.{at_key, key_plans}
+use Rattle.vault_rules.specs.KeyPlan.{Planned, at_key, key_plan}
+use Rattle.vault_rules_laws.specs.Histories.{History, entries, new_marker, removed_by, made_at, made, made_all}
+use Rattle.vault_rules_laws.specs.BucketPlan.{key_plans}
 use Rattle.vault_rules_laws.specs.BucketLaws.{IsIn, Covers, IsChronicle, are_rules, IsPlan}
 use Rattle.vault_rules_laws.proofs.KeySteps.{fit_any, step_with, IsStepOf, plan_of}
 use Rattle.vault_rules_laws.proofs.Entries.{order_entries, under_entries, chronicle_made, entries-own, entries-away}
@@ -30,7 +30,7 @@ covers_marked : (b k : List ℕ) (n t : ℕ) (ks : List (List ℕ)) (v : List Hi
 covers_marked b k n t ks [] i c = (λ _ _. i, tt)
 covers_marked b k n t ks (h ∷ v) i c = (c.0, covers_marked b k n t ks v i c.1)
 
-covers_made : (b : List ℕ) (t : ℕ) (ks : List (List ℕ)) (v : List History) (p : Planned) → IsIn p.key ks → Covers b ks v → Covers b ks (made b t v p)
+pub covers_made : (b : List ℕ) (t : ℕ) (ks : List (List ℕ)) (v : List History) (p : Planned) → IsIn p.key ks → Covers b ks v → Covers b ks (made b t v p)
 covers_made b t ks v p i c = cases p.step
   where
     cases : (s : Step) → Covers b ks (made_at b t p.key v s)
@@ -48,12 +48,12 @@ module _ (rules : List Rule) (b : List ℕ) (t : ℕ) (ok : IsTrue (are_rules ru
   other v k j s c a h = ap (λ l. key_plan rules j l t) (entries-away b k j t v s c a h)
 
   -- the first step of a plan is the first of one of its keys
-  record IsFirst (v : List History) (ks : List (List ℕ)) (p : Planned) : Type 0 where
-    among : IsIn p.key ks
-    others : List Step
-    first : key_plan rules p.key (entries b p.key v) t ≡ p.step ∷ others
+  pub record IsFirst (v : List History) (ks : List (List ℕ)) (p : Planned) : Type 0 where
+    pub among : IsIn p.key ks
+    pub others : List Step
+    pub first : key_plan rules p.key (entries b p.key v) t ≡ p.step ∷ others
 
-  first_of : (v : List History) (ks : List (List ℕ)) (p : Planned) (ps : List Planned) → key_plans rules b t ks v ≡ p ∷ ps → IsFirst v ks p
+  pub first_of : (v : List History) (ks : List (List ℕ)) (p : Planned) (ps : List Planned) → key_plans rules b t ks v ≡ p ∷ ps → IsFirst v ks p
   first_of v [] p ps e = absurd (cc)
   first_of v (j ∷ js) p ps e = cases (key_plan rules j (entries b j v) t) refl e (first_of v js p ps)
     where
@@ -64,11 +64,11 @@ module _ (rules : List Rule) (b : List ℕ) (t : ℕ) (ok : IsTrue (are_rules ru
           let same : q ≡ p = cc in
           subst (IsFirst v (j ∷ js)) same (record { among = inl refl; others = ss; first = n })
 
-  step_of : (v : List History) (ks : List (List ℕ)) (p : Planned) → IsChronicle 1 0 t v → IsFirst v ks p → IsStepOf (entries b p.key v) p.step
+  pub step_of : (v : List History) (ks : List (List ℕ)) (p : Planned) → IsChronicle 1 0 t v → IsFirst v ks p → IsStepOf (entries b p.key v) p.step
   step_of v ks p c f = plan_of rules p.key t (entries b p.key v) p.step f.others (order_entries b p.key 1 0 t v c) f.first
 
   -- after the first step, the rest
-  one_step : (v : List History) (ks : List (List ℕ)) (p : Planned) (ps : List Planned) → IsApart ks → IsChronicle 1 0 t v → key_plans rules b t ks v ≡ p ∷ ps → key_plans rules b t ks (made b t v p) ≡ ps
+  pub one_step : (v : List History) (ks : List (List ℕ)) (p : Planned) (ps : List Planned) → IsApart ks → IsChronicle 1 0 t v → key_plans rules b t ks v ≡ p ∷ ps → key_plans rules b t ks (made b t v p) ≡ ps
   one_step v [] p ps a c e = absurd (cc)
   one_step v (k ∷ ks) p ps a c e = cases (key_plan rules k (entries b k v) t) refl e (one_step v ks p ps a.1 c)
     where

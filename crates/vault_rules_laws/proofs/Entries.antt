@@ -10,7 +10,8 @@ use Rattle.vault_rules.specs.declared.plan.Step.{Step}
 use Rattle.vault_rules.specs.declared.plan.Step.TheVariants.{Mark, Remove, RemoveLone}
 use Rattle.vault_rules.specs.Walk.{marker_at}
 use Rattle.vault_rules.proofs.Truth.{and_true, test_of_less}
-use Rattle.vault_rules_laws.specs.Histories.{History, is_at, held_of, entries, new_marker, removed_by, Planned, made_at, made, made_all}
+use Rattle.vault_rules.specs.KeyPlan.{Planned}
+use Rattle.vault_rules_laws.specs.Histories.{History, is_at, held_of, entries, new_marker, removed_by, made_at, made, made_all}
 use Rattle.vault_rules_laws.specs.BucketLaws.{IsChronicle}
 use Rattle.vault_rules_laws.specs.KeyRepeats.{without}
 use Rattle.vault_rules_laws.proofs.KeyRepeat.{IsBelow, IsInOrder}

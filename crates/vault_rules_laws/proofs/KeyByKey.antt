@@ -10,12 +10,12 @@ use Rattle.vault_rules.specs.declared.rule.Rule.{Rule}
 use Rattle.vault_rules.specs.declared.plan.Held.{Held}
 use Rattle.vault_rules.specs.declared.plan.Step.{Step}
 use Rattle.vault_rules.specs.declared.plan.Step.TheVariants.{Mark, Remove, RemoveLone}
-use Rattle.vault_rules.specs.KeyPlan.{mark_steps, removal_steps, lone_steps, kept, key_plan}
+use Rattle.vault_rules.specs.KeyPlan.{Planned, at_key, mark_steps, removal_steps, lone_steps, kept, key_plan}
 use Rattle.vault_rules.specs.Walk.{Dues, dues, last_mark, mark_step, marked_by, later_phases, removals, removal, remove_step}
 use Rattle.vault_rules.proofs.Sets.{marks_from, removals_from, key_plan-walk}
 use Rattle.vault_rules_laws.specs.KeyRepeats.{without}
-use Rattle.vault_rules_laws.specs.Histories.{History, entries, new_marker, Planned, made, made_all}
-use Rattle.vault_rules_laws.specs.BucketPlan.{at_key, marks_at, removals_at, lone_at, after_marks, after_removals, plan, key_plans}
+use Rattle.vault_rules_laws.specs.Histories.{History, entries, new_marker, made, made_all}
+use Rattle.vault_rules_laws.specs.BucketPlan.{marks_at, removals_at, lone_at, after_marks, after_removals, plan, key_plans}
 use Rattle.vault_rules_laws.specs.BucketLaws.{IsIn, IsUnder, IsRising, IsChronicle, are_rules}
 use Rattle.vault_rules_laws.proofs.KeyRepeat.{IsInOrder, rises}
 use Rattle.vault_rules_laws.proofs.KeySteps.{marked_with, later_any, fit_any, AreStepsOf, removal_steps_of, AllNot, AreElsewhere, withouts, withouts_elsewhere, withouts-kept, later-walk}
@@ -71,7 +71,7 @@ made_all-append b t v (p ∷ ps) qs = made_all-append b t (made b t v p) ps qs
 -- ---- the entries after the first phase
 
 module _ (b : List ℕ) (t : ℕ) (o : List ℕ → Option ℕ) where
-  marks_away : (k : List ℕ) (v : List History) (ks : List (List ℕ)) → IsAway k ks → entries b k (made_all b t v (flat_map (λ j. at_key j (mark_step (o j))) ks)) ≡ entries b k v
+  pub marks_away : (k : List ℕ) (v : List History) (ks : List (List ℕ)) → IsAway k ks → entries b k (made_all b t v (flat_map (λ j. at_key j (mark_step (o j))) ks)) ≡ entries b k v
   marks_away k v [] a = refl
   marks_away k v (j ∷ js) a = cases (o j) (λ w. marks_away k w js a.2)
     where
@@ -188,13 +188,13 @@ module _ (b k : List ℕ) (t : ℕ) (r : List ℕ → List Step) (are : (j : Lis
 -- ---- key by key
 
 module _ (rules : List Rule) (b : List ℕ) (t : ℕ) (ok : IsTrue (are_rules rules)) where
-  abbrev mark_of : List History → List ℕ → Option ℕ
+  abbrev pub mark_of : List History → List ℕ → Option ℕ
   mark_of v k = last_mark (dues rules k t) (entries b k v)
 
-  marks_are : (v : List History) (k : List ℕ) → IsChronicle 1 0 t v → mark_steps rules k t (entries b k v) ≡ mark_step (mark_of v k)
+  pub marks_are : (v : List History) (k : List ℕ) → IsChronicle 1 0 t v → mark_steps rules k t (entries b k v) ≡ mark_step (mark_of v k)
   marks_are v k c = marks_from rules k t (entries b k v) [] (entries b k v) refl (rises (entries b k v) (order_entries b k 1 0 t v c))
 
-  after_first : (v : List History) (ks : List (List ℕ)) (k : List ℕ) → IsChronicle 1 0 t v → IsApart ks → IsIn k ks → (m : ℕ) × (entries b k (after_marks rules b t ks v) ≡ marked_with m t (mark_of v k) (entries b k v))
+  pub after_first : (v : List History) (ks : List (List ℕ)) (k : List ℕ) → IsChronicle 1 0 t v → IsApart ks → IsIn k ks → (m : ℕ) × (entries b k (after_marks rules b t ks v) ≡ marked_with m t (mark_of v k) (entries b k v))
   after_first v ks k c a i =
       let h = marks_in b t (mark_of v) k v ks a i in
       let e = flat_map-each (marks_at rules b t v) (λ j. at_key j (mark_step (mark_of v j))) ks (λ j. ap (at_key j) (marks_are v j c)) in

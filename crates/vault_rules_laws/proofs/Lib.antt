@@ -1,5 +1,6 @@
 pub mod BucketRepeat
 pub mod Entries
+pub mod FirstStep
 pub mod KeyByKey
 pub mod KeyRepeat
 pub mod KeySteps

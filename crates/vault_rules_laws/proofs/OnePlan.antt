@@ -11,31 +11,31 @@ use Rattle.std.proofs.lemmas.List.{drop-drop}
 use Rattle.std.proofs.lemmas.Map.Text.{is_eq-slice_cmp}
 use Rattle.std.proofs.lemmas.Slice.Eq.{bytes_eq-Decides}
 use Rattle.vault_rules.specs.declared.rule.Rule.{Rule}
-use Rattle.vault_rules.specs.KeyPlan.{key_plan}
-use Rattle.vault_rules_laws.specs.Histories.{History, held_of, entries, is_at, Planned, made_all}
-use Rattle.vault_rules_laws.specs.BucketPlan.{at_key, key_plans}
+use Rattle.vault_rules.specs.KeyPlan.{Planned, at_key, key_plan}
+use Rattle.vault_rules_laws.specs.Histories.{History, held_of, entries, is_at, made_all}
+use Rattle.vault_rules_laws.specs.BucketPlan.{key_plans}
 use Rattle.vault_rules_laws.specs.BucketLaws.{IsIn, IsUnder, IsRising, Covers, IsChronicle, are_rules, IsPlan, total, Runs, AddsUp}
 use Rattle.vault_rules_laws.proofs.Entries.{put_if, entries-cons, matches, bytes_same, chronicle_made_all}
 use Rattle.vault_rules_laws.proofs.KeyByKey.{apart, key_by_key, made_all-append}
 use Rattle.vault_rules_laws.proofs.BucketRepeat.{repeats}
 
-irreflexive : (k : List ℕ) → slice_cmp nat_cmp k k ≡ Less → ⊥
+pub irreflexive : (k : List ℕ) → slice_cmp nat_cmp k k ≡ Less → ⊥
 irreflexive k e = clash (sym (ap is_eq e) ∙ (is_eq-slice_cmp k k ∙ bytes_same k))
   where
     clash : false ≡ true → ⊥
     clash f = cc
 
-under_in : (k x : List ℕ) (ks : List (List ℕ)) → IsUnder k ks → IsIn x ks → slice_cmp nat_cmp k x ≡ Less
+pub under_in : (k x : List ℕ) (ks : List (List ℕ)) → IsUnder k ks → IsIn x ks → slice_cmp nat_cmp k x ≡ Less
 under_in k x [] u i = absurd i
 under_in k x (j ∷ js) u i = ⊎_elim (λ (e : x ≡ j). ap (slice_cmp nat_cmp k) e ∙ u.0) (λ (r : IsIn x js). under_in k x js u.1 r) i
 
 -- a key below the first of a rising list isn't in it
-below_out : (k j : List ℕ) (js : List (List ℕ)) → slice_cmp nat_cmp k j ≡ Less → IsUnder j js → IsIn k (j ∷ js) → ⊥
+pub below_out : (k j : List ℕ) (js : List (List ℕ)) → slice_cmp nat_cmp k j ≡ Less → IsUnder j js → IsIn k (j ∷ js) → ⊥
 below_out k j js l u i =
     ⊎_elim (λ (e : k ≡ j). irreflexive k (ap (slice_cmp nat_cmp k) e ∙ l))
     (λ (r : IsIn k js). irreflexive k (nat_list_cmp_total.trans k j k l (under_in j k js u r))) i
 
-is_in_or_out : (k : List ℕ) (js : List (List ℕ)) → IsIn k js ⊎ (IsIn k js → ⊥)
+pub is_in_or_out : (k : List ℕ) (js : List (List ℕ)) → IsIn k js ⊎ (IsIn k js → ⊥)
 is_in_or_out k [] = inr (λ i. i)
 is_in_or_out k (j ∷ js) = cases (bytes_eq k j) refl (is_in_or_out k js)
   where

@@ -1,11 +1,15 @@
 -- Laws of the plans of a bucket, for histories whose admissions don't go back.
-use Rattle.std.specs.Prelude.{◌≡◌, ◌⊎◌, ℕ, ◌+◌, ◌≤◌, ◌==◌, ◌||◌, Bool, false, List, [], ◌∷◌, length, take, drop, IsTrue}
+use Rattle.std.specs.Prelude.{◌≡◌, ◌⊎◌, ℕ, ◌+◌, ◌≤◌, ◌==◌, ◌||◌, Bool, true, false, List, [], ◌∷◌, length, take, drop, IsTrue}
 use Rattle.std.specs.Ordering.{nat_cmp}
 use Rattle.std.specs.declared.cmp.Ordering.TheVariants.{Less}
 use Rattle.std.specs.Cmp.Lexicographic.{slice_cmp}
+use Rattle.vault_lock.specs.Lock.{is_locked}
+use Rattle.vault_rules.specs.declared.plan.Step.{Step}
+use Rattle.vault_rules.specs.declared.plan.Step.TheVariants.{Mark, Remove, RemoveLone}
 use Rattle.vault_rules.specs.declared.rule.Rule.{Rule}
 use Rattle.vault_rules.specs.Rules.{is_rule_set}
-use Rattle.vault_rules_laws.specs.Histories.{History, Planned, made_all}
+use Rattle.vault_rules.specs.KeyPlan.{Planned}
+use Rattle.vault_rules_laws.specs.Histories.{History, is_at, made_all}
 use Rattle.vault_rules_laws.specs.BucketPlan.{plan, key_plans}
 
 abbrev pub IsIn : List ℕ → List (List ℕ) → Type 0
@@ -42,6 +46,18 @@ pub record IsPlan (rules : List Rule) (bucket : List ℕ) (t : ℕ) (v : List Hi
   pub rising : IsRising keys
   pub covers : Covers bucket keys v
   pub steps : ps ≡ plan rules bucket t keys v
+
+-- a held entry of that id and key isn't locked at t, or is a marker
+abbrev pub HasFree : List ℕ → List ℕ → ℕ → ℕ → List History → Type 0
+HasFree bucket key t id [] = ⊥
+HasFree bucket key t id (h ∷ hs) =
+    ((h.id ≡ id) × (is_at bucket key h ≡ true) × ((is_locked h.lock t ≡ false) ⊎ (h.marker ≡ true))) ⊎ HasFree bucket key t id hs
+
+-- what the step removes, if anything, may be removed
+abbrev pub IsFreeStep : List ℕ → List ℕ → ℕ → List History → Step → Type 0
+IsFreeStep bucket key t v (Mark r) = Unit {0}
+IsFreeStep bucket key t v (Remove id r) = HasFree bucket key t id v
+IsFreeStep bucket key t v (RemoveLone id r) = HasFree bucket key t id v
 
 abbrev pub total : List ℕ → ℕ
 total [] = 0
@@ -86,3 +102,10 @@ RunsAddUp =
     (rules : List Rule) (bucket : List ℕ) (t : ℕ) (v w : List History) (ps : List Planned) (ns : List ℕ)
     → IsTrue (are_rules rules) → IsChronicle 1 0 t v → IsPlan rules bucket t v ps
     → Runs rules bucket t v ns w → AddsUp rules bucket t v ps (total ns) w
+
+-- the first step of a plan removes, if anything, a held entry of its key that isn't locked, or a marker
+abbrev pub FirstStepsAreFree : Type 0
+FirstStepsAreFree =
+    (rules : List Rule) (bucket : List ℕ) (t : ℕ) (v : List History) (p : Planned) (ps : List Planned)
+    → IsTrue (are_rules rules) → IsChronicle 1 0 t v → IsPlan rules bucket t v (p ∷ ps)
+    → IsFreeStep bucket p.key t v p.step

@@ -1,12 +1,8 @@
 -- The plan of a run over a bucket: three phases, each over the histories that the phase before leaves.
-use Rattle.std.specs.Prelude.{ℕ, List, ◌++◌, map, flat_map}
-use Rattle.vault_rules.specs.declared.plan.Step.{Step}
+use Rattle.std.specs.Prelude.{ℕ, List, ◌++◌, flat_map}
 use Rattle.vault_rules.specs.declared.rule.Rule.{Rule}
-use Rattle.vault_rules.specs.KeyPlan.{mark_steps, removal_steps, lone_steps, key_plan}
-use Rattle.vault_rules_laws.specs.Histories.{History, Planned, entries, made_all}
-
-abbrev pub at_key : List ℕ → List Step → List Planned
-at_key key steps = map (λ s. record { key = key; step = s }) steps
+use Rattle.vault_rules.specs.KeyPlan.{Planned, at_key, mark_steps, removal_steps, lone_steps, key_plan}
+use Rattle.vault_rules_laws.specs.Histories.{History, entries, made_all}
 
 -- the steps of each phase at a key
 abbrev pub marks_at : List Rule → List ℕ → ℕ → List History → List ℕ → List Planned

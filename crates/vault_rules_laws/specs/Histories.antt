@@ -5,6 +5,7 @@ use Rattle.vault_lock.specs.declared.lock.Lock.{Lock}
 use Rattle.vault_rules.specs.declared.plan.Held.{Held}
 use Rattle.vault_rules.specs.declared.plan.Step.{Step}
 use Rattle.vault_rules.specs.declared.plan.Step.TheVariants.{Mark, Remove, RemoveLone}
+use Rattle.vault_rules.specs.KeyPlan.{Planned}
 
 -- an entry that was ever admitted; its lock is that of its last setting
 pub record History : Type 0 where
@@ -44,11 +45,6 @@ new_marker id bucket key t = record {
 -- the history removed, where it has that id
 abbrev pub removed_by : ℕ → History → History
 removed_by id h = if h.id == id then record h { removed = true } else h
-
--- a step at a key
-pub record Planned : Type 0 where
-  pub key : List ℕ
-  pub step : Step
 
 abbrev pub made_at : List ℕ → ℕ → List ℕ → List History → Step → List History
 made_at bucket t key v (Mark r) = v ++ new_marker (length v + 1) bucket key t ∷ []

@@ -3,7 +3,7 @@
 #![tactic(auto)]
 
 ghost use Rattle.vault_rules_laws.specs.KeyRepeats.{KeyPlansRepeat};
-ghost use Rattle.vault_rules_laws.specs.BucketLaws.{PlansAreKeyByKey, PlansRepeat, PlansAreUnique, RunsAddUp};
+ghost use Rattle.vault_rules_laws.specs.BucketLaws.{PlansAreKeyByKey, PlansRepeat, PlansAreUnique, RunsAddUp, FirstStepsAreFree};
 
 /// A run that stopped within a key may be given again: after the first steps of a key's plan,
 /// made at one moment, its plan at that moment is the rest. The key's ids rise, and its
@@ -34,4 +34,10 @@ pub fn bucket_plans_are_unique()
 /// plan, and what is left of it is the plan then.
 pub fn stopped_runs_add_up()
     ensures { RunsAddUp }
+{}
+
+/// The first step of a plan removes, if anything, a held entry of its key that isn't locked, or a
+/// marker.
+pub fn first_steps_are_free()
+    ensures { FirstStepsAreFree }
 {}

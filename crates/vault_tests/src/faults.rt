@@ -1,12 +1,12 @@
 //! What a fault of the reader, the writer or the device leaves behind.
-use crate::script::{opened, play, replies};
 use std::alloc::Global;
 use std::process::Abort;
 use std::test::Fail;
-use vault_base::failing::{FailingReader, FailingWriter};
 use vault_core::fuse_keeper::FuseKeeper;
 use vault_core_list::list_keeper::ListKeeper;
 use vault_core_model::keeper::Keeper;
+use vault_failing::{FailingReader, FailingWriter};
+use vault_transcript::transcript::{opened, play, replies};
 use vaultctl_replay::{ReplayFault, replay};
 
 const SCRIPT: &str = r#"{"at":"2014-01-01T00:00:00Z","as":"registrar","do":"add-dept","dept":"d"}

@@ -1,5 +1,4 @@
 //! Putting, reading and removing versions, and the report of a department.
-use crate::script::{opened, play, play_opened, replies};
 use std::alloc::Global;
 use std::test::Fail;
 use vault_base::moment::Moment;
@@ -9,6 +8,7 @@ use vault_core_list::list_keeper::ListKeeper;
 use vault_core_model::command::{Command, DeleteVersion, Timed};
 use vault_core_model::reply::{Answer, Reply};
 use vault_lock::lock::Permit;
+use vault_transcript::transcript::{opened, play, play_opened, replies};
 
 #[test]
 fn a_version_is_put_read_removed_and_charged(rt: HostRuntime) -> Result<(), Fail> {

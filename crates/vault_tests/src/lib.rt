@@ -3,8 +3,6 @@
 #![tactic(auto)]
 
 #[cfg(test)]
-mod asks;
-#[cfg(test)]
 mod faults;
 #[cfg(test)]
 mod first_path;
@@ -13,10 +11,6 @@ mod limits;
 #[cfg(test)]
 mod lines;
 #[cfg(test)]
-mod locks;
-#[cfg(test)]
 mod refusals;
 #[cfg(test)]
 mod rigged_keeper;
-#[cfg(test)]
-mod script;

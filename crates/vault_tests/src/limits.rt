@@ -1,6 +1,5 @@
 //! Limits: exactly at each all is well, and one above it is refused.
 use crate::rigged_keeper::RiggedKeeper;
-use crate::script::{opened, play, replies};
 use std::alloc::Global;
 use std::test::Fail;
 use vault_base::content::Content;
@@ -10,6 +9,7 @@ use vault_base::refusal::Refusal;
 use vault_core::run::run;
 use vault_core_model::command::{Command, Put, Timed};
 use vault_core_model::reply::{Answer, Reply};
+use vault_transcript::transcript::{opened, play, replies};
 
 /// Ann puts so many bytes.
 fn put(alloc: Global, size: usize) -> Result<Timed, Fail> {

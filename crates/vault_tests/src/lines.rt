@@ -1,8 +1,8 @@
 //! How an input is cut into lines, and which of them get a reply.
-use crate::script::{opened, play, replies};
 use std::alloc::Global;
 use std::test::Fail;
 use vault_core_list::list_keeper::ListKeeper;
+use vault_transcript::transcript::{opened, play, replies};
 
 const ADD: &str = r#"{"at":"2014-01-01T00:00:00Z","as":"registrar","do":"add-dept","dept":"d"}"#;
 

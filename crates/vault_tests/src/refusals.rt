@@ -1,9 +1,9 @@
 //! What is refused, and that a refusal changes nothing.
-use crate::script::{opened, play, play_opened};
 use std::alloc::Global;
 use std::process::Abort;
 use std::test::Fail;
 use vault_core_list::list_keeper::ListKeeper;
+use vault_transcript::transcript::{opened, play, play_opened};
 
 /// Beside what each vault has: a second department with a bucket and a caller, a caller without
 /// department, one without rights, and three versions, of which the second was removed.

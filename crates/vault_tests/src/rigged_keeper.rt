@@ -1,12 +1,15 @@
 //! A keeper that lies, for tests of limits that no vault can be filled up to.
 use vault_base::content::Content;
 use vault_base::moment::Moment;
-use vault_base::name::{BucketName, CallerName, DeptName, ObjectKey, VersionId};
+use vault_base::name::{
+    BatchName, BucketName, CallerName, DeptName, KeyPrefix, ObjectKey, VersionId,
+};
 use vault_core_list::list_keeper::ListKeeper;
 use vault_core_model::change::Change;
 use vault_core_model::halt::Fault;
-use vault_core_model::keeper::Keeper;
-use vault_core_model::records::{BucketConfig, Caller, Entry, Head, LastSetting};
+use vault_core_model::keeper::{Keeper, Sink};
+use vault_core_model::records::{BucketConfig, Caller, Entry, Head, LastSetting, Note};
+use vault_rules::plan::Held;
 use vault_rules::rule_set::RuleSet;
 use vault_tally::row::Row;
 
@@ -77,6 +80,10 @@ impl Keeper for RiggedKeeper {
         self.keeper.head(bucket, key)
     }
 
+    fn entries(&mut self, bucket: &BucketName, key: &ObjectKey) -> Result<Vec<Held>, Fault> {
+        self.keeper.entries(bucket, key)
+    }
+
     fn entry(&mut self, id: VersionId) -> Result<Option<Entry>, Fault> {
         self.keeper.entry(id)
     }
@@ -87,6 +94,28 @@ impl Keeper for RiggedKeeper {
 
     fn content(&mut self, id: VersionId) -> Result<Option<Content>, Fault> {
         self.keeper.content(id)
+    }
+
+    fn keys(
+        &mut self,
+        bucket: &BucketName,
+        after: &KeyPrefix,
+        most: u32,
+    ) -> Result<Vec<ObjectKey>, Fault> {
+        self.keeper.keys(bucket, after, most)
+    }
+
+    fn note(
+        &mut self,
+        bucket: &BucketName,
+        batch: &BatchName,
+        line: u32,
+    ) -> Result<Option<Note>, Fault> {
+        self.keeper.note(bucket, batch, line)
+    }
+
+    fn walk_removed<S: Sink>(&mut self, sink: &mut S) -> Result<bool, Fault> {
+        self.keeper.walk_removed(sink)
     }
 
     fn totals(&mut self, dept: &DeptName) -> Result<Row, Fault> {

@@ -3,7 +3,7 @@ use crate::{answer_words, perform};
 use std::alloc::{AllocError, Global};
 use std::io::{Error, ErrorKind, Read};
 use std::test::Fail;
-use vault_base::failing::{FailingReader, FailingWriter};
+use vault_failing::{FailingReader, FailingWriter};
 use vaultctl_job::job::Job;
 
 /// A department that is added, an empty line, the same again, and a last line that lacks its LF.

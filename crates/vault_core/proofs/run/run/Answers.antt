@@ -1,7 +1,12 @@
-use Rattle.std.proofs.Common.{◌<◌, ◌++◌, length, rules}
+use Rattle.std.proofs.Common.{◌<◌, ◌++◌, List, length, rules, subst, take_all}
 use Rattle.std.proofs.lemmas.List.{take_more}
+use Rattle.vault_core_model.specs.declared.command.Timed.{Timed}
+use Rattle.vault_core_model.specs.Step.{Run}
 use Rattle.vault_core_laws.proofs.Runs.{Run-push, Run-append}
 use Rattle.vault_core_laws.proofs.Conserved.{admitted-conserved}
+use Rattle.vault_worm_laws.proofs.Once.{extends_itself}
+use Rattle.vault_worm_laws.proofs.Repeated.{run-begins, run-completes}
+use Rattle.vault_worm_laws.proofs.Reached.{reached-Sound, reached-permitted, reached-Worm, reached-stands_once, run-extends}
 use Rattle.vault_core.proofs.run.run.Goals as goal
 
 -- the run so far goes on by this step
@@ -25,3 +30,39 @@ returns-in_err-replies-clause-conserved g c = admitted-conserved (g.K.Keeper.vau
 
 pub returns-clause-conserved : goal.returns-clause-conserved
 returns-clause-conserved g c = admitted-conserved (g.K.Keeper.vault c.loop-timed.keeper)
+
+-- ---- the laws of every vault that is reached
+
+pub returns-in_err-replies-clause-permitted : goal.returns-in_err-replies-clause-permitted
+returns-in_err-replies-clause-permitted g c = λ h before. reached-permitted _ before
+
+pub returns-clause-permitted : goal.returns-clause-permitted
+returns-clause-permitted g c = λ h before. reached-permitted _ (returns-clause-reached g c h before)
+
+pub returns-in_err-replies-clause-worm : goal.returns-in_err-replies-clause-worm
+returns-in_err-replies-clause-worm g c = λ h before. reached-Worm _ before
+
+pub returns-clause-worm : goal.returns-clause-worm
+returns-clause-worm g c = λ h before. reached-Worm _ (returns-clause-reached g c h before)
+
+pub returns-in_err-replies-clause-once : goal.returns-in_err-replies-clause-once
+returns-in_err-replies-clause-once g c = λ h before. extends_itself _
+
+pub returns-clause-once : goal.returns-clause-once
+returns-clause-once g c = λ h before. run-extends _ _ _ _ (reached-Sound _ before) (c.loop-timed.invariant.so_far h)
+
+pub returns-in_err-replies-clause-stored : goal.returns-in_err-replies-clause-stored
+returns-in_err-replies-clause-stored g c = λ h before. reached-stands_once _ before
+
+pub returns-clause-stored : goal.returns-clause-stored
+returns-clause-stored g c = λ h before. reached-stands_once _ (returns-clause-reached g c h before)
+
+pub returns-clause-begun : goal.returns-clause-begun
+returns-clause-begun g c = λ h before.
+    let all = take_all c.loop-timed.timed-index c.args.commands.now c.loop-timed-test.false in
+    run-begins _ _ _ _ (reached-Sound _ before) (subst (λ (cs : List Timed). Run (g.K.Keeper.vault c.args.keeper.now) cs c.loop-timed.replies.items (g.K.Keeper.vault c.loop-timed.keeper)) all (c.loop-timed.invariant.so_far h))
+
+pub returns-clause-completed : goal.returns-clause-completed
+returns-clause-completed g c = λ h before.
+    let all = take_all c.loop-timed.timed-index c.args.commands.now c.loop-timed-test.false in
+    run-completes _ _ _ _ (reached-Sound _ before) (subst (λ (cs : List Timed). Run (g.K.Keeper.vault c.args.keeper.now) cs c.loop-timed.replies.items (g.K.Keeper.vault c.loop-timed.keeper)) all (c.loop-timed.invariant.so_far h))

@@ -1,0 +1,99 @@
+-- What the first look at each table reads.
+use Rattle.std.proofs.Common.{◌≡◌, List, ℕ, [], ◌∷◌, codes, false, refl}
+use Rattle.sqlite_tied.specs.Compute.{everything}
+use Rattle.sqlite.specs.Command.TheVariants.{Select}
+use Rattle.sqlite.specs.Listing.{understood, reads_listing}
+use Rattle.sqlite.proofs.Callers.{IsPlain, command_of}
+use Rattle.sqlite_sql.specs.Term.{col}
+use Rattle.vault_audit_model.specs.Tables.{vault_schema}
+use Rattle.vault_audit_walk.proofs.RecordLemmas.{Scans}
+use Rattle.vault_audit_walk.proofs.ScanLemmas.{walk_of}
+
+abbrev pub departments_text : List ℕ
+departments_text = codes "SELECT name, admitted, held, removed, weighted, closed FROM departments"
+
+pub departments_scan : Scans vault_schema departments_text 1 (col 1 1 ∷ col 1 2 ∷ col 1 3 ∷ col 1 4 ∷ col 1 5 ∷ col 1 6 ∷ []) (codes "name" ∷ codes "admitted" ∷ codes "held" ∷ codes "removed" ∷ codes "weighted" ∷ codes "closed" ∷ [])
+unfolding understood everything
+departments_scan = record { command = refl; unlisted = refl; plain = (refl, refl) }
+
+abbrev pub callers_text : List ℕ
+callers_text = codes "SELECT name, dept, rights, closed FROM callers"
+
+pub callers_scan : Scans vault_schema callers_text 3 (col 1 1 ∷ col 1 2 ∷ col 1 3 ∷ col 1 4 ∷ []) (codes "name" ∷ codes "dept" ∷ codes "rights" ∷ codes "closed" ∷ [])
+unfolding understood everything
+callers_scan = record { command = refl; unlisted = refl; plain = (refl, refl) }
+
+abbrev pub buckets_text : List ℕ
+buckets_text = codes "SELECT name, dept, mode, days, years FROM buckets"
+
+pub buckets_scan : Scans vault_schema buckets_text 5 (col 1 1 ∷ col 1 2 ∷ col 1 3 ∷ col 1 4 ∷ col 1 5 ∷ []) (codes "name" ∷ codes "dept" ∷ codes "mode" ∷ codes "days" ∷ codes "years" ∷ [])
+unfolding understood everything
+buckets_scan = record { command = refl; unlisted = refl; plain = (refl, refl) }
+
+abbrev pub rules_text : List ℕ
+rules_text = codes "SELECT bucket, n, id, prefix, enabled, days, lone, nc_days, nc_keep FROM rules"
+
+pub rules_scan : Scans vault_schema rules_text 7 (col 1 1 ∷ col 1 2 ∷ col 1 3 ∷ col 1 4 ∷ col 1 5 ∷ col 1 6 ∷ col 1 7 ∷ col 1 8 ∷ col 1 9 ∷ []) (codes "bucket" ∷ codes "n" ∷ codes "id" ∷ codes "prefix" ∷ codes "enabled" ∷ codes "days" ∷ codes "lone" ∷ codes "nc_days" ∷ codes "nc_keep" ∷ [])
+unfolding understood everything
+rules_scan = record { command = refl; unlisted = refl; plain = (refl, refl) }
+
+abbrev pub contents_text : List ℕ
+contents_text = codes "SELECT id, bytes FROM contents"
+
+pub contents_scan : Scans vault_schema contents_text 10 (col 1 0 ∷ col 1 2 ∷ []) (codes "id" ∷ codes "bytes" ∷ [])
+unfolding understood everything
+contents_scan = record { command = refl; unlisted = refl; plain = (refl, refl) }
+
+abbrev pub settings_text : List ℕ
+settings_text = codes "SELECT id, n, moment, caller, mode, until, hold, bypass FROM settings"
+
+pub settings_scan : Scans vault_schema settings_text 11 (col 1 1 ∷ col 1 2 ∷ col 1 3 ∷ col 1 4 ∷ col 1 5 ∷ col 1 6 ∷ col 1 7 ∷ col 1 8 ∷ []) (codes "id" ∷ codes "n" ∷ codes "moment" ∷ codes "caller" ∷ codes "mode" ∷ codes "until" ∷ codes "hold" ∷ codes "bypass" ∷ [])
+unfolding understood everything
+settings_scan = record { command = refl; unlisted = refl; plain = (refl, refl) }
+
+abbrev pub intake_text : List ℕ
+intake_text = codes "SELECT bucket, batch, line, key, size, digest, mode, until, hold, id FROM intake"
+
+pub intake_scan : Scans vault_schema intake_text 13 (col 1 1 ∷ col 1 2 ∷ col 1 3 ∷ col 1 4 ∷ col 1 5 ∷ col 1 6 ∷ col 1 7 ∷ col 1 8 ∷ col 1 9 ∷ col 1 10 ∷ []) (codes "bucket" ∷ codes "batch" ∷ codes "line" ∷ codes "key" ∷ codes "size" ∷ codes "digest" ∷ codes "mode" ∷ codes "until" ∷ codes "hold" ∷ codes "id" ∷ [])
+unfolding understood everything
+intake_scan = record { command = refl; unlisted = refl; plain = (refl, refl) }
+
+abbrev pub heads_text : List ℕ
+heads_text = codes "SELECT bucket, key, newest, count FROM heads"
+
+pub heads_scan : Scans vault_schema heads_text 15 (col 1 1 ∷ col 1 2 ∷ col 1 3 ∷ col 1 4 ∷ []) (codes "bucket" ∷ codes "key" ∷ codes "newest" ∷ codes "count" ∷ [])
+unfolding understood everything
+heads_scan = record { command = refl; unlisted = refl; plain = (refl, refl) }
+
+abbrev pub entries_text : List ℕ
+entries_text = codes "SELECT id, bucket, key, marker, size, digest, admitted, by_rule, admitted_by, removed, cause, cause_by FROM entries"
+
+pub entries_scan : Scans vault_schema entries_text 9 (col 1 0 ∷ col 1 2 ∷ col 1 3 ∷ col 1 4 ∷ col 1 5 ∷ col 1 6 ∷ col 1 7 ∷ col 1 8 ∷ col 1 9 ∷ col 1 10 ∷ col 1 11 ∷ col 1 12 ∷ []) (codes "id" ∷ codes "bucket" ∷ codes "key" ∷ codes "marker" ∷ codes "size" ∷ codes "digest" ∷ codes "admitted" ∷ codes "by_rule" ∷ codes "admitted_by" ∷ codes "removed" ∷ codes "cause" ∷ codes "cause_by" ∷ [])
+unfolding understood everything
+entries_scan = record { command = refl; unlisted = refl; plain = (refl, refl) }
+
+-- ---- walks in the order of the first column
+
+abbrev pub meta_walk : List ℕ
+meta_walk = codes "SELECT one, schema, last, next FROM meta ORDER BY one"
+
+pub meta_walk_is : (command_of (understood vault_schema meta_walk) ≡ Select (record { lets = []; body = walk_of 0 0 (col 1 2 ∷ col 1 3 ∷ col 1 4 ∷ []) }) (codes "one" ∷ codes "schema" ∷ codes "last" ∷ codes "next" ∷ []))
+    × (reads_listing vault_schema meta_walk ≡ false)
+unfolding understood everything
+meta_walk_is = (refl, refl)
+
+pub meta_walk_plain : IsPlain (understood vault_schema meta_walk)
+unfolding understood everything
+meta_walk_plain = (refl, refl)
+
+abbrev pub numbers_walk : List ℕ
+numbers_walk = codes "SELECT id, bucket, key, marker, size, digest, admitted, by_rule, admitted_by, removed, cause, cause_by FROM entries ORDER BY id"
+
+pub numbers_walk_is : (command_of (understood vault_schema numbers_walk) ≡ Select (record { lets = []; body = walk_of 9 0 (col 1 2 ∷ col 1 3 ∷ col 1 4 ∷ col 1 5 ∷ col 1 6 ∷ col 1 7 ∷ col 1 8 ∷ col 1 9 ∷ col 1 10 ∷ col 1 11 ∷ col 1 12 ∷ []) }) (codes "id" ∷ codes "bucket" ∷ codes "key" ∷ codes "marker" ∷ codes "size" ∷ codes "digest" ∷ codes "admitted" ∷ codes "by_rule" ∷ codes "admitted_by" ∷ codes "removed" ∷ codes "cause" ∷ codes "cause_by" ∷ []))
+    × (reads_listing vault_schema numbers_walk ≡ false)
+unfolding understood everything
+numbers_walk_is = (refl, refl)
+
+pub numbers_walk_plain : IsPlain (understood vault_schema numbers_walk)
+unfolding understood everything
+numbers_walk_plain = (refl, refl)

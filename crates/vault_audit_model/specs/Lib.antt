@@ -1,0 +1,6 @@
+pub mod Values
+pub mod Tables
+pub mod Texts
+pub mod Rows
+pub mod Limits
+pub mod Spells

@@ -1,0 +1,195 @@
+-- What stands in the columns of a row, for each record that a row tells.
+use Rattle.std.specs.Prelude.{ℕ, ◌+◌, Bool, true, false, List, [], ◌∷◌, Option, Some, None, option_map, option_and_then}
+use Rattle.sqlite_value.specs.declared.value.Value.{Value}
+use Rattle.sqlite_value.specs.declared.value.Value.TheVariants.{Text, Blob}
+use Rattle.sqlite_value.specs.Order.{Row, column}
+use Rattle.vault_lock.specs.declared.retention.Mode.{Mode}
+use Rattle.vault_lock.specs.declared.retention.Mode.TheVariants.{Governance, Compliance}
+use Rattle.vault_lock.specs.declared.retention.Retention.{Retention}
+use Rattle.vault_lock.specs.declared.retention.Period.{Period}
+use Rattle.vault_lock.specs.declared.retention.Period.TheVariants.{Days, Years}
+use Rattle.vault_lock.specs.declared.retention.Default.{Default}
+use Rattle.vault_rules.specs.declared.rule.Noncurrent.{Noncurrent}
+use Rattle.vault_core_model.specs.declared.rights.Rights.{Rights}
+use Rattle.vault_core_model.specs.declared.records.Author.{Author}
+use Rattle.vault_core_model.specs.declared.records.Author.TheVariants as author
+use Rattle.vault_core_model.specs.declared.records.Cause.{Cause}
+use Rattle.vault_core_model.specs.declared.records.Cause.TheVariants as cause
+use Rattle.vault_core_model.specs.declared.records.Removal.{Removal}
+use Rattle.vault_core_model.specs.declared.records.Caller.{Caller}
+use Rattle.vault_core_model.specs.declared.records.Entry.{Entry}
+use Rattle.vault_core_model.specs.declared.records.Note.{Note}
+use Rattle.vault_audit_model.specs.declared.rows.MetaRow.{MetaRow}
+use Rattle.vault_audit_model.specs.declared.rows.DepartmentRow.{DepartmentRow}
+use Rattle.vault_audit_model.specs.declared.rows.BucketRow.{BucketRow}
+use Rattle.vault_audit_model.specs.declared.rows.RuleRow.{RuleRow}
+use Rattle.vault_audit_model.specs.declared.rows.ContentRow.{ContentRow}
+use Rattle.vault_audit_model.specs.declared.rows.SettingRow.{SettingRow}
+use Rattle.vault_audit_model.specs.declared.rows.HeadRow.{HeadRow}
+use Rattle.vault_audit_model.specs.Values.{number, number_or_null, text_or_null, bytes_or_null, flag, flag_or_null}
+
+-- ---- parts of rows
+
+-- the value of a binary digit that is set or not
+abbrev pub bit : Bool → ℕ → ℕ
+bit false n = 0
+bit true n = n
+
+-- a digit for each right, the right to administer being the lowest
+abbrev pub rights_number : Rights → ℕ
+rights_number r =
+    bit r.admin 1 + bit r.config 2 + bit r.put 4 + bit r.retain 8 + bit r.hold 16 + bit r.get 32 + bit r.list 64
+    + bit r.delete 128 + bit r.delete_version 256 + bit r.run 512 + bit r.report 1024 + bit r.bypass 2048
+
+-- an absent mode is 0
+abbrev pub mode_number : Option Mode → ℕ
+mode_number None = 0
+mode_number (Some Governance) = 1
+mode_number (Some Compliance) = 2
+
+abbrev pub days_of : Period → Option ℕ
+days_of (Days n) = Some n
+days_of (Years n) = None
+
+abbrev pub years_of : Period → Option ℕ
+years_of (Days n) = None
+years_of (Years n) = Some n
+
+-- a bucket's default retention: the number of its mode, its days, its years
+abbrev pub default_mode : Option Default → Value
+default_mode default = number (mode_number (option_map (λ d. d.mode) default))
+
+abbrev pub default_days : Option Default → Value
+default_days default = number_or_null (option_and_then (λ d. days_of d.period) default)
+
+abbrev pub default_years : Option Default → Value
+default_years default = number_or_null (option_and_then (λ d. years_of d.period) default)
+
+-- a retention: the number of its mode, and its end
+abbrev pub retention_mode : Option Retention → Value
+retention_mode retention = number (mode_number (option_map (λ r. r.mode) retention))
+
+abbrev pub retention_until : Option Retention → Value
+retention_until retention = number_or_null (option_map (λ r. r.until) retention)
+
+-- who admitted an entry: whether it was a rule, and the rule's id or else the caller's name
+abbrev pub author_kind : Author → Value
+author_kind (author.Caller name) = flag false
+author_kind (author.Rule id) = flag true
+
+abbrev pub author_name : Author → Value
+author_name (author.Caller name) = Text name
+author_name (author.Rule id) = Text id
+
+-- a cause: its number, and the caller's name or the rule's id
+abbrev pub cause_number : Cause → ℕ
+cause_number (cause.Request name) = 0
+cause_number (cause.Bypass name) = 1
+cause_number (cause.Rule id) = 2
+
+abbrev pub cause_text : Cause → List ℕ
+cause_text (cause.Request name) = name
+cause_text (cause.Bypass name) = name
+cause_text (cause.Rule id) = id
+
+-- a removal: its moment, the number of its cause, and who caused it
+abbrev pub removal_at : Option Removal → Value
+removal_at removal = number_or_null (option_map (λ r. r.at) removal)
+
+abbrev pub removal_cause : Option Removal → Value
+removal_cause removal = number_or_null (option_map (λ r. cause_number r.cause) removal)
+
+abbrev pub removal_by : Option Removal → Value
+removal_by removal = text_or_null (option_map (λ r. cause_text r.cause) removal)
+
+-- what a rule does to noncurrent entries: its days, and how many newer ones it keeps
+abbrev pub noncurrent_days : Option Noncurrent → Value
+noncurrent_days noncurrent = number_or_null (option_map (λ n. n.days) noncurrent)
+
+abbrev pub noncurrent_newer : Option Noncurrent → Value
+noncurrent_newer noncurrent = number_or_null (option_and_then (λ n. n.newer) noncurrent)
+
+-- ---- rows
+
+-- the first number tells the one row apart, the second is that of the schema
+abbrev pub meta_row : MetaRow → Row
+meta_row m = number 1 ∷ number 1 ∷ number m.last ∷ number m.next ∷ []
+
+abbrev pub department_row : DepartmentRow → Row
+department_row d =
+    Text d.name ∷ number d.sums.admitted ∷ number d.sums.held ∷ number d.sums.removed ∷ number d.sums.weighted
+    ∷ number d.sums.closed ∷ []
+
+abbrev pub caller_row : Caller → Row
+caller_row c = Text c.name ∷ text_or_null c.dept ∷ number (rights_number c.rights) ∷ flag c.closed ∷ []
+
+abbrev pub bucket_row : BucketRow → Row
+bucket_row b =
+    Text b.name ∷ Text b.config.dept ∷ default_mode b.config.default ∷ default_days b.config.default
+    ∷ default_years b.config.default ∷ []
+
+abbrev pub rule_row : RuleRow → Row
+rule_row r =
+    Text r.bucket ∷ number r.place ∷ Text r.rule.id ∷ Text r.rule.prefix ∷ flag r.rule.enabled
+    ∷ number_or_null r.rule.days ∷ flag r.rule.lone_markers
+    ∷ noncurrent_days r.rule.noncurrent ∷ noncurrent_newer r.rule.noncurrent ∷ []
+
+abbrev pub entry_row : Entry → Row
+entry_row e =
+    number e.id ∷ Text e.bucket ∷ Text e.key ∷ flag e.marker ∷ number e.size ∷ bytes_or_null e.digest
+    ∷ number e.admitted ∷ author_kind e.by ∷ author_name e.by ∷ removal_at e.removal
+    ∷ removal_cause e.removal ∷ removal_by e.removal ∷ []
+
+abbrev pub content_row : ContentRow → Row
+content_row c = number c.id ∷ Blob c.content ∷ []
+
+abbrev pub setting_row : SettingRow → Row
+setting_row s =
+    number s.id ∷ number s.place ∷ number s.setting.at ∷ Text s.setting.by ∷ retention_mode s.setting.lock.retention
+    ∷ retention_until s.setting.lock.retention ∷ flag s.setting.lock.hold ∷ flag s.setting.bypass ∷ []
+
+abbrev pub note_row : Note → Row
+note_row n =
+    Text n.bucket ∷ Text n.batch ∷ number n.line ∷ Text n.key ∷ number n.size ∷ Blob n.digest
+    ∷ retention_mode n.retention ∷ retention_until n.retention ∷ flag_or_null n.hold ∷ number n.id ∷ []
+
+abbrev pub head_row : HeadRow → Row
+head_row h = Text h.bucket ∷ Text h.key ∷ number h.head.newest ∷ number h.head.count ∷ []
+
+-- ---- the columns of a row as it is stored: its number in the file and then each column, where the number stands for a key by numbers
+
+abbrev pub meta_columns : Row → Row
+meta_columns r = column r 0 ∷ column r 2 ∷ column r 3 ∷ column r 4 ∷ []
+
+abbrev pub department_columns : Row → Row
+department_columns r = column r 1 ∷ column r 2 ∷ column r 3 ∷ column r 4 ∷ column r 5 ∷ column r 6 ∷ []
+
+abbrev pub caller_columns : Row → Row
+caller_columns r = column r 1 ∷ column r 2 ∷ column r 3 ∷ column r 4 ∷ []
+
+abbrev pub bucket_columns : Row → Row
+bucket_columns r = column r 1 ∷ column r 2 ∷ column r 3 ∷ column r 4 ∷ column r 5 ∷ []
+
+abbrev pub rule_columns : Row → Row
+rule_columns r =
+    column r 1 ∷ column r 2 ∷ column r 3 ∷ column r 4 ∷ column r 5 ∷ column r 6 ∷ column r 7 ∷ column r 8 ∷ column r 9 ∷ []
+
+abbrev pub entry_columns : Row → Row
+entry_columns r =
+    column r 0 ∷ column r 2 ∷ column r 3 ∷ column r 4 ∷ column r 5 ∷ column r 6 ∷ column r 7 ∷ column r 8 ∷ column r 9
+    ∷ column r 10 ∷ column r 11 ∷ column r 12 ∷ []
+
+abbrev pub content_columns : Row → Row
+content_columns r = column r 0 ∷ column r 2 ∷ []
+
+abbrev pub setting_columns : Row → Row
+setting_columns r =
+    column r 1 ∷ column r 2 ∷ column r 3 ∷ column r 4 ∷ column r 5 ∷ column r 6 ∷ column r 7 ∷ column r 8 ∷ []
+
+abbrev pub note_columns : Row → Row
+note_columns r =
+    column r 1 ∷ column r 2 ∷ column r 3 ∷ column r 4 ∷ column r 5 ∷ column r 6 ∷ column r 7 ∷ column r 8 ∷ column r 9
+    ∷ column r 10 ∷ []
+
+abbrev pub head_columns : Row → Row
+head_columns r = column r 1 ∷ column r 2 ∷ column r 3 ∷ column r 4 ∷ []

@@ -1,0 +1,134 @@
+-- The vault that the rows of a database spell, and when its tables are sound.
+use Rattle.std.specs.Prelude.{◌≡◌, ℕ, ◌+◌, false, List, [], ◌∷◌, length, map, filter, flat_map, sum_by, Option, Some, None, IsPermutation}
+use Rattle.std.specs.List.{AllByRecursion}
+use Rattle.std.specs.declared.cmp.Ordering.TheVariants.{Less}
+use Rattle.sqlite_trees.specs.Tree.{IsAscending}
+use Rattle.sqlite_value.specs.declared.value.Value.TheVariants.{Text}
+use Rattle.sqlite_value.specs.Order.{column}
+use Rattle.sqlite.specs.Effect.{Database}
+use Rattle.vault_tally.specs.Row.{Item, size_of, held_size, removed_size, weight, closed_byte_days}
+use Rattle.vault_tally.specs.declared.row.Row.{Row as Sums}
+use Rattle.vault_rules.specs.declared.rule.Rule.{Rule}
+use Rattle.vault_core_model.specs.declared.records.Bucket.{Bucket}
+use Rattle.vault_core_model.specs.declared.records.Entry.{Entry}
+use Rattle.vault_core_model.specs.declared.records.History.{History}
+use Rattle.vault_core_model.specs.declared.records.Note.{Note}
+use Rattle.vault_core_model.specs.declared.records.Setting.{Setting}
+use Rattle.vault_core_model.specs.Order.{name_cmp, caller_cmp, bucket_cmp, note_cmp}
+use Rattle.vault_core_model.specs.Places.{held_at, is_current}
+use Rattle.vault_core_model.specs.Reads.{entry_of}
+use Rattle.vault_core_model.specs.Sound.{Sound}
+use Rattle.vault_core_model.specs.Totals.{items_of}
+use Rattle.vault_core_model.specs.Vault.{Vault, next_id}
+use Rattle.vault_audit_model.specs.declared.rows.MetaRow.{MetaRow}
+use Rattle.vault_audit_model.specs.declared.rows.DepartmentRow.{DepartmentRow}
+use Rattle.vault_audit_model.specs.declared.rows.BucketRow.{BucketRow}
+use Rattle.vault_audit_model.specs.declared.rows.RuleRow.{RuleRow}
+use Rattle.vault_audit_model.specs.declared.rows.ContentRow.{ContentRow}
+use Rattle.vault_audit_model.specs.declared.rows.SettingRow.{SettingRow}
+use Rattle.vault_audit_model.specs.declared.rows.HeadRow.{HeadRow}
+use Rattle.vault_audit_model.specs.Tables.{vault_schema, meta_tree, departments_tree, callers_tree, buckets_tree, rules_tree, entries_tree, contents_tree, settings_tree, intake_tree, heads_tree}
+use Rattle.vault_audit_model.specs.Rows.{meta_row, department_row, caller_row, bucket_row, rule_row, entry_row, content_row, setting_row, note_row, head_row, meta_columns, department_columns, caller_columns, bucket_columns, rule_columns, entry_columns, content_columns, setting_columns, note_columns, head_columns}
+use Rattle.vault_audit_model.specs.Limits.{IsInLimits}
+
+-- ---- the rows of a vault
+
+abbrev pub meta_of : Vault → MetaRow
+meta_of v = record { last = v.last; next = next_id v }
+
+-- a bucket without its rules
+abbrev pub bucket_of : Bucket → BucketRow
+bucket_of b = record { name = b.name; config = b.config }
+
+-- the rules of a bucket at their places, from this one on
+abbrev pub rules_from : List ℕ → ℕ → List Rule → List RuleRow
+rules_from bucket place [] = []
+rules_from bucket place (r ∷ rs) = record { bucket = bucket; place = place; rule = r } ∷ rules_from bucket (place + 1) rs
+
+abbrev pub rules_if_given : List ℕ → Option (List Rule) → List RuleRow
+rules_if_given bucket None = []
+rules_if_given bucket (Some rules) = rules_from bucket 1 rules
+
+abbrev pub rules_in : Bucket → List RuleRow
+rules_in b = rules_if_given b.name b.rules
+
+-- the bytes of a version, while it has them
+abbrev pub content_if_given : ℕ → Option (List ℕ) → List ContentRow
+content_if_given id None = []
+content_if_given id (Some bytes) = record { id = id; content = bytes } ∷ []
+
+abbrev pub contents_in : History → List ContentRow
+contents_in h = content_if_given h.entry.id h.content
+
+-- the settings of a version at their places, from this one on
+abbrev pub settings_from : ℕ → ℕ → List Setting → List SettingRow
+settings_from id place [] = []
+settings_from id place (s ∷ ss) = record { id = id; place = place; setting = s } ∷ settings_from id (place + 1) ss
+
+abbrev pub settings_in : History → List SettingRow
+settings_in h = settings_from h.entry.id 1 h.settings
+
+-- ---- the running numbers of a vault, taken over its entries
+
+-- the five sums over these versions
+abbrev pub sums_over : List Item → Sums
+sums_over items = record {
+  admitted = sum_by size_of items;
+  held = sum_by held_size items;
+  removed = sum_by removed_size items;
+  weighted = sum_by weight items;
+  closed = sum_by closed_byte_days items;
+}
+
+-- a department with the sums over its versions, removed ones included
+abbrev pub department_in : Vault → List ℕ → DepartmentRow
+department_in v name = record { name = name; sums = sums_over (items_of v name) }
+
+-- the head of the key whose current entry this is: its id, and how many entries the key holds
+abbrev pub head_in : Vault → History → HeadRow
+head_in v h = record {
+  bucket = h.entry.bucket;
+  key = h.entry.key;
+  head = record { newest = h.entry.id; count = length (held_at v h.entry.bucket h.entry.key) };
+}
+
+-- a head for each key that has a held entry, which is then one entry that is current
+abbrev pub heads_in : Vault → List HeadRow
+heads_in v = map (head_in v) (filter (is_current v) v.histories)
+
+-- ---- what holds beyond the limits of values
+
+-- the named records stand in the order of their names, so that each vault has one form
+pub record IsInNameOrder (v : Vault) : Type 0 where
+  pub departments : IsAscending (λ a b. name_cmp a b ≡ Less) v.departments
+  pub callers : IsAscending (λ a b. caller_cmp a b ≡ Less) v.callers
+  pub buckets : IsAscending (λ a b. bucket_cmp a b ≡ Less) v.buckets
+  pub notes : IsAscending (λ a b. note_cmp a b ≡ Less) v.notes
+
+-- a vault as it may be kept: in its limits, sound, and in its one form
+pub record IsKept (v : Vault) : Type 0 where
+  pub limits : IsInLimits v
+  pub sound : Sound v
+  pub ordered : IsInNameOrder v
+
+-- ---- the vault that the rows spell
+
+-- The rows of each table are those of the vault, in any order. The running numbers and the heads tell nothing of a vault.
+pub record Spells (db : Database) (v : Vault) : Type 0 where
+  pub schema : db.schema ≡ vault_schema
+  pub meta : IsPermutation (meta_row (meta_of v) ∷ []) (map meta_columns (db.trees meta_tree))
+  pub departments : IsPermutation (map (λ d. Text d) v.departments) (map (λ r. column r 1) (db.trees departments_tree))
+  pub callers : IsPermutation (map caller_row v.callers) (map caller_columns (db.trees callers_tree))
+  pub buckets : IsPermutation (map (λ b. bucket_row (bucket_of b)) v.buckets) (map bucket_columns (db.trees buckets_tree))
+  pub rules : IsPermutation (map rule_row (flat_map rules_in v.buckets)) (map rule_columns (db.trees rules_tree))
+  pub entries : IsPermutation (map (λ h. entry_row h.entry) v.histories) (map entry_columns (db.trees entries_tree))
+  pub contents : IsPermutation (map content_row (flat_map contents_in v.histories)) (map content_columns (db.trees contents_tree))
+  pub settings : IsPermutation (map setting_row (flat_map settings_in v.histories)) (map setting_columns (db.trees settings_tree))
+  pub intake : IsPermutation (map note_row v.notes) (map note_columns (db.trees intake_tree))
+  pub kept : IsKept v
+
+-- The tables are sound: they spell this vault, and their running numbers and heads are those taken over its entries.
+pub record AreSound (db : Database) (v : Vault) : Type 0 where
+  pub spells : Spells db v
+  pub numbers : IsPermutation (map (λ d. department_row (department_in v d)) v.departments) (map department_columns (db.trees departments_tree))
+  pub heads : IsPermutation (map head_row (heads_in v)) (map head_columns (db.trees heads_tree))

@@ -1,0 +1,22 @@
+//! Why a row isn't read.
+ghost use Rattle.std.specs.Prelude.{◌≡◌};
+ghost use Rattle.vault_audit_rows.specs.declared.misread.Misread.TheVariants as misreads;
+
+use std::alloc::AllocError;
+
+/// Why a row, or a value in one, isn't read.
+#[derive(Clone, Copy, Debug, PartialEq, Eq)]
+pub enum Misread {
+    /// It tells no record of that kind, in its limits.
+    Wrong,
+    /// No memory was left for what it tells.
+    Memory,
+}
+
+impl From<AllocError> for Misread {
+    ghost from_gives = { λ _ e. e ≡ misreads.Memory };
+
+    fn from(_: AllocError) -> Misread {
+        Misread::Memory
+    }
+}

@@ -1,0 +1,291 @@
+//! Values that stand in several columns of a row.
+ghost use Rattle.std.specs.Prelude.{◌≡◌, ◌≢◌, ◌↔◌, ◌==◌, ◌/◌, ◌%◌, ◌<◌, ◌^◌, ◌≤◌, ℕ, Bool, List, length, Option, IsTrue, IfOk, IfErr, IfSome, MatchOption};
+ghost use Rattle.sqlite_value.specs.declared.value.Value.TheVariants.{Null, Text};
+ghost use Rattle.sqlite_value.specs.Order.{column};
+ghost use Rattle.vault_base.specs.Days.{last_moment};
+ghost use Rattle.vault_lock.specs.Retention.{is_period};
+ghost use Rattle.vault_lock.specs.declared.retention.Mode.{Mode};
+ghost use Rattle.vault_lock.specs.declared.retention.Period.{Period};
+ghost use Rattle.vault_lock.specs.declared.retention.Default.{Default};
+ghost use Rattle.vault_lock.specs.declared.retention.Retention.{Retention};
+ghost use Rattle.vault_rules.specs.Rules.{passes_if_given, is_days, is_newer, is_noncurrent_action};
+ghost use Rattle.vault_rules.specs.declared.rule.Noncurrent.{Noncurrent};
+ghost use Rattle.vault_core_model.specs.declared.rights.Rights.{Rights};
+ghost use Rattle.vault_core_model.specs.declared.records.Author.{Author};
+ghost use Rattle.vault_core_model.specs.declared.records.Cause.{Cause};
+ghost use Rattle.vault_core_model.specs.declared.records.Removal.{Removal};
+ghost use Rattle.vault_core_model.specs.Checks.{most_content};
+ghost use Rattle.vault_audit_model.specs.Limits.{IsSizedAs, IsRetention, IsAuthor, IsCause, IsRemoval};
+ghost use Rattle.vault_audit_model.specs.Rows.{mode_number, days_of, years_of, cause_number, cause_text, rights_number, default_mode, default_days, default_years, retention_mode, retention_until, noncurrent_days, noncurrent_newer, author_kind, author_name, removal_at, removal_cause, removal_by};
+ghost use Rattle.vault_audit_model.specs.Values.{number, number_or_null, bytes_or_null, flag};
+
+use crate::cell::{
+    MOST_CONTENT, digest_or_null, flag, is_null, moment, number, number_within, small_number,
+    small_number_or_null,
+};
+use crate::misread::Misread;
+use crate::name::{caller_name, rule_id};
+use sqlite::Row;
+use vault_base::content::Digest;
+use vault_core_model::records::{Author, Cause, Removal};
+use vault_core_model::rights::Rights;
+use vault_lock::retention::{Default, Mode, Period, Retention};
+use vault_rules::rule::Noncurrent;
+
+/// The mode in a column, or none.
+pub fn mode(row: &Row, at: usize) -> Option<Option<Mode>>
+    ensures { MatchOption result ((m : Option Mode) → column row.now at ≢ number (mode_number m)) (λ m. column row.now at ≡ number (mode_number m)) }
+{
+    match number(row, at)? {
+        0 => Some(None),
+        1 => Some(Some(Mode::Governance)),
+        2 => Some(Some(Mode::Compliance)),
+        _ => None,
+    }
+}
+
+/// The retention whose mode and end stand in these columns, or none.
+pub fn retention(row: &Row, mode_at: usize, until_at: usize) -> Option<Option<Retention>>
+    ensures { MatchOption result
+        ((r : Option Retention) → IfSome r IsRetention → column row.now mode_at ≡ retention_mode r → column row.now until_at ≢ retention_until r)
+        (λ r. (column row.now mode_at ≡ retention_mode r) × (column row.now until_at ≡ retention_until r) × IfSome r IsRetention) }
+{
+    match mode(row, mode_at)? {
+        None => is_null(row, until_at).then_some(None),
+        Some(mode) => {
+            let until = moment(row, until_at)?;
+            Some(Some(Retention { mode, until }))
+        }
+    }
+}
+
+/// The period, where it is one that a default may have.
+fn in_range(period: Period) -> Option<Period>
+    ensures { MatchOption result (¬ IsTrue (is_period period)) (λ p. (p ≡ period) × IsTrue (is_period p)) }
+{
+    period.is_in_range().then_some(period)
+}
+
+/// The period of so many days or years, of which one is given.
+fn period_of(days: Option<u32>, years: Option<u32>) -> Option<Period>
+    ensures { MatchOption result
+        ((p : Period) → IsTrue (is_period p) → days ≡ days_of p → years ≢ years_of p)
+        (λ p. (days ≡ days_of p) × (years ≡ years_of p) × IsTrue (is_period p)) }
+{
+    match (days, years) {
+        (Some(days), None) => in_range(Period::Days(days)),
+        (None, Some(years)) => in_range(Period::Years(u16::try_from(years).ok()?)),
+        _ => None,
+    }
+}
+
+/// The period whose days or years stand in these columns.
+fn period(row: &Row, days_at: usize, years_at: usize) -> Option<Period>
+    ensures { MatchOption result
+        ((p : Period) → IsTrue (is_period p) → column row.now days_at ≡ number_or_null (days_of p) → column row.now years_at ≢ number_or_null (years_of p))
+        (λ p. (column row.now days_at ≡ number_or_null (days_of p)) × (column row.now years_at ≡ number_or_null (years_of p)) × IsTrue (is_period p)) }
+{
+    let days = small_number_or_null(row, days_at)?;
+    let years = small_number_or_null(row, years_at)?;
+    period_of(days, years)
+}
+
+/// The default retention in three columns, or none.
+pub fn default(
+    row: &Row,
+    mode_at: usize,
+    days_at: usize,
+    years_at: usize,
+) -> Option<Option<Default>>
+    ensures { MatchOption result
+        ((d : Option Default) → IfSome d (λ d. IsTrue (is_period d.period)) → column row.now mode_at ≡ default_mode d → column row.now days_at ≡ default_days d → column row.now years_at ≢ default_years d)
+        (λ d. (column row.now mode_at ≡ default_mode d) × (column row.now days_at ≡ default_days d) × (column row.now years_at ≡ default_years d) × IfSome d (λ d. IsTrue (is_period d.period))) }
+{
+    let Some(mode) = mode(row, mode_at)? else {
+        if is_null(row, days_at) && is_null(row, years_at) {
+            return Some(None);
+        }
+        return None;
+    };
+    let period = period(row, days_at, years_at)?;
+    Some(Some(Default { mode, period }))
+}
+
+/// Whether a number of days that a rule names is in its limits.
+fn is_days(days: u32) -> bool
+    ensures { result ≡ is_days days }
+{
+    1 <= days && days <= 2_147_483_647
+}
+
+/// Whether a number of newer noncurrent entries that a rule names is in its limits.
+fn is_newer(newer: u32) -> bool
+    ensures { result ≡ is_newer newer }
+{
+    1 <= newer && newer <= 100
+}
+
+/// The days in a column of a rule, or none.
+pub fn days_or_null(row: &Row, at: usize) -> Option<Option<u32>>
+    ensures { MatchOption result
+        ((o : Option ℕ) → IsTrue (passes_if_given is_days o) → column row.now at ≢ number_or_null o)
+        (λ o. (column row.now at ≡ number_or_null o) × IsTrue (passes_if_given is_days o)) }
+{
+    let days = small_number_or_null(row, at)?;
+    days.map_or(true, is_days).then_some(days)
+}
+
+/// The number of newer noncurrent entries in a column of a rule, or none.
+fn newer_or_null(row: &Row, at: usize) -> Option<Option<u32>>
+    ensures { MatchOption result
+        ((o : Option ℕ) → IsTrue (passes_if_given is_newer o) → column row.now at ≢ number_or_null o)
+        (λ o. (column row.now at ≡ number_or_null o) × IsTrue (passes_if_given is_newer o)) }
+{
+    let newer = small_number_or_null(row, at)?;
+    newer.map_or(true, is_newer).then_some(newer)
+}
+
+/// What a rule does to noncurrent entries, whose numbers stand in these columns, or nothing.
+pub fn noncurrent(row: &Row, days_at: usize, newer_at: usize) -> Option<Option<Noncurrent>>
+    ensures { MatchOption result
+        ((n : Option Noncurrent) → IsTrue (passes_if_given is_noncurrent_action n) → column row.now days_at ≡ noncurrent_days n → column row.now newer_at ≢ noncurrent_newer n)
+        (λ n. (column row.now days_at ≡ noncurrent_days n) × (column row.now newer_at ≡ noncurrent_newer n) × IsTrue (passes_if_given is_noncurrent_action n)) }
+{
+    let days = days_or_null(row, days_at)?;
+    let newer = newer_or_null(row, newer_at)?;
+    match days {
+        Some(days) => Some(Some(Noncurrent { days, newer })),
+        None => newer.is_none().then_some(None),
+    }
+}
+
+/// Who admitted an entry, by two columns.
+pub fn author(row: &Row, kind_at: usize, name_at: usize) -> Result<Author, Misread>
+    ensures ok { IfOk result (λ a. (column row.now kind_at ≡ author_kind a) × (column row.now name_at ≡ author_name a) × IsAuthor a) }
+    ensures wrong { IfErr result (λ e. e ≡ Misread.Wrong → (a : Author) → IsAuthor a → column row.now kind_at ≡ author_kind a → column row.now name_at ≢ author_name a) }
+{
+    match flag(row, kind_at) {
+        Some(true) => Ok(Author::Rule(rule_id(row, name_at)?)),
+        Some(false) => Ok(Author::Caller(caller_name(row, name_at)?)),
+        None => Err(Misread::Wrong),
+    }
+}
+
+/// Why an entry was removed, by two columns.
+fn cause(row: &Row, kind_at: usize, name_at: usize) -> Result<Cause, Misread>
+    ensures ok { IfOk result (λ c. (column row.now kind_at ≡ number (cause_number c)) × (column row.now name_at ≡ Text (cause_text c)) × IsCause c) }
+    ensures wrong { IfErr result (λ e. e ≡ Misread.Wrong → (c : Cause) → IsCause c → column row.now kind_at ≡ number (cause_number c) → column row.now name_at ≢ Text (cause_text c)) }
+{
+    match number(row, kind_at) {
+        Some(0) => Ok(Cause::Request(caller_name(row, name_at)?)),
+        Some(1) => Ok(Cause::Bypass(caller_name(row, name_at)?)),
+        Some(2) => Ok(Cause::Rule(rule_id(row, name_at)?)),
+        _ => Err(Misread::Wrong),
+    }
+}
+
+/// Whether three columns are NULL.
+fn are_null(row: &Row, first: usize, second: usize, third: usize) -> bool
+    ensures { IsTrue result ↔ ((column row.now first ≡ Null) × (column row.now second ≡ Null) × (column row.now third ≡ Null)) }
+{
+    is_null(row, first) && is_null(row, second) && is_null(row, third)
+}
+
+/// The removal in three columns, or none.
+pub fn removal(
+    row: &Row,
+    at: usize,
+    kind_at: usize,
+    name_at: usize,
+) -> Result<Option<Removal>, Misread>
+    ensures ok { IfOk result (λ r. (column row.now at ≡ removal_at r) × (column row.now kind_at ≡ removal_cause r) × (column row.now name_at ≡ removal_by r) × IfSome r IsRemoval) }
+    ensures wrong { IfErr result (λ e. e ≡ Misread.Wrong → (r : Option Removal) → IfSome r IsRemoval → column row.now at ≡ removal_at r → column row.now kind_at ≡ removal_cause r → column row.now name_at ≢ removal_by r) }
+{
+    if are_null(row, at, kind_at, name_at) {
+        return Ok(None);
+    }
+    let Some(at) = moment(row, at) else {
+        return Err(Misread::Wrong);
+    };
+    let cause = cause(row, kind_at, name_at)?;
+    Ok(Some(Removal { at, cause }))
+}
+
+/// Whether the digit of that value is set in a number.
+fn digit(number: u32, value: u32) -> bool
+    requires { 1 ≤ value }
+    ensures { result ≡ ((number / value) % 2 == 1) }
+{
+    number / value % 2 == 1
+}
+
+/// The rights of which each is a digit of a number.
+fn rights_of(n: u32) -> Rights
+    requires { n < 4096 }
+    ensures { rights_number result ≡ n }
+{
+    Rights {
+        admin: digit(n, 1),
+        config: digit(n, 2),
+        put: digit(n, 4),
+        retain: digit(n, 8),
+        hold: digit(n, 16),
+        get: digit(n, 32),
+        list: digit(n, 64),
+        delete: digit(n, 128),
+        delete_version: digit(n, 256),
+        run: digit(n, 512),
+        report: digit(n, 1024),
+        bypass: digit(n, 2048),
+    }
+}
+
+/// The rights in a column.
+#[tactic(auto, using(crate::proofs::PartLemmas::rights_below, crate::proofs::PartLemmas::rights_fit))]
+pub fn rights(row: &Row, at: usize) -> Option<Rights>
+    ensures { MatchOption result ((r : Rights) → column row.now at ≢ number (rights_number r)) (λ r. column row.now at ≡ number (rights_number r)) }
+{
+    let n = small_number(row, at)?;
+    if n >= 4096 {
+        return None;
+    }
+    Some(rights_of(n))
+}
+
+/// Whether an entry is a delete marker, its size and its digest.
+pub struct Extent {
+    pub marker: bool,
+    pub size: u64,
+    pub digest: Option<Digest>,
+}
+
+/// Whether a marker has no size and no digest, and a version has one.
+fn is_sized(marker: bool, size: u32, digest: &Option<Digest>) -> bool
+    requires { (size ≤ most_content) × IfSome digest.now (λ d. length d ≡ 32) }
+    ensures { IsTrue result ↔ IsSizedAs marker size digest.now }
+{
+    match digest {
+        None => marker && size == 0,
+        Some(_) => !marker,
+    }
+}
+
+/// What three columns tell of an entry's size.
+#[tactic(auto, using(crate::proofs::PartLemmas::sized_within, crate::proofs::PartLemmas::sized_digest))]
+pub fn extent_of(row: &Row, marker_at: usize, size_at: usize, digest_at: usize) -> Option<Extent>
+    ensures { MatchOption result
+        ((m : Bool) → (s : ℕ) → (d : Option (List ℕ)) → IsSizedAs m s d → column row.now marker_at ≡ flag m → column row.now size_at ≡ number s → column row.now digest_at ≢ bytes_or_null d)
+        (λ x. (column row.now marker_at ≡ flag x.marker) × (column row.now size_at ≡ number x.size) × (column row.now digest_at ≡ bytes_or_null x.digest) × IsSizedAs x.marker x.size x.digest) }
+{
+    let marker = flag(row, marker_at)?;
+    let size = number_within(row, size_at, 0, MOST_CONTENT as u32)?;
+    let digest = digest_or_null(row, digest_at)?;
+    if !is_sized(marker, size, &digest) {
+        return None;
+    }
+    Some(Extent {
+        marker,
+        size: u64::from(size),
+        digest,
+    })
+}

@@ -1,0 +1,4 @@
+pub mod WalkLemmas
+pub mod ScanLemmas
+pub mod PassLemmas
+pub mod RecordLemmas

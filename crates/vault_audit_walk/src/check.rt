@@ -1,0 +1,46 @@
+//! A query each of whose rows is looked at by itself.
+
+ghost use Rattle.std.specs.Prelude.{◌≡◌, [], IfOk, OnOk};
+ghost use Rattle.sqlite.specs.State.{HasCleanDisk, IsUnchanged, Survives};
+ghost use Rattle.sqlite.specs.Held.{state};
+ghost use Rattle.sqlite.specs.Given.{IsPlain};
+ghost use Rattle.sqlite.specs.Listing.{understood};
+ghost use Rattle.vault_audit_walk.specs.Records.{Checked};
+
+use sqlite::{Alter, Connection, Error, ErrorCode, Row};
+
+/// A check that looks at each row by itself.
+pub trait Check {
+    ghost use Rattle.std.specs.Prelude.{MatchBool, IfOk};
+    ghost use Rattle.sqlite_value.specs.Order.{Row as Values};
+
+    // The rows that pass.
+    ghost takes: { Self → Values → Type 0 };
+
+    /// Whether the row passes.
+    fn is_passed_by(&self, row: &Row) -> Result<bool, Error>
+        ensures { IfOk result (λ passes. MatchBool passes (takes self.now row.now) (¬ takes self.now row.now)) };
+}
+
+/// Whether each row of the answer passes. Nothing is changed.
+pub fn check_rows<S: Alter, C: Check>(
+    conn: &mut Connection<S>,
+    sql: &str,
+    check: &C,
+) -> Result<bool, Error>
+    requires { HasCleanDisk (state S.Store conn.old) → IsPlain (understood conn.old.schema sql.now) }
+    ensures checked { HasCleanDisk (state S.Store conn.new) → IfOk result (Checked (C.takes check.now) sql.now (state S.Store conn.old) (state S.Store conn.new)) }
+    ensures same { HasCleanDisk (state S.Store conn.new) → OnOk result (IsUnchanged (state S.Store conn.old) (state S.Store conn.new)) }
+    ensures crash { Survives (state S.Store conn.old) (state S.Store conn.new) (λ _. ⊥) }
+{
+    let mut rows = conn.query(sql, &[])?;
+    'rows: for _ in 0..u64::MAX {
+        let Some(row) = rows.next()? else {
+            return Ok(true);
+        };
+        if !check.is_passed_by(row)? {
+            return Ok(false);
+        }
+    }
+    Err(Error::SqliteFailure(ErrorCode::OperationInterrupted))
+}

@@ -1,5 +1,0 @@
-use Rattle.vault_base.proofs.MomentGrammar.{moment_reads}
-use Rattle.vault_base.proofs.moment.Moment.read.Goals as goal
-
-pub returns-clause-grammar : goal.returns-clause-grammar
-returns-clause-grammar c = rw c.parse.ensures (moment_reads c.args.text.now)

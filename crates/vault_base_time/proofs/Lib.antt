@@ -1,0 +1,7 @@
+pub mod Dates
+pub mod DayNumbers
+pub mod MomentGrammar
+pub mod ReadBack
+pub mod ReadParts
+pub mod Spelled
+pub mod YearsLater

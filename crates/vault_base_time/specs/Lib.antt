@@ -1,0 +1,4 @@
+pub mod Calendar
+pub mod Days
+pub mod Grammar
+pub mod Moment

@@ -1,0 +1,7 @@
+//! Moments and the calendar.
+#![tactic(auto)]
+
+mod calendar;
+pub mod moment;
+#[cfg(test)]
+mod tests;

@@ -1,0 +1,113 @@
+//! What a put and a line of an intake batch have in common.
+ghost use Rattle.std.specs.Prelude.{◌≡◌, ◌≤◌, ◌+◌, length, [], ◌∷◌, IsTrue, IfOk, OnOk, Some, false};
+ghost use Rattle.vault_core_model.specs.Halts.{Finds, is_device, Rose};
+ghost use Rattle.vault_core_model.specs.EntryOutcomes as outcome;
+ghost use Rattle.vault_core_model.specs.Totals.{admitted_bytes};
+ghost use Rattle.vault_core_model.specs.Vault.{config_of};
+ghost use Rattle.vault_tally.specs.Row.{quota};
+
+use std::alloc::{AllocError, Global};
+use vault_base::moment::Moment;
+use vault_base::name::{CallerName, VersionId};
+use vault_base::right::Right;
+use vault_core_checks::argument::{check_end, check_size};
+use vault_core_checks::caller::{check_right_if, find_access};
+use vault_core_checks::entry::find_first_lock;
+use vault_core_checks::limit::check_quota;
+use vault_core_model::access::Access;
+use vault_core_model::command::Put;
+use vault_core_model::halt::Halt;
+use vault_core_model::keeper::Keeper;
+use vault_core_model::records::{Author, Entry, History, Setting, Settings};
+use vault_lock::lock::Lock;
+
+/// A caller that may put, and set what is given of retention and hold.
+pub(crate) fn find_access_to_put<K: Keeper>(
+    keeper: &mut K,
+    at: Moment,
+    who: &CallerName,
+    command: &Put,
+) -> Result<Access, Halt>
+    ensures found { K.is_honest keeper.new → Finds result (outcome.access_to_put (K.vault keeper.old) at who.now command.now) }
+    ensures in_time { K.is_honest keeper.new → OnOk result ((K.vault keeper.old).last ≤ at) }
+    ensures there { K.is_honest keeper.new → IfOk result (λ access. config_of (K.vault keeper.old) command.now.bucket ≡ Some access.bucket) }
+    ensures same { K.vault keeper.new ≡ K.vault keeper.old }
+    ensures honest { K.is_honest keeper.new → K.is_honest keeper.old }
+    ensures counted { K.count keeper.old ≤ K.count keeper.new }
+    ensures device { IsTrue (is_device result) → Rose (K.count keeper.old) (K.count keeper.new) }
+{
+    let access = find_access(keeper, at, who, &command.bucket, Right::Put)?;
+    check_right_if(command.retention.is_some(), &access.caller, Right::Retain)?;
+    check_right_if(command.hold.is_some(), &access.caller, Right::Hold)?;
+    Ok(access)
+}
+
+/// The lock of the version that is to be admitted: the arguments, the lock, the quota.
+pub(crate) fn find_lock_to_admit<K: Keeper>(
+    keeper: &mut K,
+    at: Moment,
+    command: &Put,
+    access: &Access,
+) -> Result<Lock, Halt>
+    ensures found { K.is_honest keeper.new → Finds result (outcome.lock_to_admit (K.vault keeper.old) at command.now access.now) }
+    ensures small { OnOk result (length command.now.content ≤ 1048576) }
+    ensures fits { K.is_honest keeper.new → OnOk result (admitted_bytes (K.vault keeper.old) access.now.bucket.dept + length command.now.content ≤ quota) }
+    ensures same { K.vault keeper.new ≡ K.vault keeper.old }
+    ensures honest { K.is_honest keeper.new → K.is_honest keeper.old }
+    ensures counted { K.count keeper.old ≤ K.count keeper.new }
+    ensures device { IsTrue (is_device result) → Rose (K.count keeper.old) (K.count keeper.new) }
+{
+    check_size(&command.content)?;
+    check_end(at, command.retention)?;
+    let lock = find_first_lock(&access.bucket, command.retention, command.hold, at)?;
+    check_quota(keeper, &access.bucket.dept, command.content.len() as u64)?;
+    Ok(lock)
+}
+
+/// The version that a put admits, with its first setting.
+pub(crate) fn new_version(
+    alloc: Global,
+    id: VersionId,
+    at: Moment,
+    who: &CallerName,
+    command: &Put,
+    lock: Lock,
+) -> Result<History, AllocError>
+    ensures { IfOk result (λ history. history ≡ outcome.new_version id at who.now command.now lock) }
+{
+    let entry = Entry {
+        id,
+        bucket: command.bucket.clone()?,
+        key: command.key.clone()?,
+        marker: false,
+        size: command.content.len() as u64,
+        digest: Some(command.content.digest()),
+        admitted: at,
+        by: Author::Caller(who.clone()?),
+        removal: None,
+    };
+    Ok(History {
+        entry,
+        content: Some(command.content.clone()?),
+        settings: first_settings(alloc, at, who, lock)?,
+    })
+}
+
+/// The settings of a new version: the first one alone.
+fn first_settings(
+    alloc: Global,
+    at: Moment,
+    who: &CallerName,
+    lock: Lock,
+) -> Result<Settings, AllocError>
+    ensures { IfOk result (λ settings. settings ≡ record { at = at; by = who.now; lock = lock; bypass = false } ∷ []) }
+{
+    let mut settings = Settings::new(alloc);
+    settings.push(Setting {
+        at,
+        by: who.clone()?,
+        lock,
+        bypass: false,
+    })?;
+    Ok(settings)
+}

@@ -1,0 +1,159 @@
+//! A line of an intake batch.
+ghost use Rattle.std.specs.Prelude.{◌≡◌, ◌≤◌, ◌+◌, length, IsTrue, IfOk, IfErr, OnOk, Some, None, false};
+ghost use Rattle.vault_core_model.specs.Halts.{Finds, Meets, is_device, is_device_refusal, Rose};
+ghost use Rattle.vault_core_model.specs.IntakeOutcome as outcome;
+ghost use Rattle.vault_core_model.specs.Sound.{Sound};
+ghost use Rattle.vault_core_model.specs.Totals.{admitted_bytes};
+ghost use Rattle.vault_core_model.specs.Vault.{config_of, note_of};
+ghost use Rattle.vault_tally.specs.Row.{quota};
+
+use crate::admission::{find_access_to_put, find_lock_to_admit, new_version};
+use std::alloc::{AllocError, Global};
+use vault_base::moment::Moment;
+use vault_base::name::{CallerName, VersionId};
+use vault_base::refusal::Refusal;
+use vault_core_checks::limit::find_id;
+use vault_core_model::access::Access;
+use vault_core_model::change::{Admission, Change};
+use vault_core_model::command::{Intake, Put};
+use vault_core_model::halt::Halt;
+use vault_core_model::keeper::Keeper;
+use vault_core_model::records::Note;
+use vault_core_model::reply::{Answer, TakenIn};
+use vault_lock::lock::Lock;
+use vault_lock::retention::Retention;
+
+/// Admits the version of a line of an intake batch, once: a line that was accepted before is
+/// answered by the id that it got, and admits nothing.
+pub fn intake<K: Keeper>(
+    alloc: Global,
+    keeper: &mut K,
+    at: Moment,
+    who: &CallerName,
+    command: &Intake,
+) -> Result<Answer, Halt>
+    ensures meets { K.is_honest keeper.new → Meets result (K.vault keeper.old) (K.vault keeper.new) (outcome.intake (K.vault keeper.old) at who.now command.now) }
+    ensures honest { K.is_honest keeper.new → K.is_honest keeper.old }
+    ensures counted { K.count keeper.old ≤ K.count keeper.new }
+    ensures device { IsTrue (is_device result) → Rose (K.count keeper.old) (K.count keeper.new) }
+{
+    let access = find_access_to_put(keeper, at, who, &command.put)?;
+    let Some(note) = keeper.note(&command.put.bucket, &command.batch, command.line)? else {
+        return take_in(alloc, keeper, at, who, command, &access);
+    };
+    let taken = taken_before(&command.put, &note)?;
+    Ok(Answer::TakenIn(taken))
+}
+
+/// Admits the version of a line that was not accepted before, and notes it.
+fn take_in<K: Keeper>(
+    alloc: Global,
+    keeper: &mut K,
+    at: Moment,
+    who: &CallerName,
+    command: &Intake,
+    access: &Access,
+) -> Result<Answer, Halt>
+    requires in_time { K.is_honest keeper.old → (K.vault keeper.old).last ≤ at }
+    requires there { K.is_honest keeper.old → config_of (K.vault keeper.old) command.now.put.bucket ≡ Some access.now.bucket }
+    requires first { K.is_honest keeper.old → note_of (K.vault keeper.old) command.now.put.bucket command.now.batch command.now.line ≡ None }
+    ensures meets { K.is_honest keeper.new → Meets result (K.vault keeper.old) (K.vault keeper.new) (outcome.take_in (K.vault keeper.old) at who.now command.now access.now) }
+    ensures honest { K.is_honest keeper.new → K.is_honest keeper.old }
+    ensures counted { K.count keeper.old ≤ K.count keeper.new }
+    ensures device { IsTrue (is_device result) → Rose (K.count keeper.old) (K.count keeper.new) }
+{
+    let lock = find_lock_to_take_in(keeper, at, command, access)?;
+    let id = find_id(keeper)?;
+    let admission = Admission {
+        history: new_version(alloc, id, at, who, &command.put, lock)?,
+        note: Some(new_note(id, command)?),
+    };
+    keeper.apply(at, &Change::Admit(admission))?;
+    Ok(Answer::TakenIn(TakenIn { id, again: false }))
+}
+
+/// The lock that a line's version gets: the line's number, then what a put checks.
+fn find_lock_to_take_in<K: Keeper>(
+    keeper: &mut K,
+    at: Moment,
+    command: &Intake,
+    access: &Access,
+) -> Result<Lock, Halt>
+    ensures found { K.is_honest keeper.new → Finds result (outcome.lock_to_take_in (K.vault keeper.old) at command.now access.now) }
+    ensures small { OnOk result (length command.now.put.content ≤ 1048576) }
+    ensures fits { K.is_honest keeper.new → OnOk result (admitted_bytes (K.vault keeper.old) access.now.bucket.dept + length command.now.put.content ≤ quota) }
+    ensures same { K.vault keeper.new ≡ K.vault keeper.old }
+    ensures honest { K.is_honest keeper.new → K.is_honest keeper.old }
+    ensures counted { K.count keeper.old ≤ K.count keeper.new }
+    ensures device { IsTrue (is_device result) → Rose (K.count keeper.old) (K.count keeper.new) }
+{
+    if command.line == 0 {
+        return Err(Halt::Refused(Refusal::InvalidArgument));
+    }
+    find_lock_to_admit(keeper, at, &command.put, access)
+}
+
+/// What a line that was accepted before is answered: its id, where it asks for the same again.
+fn taken_before(put: &Put, note: &Note) -> Result<TakenIn, Refusal>
+    ensures exact { result ≡ outcome.taken_before put.now note.now }
+    ensures device { IfErr result (λ refusal. is_device_refusal refusal ≡ false) }
+{
+    if agrees(note, put) {
+        Ok(TakenIn {
+            id: note.id,
+            again: true,
+        })
+    } else {
+        Err(Refusal::IntakeConflict)
+    }
+}
+
+/// Whether a note tells of the same key, bytes, retention and hold.
+fn agrees(note: &Note, put: &Put) -> bool
+    ensures { result ≡ outcome.agrees note.now put.now }
+{
+    note.key == put.key
+        && note.size == put.content.len() as u64
+        && note.digest == put.content.digest()
+        && is_same_retention(note.retention, put.retention)
+        && is_same_hold(note.hold, put.hold)
+}
+
+fn is_same_retention(one: Option<Retention>, other: Option<Retention>) -> bool
+    ensures { result ≡ outcome.is_same_retention one other }
+{
+    match (one, other) {
+        (None, None) => true,
+        (Some(one), Some(other)) => one.mode == other.mode && one.until == other.until,
+        _ => false,
+    }
+}
+
+/// ON, OFF and not given are three.
+fn is_same_hold(one: Option<bool>, other: Option<bool>) -> bool
+    ensures { result ≡ outcome.is_same_hold one other }
+{
+    match (one, other) {
+        (None, None) => true,
+        (Some(one), Some(other)) => one == other,
+        _ => false,
+    }
+}
+
+/// The note of an accepted line.
+fn new_note(id: VersionId, command: &Intake) -> Result<Note, AllocError>
+    ensures { IfOk result (λ note. note ≡ outcome.new_note id command.now) }
+{
+    let put = &command.put;
+    Ok(Note {
+        bucket: put.bucket.clone()?,
+        batch: command.batch.clone()?,
+        line: command.line,
+        key: put.key.clone()?,
+        size: put.content.len() as u64,
+        digest: put.content.digest(),
+        retention: put.retention,
+        hold: put.hold,
+        id,
+    })
+}

@@ -1,0 +1,6 @@
+mod AllKeys
+mod Keys
+mod KeyWalk
+mod Newer
+mod Pages
+mod Prefixes

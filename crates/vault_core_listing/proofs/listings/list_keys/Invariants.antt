@@ -1,0 +1,13 @@
+use Rattle.std.proofs.Common.{◌≡◌, ◌≤◌, take}
+use Rattle.std.specs.Prelude.{flat_map}
+use Rattle.vault_core_listing.specs.Walk.{asked_at, filled}
+use Rattle.vault_core_listing.proofs.listings.list_keys.Given as goal
+
+-- the page has what is asked for of the keys so far
+abbrev pub invariant-loop-key : goal.invariant-loop-key
+invariant-loop-key g l = record {
+  same : g.K.Keeper.vault l.keeper ≡ g.K.Keeper.vault l.fn.keeper;
+  honest : g.K.Keeper.is_honest l.keeper → g.K.Keeper.is_honest l.fn.keeper;
+  counted : g.K.Keeper.count l.fn.keeper ≤ g.K.Keeper.count l.keeper;
+  so_far : g.K.Keeper.is_honest l.keeper → l.page ≡ filled l.command.most l.fn.page (flat_map (asked_at (g.K.Keeper.vault l.fn.keeper) l.command) (take l.key-index l.keys));
+}

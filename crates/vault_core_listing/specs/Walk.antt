@@ -1,0 +1,63 @@
+-- A listing's page as it fills, key by key.
+use Rattle.std.specs.Prelude.{◌≡◌, ◌==◌, ℕ, ◌+◌, ◌≤◌, Bool, true, false, ◌&&◌, ◌||◌, not, nat_lt, nat_eq, List, [], ◌∷◌, ◌++◌, length, map, filter, flat_map, take, reverse, Option, Some, None, if◌then◌else◌}
+use Rattle.std.specs.List.{starts_with}
+use Rattle.std.specs.Str.{bytes_eq}
+use Rattle.std.specs.Ordering.{nat_cmp, is_gt}
+use Rattle.std.specs.Cmp.Lexicographic.{slice_cmp}
+use Rattle.vault_core_model.specs.declared.command.ListVersions.{ListVersions}
+use Rattle.vault_core_model.specs.declared.reply.Listed.{Listed}
+use Rattle.vault_core_model.specs.declared.reply.Page.{Page}
+use Rattle.vault_core_model.specs.Vault.{Vault}
+use Rattle.vault_core_model.specs.Places.{held_at, is_behind, keys_of}
+use Rattle.vault_core_model.specs.ListingOutcome.{asked_for, is_asked_for, is_below, listed}
+
+-- the page with one entry more while there is room; then it is known that there are more
+abbrev pub grown : ℕ → Page → Listed → Page
+grown most page l =
+    if page.more then page
+    else (if nat_lt (length page.entries) most then record { entries = page.entries ++ l ∷ []; more = false } else record { entries = page.entries; more = true })
+
+-- with these, one after another
+abbrev pub filled : ℕ → Page → List Listed → Page
+filled most page [] = page
+filled most page (l ∷ ls) = filled most (grown most page l) ls
+
+-- a key begins as asked
+abbrev pub has_prefix : ListVersions → List ℕ → Bool
+has_prefix c key = starts_with nat_eq key c.prefix
+
+-- all keys behind that one begin otherwise
+abbrev pub is_past : ListVersions → List ℕ → Bool
+is_past c key = is_gt (slice_cmp nat_cmp key c.prefix) && not (has_prefix c key)
+
+-- the entry of that key and that id is asked for
+abbrev pub is_asked : ListVersions → List ℕ → ℕ → Bool
+is_asked c key id =
+    has_prefix c key && (is_behind key c.after_key || (bytes_eq key c.after_key && is_below c.after_id id))
+
+-- the entries of a key that are asked for, newest first
+abbrev pub asked_at : Vault → ListVersions → List ℕ → List Listed
+asked_at v c key = map (listed v) (filter (λ h. is_asked_for c h.entry) (reverse (held_at v c.bucket key)))
+
+-- of the key at which the listing begins, where it is one
+abbrev pub asked_first : Vault → ListVersions → List Listed
+asked_first v c = if length c.after_key == 0 then [] else asked_at v c c.after_key
+
+-- the keys of the bucket behind that one
+abbrev pub keys_behind : Vault → List ℕ → List ℕ → List (List ℕ)
+keys_behind v bucket after = filter (λ k. is_behind k after) (keys_of v bucket)
+
+-- the page once it has the entries of all keys behind that one
+abbrev pub completed : Vault → ListVersions → Page → List ℕ → Page
+completed v c page after = filled c.most page (flat_map (asked_at v c) (keys_behind v c.bucket after))
+
+-- the walk is done with that page, or goes on behind a key after at least 256 more
+abbrev pub GoesOn : Vault → ListVersions → Page → List ℕ → Page → Option (List ℕ) → Type 0
+GoesOn v c page after page' None = page' ≡ completed v c page after
+GoesOn v c page after page' (Some next) =
+    (completed v c page' next ≡ completed v c page after)
+    × (length (keys_behind v c.bucket next) + 256 ≤ length (keys_behind v c.bucket after))
+
+-- the page that a listing answers
+abbrev pub page_of : Vault → ListVersions → Page
+page_of v c = record { entries = map (listed v) (take c.most (asked_for v c)); more = nat_lt c.most (length (asked_for v c)) }

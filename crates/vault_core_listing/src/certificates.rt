@@ -1,0 +1,65 @@
+//! Certificates of destruction.
+ghost use Rattle.std.specs.Prelude.{◌≡◌, ◌≤◌, IsTrue, false};
+ghost use Rattle.vault_core_model.specs.Halts.{Finds, Meets, is_device, Rose};
+ghost use Rattle.vault_core_model.specs.Reads.{entry_of};
+ghost use Rattle.vault_core_model.specs.Checks.{check};
+ghost use Rattle.vault_core_model.specs.ListingOutcome as outcome;
+
+use vault_base::moment::Moment;
+use vault_base::name::{BucketName, CallerName, VersionId};
+use vault_base::refusal::Refusal;
+use vault_base::right::Right;
+use vault_core_checks::caller::find_access;
+use vault_core_model::command::Certificate;
+use vault_core_model::halt::Halt;
+use vault_core_model::keeper::Keeper;
+use vault_core_model::records::Entry;
+use vault_core_model::reply::Answer;
+
+/// Certifies that a content version was removed: answers its entry.
+pub fn certificate<K: Keeper>(
+    keeper: &mut K,
+    at: Moment,
+    who: &CallerName,
+    command: &Certificate,
+) -> Result<Answer, Halt>
+    ensures meets { K.is_honest keeper.new → Meets result (K.vault keeper.old) (K.vault keeper.new) (outcome.certificate (K.vault keeper.old) at who.now command.now) }
+    ensures honest { K.is_honest keeper.new → K.is_honest keeper.old }
+    ensures counted { K.count keeper.old ≤ K.count keeper.new }
+    ensures device { IsTrue (is_device result) → Rose (K.count keeper.old) (K.count keeper.new) }
+{
+    find_access(keeper, at, who, &command.bucket, Right::Report)?;
+    let entry = find_entry(keeper, &command.bucket, command.id)?;
+    check_certifiable(&entry)?;
+    Ok(Answer::Certificate(entry))
+}
+
+/// The entry of that id, held or removed, that was ever in that bucket.
+fn find_entry<K: Keeper>(keeper: &mut K, bucket: &BucketName, id: VersionId) -> Result<Entry, Halt>
+    ensures found { K.is_honest keeper.new → Finds result (outcome.entry_in bucket.now (entry_of (K.vault keeper.old) id)) }
+    ensures same { K.vault keeper.new ≡ K.vault keeper.old }
+    ensures honest { K.is_honest keeper.new → K.is_honest keeper.old }
+    ensures counted { K.count keeper.old ≤ K.count keeper.new }
+    ensures device { IsTrue (is_device result) → Rose (K.count keeper.old) (K.count keeper.new) }
+{
+    let Some(entry) = keeper.entry(id)? else {
+        return Err(Halt::Refused(Refusal::NoSuchVersion));
+    };
+    if entry.bucket == *bucket {
+        Ok(entry)
+    } else {
+        Err(Halt::Refused(Refusal::NoSuchVersion))
+    }
+}
+
+/// The entry is a removed content version.
+fn check_certifiable(entry: &Entry) -> Result<(), Halt>
+    ensures found { Finds result (check (outcome.is_certifiable entry.now) Refusal.MethodNotAllowed) }
+    ensures device { is_device result ≡ false }
+{
+    if entry.marker || entry.removal.is_none() {
+        Err(Halt::Refused(Refusal::MethodNotAllowed))
+    } else {
+        Ok(())
+    }
+}

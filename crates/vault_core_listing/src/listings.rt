@@ -1,0 +1,277 @@
+//! Listings of a bucket's versions: keys by their bytes, within a key newest first.
+ghost use Rattle.std.specs.Prelude.{◌≡◌, ◌≤◌, ◌&&◌, IsTrue, IfOk, [], Err, Some, if◌then◌else◌, flat_map, false};
+ghost use Rattle.vault_core_model.specs.Halts.{Finds, Meets, is_device, Rose};
+ghost use Rattle.vault_core_model.specs.Checks.{check};
+ghost use Rattle.vault_core_model.specs.Reads.{entry_of};
+ghost use Rattle.std.specs.Str.{bytes_eq};
+ghost use Rattle.vault_core_model.specs.Places.{is_behind};
+ghost use Rattle.vault_core_model.specs.Sound.{Sound};
+ghost use Rattle.vault_core_model.specs.ListingOutcome as outcome;
+ghost use Rattle.vault_core_listing.specs.Walk.{GoesOn, asked_at, asked_first, completed, filled, grown, has_prefix, is_asked, is_past, page_of};
+
+use std::alloc::Global;
+use vault_base::moment::Moment;
+use vault_base::name::{CallerName, KeyPrefix, ObjectKey, VersionId};
+use vault_base::refusal::Refusal;
+use vault_base::right::Right;
+use vault_core_checks::caller::find_access;
+use vault_core_model::command::ListVersions;
+use vault_core_model::halt::{Fault, Halt};
+use vault_core_model::keeper::Keeper;
+use vault_core_model::records::Entry;
+use vault_core_model::reply::{Answer, Listed, Listing, Page};
+
+/// How many keys are asked of a keeper at once.
+const MOST_KEYS: u32 = 256;
+
+/// So many pages of keys hold a key for each id that there is.
+const MOST_PAGES: u32 = 3_906_251;
+
+/// Lists the held entries of a bucket that are asked for, and tells whether there are more.
+pub fn list_versions<K: Keeper>(
+    alloc: Global,
+    keeper: &mut K,
+    at: Moment,
+    who: &CallerName,
+    command: &ListVersions,
+) -> Result<Answer, Halt>
+    ensures meets { K.is_honest keeper.new → Meets result (K.vault keeper.old) (K.vault keeper.new) (outcome.list_versions (K.vault keeper.old) at who.now command.now) }
+    ensures honest { K.is_honest keeper.new → K.is_honest keeper.old }
+    ensures counted { K.count keeper.old ≤ K.count keeper.new }
+    ensures device { IsTrue (is_device result) → Rose (K.count keeper.old) (K.count keeper.new) }
+{
+    find_access(keeper, at, who, &command.bucket, Right::List)?;
+    check_most(command.most)?;
+    Ok(Answer::Versions(find_page(alloc, keeper, command)?))
+}
+
+/// A page of a listing has 1 to 1,000 entries.
+fn check_most(most: u32) -> Result<(), Halt>
+    ensures found { Finds result (check (outcome.is_page most) Refusal.InvalidArgument) }
+    ensures device { is_device result ≡ false }
+{
+    if most >= 1 && most <= 1000 {
+        Ok(())
+    } else {
+        Err(Halt::Refused(Refusal::InvalidArgument))
+    }
+}
+
+/// The page that is asked for: first what is left of the key at which the listing begins, then the keys
+/// behind it.
+fn find_page<K: Keeper>(
+    alloc: Global,
+    keeper: &mut K,
+    command: &ListVersions,
+) -> Result<Page, Fault>
+    requires { K.is_honest keeper.old → Sound (K.vault keeper.old) }
+    ensures value { K.is_honest keeper.new → IfOk result (λ page. page ≡ page_of (K.vault keeper.old) command.now) }
+    ensures same { K.vault keeper.new ≡ K.vault keeper.old }
+    ensures honest { K.is_honest keeper.new → K.is_honest keeper.old }
+    ensures counted { K.count keeper.old ≤ K.count keeper.new }
+    ensures device { result ≡ Err Fault.Device → Rose (K.count keeper.old) (K.count keeper.new) }
+{
+    let mut page = Page {
+        entries: Listing::new(alloc),
+        more: false,
+    };
+    list_first(keeper, &mut page, command)?;
+    list_behind(keeper, &mut page, command)?;
+    Ok(page)
+}
+
+/// Lists what is asked for of the key at which the listing begins.
+fn list_first<K: Keeper>(
+    keeper: &mut K,
+    page: &mut Page,
+    command: &ListVersions,
+) -> Result<(), Fault>
+    requires { K.is_honest keeper.old → Sound (K.vault keeper.old) }
+    ensures value { K.is_honest keeper.new → IfOk result (λ _. page.new ≡ filled command.now.most page.old (asked_first (K.vault keeper.old) command.now)) }
+    ensures same { K.vault keeper.new ≡ K.vault keeper.old }
+    ensures honest { K.is_honest keeper.new → K.is_honest keeper.old }
+    ensures counted { K.count keeper.old ≤ K.count keeper.new }
+    ensures device { result ≡ Err Fault.Device → Rose (K.count keeper.old) (K.count keeper.new) }
+{
+    if command.after_id.is_none() {
+        return Ok(());
+    }
+    let Some(key) = command.after_key.to_key()? else {
+        return Ok(());
+    };
+    list_key(keeper, page, command, &key)
+}
+
+/// Lists what is asked for of the keys behind the one at which the listing begins, a page of keys at a
+/// time, up to the first entry that finds the page full.
+fn list_behind<K: Keeper>(
+    keeper: &mut K,
+    page: &mut Page,
+    command: &ListVersions,
+) -> Result<(), Fault>
+    requires { K.is_honest keeper.old → Sound (K.vault keeper.old) }
+    ensures value { K.is_honest keeper.new → IfOk result (λ _. page.new ≡ completed (K.vault keeper.old) command.now page.old command.now.after_key) }
+    ensures same { K.vault keeper.new ≡ K.vault keeper.old }
+    ensures honest { K.is_honest keeper.new → K.is_honest keeper.old }
+    ensures counted { K.count keeper.old ≤ K.count keeper.new }
+    ensures device { result ≡ Err Fault.Device → Rose (K.count keeper.old) (K.count keeper.new) }
+{
+    let mut after = command.after_key.clone()?;
+    for _ in 0..MOST_PAGES {
+        let Some(next) = list_keys_behind(keeper, page, command, &after)? else {
+            return Ok(());
+        };
+        after = next;
+    }
+    Ok(())
+}
+
+/// Lists what is asked for of the next page of keys, and tells behind which key to go on.
+fn list_keys_behind<K: Keeper>(
+    keeper: &mut K,
+    page: &mut Page,
+    command: &ListVersions,
+    after: &KeyPrefix,
+) -> Result<Option<KeyPrefix>, Fault>
+    requires { K.is_honest keeper.old → Sound (K.vault keeper.old) }
+    ensures value { K.is_honest keeper.new → IfOk result (λ next. GoesOn (K.vault keeper.old) command.now page.old after.now page.new next) }
+    ensures same { K.vault keeper.new ≡ K.vault keeper.old }
+    ensures honest { K.is_honest keeper.new → K.is_honest keeper.old }
+    ensures counted { K.count keeper.old ≤ K.count keeper.new }
+    ensures device { result ≡ Err Fault.Device → Rose (K.count keeper.old) (K.count keeper.new) }
+{
+    if page.more {
+        return Ok(None);
+    }
+    let keys = keeper.keys(&command.bucket, after, MOST_KEYS)?;
+    list_keys(keeper, page, command, keys.as_slice())?;
+    let Some(last) = keys.last() else {
+        return Ok(None);
+    };
+    if keys.len() < MOST_KEYS as usize || is_past(command, last) {
+        return Ok(None);
+    }
+    Ok(Some(last.to_prefix()?))
+}
+
+/// Lists what is asked for of these keys.
+fn list_keys<K: Keeper>(
+    keeper: &mut K,
+    page: &mut Page,
+    command: &ListVersions,
+    keys: &[ObjectKey],
+) -> Result<(), Fault>
+    requires { K.is_honest keeper.old → Sound (K.vault keeper.old) }
+    ensures value { K.is_honest keeper.new → IfOk result (λ _. page.new ≡ filled command.now.most page.old (flat_map (asked_at (K.vault keeper.old) command.now) keys.now)) }
+    ensures same { K.vault keeper.new ≡ K.vault keeper.old }
+    ensures honest { K.is_honest keeper.new → K.is_honest keeper.old }
+    ensures counted { K.count keeper.old ≤ K.count keeper.new }
+    ensures device { result ≡ Err Fault.Device → Rose (K.count keeper.old) (K.count keeper.new) }
+{
+    for key in keys {
+        list_key(keeper, page, command, key)?;
+    }
+    Ok(())
+}
+
+/// Lists what is asked for of a key, newest first.
+fn list_key<K: Keeper>(
+    keeper: &mut K,
+    page: &mut Page,
+    command: &ListVersions,
+    key: &ObjectKey,
+) -> Result<(), Fault>
+    requires { K.is_honest keeper.old → Sound (K.vault keeper.old) }
+    ensures value { K.is_honest keeper.new → IfOk result (λ _. page.new ≡ filled command.now.most page.old (asked_at (K.vault keeper.old) command.now key.now)) }
+    ensures same { K.vault keeper.new ≡ K.vault keeper.old }
+    ensures honest { K.is_honest keeper.new → K.is_honest keeper.old }
+    ensures counted { K.count keeper.old ≤ K.count keeper.new }
+    ensures device { result ≡ Err Fault.Device → Rose (K.count keeper.old) (K.count keeper.new) }
+{
+    if page.more || !has_prefix(command, key) {
+        return Ok(());
+    }
+    let mut newest_first = keeper.entries(&command.bucket, key)?;
+    newest_first.reverse();
+    let mut current = true;
+    for held in &newest_first {
+        list_entry(keeper, page, command, key, held.id, current)?;
+        current = false;
+    }
+    Ok(())
+}
+
+/// Lists an entry of a key, where it is asked for.
+fn list_entry<K: Keeper>(
+    keeper: &mut K,
+    page: &mut Page,
+    command: &ListVersions,
+    key: &ObjectKey,
+    id: VersionId,
+    current: bool,
+) -> Result<(), Fault>
+    ensures value { K.is_honest keeper.new → IfOk result (λ _. (entry : Entry) → entry_of (K.vault keeper.old) id ≡ Some entry → page.new ≡ (if is_asked command.now key.now id then grown command.now.most page.old (record { entry = entry; current = current }) else page.old)) }
+    ensures same { K.vault keeper.new ≡ K.vault keeper.old }
+    ensures honest { K.is_honest keeper.new → K.is_honest keeper.old }
+    ensures counted { K.count keeper.old ≤ K.count keeper.new }
+    ensures device { result ≡ Err Fault.Device → Rose (K.count keeper.old) (K.count keeper.new) }
+{
+    if page.more || !is_asked(command, key, id) {
+        return Ok(());
+    }
+    if page.entries.as_slice().len() as u64 >= u64::from(command.most) {
+        page.more = true;
+        return Ok(());
+    }
+    if let Some(entry) = keeper.entry(id)? {
+        page.entries.push(Listed { entry, current })?;
+    }
+    Ok(())
+}
+
+/// Whether a key begins as asked.
+fn has_prefix(command: &ListVersions, key: &ObjectKey) -> bool
+    ensures { result ≡ has_prefix command.now key.now }
+{
+    let prefix = command.prefix.as_str().as_bytes();
+    key.as_str().as_bytes().starts_with(prefix)
+}
+
+/// Whether all keys behind this one begin otherwise.
+fn is_past(command: &ListVersions, key: &ObjectKey) -> bool
+    ensures { result ≡ is_past command.now key.now }
+{
+    key.as_str() > command.prefix.as_str() && !has_prefix(command, key)
+}
+
+/// Whether the entry of that key and that id is asked for.
+fn is_asked(command: &ListVersions, key: &ObjectKey, id: VersionId) -> bool
+    ensures { result ≡ is_asked command.now key.now id }
+{
+    has_prefix(command, key) && (is_behind(&command.after_key, key) || is_left_of(command, key, id))
+}
+
+/// Whether the key comes behind that one; every key comes behind the empty text.
+fn is_behind(after: &KeyPrefix, key: &ObjectKey) -> bool
+    ensures { result ≡ is_behind key.now after.now }
+{
+    let after = after.as_str();
+    after.is_empty() || key.as_str() > after
+}
+
+/// Whether an entry of the key at which the listing begins comes behind the one given.
+fn is_left_of(command: &ListVersions, key: &ObjectKey, id: VersionId) -> bool
+    ensures { result ≡ (bytes_eq key.now command.now.after_key && outcome.is_below command.now.after_id id) }
+{
+    key.as_str() == command.after_key.as_str() && is_below(command.after_id, id)
+}
+
+/// Whether the id is smaller than the one given; no id is, where none is given.
+fn is_below(after: Option<VersionId>, id: VersionId) -> bool
+    ensures { result ≡ outcome.is_below after id }
+{
+    match after {
+        None => false,
+        Some(after) => id < after,
+    }
+}

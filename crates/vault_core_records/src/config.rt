@@ -1,0 +1,110 @@
+//! The default retention and the lifecycle rules of a bucket.
+ghost use Rattle.std.specs.Prelude.{◌≡◌, ◌≤◌, IsTrue};
+ghost use Rattle.vault_rules.specs.Rules.{is_rule_set};
+ghost use Rattle.vault_core_model.specs.Halts.{Meets, is_device, Rose};
+ghost use Rattle.vault_core_model.specs.RecordOutcomes as outcome;
+
+use vault_base::moment::Moment;
+use vault_base::name::CallerName;
+use vault_base::refusal::Refusal;
+use vault_base::right::Right;
+use vault_core_checks::argument::check_default;
+use vault_core_checks::caller::find_access;
+use vault_core_model::change::Change;
+use vault_core_model::command::{DropRules, GetDefault, GetRules, SetDefault, SetRules};
+use vault_core_model::halt::Halt;
+use vault_core_model::keeper::Keeper;
+use vault_core_model::reply::Answer;
+
+/// Sets or clears the default retention of versions placed later.
+pub fn set_default<K: Keeper>(
+    keeper: &mut K,
+    at: Moment,
+    who: &CallerName,
+    command: &SetDefault,
+) -> Result<Answer, Halt>
+    ensures meets { K.is_honest keeper.new → Meets result (K.vault keeper.old) (K.vault keeper.new) (outcome.set_default (K.vault keeper.old) at who.now command.now) }
+    ensures honest { K.is_honest keeper.new → K.is_honest keeper.old }
+    ensures counted { K.count keeper.old ≤ K.count keeper.new }
+    ensures device { IsTrue (is_device result) → Rose (K.count keeper.old) (K.count keeper.new) }
+{
+    find_access(keeper, at, who, &command.bucket, Right::Config)?;
+    check_default(command.default)?;
+    let change = Change::SetDefault(command.bucket.clone()?, command.default);
+    keeper.apply(at, &change)?;
+    Ok(Answer::Nothing)
+}
+
+/// Reads the default retention.
+pub fn get_default<K: Keeper>(
+    keeper: &mut K,
+    at: Moment,
+    who: &CallerName,
+    command: &GetDefault,
+) -> Result<Answer, Halt>
+    ensures meets { K.is_honest keeper.new → Meets result (K.vault keeper.old) (K.vault keeper.new) (outcome.get_default (K.vault keeper.old) at who.now command.now) }
+    ensures honest { K.is_honest keeper.new → K.is_honest keeper.old }
+    ensures counted { K.count keeper.old ≤ K.count keeper.new }
+    ensures device { IsTrue (is_device result) → Rose (K.count keeper.old) (K.count keeper.new) }
+{
+    let access = find_access(keeper, at, who, &command.bucket, Right::Config)?;
+    Ok(Answer::Default(access.bucket.default))
+}
+
+/// Sets the lifecycle rules, in place of those that the bucket has.
+pub fn set_rules<K: Keeper>(
+    keeper: &mut K,
+    at: Moment,
+    who: &CallerName,
+    command: &SetRules,
+) -> Result<Answer, Halt>
+    ensures meets { K.is_honest keeper.new → Meets result (K.vault keeper.old) (K.vault keeper.new) (outcome.set_rules (K.vault keeper.old) at who.now command.now) }
+    ensures rule_set { IsTrue (is_rule_set command.now.rules) }
+    ensures honest { K.is_honest keeper.new → K.is_honest keeper.old }
+    ensures counted { K.count keeper.old ≤ K.count keeper.new }
+    ensures device { IsTrue (is_device result) → Rose (K.count keeper.old) (K.count keeper.new) }
+{
+    // What the type promises of its rules, the change needs.
+    let _rules = command.rules.as_slice();
+    find_access(keeper, at, who, &command.bucket, Right::Config)?;
+    let change = Change::SetRules(command.bucket.clone()?, Some(command.rules.clone()?));
+    keeper.apply(at, &change)?;
+    Ok(Answer::Nothing)
+}
+
+/// Reads the lifecycle rules.
+pub fn get_rules<K: Keeper>(
+    keeper: &mut K,
+    at: Moment,
+    who: &CallerName,
+    command: &GetRules,
+) -> Result<Answer, Halt>
+    ensures meets { K.is_honest keeper.new → Meets result (K.vault keeper.old) (K.vault keeper.new) (outcome.get_rules (K.vault keeper.old) at who.now command.now) }
+    ensures honest { K.is_honest keeper.new → K.is_honest keeper.old }
+    ensures counted { K.count keeper.old ≤ K.count keeper.new }
+    ensures device { IsTrue (is_device result) → Rose (K.count keeper.old) (K.count keeper.new) }
+{
+    find_access(keeper, at, who, &command.bucket, Right::Config)?;
+    let Some(rules) = keeper.rules(&command.bucket)? else {
+        return Err(Halt::Refused(Refusal::NoSuchLifecycleConfiguration));
+    };
+    Ok(Answer::Rules(rules))
+}
+
+/// Drops the lifecycle rules; done also where there are none.
+pub fn drop_rules<K: Keeper>(
+    keeper: &mut K,
+    at: Moment,
+    who: &CallerName,
+    command: &DropRules,
+) -> Result<Answer, Halt>
+    ensures meets { K.is_honest keeper.new → Meets result (K.vault keeper.old) (K.vault keeper.new) (outcome.drop_rules (K.vault keeper.old) at who.now command.now) }
+    ensures honest { K.is_honest keeper.new → K.is_honest keeper.old }
+    ensures counted { K.count keeper.old ≤ K.count keeper.new }
+    ensures device { IsTrue (is_device result) → Rose (K.count keeper.old) (K.count keeper.new) }
+{
+    find_access(keeper, at, who, &command.bucket, Right::Config)?;
+    let change = Change::SetRules(command.bucket.clone()?, None);
+    keeper.apply(at, &change)?;
+    Ok(Answer::Nothing)
+}

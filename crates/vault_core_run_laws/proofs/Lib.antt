@@ -1,0 +1,6 @@
+pub mod ByKey
+pub mod Keys
+pub mod Plain
+pub mod Repeating
+pub mod RunLaws
+pub mod Steps

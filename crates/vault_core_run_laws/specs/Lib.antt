@@ -1,0 +1,3 @@
+pub mod KeyRuns
+pub mod Repeats
+pub mod RunLaws

@@ -1,0 +1,9 @@
+mod Answering
+mod Begin
+mod Causes
+mod Making
+mod One
+mod OverKeys
+mod OverPages
+mod Parts
+mod Rising

@@ -1,0 +1,154 @@
+-- The lines of replies.
+use Rattle.std.specs.Prelude.{ℕ, List, [], ◌∷◌, ◌++◌, codes, Bool, true, false, if◌then◌else◌, map, Option, Some, None, option_map}
+use Rattle.hex.specs.Hex.{encode_lower}
+use Rattle.serde_json.specs.Data.{Data, null, boolean, string, number, unsigned, array, object, Members, member, no_members}
+use Rattle.serde_json.specs.View.{items_of}
+use Rattle.serde_json.specs.Written.{compact_text}
+use Rattle.vault_base.specs.Moment.{moment_text}
+use Rattle.vault_base.specs.Refusal.{name_of, number_of, reason_name}
+use Rattle.vault_base.specs.declared.refusal.Refusal.{Refusal}
+use Rattle.vault_base.specs.declared.refusal.Refusal.TheVariants.{AccessDenied, NoSuchKey}
+use Rattle.vault_core_model.specs.declared.reply.Answer.{Answer}
+use Rattle.vault_core_model.specs.declared.reply.Answer.TheVariants as answer
+use Rattle.vault_core_model.specs.declared.reply.Counts.{Counts}
+use Rattle.vault_core_model.specs.declared.reply.Listed.{Listed}
+use Rattle.vault_core_model.specs.declared.reply.Page.{Page}
+use Rattle.vault_core_model.specs.declared.reply.Removed.{Removed}
+use Rattle.vault_core_model.specs.declared.reply.Reply.{Reply}
+use Rattle.vault_core_model.specs.declared.reply.Reply.TheVariants.{Done, Refused, Stopped}
+use Rattle.vault_core_model.specs.declared.reply.Report.{Report}
+use Rattle.vault_core_model.specs.declared.reply.Stop.{Stop}
+use Rattle.vault_core_model.specs.declared.reply.Stop.TheVariants.{Memory, Device, VaultFull}
+use Rattle.vault_core_model.specs.declared.reply.TakenIn.{TakenIn}
+use Rattle.vault_core_model.specs.declared.reply.Version.{Version}
+use Rattle.vault_lock.specs.declared.lock.Permit.{Permit}
+use Rattle.vault_lock.specs.declared.lock.Permit.TheVariants.{Free, Bypass}
+use Rattle.vault_lock.specs.declared.retention.Mode.{Mode}
+use Rattle.vault_lock.specs.declared.retention.Retention.{Retention}
+use Rattle.vault_lock.specs.declared.retention.Default.{Default}
+use Rattle.vault_lock.specs.declared.retention.Period.{Period}
+use Rattle.vault_lock.specs.declared.retention.Period.TheVariants.{Days, Years}
+use Rattle.vault_http_values.specs.Words.{mode_name, hold_name, status_name}
+use Rattle.vault_rules.specs.declared.rule.Noncurrent.{Noncurrent}
+use Rattle.vault_rules.specs.declared.rule.Rule.{Rule}
+
+abbrev pub cause_name : Permit → List ℕ
+cause_name Free = codes "request"
+cause_name Bypass = codes "bypass"
+
+-- a text of ASCII
+abbrev pub text : List ℕ → Data
+text bytes = string bytes
+
+abbrev pub whole : ℕ → Data
+whole n = number (unsigned n)
+
+abbrev pub retention_value : Option Retention → Data
+retention_value None = null
+retention_value (Some r) = object (member (codes "mode") (text (mode_name r.mode)) (member (codes "until") (text (moment_text r.until)) no_members))
+
+-- what has no digest has none to print
+abbrev pub digest_value : Option (List ℕ) → Data
+digest_value None = null
+digest_value (Some digest) = text (encode_lower digest)
+
+abbrev pub version_value : Version → List ℕ → Data
+version_value v content = object (member (codes "admitted") (text (moment_text v.entry.admitted)) (member (codes "hex") (text (encode_lower content)) (member (codes "hold") (text (hold_name v.lock.hold)) (member (codes "retention") (retention_value v.lock.retention) (member (codes "sha256") (digest_value v.entry.digest) (member (codes "size") (whole v.entry.size) (member (codes "version_id") (whole v.entry.id) no_members)))))))
+
+-- the same without the bytes
+abbrev pub head_value : Version → Data
+head_value v = object (member (codes "admitted") (text (moment_text v.entry.admitted)) (member (codes "hold") (text (hold_name v.lock.hold)) (member (codes "retention") (retention_value v.lock.retention) (member (codes "sha256") (digest_value v.entry.digest) (member (codes "size") (whole v.entry.size) (member (codes "version_id") (whole v.entry.id) no_members))))))
+
+abbrev pub period_value : Mode → Period → Data
+period_value mode (Days n) = object (member (codes "days") (whole n) (member (codes "mode") (text (mode_name mode)) no_members))
+period_value mode (Years n) = object (member (codes "mode") (text (mode_name mode)) (member (codes "years") (whole n) no_members))
+
+abbrev pub default_value : Option Default → Data
+default_value None = null
+default_value (Some d) = period_value d.mode d.period
+
+-- ---- lifecycle rules, as S3's JSON has them
+
+-- a member that may be absent
+abbrev pub if_there : List ℕ → Option Data → Members → Members
+if_there name None others = others
+if_there name (Some value) others = member name value others
+
+abbrev pub expiration_of : Option ℕ → Bool → Option Data
+expiration_of (Some days) lone = Some (object (member (codes "Days") (whole days) no_members))
+expiration_of None true = Some (object (member (codes "ExpiredObjectDeleteMarker") (boolean true) no_members))
+expiration_of None false = None
+
+abbrev pub noncurrent_value : Noncurrent → Data
+noncurrent_value n = object (if_there (codes "NewerNoncurrentVersions") (option_map whole n.newer) (member (codes "NoncurrentDays") (whole n.days) no_members))
+
+abbrev pub rule_value : Rule → Data
+rule_value r =
+    object (if_there (codes "Expiration") (expiration_of r.days r.lone_markers)
+    (member (codes "ID") (text r.id)
+    (if_there (codes "NoncurrentVersionExpiration") (option_map noncurrent_value r.noncurrent)
+    (member (codes "Prefix") (text r.prefix) (member (codes "Status") (text (status_name r.enabled)) no_members)))))
+
+abbrev pub rules_value : List Rule → Data
+rules_value rules = object (member (codes "rules") (array (items_of (map rule_value rules))) no_members)
+
+-- an entry of a listing
+abbrev pub listed_value : Listed → Data
+listed_value l = object (member (codes "admitted") (text (moment_text l.entry.admitted)) (member (codes "current") (boolean l.current) (member (codes "delete_marker") (boolean l.entry.marker) (member (codes "key") (text l.entry.key) (member (codes "size") (whole l.entry.size) (member (codes "version_id") (whole l.entry.id) no_members))))))
+
+abbrev pub page_value : Page → Data
+page_value p = object (member (codes "entries") (array (items_of (map listed_value p.entries))) (member (codes "more") (boolean p.more) no_members))
+
+abbrev pub counts_value : Counts → Data
+counts_value c = object (member (codes "changes") (whole c.changes) (member (codes "lone") (whole c.lone) (member (codes "marked") (whole c.marked) (member (codes "removed") (whole c.removed) no_members))))
+
+abbrev pub taken_in_value : TakenIn → Data
+taken_in_value t = object (member (codes "again") (boolean t.again) (member (codes "version_id") (whole t.id) no_members))
+
+abbrev pub removed_value : Removed → Data
+removed_value r = object (member (codes "cause") (text (cause_name r.permit)) (member (codes "delete_marker") (boolean r.marker) (member (codes "version_id") (whole r.id) no_members)))
+
+abbrev pub report_value : Report → Data
+report_value r = object (member (codes "admitted") (whole r.admitted) (member (codes "at") (text (moment_text r.at)) (member (codes "byte_days") (whole r.byte_days) (member (codes "dept") (text r.dept) (member (codes "held") (whole r.held) (member (codes "removed") (whole r.removed) no_members))))))
+
+abbrev pub answer_value : Answer → Data
+answer_value answer.Nothing = object no_members
+answer_value (answer.Default default) = object (member (codes "default") (default_value default) no_members)
+answer_value (answer.Rules rules) = rules_value rules
+answer_value (answer.Admitted id) = object (member (codes "version_id") (whole id) no_members)
+answer_value (answer.Version version content) = version_value version content
+answer_value (answer.Head version) = head_value version
+answer_value (answer.Versions page) = page_value page
+answer_value (answer.Marked id) = object (member (codes "delete_marker") (boolean true) (member (codes "version_id") (whole id) no_members))
+answer_value (answer.Removed removed) = removed_value removed
+answer_value (answer.Retention retention) = object (member (codes "retention") (retention_value retention) no_members)
+answer_value (answer.Hold hold) = object (member (codes "hold") (text (hold_name hold)) no_members)
+answer_value (answer.Ran counts) = counts_value counts
+answer_value (answer.Report report) = report_value report
+-- no line asks for a certificate
+answer_value (answer.Certificate entry) = object (member (codes "version_id") (whole entry.id) no_members)
+answer_value (answer.TakenIn taken) = taken_in_value taken
+
+-- a refusal's name and number, and what else it tells
+abbrev pub refusal_value : Refusal → Data
+refusal_value (AccessDenied reason) = object (member (codes "code") (text (name_of (AccessDenied reason))) (member (codes "n") (whole (number_of (AccessDenied reason))) (member (codes "reason") (text (reason_name reason)) no_members)))
+refusal_value (NoSuchKey marker) = object (member (codes "code") (text (name_of (NoSuchKey marker))) (member (codes "marker") (boolean marker) (member (codes "n") (whole (number_of (NoSuchKey marker))) no_members)))
+refusal_value refusal = object (member (codes "code") (text (name_of refusal)) (member (codes "n") (whole (number_of refusal)) no_members))
+
+abbrev pub stop_name : Stop → List ℕ
+stop_name Memory = codes "Memory"
+stop_name Device = codes "Device"
+stop_name VaultFull = codes "VaultFull"
+
+-- a run that was stopped behind so many changes
+abbrev pub stopped_value : ℕ → Stop → Data
+stopped_value changes stop = object (member (codes "changes") (whole changes) (member (codes "fault") (text (stop_name stop)) no_members))
+
+abbrev pub reply_value : Reply → Data
+reply_value (Done answer) = object (member (codes "ok") (answer_value answer) no_members)
+reply_value (Refused refusal) = object (member (codes "error") (refusal_value refusal) no_members)
+reply_value (Stopped changes stop) = object (member (codes "stopped") (stopped_value changes stop) no_members)
+
+-- compact JSON, and an LF
+unfoldable pub reply_text : Reply → List ℕ
+reply_text reply = compact_text (reply_value reply) ++ 10 ∷ []

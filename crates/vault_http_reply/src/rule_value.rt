@@ -1,0 +1,80 @@
+//! Lifecycle rules as S3's JSON has them (API Reference, "GetBucketLifecycleConfiguration").
+ghost use Rattle.std.specs.Prelude.{◌≡◌, IfOk, map, option_map};
+ghost use Rattle.serde_json.specs.View.{view};
+ghost use Rattle.vault_http_reply.specs.ReplyLine as spec;
+
+use serde_json::{Value, json};
+use std::alloc::{AllocError, Global};
+use vault_http_values::words::status_name;
+use vault_rules::rule::{Noncurrent, Rule};
+use vault_rules::rule_set::RuleSet;
+
+/// The rules, in configuration order.
+pub(crate) fn rules_value(alloc: Global, rules: &RuleSet) -> Result<Value, AllocError>
+    ensures { IfOk result (λ value. view value ≡ spec.rules_value rules.now) }
+{
+    let list = Value::Array(rule_values(alloc, rules.as_slice())?);
+    json!(in alloc; {"rules": list})
+}
+
+fn rule_values(alloc: Global, rules: &[Rule]) -> Result<Vec<Value>, AllocError>
+    ensures { IfOk result (λ list. map view list.items ≡ map spec.rule_value rules.now) }
+{
+    let mut list = Vec::new(alloc);
+    for rule in rules {
+        list.push(rule_value(alloc, rule)?)?;
+    }
+    Ok(list)
+}
+
+/// What is absent is left out; a prefix is printed also where it is empty.
+fn rule_value(alloc: Global, rule: &Rule) -> Result<Value, AllocError>
+    ensures { IfOk result (λ value. view value ≡ spec.rule_value rule.now) }
+{
+    let id = rule.id.as_str();
+    let prefix = rule.prefix.as_str();
+    let status = status_name(rule.enabled);
+    let expiration = expiration_of(alloc, rule.days, rule.lone_markers)?;
+    let noncurrent = noncurrent_of(alloc, rule.noncurrent)?;
+    match (expiration, noncurrent) {
+        (None, None) => json!(in alloc; {"ID": id, "Prefix": prefix, "Status": status}),
+        (Some(expiration), None) => {
+            json!(in alloc; {"Expiration": expiration, "ID": id, "Prefix": prefix, "Status": status})
+        }
+        (None, Some(noncurrent)) => {
+            json!(in alloc; {"ID": id, "NoncurrentVersionExpiration": noncurrent, "Prefix": prefix, "Status": status})
+        }
+        (Some(expiration), Some(noncurrent)) => {
+            json!(in alloc; {"Expiration": expiration, "ID": id, "NoncurrentVersionExpiration": noncurrent, "Prefix": prefix, "Status": status})
+        }
+    }
+}
+
+fn expiration_of(
+    alloc: Global,
+    days: Option<u32>,
+    lone_markers: bool,
+) -> Result<Option<Value>, AllocError>
+    ensures { IfOk result (λ value. option_map view value ≡ spec.expiration_of days lone_markers) }
+{
+    match days {
+        Some(days) => Ok(Some(json!(in alloc; {"Days": days})?)),
+        None if lone_markers => Ok(Some(json!(in alloc; {"ExpiredObjectDeleteMarker": true})?)),
+        None => Ok(None),
+    }
+}
+
+fn noncurrent_of(alloc: Global, noncurrent: Option<Noncurrent>) -> Result<Option<Value>, AllocError>
+    ensures { IfOk result (λ value. option_map view value ≡ option_map spec.noncurrent_value noncurrent) }
+{
+    let Some(noncurrent) = noncurrent else {
+        return Ok(None);
+    };
+    let days = noncurrent.days;
+    match noncurrent.newer {
+        Some(newer) => Ok(Some(
+            json!(in alloc; {"NewerNoncurrentVersions": newer, "NoncurrentDays": days})?,
+        )),
+        None => Ok(Some(json!(in alloc; {"NoncurrentDays": days})?)),
+    }
+}

@@ -1,0 +1,9 @@
+pub mod FaultLemmas
+pub mod LockLemmas
+pub mod NameLemmas
+pub mod ReadLemmas
+pub mod RightsLemmas
+pub mod RuleLemmas
+pub mod SpelledLemmas
+pub mod TextsLemmas
+pub mod ValueLemmas

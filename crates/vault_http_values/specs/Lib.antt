@@ -1,0 +1,9 @@
+pub mod Document
+pub mod Fault
+pub mod Locks
+pub mod Members
+pub mod Rules
+pub mod Shape
+pub mod Spelling
+pub mod Values
+pub mod Words

@@ -1,0 +1,113 @@
+-- The first step of a plan removes nothing that is locked.
+use Rattle.std.proofs.Common.{◌≡◌, ◌⊎◌, ℕ, ◌++◌, Bool, true, false, IsTrue, List, [], ◌∷◌, Option, Some, None, refl, sym, ap, subst, ◌∙◌, inl, inr}
+use Rattle.std.specs.Prelude.{not}
+use Rattle.vault_lock.specs.Lock.{is_locked}
+use Rattle.vault_rules.specs.declared.rule.Rule.{Rule}
+use Rattle.vault_rules.specs.declared.plan.Held.{Held}
+use Rattle.vault_rules.specs.declared.plan.Step.{Step}
+use Rattle.vault_rules.specs.declared.plan.Step.TheVariants.{Mark, Remove, RemoveLone}
+use Rattle.vault_rules.specs.KeyPlan.{Planned, key_plan, id_above}
+use Rattle.vault_rules.specs.Walk.{Dues, dues, unless, last_mark, marker_at, marked_by, removal, mark_step, remove_step, lone_step, removals, left_over, lone_removal, later_phases, walk}
+use Rattle.vault_rules.proofs.Lasts.{walk_unmarked}
+use Rattle.vault_rules.proofs.Sets.{key_plan-walk}
+use Rattle.vault_rules_laws.specs.Histories.{History, is_at, held_of, entries}
+use Rattle.vault_rules_laws.specs.BucketPlan.{plan, key_plans}
+use Rattle.vault_rules_laws.specs.BucketLaws.{IsChronicle, are_rules, IsPlan, HasFree, IsFreeStep}
+use Rattle.vault_rules_laws.proofs.KeyRepeat.{IsInOrder, rises, left_all}
+use Rattle.vault_rules_laws.proofs.Entries.{put_if, entries-cons, order_entries}
+use Rattle.vault_rules_laws.proofs.KeyByKey.{apart, key_by_key}
+use Rattle.vault_rules_laws.proofs.BucketRepeat.{IsFirst, first_of}
+
+-- ---- at a key
+
+-- an entry of that id isn't locked, or is a marker
+abbrev FreeIn : Dues → ℕ → List Held → Type 0
+FreeIn d i [] = ⊥
+FreeIn d i (x ∷ xs) = ((x.id ≡ i) × ((d.locked x.lock ≡ false) ⊎ (x.marker ≡ true))) ⊎ FreeIn d i xs
+
+abbrev Frees : Dues → List Held → Step → Type 0
+Frees d hs (Mark r) = Unit {0}
+Frees d hs (Remove i r) = FreeIn d i hs
+Frees d hs (RemoveLone i r) = FreeIn d i hs
+
+frees_more : (d : Dues) (x : Held) (xs : List Held) (s : Step) → Frees d xs s → Frees d (x ∷ xs) s
+frees_more d x xs (Mark r) h = tt
+frees_more d x xs (Remove i r) h = inr h
+frees_more d x xs (RemoveLone i r) h = inr h
+
+not_locked : (b : Bool) (o : Option ℕ) (q : ℕ) → unless b o ≡ Some q → b ≡ false
+not_locked true o q e = absurd (cc e)
+not_locked false o q e = refl
+
+removal_free : (d : Dues) (x : Held) (xs : List Held) (q : ℕ) → removal d x xs ≡ Some q → d.locked x.lock ≡ false
+removal_free d x [] q e = absurd (cc e)
+removal_free d x (y ∷ ys) q e = not_locked (d.locked x.lock) (d.noncurrent x.size y.admitted _) q e
+
+removals_free : (d : Dues) (hs : List Held) (s : Step) (ss : List Step) → removals d hs ≡ s ∷ ss → Frees d hs s
+removals_free d [] s ss e = absurd (cc e)
+removals_free d (x ∷ xs) s ss e = cases (removal d x xs) refl (removals_free d xs s ss)
+  where
+    cases : (o : Option ℕ) → removal d x xs ≡ o → (removals d xs ≡ s ∷ ss → Frees d xs s) → Frees d (x ∷ xs) s
+    cases None n ih = frees_more d x xs s (ih (ap (λ t. remove_step x.id t ++ removals d xs) (sym n) ∙ e))
+    cases (Some q) n ih =
+        let h : Remove x.id q ∷ removals d xs ≡ s ∷ ss = ap (λ t. remove_step x.id t ++ removals d xs) (sym n) ∙ e in
+        let same : Remove x.id q ≡ s = cc in
+        subst (Frees d (x ∷ xs)) same (inl (refl, inl (removal_free d x xs q n)))
+
+is_marker : (b : Bool) (o : Option ℕ) (q : ℕ) → unless (not b) o ≡ Some q → b ≡ true
+is_marker true o q e = refl
+is_marker false o q e = absurd (cc e)
+
+lone_free : (d : Dues) (hs : List Held) (s : Step) (ss : List Step) → lone_removal d hs ≡ s ∷ ss → Frees d hs s
+lone_free d [] s ss e = absurd (cc e)
+lone_free d (x ∷ y ∷ ys) s ss e = absurd (cc e)
+lone_free d (x ∷ []) s ss e = cases (unless (not x.marker) (d.lone x.size x.admitted)) refl e
+  where
+    cases : (o : Option ℕ) → unless (not x.marker) (d.lone x.size x.admitted) ≡ o → lone_step x.id o ≡ s ∷ ss → Frees d (x ∷ []) s
+    cases None n h = absurd (cc h)
+    cases (Some r) n h = let same : RemoveLone x.id r ≡ s = cc in subst (Frees d (x ∷ [])) same (inl (refl, inr (is_marker x.marker (d.lone x.size x.admitted) r n)))
+
+later_free : (d : Dues) (hs : List Held) (s : Step) (ss : List Step) → later_phases d hs ≡ s ∷ ss → Frees d hs s
+later_free d hs s ss e = cases (removals d hs) refl
+  where
+    cases : (rs : List Step) → removals d hs ≡ rs → Frees d hs s
+    cases [] n = lone_free d hs s ss (ap (lone_removal d) (sym (left_all d hs n)) ∙ (ap (λ l. l ++ lone_removal d (left_over d hs)) (sym n) ∙ e))
+    cases (u ∷ us) n =
+        let h : u ∷ (us ++ lone_removal d (left_over d hs)) ≡ s ∷ ss = ap (λ l. l ++ lone_removal d (left_over d hs)) (sym n) ∙ e in
+        let same : u ≡ s = cc in
+        removals_free d hs s us (n ∙ ap (λ v. v ∷ us) same)
+
+walk_free : (d : Dues) (t : ℕ) (hs : List Held) (s : Step) (ss : List Step) → walk d t hs ≡ s ∷ ss → Frees d hs s
+walk_free d t hs s ss e = cases (last_mark d hs) refl
+  where
+    cases : (o : Option ℕ) → last_mark d hs ≡ o → Frees d hs s
+    cases None m = later_free d hs s ss (sym (walk_unmarked d t hs m) ∙ e)
+    cases (Some r) m =
+        let h : Mark r ∷ later_phases d (hs ++ marker_at (id_above hs) t ∷ []) ≡ s ∷ ss = ap (λ o. mark_step o ++ later_phases d (marked_by t o hs)) (sym m) ∙ e in
+        let same : Mark r ≡ s = cc in
+        subst (Frees d hs) same tt
+
+-- ---- in the bucket
+
+module _ (rules : List Rule) (b : List ℕ) (t : ℕ) (k : List ℕ) where
+  put_free : (i : ℕ) (h : History) (v : List History) (c : Bool) → is_at b k h ≡ c → FreeIn (dues rules k t) i (put_if c (held_of h) (entries b k v)) → (FreeIn (dues rules k t) i (entries b k v) → HasFree b k t i v) → HasFree b k t i (h ∷ v)
+  put_free i h v true here (inl own) later = inl (own.0, here, own.1)
+  put_free i h v true here (inr rest) later = inr (later rest)
+  put_free i h v false here rest later = inr (later rest)
+
+  has_free : (i : ℕ) (v : List History) → FreeIn (dues rules k t) i (entries b k v) → HasFree b k t i v
+  has_free i [] free = absurd free
+  has_free i (h ∷ v) free = put_free i h v (is_at b k h) refl (subst (FreeIn (dues rules k t) i) (entries-cons b k h v) free) (has_free i v)
+
+  free_step : (v : List History) (s : Step) → Frees (dues rules k t) (entries b k v) s → IsFreeStep b k t v s
+  free_step v (Mark r) free = tt
+  free_step v (Remove i r) free = has_free i v free
+  free_step v (RemoveLone i r) free = has_free i v free
+
+pub first_free : (rules : List Rule) (b : List ℕ) (t : ℕ) (v : List History) (p : Planned) (ps : List Planned) → IsTrue (are_rules rules) → IsChronicle 1 0 t v → IsPlan rules b t v (p ∷ ps) → IsFreeStep b p.key t v p.step
+first_free rules b t v p ps ok c plan =
+    let whole : key_plans rules b t plan.keys v ≡ p ∷ ps = sym (plan.steps ∙ key_by_key rules b t ok plan.keys v c (apart plan.keys plan.rising)) in
+    let f = first_of rules b t ok v plan.keys p ps whole in
+    let order = order_entries b p.key 1 0 t v c in
+    free_step rules b t p.key v p.step
+    (walk_free (dues rules p.key t) t (entries b p.key v) p.step f.others (sym (key_plan-walk rules p.key t (entries b p.key v) (rises (entries b p.key v) order)) ∙ f.first))

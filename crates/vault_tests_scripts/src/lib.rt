@@ -1,0 +1,17 @@
+//! Tests of whole scripts: what a caller writes, line by line, and the reply to each.
+#![tactic(auto)]
+
+#[cfg(test)]
+mod bypass;
+#[cfg(test)]
+mod defaults;
+#[cfg(test)]
+mod intake;
+#[cfg(test)]
+mod listings;
+#[cfg(test)]
+mod rules;
+#[cfg(test)]
+mod runs;
+#[cfg(test)]
+mod shapes;

@@ -1,0 +1,17 @@
+pub mod Callers
+pub mod Checked
+pub mod EntryChanges
+pub mod Guarding
+pub mod Kept
+pub mod LockChanges
+pub mod Meant
+pub mod Once
+pub mod Reached
+pub mod RecordChanges
+pub mod Repeated
+pub mod Rights
+pub mod RuleSets
+pub mod RunChanges
+pub mod Settings
+pub mod StepChanges
+pub mod Stored

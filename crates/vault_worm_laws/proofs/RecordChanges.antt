@@ -1,0 +1,106 @@
+-- What the commands on departments, callers, buckets and their configuration change.
+use Rattle.std.proofs.Common.{IsTrue, ◌≤◌, length, ◌≡◌, ℕ, List, [], ◌∷◌, true, Option, Some, None, Result, refl, arith}
+use Rattle.std.specs.Prelude.{IfOk, IsSome, not, is_some}
+use Rattle.vault_base.specs.declared.refusal.Refusal.{Refusal}
+use Rattle.vault_base.specs.declared.refusal.Refusal.TheVariants.{NameTaken, BucketAlreadyExists, InvalidArgument, NoSuchLifecycleConfiguration}
+use Rattle.vault_rules.specs.Rules.{is_rule_set}
+use Rattle.vault_base.specs.declared.right.Right.TheVariants as right
+use Rattle.vault_core_model.specs.declared.change.Change.{Change}
+use Rattle.vault_core_model.specs.declared.change.Change.TheVariants as change
+use Rattle.vault_core_model.specs.declared.command.AddDept.{AddDept}
+use Rattle.vault_core_model.specs.declared.command.AddCaller.{AddCaller}
+use Rattle.vault_core_model.specs.declared.command.CloseCaller.{CloseCaller}
+use Rattle.vault_core_model.specs.declared.command.AddBucket.{AddBucket}
+use Rattle.vault_core_model.specs.declared.command.SetDefault.{SetDefault}
+use Rattle.vault_core_model.specs.declared.command.GetDefault.{GetDefault}
+use Rattle.vault_core_model.specs.declared.command.SetRules.{SetRules}
+use Rattle.vault_core_model.specs.declared.command.GetRules.{GetRules}
+use Rattle.vault_core_model.specs.declared.command.DropRules.{DropRules}
+use Rattle.vault_core_model.specs.declared.command.Report.{Report}
+use Rattle.vault_core_model.specs.declared.records.Caller.{Caller}
+use Rattle.vault_core_model.specs.declared.reply.Answer.{Answer}
+use Rattle.vault_core_model.specs.Vault.{Vault, caller_of, config_of, has_department, rules_of}
+use Rattle.vault_core_model.specs.Change.{changed}
+use Rattle.vault_core_model.specs.Checks.{check, found, access, allowed_default, has_period, asking, administrator, known_department, known_department_if_given, may_report}
+use Rattle.vault_core_model.specs.RecordOutcomes as records
+use Rattle.vault_worm_laws.specs.Chains.{MayMake, Makes}
+use Rattle.vault_worm_laws.proofs.Checked.{bind_if, any-is, check-is, not-true, not_some, some_is, IsAsking, administrator-is, HasAccess, access-is}
+
+-- one permitted change at most leads from v to v'
+abbrev pub LeadsOnce : Vault → ℕ → List ℕ → Vault → Type 0
+LeadsOnce v t who v' = (cs : List Change) × Makes v t who cs v' × (length cs ≤ 1)
+
+pub unchanged : (v : Vault) (t : ℕ) (who : List ℕ) → LeadsOnce v t who v
+unchanged v t who = ([], refl, omega arith)
+
+pub one_change : (v : Vault) (t : ℕ) (who : List ℕ) (c : Change) → MayMake v t who c → LeadsOnce v t who (changed v t c)
+one_change v t who c may = (c ∷ [], (may, refl), omega arith)
+
+-- the vault after the command, where it is done, comes by one permitted change at most
+abbrev pub Changes : Vault → ℕ → List ℕ → Result (Answer × Vault) Refusal → Type 0
+Changes v t who judged = IfOk judged (λ p. LeadsOnce v t who p.1)
+
+pub add_dept-changes : (v : Vault) (t : ℕ) (who : List ℕ) (c : AddDept) → Changes v t who (records.add_dept v t who c)
+add_dept-changes v t who c =
+    bind_if (administrator v t who) (IsAsking v t who) _ _ (administrator-is v t who)
+    (λ a asked. bind_if (check (not (has_department v c.dept)) NameTaken) (λ u. not (has_department v c.dept) ≡ true) _ _ (check-is (not (has_department v c.dept)) NameTaken)
+    (λ u free. one_change v t who (change.AddDept c.dept) (record { in_time = asked.in_time; allowed = not-true (has_department v c.dept) free; permitted = tt })))
+
+pub add_caller-changes : (v : Vault) (t : ℕ) (who : List ℕ) (c : AddCaller) → Changes v t who (records.add_caller v t who c)
+add_caller-changes v t who c =
+    bind_if (administrator v t who) (IsAsking v t who) _ _ (administrator-is v t who)
+    (λ a asked. bind_if (known_department_if_given v c.dept) (λ u. Unit {0}) _ _ (any-is (known_department_if_given v c.dept))
+    (λ u known. bind_if (check (not (is_some (caller_of v c.caller))) NameTaken) (λ u. not (is_some (caller_of v c.caller)) ≡ true) _ _ (check-is (not (is_some (caller_of v c.caller))) NameTaken)
+    (λ w free. one_change v t who (change.AddCaller (records.new_caller c)) (record { in_time = asked.in_time; allowed = not_some (caller_of v c.caller) free; permitted = tt }))))
+
+open_is_there : (o : Option Caller) → records.is_open o ≡ true → IsSome o
+open_is_there None e = absurd (cc e)
+open_is_there (Some c) e = refl
+
+pub close_caller-changes : (v : Vault) (t : ℕ) (who : List ℕ) (c : CloseCaller) → Changes v t who (records.close_caller v t who c)
+close_caller-changes v t who c =
+    bind_if (administrator v t who) (IsAsking v t who) _ _ (administrator-is v t who)
+    (λ a asked. bind_if (check (records.is_open (caller_of v c.caller)) InvalidArgument) (λ u. records.is_open (caller_of v c.caller) ≡ true) _ _ (check-is (records.is_open (caller_of v c.caller)) InvalidArgument)
+    (λ u there. one_change v t who (change.CloseCaller c.caller) (record { in_time = asked.in_time; allowed = open_is_there (caller_of v c.caller) there; permitted = tt })))
+
+pub add_bucket-changes : (v : Vault) (t : ℕ) (who : List ℕ) (c : AddBucket) → Changes v t who (records.add_bucket v t who c)
+add_bucket-changes v t who c =
+    bind_if (administrator v t who) (IsAsking v t who) _ _ (administrator-is v t who)
+    (λ a asked. bind_if (known_department v c.dept) (λ u. Unit {0}) _ _ (any-is (known_department v c.dept))
+    (λ u known. bind_if (check (not (is_some (config_of v c.bucket))) BucketAlreadyExists) (λ u. not (is_some (config_of v c.bucket)) ≡ true) _ _ (check-is (not (is_some (config_of v c.bucket))) BucketAlreadyExists)
+    (λ w free. one_change v t who (change.AddBucket c.bucket c.dept) (record { in_time = asked.in_time; allowed = not_some (config_of v c.bucket) free; permitted = tt }))))
+
+pub set_default-changes : (v : Vault) (t : ℕ) (who : List ℕ) (c : SetDefault) → Changes v t who (records.set_default v t who c)
+set_default-changes v t who c =
+    bind_if (access v t who c.bucket right.Config) (HasAccess v t who c.bucket) _ _ (access-is v t who c.bucket right.Config)
+    (λ a at. bind_if (allowed_default c.default) (λ u. has_period c.default ≡ true) _ _ (check-is (has_period c.default) InvalidArgument)
+    (λ u period. one_change v t who (change.SetDefault c.bucket c.default) (record { in_time = at.in_time; allowed = (some_is (config_of v c.bucket) a.bucket at.bucket, period); permitted = tt })))
+
+pub set_rules-changes : (v : Vault) (t : ℕ) (who : List ℕ) (c : SetRules) → IsTrue (is_rule_set c.rules) → Changes v t who (records.set_rules v t who c)
+set_rules-changes v t who c set =
+    bind_if (access v t who c.bucket right.Config) (HasAccess v t who c.bucket) _ _ (access-is v t who c.bucket right.Config)
+    (λ a at. one_change v t who (change.SetRules c.bucket (Some c.rules)) (record { in_time = at.in_time; allowed = (some_is (config_of v c.bucket) a.bucket at.bucket, set); permitted = tt }))
+
+pub drop_rules-changes : (v : Vault) (t : ℕ) (who : List ℕ) (c : DropRules) → Changes v t who (records.drop_rules v t who c)
+drop_rules-changes v t who c =
+    bind_if (access v t who c.bucket right.Config) (HasAccess v t who c.bucket) _ _ (access-is v t who c.bucket right.Config)
+    (λ a at. one_change v t who (change.SetRules c.bucket None) (record { in_time = at.in_time; allowed = (some_is (config_of v c.bucket) a.bucket at.bucket, refl); permitted = tt }))
+
+-- ---- reads
+
+pub get_default-changes : (v : Vault) (t : ℕ) (who : List ℕ) (c : GetDefault) → Changes v t who (records.get_default v t who c)
+get_default-changes v t who c =
+    bind_if (access v t who c.bucket right.Config) (λ a. Unit {0}) _ _ (any-is (access v t who c.bucket right.Config)) (λ a at. unchanged v t who)
+
+pub get_rules-changes : (v : Vault) (t : ℕ) (who : List ℕ) (c : GetRules) → Changes v t who (records.get_rules v t who c)
+get_rules-changes v t who c =
+    bind_if (access v t who c.bucket right.Config) (λ a. Unit {0}) _ _ (any-is (access v t who c.bucket right.Config))
+    (λ a at. bind_if (found (rules_of v c.bucket) NoSuchLifecycleConfiguration) (λ a. Unit {0}) _ _ (any-is (found (rules_of v c.bucket) NoSuchLifecycleConfiguration))
+    (λ rules there. unchanged v t who))
+
+pub report-changes : (v : Vault) (t : ℕ) (who : List ℕ) (c : Report) → Changes v t who (records.report v t who c)
+report-changes v t who c =
+    bind_if (asking v t who) (λ a. Unit {0}) _ _ (any-is (asking v t who))
+    (λ a asked. bind_if (may_report a c.dept) (λ a. Unit {0}) _ _ (any-is (may_report a c.dept))
+    (λ u may. bind_if (known_department v c.dept) (λ a. Unit {0}) _ _ (any-is (known_department v c.dept))
+    (λ w known. unchanged v t who)))

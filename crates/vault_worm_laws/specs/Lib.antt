@@ -1,0 +1,9 @@
+pub mod Bypass
+pub mod Callers
+pub mod Chains
+pub mod Once
+pub mod Permits
+pub mod Removals
+pub mod Repeated
+pub mod Stored
+pub mod Worm

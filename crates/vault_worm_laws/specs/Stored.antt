@@ -1,0 +1,31 @@
+-- Where the bytes of each version stand that was ever admitted.
+use Rattle.std.specs.Prelude.{◌≡◌, ◌⊎◌, ℕ, Bool, true, false, List, [], length, filter, sum_by, unwrap_or, Some, None, IsSome}
+use Rattle.std.specs.List.{AllByRecursion}
+use Rattle.vault_core_model.specs.declared.records.History.{History}
+use Rattle.vault_core_model.specs.Vault.{Vault}
+use Rattle.vault_core_model.specs.Totals.{is_version_of}
+
+-- held, with all its bytes
+abbrev pub IsHeldWhole : History → Type 0
+IsHeldWhole h =
+    (h.entry.removal ≡ None) × ((bytes : List ℕ) × (h.content ≡ Some bytes) × (length bytes ≡ h.entry.size))
+
+-- removed, and its bytes are gone
+abbrev pub IsGone : History → Type 0
+IsGone h = IsSome h.entry.removal × (h.content ≡ None)
+
+-- the bytes of a content version stand in the held content, or it was removed, never both and never neither; a marker has none
+abbrev pub StandsOnce : Bool → History → Type 0
+StandsOnce true h = h.content ≡ None
+StandsOnce false h = IsHeldWhole h ⊎ IsGone h
+
+abbrev pub EachStandsOnce : Vault → Type 0
+EachStandsOnce v = AllByRecursion (λ h. StandsOnce h.entry.marker h) v.histories
+
+-- how many bytes stand in the held content
+abbrev pub content_size : History → ℕ
+content_size h = length (unwrap_or h.content [])
+
+-- and of a department's versions
+abbrev pub stored_bytes : Vault → List ℕ → ℕ
+stored_bytes v dept = sum_by content_size (filter (is_version_of v.buckets dept) v.histories)
