@@ -1,8 +1,6 @@
 -- The vault that the rows of a database spell, and when its tables are sound.
 use Rattle.std.specs.Prelude.{◌≡◌, ℕ, ◌+◌, false, List, [], ◌∷◌, length, map, filter, flat_map, sum_by, Option, Some, None, IsPermutation}
 use Rattle.std.specs.List.{AllByRecursion}
-use Rattle.std.specs.declared.cmp.Ordering.TheVariants.{Less}
-use Rattle.sqlite_trees.specs.Tree.{IsAscending}
 use Rattle.sqlite_value.specs.declared.value.Value.TheVariants.{Text}
 use Rattle.sqlite_value.specs.Order.{column}
 use Rattle.sqlite.specs.Effect.{Database}
@@ -14,7 +12,6 @@ use Rattle.vault_core_model.specs.declared.records.Entry.{Entry}
 use Rattle.vault_core_model.specs.declared.records.History.{History}
 use Rattle.vault_core_model.specs.declared.records.Note.{Note}
 use Rattle.vault_core_model.specs.declared.records.Setting.{Setting}
-use Rattle.vault_core_model.specs.Order.{name_cmp, caller_cmp, bucket_cmp, note_cmp}
 use Rattle.vault_core_model.specs.Places.{held_at, is_current}
 use Rattle.vault_core_model.specs.Reads.{entry_of}
 use Rattle.vault_core_model.specs.Sound.{Sound}
@@ -98,18 +95,10 @@ heads_in v = map (head_in v) (filter (is_current v) v.histories)
 
 -- ---- what holds beyond the limits of values
 
--- the named records stand in the order of their names, so that each vault has one form
-pub record IsInNameOrder (v : Vault) : Type 0 where
-  pub departments : IsAscending (λ a b. name_cmp a b ≡ Less) v.departments
-  pub callers : IsAscending (λ a b. caller_cmp a b ≡ Less) v.callers
-  pub buckets : IsAscending (λ a b. bucket_cmp a b ≡ Less) v.buckets
-  pub notes : IsAscending (λ a b. note_cmp a b ≡ Less) v.notes
-
--- a vault as it may be kept: in its limits, sound, and in its one form
+-- a vault as it may be kept: in its limits, and sound
 pub record IsKept (v : Vault) : Type 0 where
   pub limits : IsInLimits v
   pub sound : Sound v
-  pub ordered : IsInNameOrder v
 
 -- ---- the vault that the rows spell
 

@@ -2,6 +2,8 @@
 ghost use Rattle.std.specs.Prelude.{◌≡◌, ◌≤◌, IsTrue, IfErr, OnOk, false, length};
 ghost use Rattle.vault_core_model.specs.Halts.{Finds, is_device, is_device_refusal, Rose};
 ghost use Rattle.vault_lock.specs.Retention.{is_period};
+ghost use Rattle.vault_core_model.specs.Vault.{has_department};
+ghost use Rattle.vault_rules.specs.Rules.{passes_if_given};
 ghost use Rattle.vault_core_model.specs.Checks.{small_enough, ends_later_if_given, known_department, known_department_if_given, allowed_default, has_period};
 
 use vault_base::content::Content;
@@ -43,6 +45,7 @@ pub fn check_end(at: Moment, retention: Option<Retention>) -> Result<(), Refusal
 /// The department is there.
 pub fn check_dept<K: Keeper>(keeper: &mut K, dept: &DeptName) -> Result<(), Halt>
     ensures found { K.is_honest keeper.new → Finds result (known_department (K.vault keeper.old) dept.now) }
+    ensures there { K.is_honest keeper.new → OnOk result (IsTrue (has_department (K.vault keeper.old) dept.now)) }
     ensures same { K.vault keeper.new ≡ K.vault keeper.old }
     ensures honest { K.is_honest keeper.new → K.is_honest keeper.old }
     ensures counted { K.count keeper.old ≤ K.count keeper.new }
@@ -58,6 +61,7 @@ pub fn check_dept<K: Keeper>(keeper: &mut K, dept: &DeptName) -> Result<(), Halt
 /// The department, where one is given, is there.
 pub fn check_dept_if_given<K: Keeper>(keeper: &mut K, dept: &Option<DeptName>) -> Result<(), Halt>
     ensures found { K.is_honest keeper.new → Finds result (known_department_if_given (K.vault keeper.old) dept.now) }
+    ensures there { K.is_honest keeper.new → OnOk result (IsTrue (passes_if_given (has_department (K.vault keeper.old)) dept.now)) }
     ensures same { K.vault keeper.new ≡ K.vault keeper.old }
     ensures honest { K.is_honest keeper.new → K.is_honest keeper.old }
     ensures counted { K.count keeper.old ≤ K.count keeper.new }

@@ -83,6 +83,7 @@ fn find_newest<K: Keeper>(
     requires { K.is_honest keeper.old → Sound (K.vault keeper.old) }
     ensures value { K.is_honest keeper.new → IfOk result (λ found. found ≡ option_map (λ h. h.entry) (current (K.vault keeper.old) bucket.now key.now)) }
     ensures own { K.is_honest keeper.new → IfOk result (λ found. IfSome found (λ entry. entry_of (K.vault keeper.old) entry.id ≡ Some entry)) }
+    ensures held { K.is_honest keeper.new → IfOk result (λ found. IfSome found (λ entry. entry.removal ≡ None)) }
     ensures same { K.vault keeper.new ≡ K.vault keeper.old }
     ensures honest { K.is_honest keeper.new → K.is_honest keeper.old }
     ensures counted { K.count keeper.old ≤ K.count keeper.new }
@@ -103,6 +104,7 @@ fn find_current<K: Keeper>(
     requires { K.is_honest keeper.old → Sound (K.vault keeper.old) }
     ensures found { K.is_honest keeper.new → Finds result (content_on_top (current (K.vault keeper.old) bucket.now key.now)) }
     ensures own { K.is_honest keeper.new → IfOk result (λ entry. entry_of (K.vault keeper.old) entry.id ≡ Some entry) }
+    ensures held { K.is_honest keeper.new → IfOk result (λ entry. entry.removal ≡ None) }
     ensures version { IfOk result (λ entry. entry.marker ≡ false) }
     ensures same { K.vault keeper.new ≡ K.vault keeper.old }
     ensures honest { K.is_honest keeper.new → K.is_honest keeper.old }
@@ -129,6 +131,7 @@ pub fn find_version<K: Keeper>(
     requires { K.is_honest keeper.old → Sound (K.vault keeper.old) }
     ensures found { K.is_honest keeper.new → Finds result (version_meant (K.vault keeper.old) bucket.now key.now id) }
     ensures own { K.is_honest keeper.new → IfOk result (λ entry. entry_of (K.vault keeper.old) entry.id ≡ Some entry) }
+    ensures held { K.is_honest keeper.new → IfOk result (λ entry. entry.removal ≡ None) }
     ensures version { IfOk result (λ entry. entry.marker ≡ false) }
     ensures same { K.vault keeper.new ≡ K.vault keeper.old }
     ensures honest { K.is_honest keeper.new → K.is_honest keeper.old }

@@ -3,6 +3,8 @@ pub mod Buckets
 pub mod Conserved
 pub mod Items
 pub mod Lists
+pub mod NameOrder
 pub mod Newest
+pub mod References
 pub mod Runs
 pub mod Soundness

@@ -23,13 +23,15 @@ use Rattle.vault_core_model.specs.Checks.{most_ids, most_settings}
 use Rattle.vault_core_model.specs.Order.{placed, placed_if_given, bucket_cmp, note_cmp}
 use Rattle.vault_core_model.specs.Vault.{Vault, config_in}
 use Rattle.vault_core_model.specs.Change.{changed, removed_by, removed_if, new_bucket, with_default, with_rules, with_setting}
-use Rattle.vault_core_model.specs.Sound.{AreIdsFrom, AreInOrder, IsInTime, LiesBetween, HasItsBytes, IsWhole, IsWholeAs, IsPlaced, IsNoted, NamesItsVersion, HasRuleSet, Sound}
+use Rattle.vault_core_model.specs.Sound.{AreIdsFrom, AreInOrder, IsInTime, LiesBetween, HasItsBytes, IsWhole, IsWholeAs, IsPlaced, IsNoted, NamesItsVersion, IsEmployed, IsOwned, HasPeriod, HasLine, HasRuleSet, IsInNameOrder, Sound}
 use Rattle.vault_core_model.specs.Allowed.{Allows, IsNextSetting, IsFirstNote}
 use Rattle.vault_core_model.specs.Totals.{admitted_bytes, is_of_department}
 use Rattle.vault_core_laws.proofs.Lists.{All-push, All-last, All-placed, All-weaker, All-map}
 use Rattle.vault_core_laws.proofs.Buckets.{config_in-placed, placed-mapped, department-mapped, name-with_default, dept-with_default, name-with_rules, dept-with_rules}
 use Rattle.vault_core_laws.proofs.Items.{admitted-push, admitted-removed, admitted-other, admitted-setting, share_fits}
+use Rattle.vault_core_laws.proofs.NameOrder.{ordered-changed}
 use Rattle.vault_core_laws.proofs.Newest.{finds_itself}
+use Rattle.vault_core_laws.proofs.References.{employed-changed, owned-changed, periods-changed, lines-changed}
 
 -- ---- ids
 
@@ -174,7 +176,7 @@ notes_kept v h sound =
 notes_admitted : (v : Vault) (h : History) (o : Option Note) → Sound v → AreIdsFrom 1 (v.histories ++ h ∷ []) → IsFirstNote v h.entry o → AllByRecursion (λ n. IsNoted n (option_map (λ g. g.entry) (find (λ g. g.entry.id == n.id) (v.histories ++ h ∷ [])))) (placed_if_given note_cmp o v.notes)
 notes_admitted v h None sound ids first = notes_kept v h sound
 notes_admitted v h (Some n) sound ids first =
-    All-placed (λ x. IsNoted x (option_map (λ g. g.entry) (find (λ g. g.entry.id == x.id) (v.histories ++ h ∷ [])))) note_cmp n v.notes (noted_itself v.histories h n ids first.1 first.2) (notes_kept v h sound)
+    All-placed (λ x. IsNoted x (option_map (λ g. g.entry) (find (λ g. g.entry.id == x.id) (v.histories ++ h ∷ [])))) note_cmp n v.notes (noted_itself v.histories h n ids first.2 first.3) (notes_kept v h sound)
 
 HasRuleSet-rules : (name : List ℕ) (rules : Option (List Rule)) → IsTrue (passes_if_given is_rule_set rules) → (b : Bucket) → HasRuleSet b → HasRuleSet (with_rules name rules b)
 HasRuleSet-rules name rules given b has =
@@ -184,9 +186,26 @@ HasRuleSet-default : (name : List ℕ) (default : Option Default) (b : Bucket) �
 HasRuleSet-default name default b has =
     elim (bytes_eq b.name name) as (λ x. HasRuleSet (if x then record b { config = record { dept = b.config.dept; default = default } } else b)) [ true ↦ has | false ↦ has ]
 
+-- what holds of callers, buckets and notes by themselves
+record AreRecorded (v : Vault) : Type 0 where
+  ordered : IsInNameOrder v
+  employed : AllByRecursion (IsEmployed v) v.callers
+  owned : AllByRecursion (IsOwned v) v.buckets
+  periods : AllByRecursion HasPeriod v.buckets
+  lines : AllByRecursion HasLine v.notes
+
+recorded-changed : (v : Vault) (t : ℕ) (c : Change) → Sound v → Allows v t c → AreRecorded (changed v t c)
+recorded-changed v t c sound allowed = record {
+  ordered = ordered-changed v t c sound.ordered allowed;
+  employed = employed-changed v t c sound allowed;
+  owned = owned-changed v t c sound allowed;
+  periods = periods-changed v t c sound allowed;
+  lines = lines-changed v t c sound allowed;
+}
+
 -- a vault whose buckets are set anew, each with its name and its department
-buckets_set : (v : Vault) (t : ℕ) (f : Bucket → Bucket) → ((b : Bucket) → (f b).name ≡ b.name) → ((b : Bucket) → (f b).config.dept ≡ b.config.dept) → ((b : Bucket) → HasRuleSet b → HasRuleSet (f b)) → Sound v → v.last ≤ t → Sound (record v { last = t; buckets = map f v.buckets })
-buckets_set v t f same_name same_dept same_rules sound le = record {
+buckets_set : (v : Vault) (t : ℕ) (f : Bucket → Bucket) → ((b : Bucket) → (f b).name ≡ b.name) → ((b : Bucket) → (f b).config.dept ≡ b.config.dept) → ((b : Bucket) → HasRuleSet b → HasRuleSet (f b)) → Sound v → v.last ≤ t → AreRecorded (record v { last = t; buckets = map f v.buckets }) → Sound (record v { last = t; buckets = map f v.buckets })
+buckets_set v t f same_name same_dept same_rules sound le recorded = record {
   ids = sound.ids;
   enough_ids = sound.enough_ids;
   order = AreInOrder-later 0 v.last t v.histories le sound.order;
@@ -194,7 +213,12 @@ buckets_set v t f same_name same_dept same_rules sound le = record {
   whole = sound.whole;
   placed = All-weaker (IsPlaced v) (IsPlaced (record v { last = t; buckets = map f v.buckets })) (λ h there. placed-mapped f same_name v.buckets h.entry.bucket there) v.histories sound.placed;
   within = λ d. rw (admitted-other v.buckets (map f v.buckets) d v.histories (each (λ h. department-mapped f same_name same_dept v.buckets d h.entry.bucket) v.histories)) (sound.within d);
+  ordered = recorded.ordered;
+  employed = recorded.employed;
+  owned = recorded.owned;
+  periods = recorded.periods;
   rule_sets = All-map HasRuleSet HasRuleSet HasRuleSet f (λ b has same. same_rules b has) v.buckets sound.rule_sets sound.rule_sets;
+  lines = recorded.lines;
   notes = sound.notes;
 }
   where
@@ -255,88 +279,130 @@ IsWhole-setting v t id s h allowed found whole = by_id (eqb h.entry.id id) refl
 -- ---- the changes
 
 pub Sound-changed : (v : Vault) (t : ℕ) (c : Change) → Sound v → v.last ≤ t → Allows v t c → Sound (changed v t c)
-Sound-changed v t (AddDept name) sound le allowed = record {
-  ids = sound.ids;
-  enough_ids = sound.enough_ids;
-  order = AreInOrder-later 0 v.last t v.histories le sound.order;
-  in_time = IsInTime-later v.last t v.histories le sound.in_time;
-  whole = sound.whole;
-  placed = sound.placed;
-  within = sound.within;
-  rule_sets = sound.rule_sets;
-  notes = sound.notes;
-}
-Sound-changed v t (AddCaller c) sound le allowed = record {
-  ids = sound.ids;
-  enough_ids = sound.enough_ids;
-  order = AreInOrder-later 0 v.last t v.histories le sound.order;
-  in_time = IsInTime-later v.last t v.histories le sound.in_time;
-  whole = sound.whole;
-  placed = sound.placed;
-  within = sound.within;
-  rule_sets = sound.rule_sets;
-  notes = sound.notes;
-}
-Sound-changed v t (CloseCaller name) sound le allowed = record {
-  ids = sound.ids;
-  enough_ids = sound.enough_ids;
-  order = AreInOrder-later 0 v.last t v.histories le sound.order;
-  in_time = IsInTime-later v.last t v.histories le sound.in_time;
-  whole = sound.whole;
-  placed = sound.placed;
-  within = sound.within;
-  rule_sets = sound.rule_sets;
-  notes = sound.notes;
-}
-Sound-changed v t (SetDefault name default) sound le allowed = buckets_set v t (with_default name default) (name-with_default name default) (dept-with_default name default) (HasRuleSet-default name default) sound le
-Sound-changed v t (SetRules name rules) sound le allowed = buckets_set v t (with_rules name rules) (name-with_rules name rules) (dept-with_rules name rules) (HasRuleSet-rules name rules allowed.1) sound le
-Sound-changed v t (AddSetting id s) sound le allowed = record {
-  ids = AreIdsFrom-setting id s 1 v.histories sound.ids;
-  enough_ids = rw (length-map v.histories (with_setting id s)) sound.enough_ids;
-  order = AreInOrder-setting id s 0 t v.histories (AreInOrder-later 0 v.last t v.histories le sound.order);
-  in_time = All-map (IsInTime t) (IsInTime t) (IsInTime t) (with_setting id s) (λ h in_time same. IsInTime-setting t id s h in_time) v.histories (IsInTime-later v.last t v.histories le sound.in_time) (IsInTime-later v.last t v.histories le sound.in_time);
-  whole = All-map (λ y. find (λ h. h.entry.id == y.entry.id) v.histories ≡ Some y) IsWhole IsWhole (with_setting id s) (λ h found whole. IsWhole-setting v t id s h allowed found whole) v.histories (finds_itself 1 v.histories sound.ids) sound.whole;
-  placed = All-map (IsPlaced v) (IsPlaced v) (IsPlaced v) (with_setting id s) (λ h placed same. IsPlaced-setting v id s h placed) v.histories sound.placed sound.placed;
-  within = λ dept. rw (admitted-setting v.buckets dept id s v.histories) (sound.within dept);
-  rule_sets = sound.rule_sets;
-  notes = notes_mapped (with_setting id s) (untold-setting id s) v.histories v.notes sound.notes;
-}
+Sound-changed v t (AddDept name) sound le allowed =
+    let recorded = recorded-changed v t (AddDept name) sound allowed in record {
+      ids = sound.ids;
+      enough_ids = sound.enough_ids;
+      order = AreInOrder-later 0 v.last t v.histories le sound.order;
+      in_time = IsInTime-later v.last t v.histories le sound.in_time;
+      whole = sound.whole;
+      placed = sound.placed;
+      within = sound.within;
+      ordered = recorded.ordered;
+      employed = recorded.employed;
+      owned = recorded.owned;
+      periods = recorded.periods;
+      rule_sets = sound.rule_sets;
+      lines = recorded.lines;
+      notes = sound.notes;
+    }
+Sound-changed v t (AddCaller c) sound le allowed =
+    let recorded = recorded-changed v t (AddCaller c) sound allowed in record {
+      ids = sound.ids;
+      enough_ids = sound.enough_ids;
+      order = AreInOrder-later 0 v.last t v.histories le sound.order;
+      in_time = IsInTime-later v.last t v.histories le sound.in_time;
+      whole = sound.whole;
+      placed = sound.placed;
+      within = sound.within;
+      ordered = recorded.ordered;
+      employed = recorded.employed;
+      owned = recorded.owned;
+      periods = recorded.periods;
+      rule_sets = sound.rule_sets;
+      lines = recorded.lines;
+      notes = sound.notes;
+    }
+Sound-changed v t (CloseCaller name) sound le allowed =
+    let recorded = recorded-changed v t (CloseCaller name) sound allowed in record {
+      ids = sound.ids;
+      enough_ids = sound.enough_ids;
+      order = AreInOrder-later 0 v.last t v.histories le sound.order;
+      in_time = IsInTime-later v.last t v.histories le sound.in_time;
+      whole = sound.whole;
+      placed = sound.placed;
+      within = sound.within;
+      ordered = recorded.ordered;
+      employed = recorded.employed;
+      owned = recorded.owned;
+      periods = recorded.periods;
+      rule_sets = sound.rule_sets;
+      lines = recorded.lines;
+      notes = sound.notes;
+    }
+Sound-changed v t (SetDefault name default) sound le allowed = buckets_set v t (with_default name default) (name-with_default name default) (dept-with_default name default) (HasRuleSet-default name default) sound le (recorded-changed v t (SetDefault name default) sound allowed)
+Sound-changed v t (SetRules name rules) sound le allowed = buckets_set v t (with_rules name rules) (name-with_rules name rules) (dept-with_rules name rules) (HasRuleSet-rules name rules allowed.1) sound le (recorded-changed v t (SetRules name rules) sound allowed)
+Sound-changed v t (AddSetting id s) sound le allowed =
+    let recorded = recorded-changed v t (AddSetting id s) sound allowed in record {
+      ids = AreIdsFrom-setting id s 1 v.histories sound.ids;
+      enough_ids = rw (length-map v.histories (with_setting id s)) sound.enough_ids;
+      order = AreInOrder-setting id s 0 t v.histories (AreInOrder-later 0 v.last t v.histories le sound.order);
+      in_time = All-map (IsInTime t) (IsInTime t) (IsInTime t) (with_setting id s) (λ h in_time same. IsInTime-setting t id s h in_time) v.histories (IsInTime-later v.last t v.histories le sound.in_time) (IsInTime-later v.last t v.histories le sound.in_time);
+      whole = All-map (λ y. find (λ h. h.entry.id == y.entry.id) v.histories ≡ Some y) IsWhole IsWhole (with_setting id s) (λ h found whole. IsWhole-setting v t id s h allowed found whole) v.histories (finds_itself 1 v.histories sound.ids) sound.whole;
+      placed = All-map (IsPlaced v) (IsPlaced v) (IsPlaced v) (with_setting id s) (λ h placed same. IsPlaced-setting v id s h placed) v.histories sound.placed sound.placed;
+      within = λ dept. rw (admitted-setting v.buckets dept id s v.histories) (sound.within dept);
+      ordered = recorded.ordered;
+      employed = recorded.employed;
+      owned = recorded.owned;
+      periods = recorded.periods;
+      rule_sets = sound.rule_sets;
+      lines = recorded.lines;
+      notes = notes_mapped (with_setting id s) (untold-setting id s) v.histories v.notes sound.notes;
+    }
 Sound-changed v t (AddBucket name dept) sound le allowed =
+    let recorded = recorded-changed v t (AddBucket name dept) sound allowed in
     let buckets = placed bucket_cmp (new_bucket name dept) v.buckets in
-    let same = All-weaker (IsPlaced v) (λ h. config_in buckets h.entry.bucket ≡ config_in v.buckets h.entry.bucket) (λ h there. config_in-placed v.buckets name dept h.entry.bucket allowed there) v.histories sound.placed in
+    let same = All-weaker (IsPlaced v) (λ h. config_in buckets h.entry.bucket ≡ config_in v.buckets h.entry.bucket) (λ h there. config_in-placed v.buckets name dept h.entry.bucket allowed.0 there) v.histories sound.placed in
     record {
       ids = sound.ids;
       enough_ids = sound.enough_ids;
       order = AreInOrder-later 0 v.last t v.histories le sound.order;
       in_time = IsInTime-later v.last t v.histories le sound.in_time;
       whole = sound.whole;
-      placed = All-weaker (IsPlaced v) (IsPlaced (changed v t (AddBucket name dept))) (λ h there. rw (config_in-placed v.buckets name dept h.entry.bucket allowed there) there) v.histories sound.placed;
+      placed = All-weaker (IsPlaced v) (IsPlaced (changed v t (AddBucket name dept))) (λ h there. rw (config_in-placed v.buckets name dept h.entry.bucket allowed.0 there) there) v.histories sound.placed;
       within = λ d. rw (admitted-other v.buckets buckets d v.histories (All-weaker (λ h. config_in buckets h.entry.bucket ≡ config_in v.buckets h.entry.bucket) (λ h. is_of_department d (config_in buckets h.entry.bucket) ≡ is_of_department d (config_in v.buckets h.entry.bucket)) (λ h e. ap (is_of_department d) e) v.histories same)) (sound.within d);
+      ordered = recorded.ordered;
+      employed = recorded.employed;
+      owned = recorded.owned;
+      periods = recorded.periods;
       rule_sets = All-placed HasRuleSet bucket_cmp (new_bucket name dept) v.buckets refl sound.rule_sets;
+      lines = recorded.lines;
       notes = sound.notes;
     }
-Sound-changed v t (Admit a) sound le allowed = record {
-  ids = AreIdsFrom-push 1 v.histories a.history sound.ids allowed.id;
-  enough_ids = one_more v.histories a.history allowed.enough_ids;
-  order = AreInOrder-push 0 v.last t v.histories a.history le allowed.now sound.order;
-  in_time = All-push (IsInTime t) v.histories a.history (IsInTime-later v.last t v.histories le sound.in_time) (rw allowed.held tt);
-  whole = All-push IsWhole v.histories a.history sound.whole allowed.whole;
-  placed = All-push (IsPlaced v) v.histories a.history sound.placed (rw allowed.placed refl);
-  within = λ dept. rw (admitted-push v.buckets dept v.histories a.history) (share_fits v.buckets a.history allowed.bucket dept quota (admitted_bytes v) allowed.placed allowed.fits (sound.within dept));
-  rule_sets = sound.rule_sets;
-  notes = notes_admitted v a.history a.note sound (AreIdsFrom-push 1 v.histories a.history sound.ids allowed.id) allowed.noted;
-}
-Sound-changed v t (Remove id r) sound le allowed = record {
-  ids = AreIdsFrom-removed id r 1 v.histories sound.ids;
-  enough_ids = rw (length-map v.histories (removed_if id r)) sound.enough_ids;
-  order = AreInOrder-removed id r 0 t v.histories (AreInOrder-later 0 v.last t v.histories le sound.order);
-  in_time = All-map (λ h. h.entry.admitted ≤ v.last) (IsInTime v.last) (IsInTime t) (removed_if id r) (λ h early in_time. IsInTime-removed v.last t id r h le allowed.now early in_time) v.histories (admitted_by 0 v.last v.histories sound.order) sound.in_time;
-  whole = All-map IsWhole IsWhole IsWhole (removed_if id r) (λ h whole same. IsWhole-removed id r h whole) v.histories sound.whole sound.whole;
-  placed = All-map (IsPlaced v) (IsPlaced v) (IsPlaced v) (removed_if id r) (λ h placed same. IsPlaced-removed v id r h placed) v.histories sound.placed sound.placed;
-  within = λ dept. rw (admitted-removed v.buckets dept id r v.histories) (sound.within dept);
-  rule_sets = sound.rule_sets;
-  notes = notes_mapped (removed_if id r) (untold-removed id r) v.histories v.notes sound.notes;
-}
+Sound-changed v t (Admit a) sound le allowed =
+    let recorded = recorded-changed v t (Admit a) sound allowed in record {
+      ids = AreIdsFrom-push 1 v.histories a.history sound.ids allowed.id;
+      enough_ids = one_more v.histories a.history allowed.enough_ids;
+      order = AreInOrder-push 0 v.last t v.histories a.history le allowed.now sound.order;
+      in_time = All-push (IsInTime t) v.histories a.history (IsInTime-later v.last t v.histories le sound.in_time) (rw allowed.held tt);
+      whole = All-push IsWhole v.histories a.history sound.whole allowed.whole;
+      placed = All-push (IsPlaced v) v.histories a.history sound.placed (rw allowed.placed refl);
+      within = λ dept. rw (admitted-push v.buckets dept v.histories a.history) (share_fits v.buckets a.history allowed.bucket dept quota (admitted_bytes v) allowed.placed allowed.fits (sound.within dept));
+      ordered = recorded.ordered;
+      employed = recorded.employed;
+      owned = recorded.owned;
+      periods = recorded.periods;
+      rule_sets = sound.rule_sets;
+      lines = recorded.lines;
+      notes = notes_admitted v a.history a.note sound (AreIdsFrom-push 1 v.histories a.history sound.ids allowed.id) allowed.noted;
+    }
+Sound-changed v t (Remove id r) sound le allowed =
+    let recorded = recorded-changed v t (Remove id r) sound allowed in record {
+      ids = AreIdsFrom-removed id r 1 v.histories sound.ids;
+      enough_ids = rw (length-map v.histories (removed_if id r)) sound.enough_ids;
+      order = AreInOrder-removed id r 0 t v.histories (AreInOrder-later 0 v.last t v.histories le sound.order);
+      in_time = All-map (λ h. h.entry.admitted ≤ v.last) (IsInTime v.last) (IsInTime t) (removed_if id r) (λ h early in_time. IsInTime-removed v.last t id r h le allowed.now early in_time) v.histories (admitted_by 0 v.last v.histories sound.order) sound.in_time;
+      whole = All-map IsWhole IsWhole IsWhole (removed_if id r) (λ h whole same. IsWhole-removed id r h whole) v.histories sound.whole sound.whole;
+      placed = All-map (IsPlaced v) (IsPlaced v) (IsPlaced v) (removed_if id r) (λ h placed same. IsPlaced-removed v id r h placed) v.histories sound.placed sound.placed;
+      within = λ dept. rw (admitted-removed v.buckets dept id r v.histories) (sound.within dept);
+      ordered = recorded.ordered;
+      employed = recorded.employed;
+      owned = recorded.owned;
+      periods = recorded.periods;
+      rule_sets = sound.rule_sets;
+      lines = recorded.lines;
+      notes = notes_mapped (removed_if id r) (untold-removed id r) v.histories v.notes sound.notes;
+    }
 
 -- the same, where the vault and the change are known by equations
 pub Sound-changed-to : (v w : Vault) (t : ℕ) (change other : Change) → v ≡ w → change ≡ other → Sound v → w.last ≤ t → Allows w t change → Sound (changed v t other)

@@ -2,6 +2,7 @@
 ghost use Rattle.std.specs.Prelude.{◌≡◌, ◌≤◌, ◌*◌, IfOk, Some, None};
 ghost use Rattle.vault_core_model.specs.declared.change.Change.TheVariants.{AddDept, AddBucket};
 ghost use Rattle.vault_core_model.specs.declared.records.Entry.{Entry};
+ghost use Rattle.vault_core_model.specs.Allowed.{HasFirst};
 ghost use Rattle.vault_core_model.specs.Change.{changed};
 ghost use Rattle.vault_core_model.specs.Reads.{entry_of};
 ghost use Rattle.vault_core_model.specs.Sound.{IsWhole};
@@ -27,6 +28,7 @@ fn first_version(
     key: &ObjectKey,
 ) -> Result<History, Fail>
     ensures whole { IfOk result IsWhole }
+    ensures first { IfOk result (λ h. HasFirst h.entry.marker at h.settings) }
     ensures id { IfOk result (λ h. h.entry.id ≡ 1) }
     ensures now { IfOk result (λ h. h.entry.admitted ≡ at) }
     ensures held { IfOk result (λ h. h.entry.removal ≡ None) }
@@ -114,6 +116,7 @@ fn founded(alloc: Global, at: Moment, tax: &DeptName, docs: &BucketName) -> Resu
 }
 
 fn note(alloc: Global, docs: &BucketName, history: &History) -> Result<Note, Fail>
+    ensures line { IfOk result (λ n. n.line ≡ 1) }
     ensures id { IfOk result (λ n. n.id ≡ history.now.entry.id) }
     ensures bucket { IfOk result (λ n. n.bucket ≡ docs.now) }
     ensures key { IfOk result (λ n. history.now.entry.key ≡ n.key) }

@@ -1,5 +1,5 @@
 -- Which changes may be made of a vault.
-use Rattle.std.specs.Prelude.{◌≡◌, ℕ, ◌+◌, ◌≤◌, false, Option, Some, None, ◌<◌, IsSome, IsTrue}
+use Rattle.std.specs.Prelude.{◌≡◌, ℕ, ◌+◌, ◌≤◌, Bool, true, false, List, [], ◌∷◌, Option, Some, None, ◌<◌, IsSome, IsTrue}
 use Rattle.vault_rules.specs.Rules.{is_rule_set, passes_if_given}
 use Rattle.vault_tally.specs.Row.{quota}
 use Rattle.vault_core_model.specs.declared.records.BucketConfig.{BucketConfig}
@@ -13,13 +13,21 @@ use Rattle.vault_core_model.specs.declared.change.Change.TheVariants.{AddDept, A
 use Rattle.vault_core_model.specs.Vault.{Vault, has_department, caller_of, config_of, next_id, note_of}
 use Rattle.vault_core_model.specs.Reads.{entry_of, setting_of, count_by}
 use Rattle.vault_core_model.specs.Checks.{most_ids, most_settings, has_period}
+use Rattle.vault_core_model.specs.IntakeOutcome.{is_line}
 use Rattle.vault_core_model.specs.Sound.{IsWhole, IsNoted}
 use Rattle.vault_core_model.specs.Totals.{admitted_bytes}
 
--- the note, where there is one, is the first of its line and tells of that entry
+-- the note, where there is one, has a line's number, is the first of its line, and tells of that entry
 abbrev pub IsFirstNote : Vault → Entry → Option Note → Type 0
 IsFirstNote v e None = Unit {0}
-IsFirstNote v e (Some n) = (note_of v n.bucket n.batch n.line ≡ None) × (n.id ≡ e.id) × IsNoted n (Some e)
+IsFirstNote v e (Some n) = (note_of v n.bucket n.batch n.line ≡ None) × IsTrue (is_line n.line) × (n.id ≡ e.id) × IsNoted n (Some e)
+
+-- the settings that an entry is admitted with: a marker none, a version exactly one, made at t and by no bypass
+abbrev pub HasFirst : Bool → ℕ → List Setting → Type 0
+HasFirst true t ss = ss ≡ []
+HasFirst false t [] = ⊥
+HasFirst false t (s ∷ []) = (s.at ≡ t) × (s.bypass ≡ false)
+HasFirst false t (s ∷ r ∷ rs) = ⊥
 
 -- the next entry, admitted at t to a bucket that is there, within the quota of its department
 pub record IsAdmission (v : Vault) (t : ℕ) (a : Admission) : Type 0 where
@@ -28,6 +36,7 @@ pub record IsAdmission (v : Vault) (t : ℕ) (a : Admission) : Type 0 where
   pub now : a.history.entry.admitted ≡ t
   pub held : a.history.entry.removal ≡ None
   pub whole : IsWhole a.history
+  pub first : HasFirst a.history.entry.marker t a.history.settings
   pub bucket : BucketConfig
   pub placed : config_of v a.history.entry.bucket ≡ Some bucket
   pub fits : admitted_bytes v bucket.dept + a.history.entry.size ≤ quota
@@ -42,20 +51,21 @@ pub record IsRemoval (v : Vault) (t id : ℕ) (r : Removal) : Type 0 where
   pub now : r.at ≡ t
   pub held : IsHeldId v id
 
--- one setting more, made at t, of a version that has fewer than it may have
+-- one setting more, made at t, of a held version that has fewer than it may have
 pub record IsNextSetting (v : Vault) (t id : ℕ) (s : Setting) : Type 0 where
   pub now : s.at ≡ t
   pub entry : Entry
   pub there : entry_of v id ≡ Some entry
+  pub held : entry.removal ≡ None
   pub version : entry.marker ≡ false
   pub fits : count_by (setting_of v id) < most_settings
 
--- a change that may be made at t: of a record that is there or whose name is free, the next entry, one setting more, or the removal of a held entry
+-- a change that may be made at t: of a record that is there, or whose name is free and whose department is there; the next entry, one setting more, or the removal of a held entry
 abbrev pub Allows : Vault → ℕ → Change → Type 0
 Allows v t (AddDept name) = has_department v name ≡ false
-Allows v t (AddCaller c) = caller_of v c.name ≡ None
+Allows v t (AddCaller c) = (caller_of v c.name ≡ None) × IsTrue (passes_if_given (has_department v) c.dept)
 Allows v t (CloseCaller name) = IsSome (caller_of v name)
-Allows v t (AddBucket name dept) = config_of v name ≡ None
+Allows v t (AddBucket name dept) = (config_of v name ≡ None) × IsTrue (has_department v dept)
 Allows v t (SetDefault name default) = IsSome (config_of v name) × IsTrue (has_period default)
 Allows v t (SetRules name rules) = IsSome (config_of v name) × IsTrue (passes_if_given is_rule_set rules)
 Allows v t (Admit a) = IsAdmission v t a

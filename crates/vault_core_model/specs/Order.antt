@@ -1,5 +1,6 @@
 -- Records in the order of their names, each at its one place.
-use Rattle.std.specs.Prelude.{ℕ, List, [], ◌∷◌, Option, Some, None}
+use Rattle.std.specs.Prelude.{◌≡◌, ℕ, List, [], ◌∷◌, Option, Some, None}
+use Rattle.std.specs.List.{AllByRecursion}
 use Rattle.std.specs.Cmp.Lexicographic.{slice_cmp}
 use Rattle.std.specs.Ordering.{nat_cmp, ordering_then}
 use Rattle.std.specs.declared.cmp.Ordering.{Ordering}
@@ -37,3 +38,8 @@ placed cmp x (y ∷ ys) = placed_by (cmp x y) x y ys (placed cmp x ys)
 abbrev pub placed_if_given : {A : Type 0} → (A → A → Ordering) → Option A → List A → List A
 placed_if_given cmp None ys = ys
 placed_if_given cmp (Some x) ys = placed cmp x ys
+
+-- each comes before all that follow, so none comes twice
+abbrev pub IsAscending : {A : Type 0} → (A → A → Ordering) → List A → Type 0
+IsAscending cmp [] = Unit {0}
+IsAscending cmp (x ∷ xs) = AllByRecursion (λ y. cmp x y ≡ Less) xs × IsAscending cmp xs

@@ -5,15 +5,18 @@ use Rattle.sha2.specs.Sha256.{sha256}
 use Rattle.vault_tally.specs.Row.{quota}
 use Rattle.vault_rules.specs.Rules.{is_rule_set, passes_if_given}
 use Rattle.vault_core_model.specs.declared.records.Bucket.{Bucket}
+use Rattle.vault_core_model.specs.declared.records.Caller.{Caller}
 use Rattle.vault_core_model.specs.declared.records.Entry.{Entry}
 use Rattle.vault_core_model.specs.declared.records.History.{History}
 use Rattle.vault_core_model.specs.declared.records.Note.{Note}
 use Rattle.vault_core_model.specs.declared.records.Removal.{Removal}
 use Rattle.vault_core_model.specs.declared.records.Setting.{Setting}
-use Rattle.vault_core_model.specs.Vault.{Vault, config_of}
+use Rattle.vault_core_model.specs.Order.{IsAscending, name_cmp, caller_cmp, bucket_cmp, note_cmp}
+use Rattle.vault_core_model.specs.Vault.{Vault, config_of, has_department}
 use Rattle.vault_core_model.specs.Reads.{entry_of}
 use Rattle.vault_core_model.specs.Totals.{admitted_bytes}
-use Rattle.vault_core_model.specs.Checks.{most_content, most_ids, most_settings}
+use Rattle.vault_core_model.specs.Checks.{most_content, most_ids, most_settings, has_period}
+use Rattle.vault_core_model.specs.IntakeOutcome.{is_line}
 
 -- the ids are n, n + 1, n + 2 and so on
 abbrev pub AreIdsFrom : ℕ → List History → Type 0
@@ -61,9 +64,32 @@ IsNoted n (Some e) = (e.bucket ≡ n.bucket) × (e.key ≡ n.key) × (e.size ≡
 abbrev pub NamesItsVersion : Vault → Note → Type 0
 NamesItsVersion v n = IsNoted n (entry_of v n.id)
 
+-- the note's line has a number that a line may have
+abbrev pub HasLine : Note → Type 0
+HasLine n = IsTrue (is_line n.line)
+
+-- a caller has no department, or one that is there
+abbrev pub IsEmployed : Vault → Caller → Type 0
+IsEmployed v c = IsTrue (passes_if_given (has_department v) c.dept)
+
+-- the bucket's department is there
+abbrev pub IsOwned : Vault → Bucket → Type 0
+IsOwned v b = IsTrue (has_department v b.config.dept)
+
+-- a bucket has no default, or one whose period is in its range
+abbrev pub HasPeriod : Bucket → Type 0
+HasPeriod b = IsTrue (has_period b.config.default)
+
 -- a bucket has no rules, or a list that it may have
 abbrev pub HasRuleSet : Bucket → Type 0
 HasRuleSet b = IsTrue (passes_if_given is_rule_set b.rules)
+
+-- the named records stand in the order of their names, and no name comes twice; nor does a line of a batch
+pub record IsInNameOrder (v : Vault) : Type 0 where
+  pub departments : IsAscending name_cmp v.departments
+  pub callers : IsAscending caller_cmp v.callers
+  pub buckets : IsAscending bucket_cmp v.buckets
+  pub notes : IsAscending note_cmp v.notes
 
 -- what holds of every vault that is kept
 pub record Sound (v : Vault) : Type 0 where
@@ -74,5 +100,10 @@ pub record Sound (v : Vault) : Type 0 where
   pub whole : AllByRecursion IsWhole v.histories
   pub placed : AllByRecursion (IsPlaced v) v.histories
   pub within : (dept : List ℕ) → admitted_bytes v dept ≤ quota
+  pub ordered : IsInNameOrder v
+  pub employed : AllByRecursion (IsEmployed v) v.callers
+  pub owned : AllByRecursion (IsOwned v) v.buckets
+  pub periods : AllByRecursion HasPeriod v.buckets
   pub rule_sets : AllByRecursion HasRuleSet v.buckets
+  pub lines : AllByRecursion HasLine v.notes
   pub notes : AllByRecursion (NamesItsVersion v) v.notes

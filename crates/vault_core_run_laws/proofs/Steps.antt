@@ -78,6 +78,7 @@ marker_allowed v t bucket key by sound there few =
       now = refl;
       held = refl;
       whole = (refl, refl, refl, refl);
+      first = refl;
       bucket = config.0;
       placed = config.1;
       fits = omega (arith, sound.within config.0.dept);

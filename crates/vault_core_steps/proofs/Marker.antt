@@ -15,6 +15,7 @@ marker_allowed v t id bucket key by config sound there next few = record {
   now = refl;
   held = refl;
   whole = (refl, refl, refl, refl);
+  first = refl;
   bucket = config;
   placed = there;
   fits = omega (arith, sound.within config.dept);

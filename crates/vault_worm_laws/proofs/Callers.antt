@@ -64,7 +64,7 @@ from_found v name c still = record { closed = still.0; there = still.1; for_good
 
 callers_changed : (v : Vault) (t : ℕ) (who : List ℕ) (c : Change) → MayMake v t who c → KeepsCallers v (changed v t c)
 callers_changed v t who (AddDept name) may = λ n c there. record { closed = c.closed; there = there; for_good = λ e. e }
-callers_changed v t who (AddCaller new) may = λ n c there. from_found (changed v t (AddCaller new)) n c (still_placed v.callers new n c may.allowed there)
+callers_changed v t who (AddCaller new) may = λ n c there. from_found (changed v t (AddCaller new)) n c (still_placed v.callers new n c may.allowed.0 there)
 callers_changed v t who (CloseCaller gone) may = λ n c there. from_found (changed v t (CloseCaller gone)) n c (still_closed v.callers gone n c there)
 callers_changed v t who (AddBucket name dept) may = λ n c there. record { closed = c.closed; there = there; for_good = λ e. e }
 callers_changed v t who (SetDefault name default) may = λ n c there. record { closed = c.closed; there = there; for_good = λ e. e }

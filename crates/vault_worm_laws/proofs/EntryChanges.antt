@@ -39,7 +39,7 @@ use Rattle.vault_core_model.specs.ListingOutcome as listings
 use Rattle.vault_worm_laws.specs.Bypass.{MayBypass, has_bypass}
 use Rattle.vault_worm_laws.specs.Removals.{IsPermittedUnder}
 use Rattle.vault_worm_laws.specs.Permits.{IsCauseOf}
-use Rattle.vault_worm_laws.proofs.Checked.{bind_if, any-is, check-is, HasAccess, access-is}
+use Rattle.vault_worm_laws.proofs.Checked.{bind_if, if_weaker, any-is, check-is, HasAccess, access-is}
 use Rattle.vault_worm_laws.proofs.Meant.{IsHeldUnder, held_entry-is}
 use Rattle.vault_worm_laws.proofs.RecordChanges.{Changes, LeadsOnce, unchanged, one_change}
 
@@ -88,6 +88,7 @@ admit_one v t who c a lock id note noted at fits free =
         now = refl;
         held = refl;
         whole = (fits.0, (refl, refl), lit≤ tt, lit≤ tt);
+        first = (refl, refl);
         bucket = a.bucket;
         placed = at.bucket;
         fits = fits.1;
@@ -123,16 +124,20 @@ put-changes v t who c =
 
 -- ---- intake
 
-lock_to_take_in-is : (v : Vault) (t : ℕ) (c : Intake) (a : Access) → IfOk (intakes.lock_to_take_in v t c a) (λ lock. Fits v c.put a)
+-- the line's number is in its range, and its content fits
+abbrev FitsLine : Vault → Intake → Access → Type 0
+FitsLine v c a = IsTrue (intakes.is_line c.line) × Fits v c.put a
+
+lock_to_take_in-is : (v : Vault) (t : ℕ) (c : Intake) (a : Access) → IfOk (intakes.lock_to_take_in v t c a) (λ lock. FitsLine v c a)
 lock_to_take_in-is v t c a =
-    bind_if (check (intakes.is_line c.line) InvalidArgument) (λ u. Unit {0}) _ _ (any-is (check (intakes.is_line c.line) InvalidArgument))
-    (λ u line. lock_to_admit-is v t c.put a)
+    bind_if (check (intakes.is_line c.line) InvalidArgument) (λ u. intakes.is_line c.line ≡ true) _ _ (check-is (intakes.is_line c.line) InvalidArgument)
+    (λ u line. if_weaker (entries.lock_to_admit v t c.put a) (λ lock. Fits v c.put a) (λ lock. FitsLine v c a) (λ lock fits. (line, fits)) (lock_to_admit-is v t c.put a))
 
 if_new : (v : Vault) (t : ℕ) (who : List ℕ) (c : Intake) (a : Access) → note_of v c.put.bucket c.batch c.line ≡ None → HasAccess v t who c.put.bucket a → Changes v t who (intakes.take_in v t who c a)
 if_new v t who c a first at =
-    bind_if (intakes.lock_to_take_in v t c a) (λ lock. Fits v c.put a) _ _ (lock_to_take_in-is v t c a)
+    bind_if (intakes.lock_to_take_in v t c a) (λ lock. FitsLine v c a) _ _ (lock_to_take_in-is v t c a)
     (λ lock fits. bind_if (free_id v) (IsFree v) _ _ (free_id-is v)
-    (λ id free. admit_one v t who c.put a lock id (λ i. Some (intakes.new_note i c)) (first, refl, (refl, refl, refl, refl)) at fits free))
+    (λ id free. admit_one v t who c.put a lock id (λ i. Some (intakes.new_note i c)) (first, fits.0, refl, (refl, refl, refl, refl)) at fits.1 free))
 
 by_note : (v : Vault) (t : ℕ) (who : List ℕ) (c : Intake) (a : Access) (o : Option Note) → note_of v c.put.bucket c.batch c.line ≡ o → HasAccess v t who c.put.bucket a → Changes v t who (intakes.intake_by v t who c a o)
 by_note v t who c a None first at = if_new v t who c a first at
@@ -200,6 +205,7 @@ delete-changes v t who c sound =
         now = refl;
         held = refl;
         whole = (refl, refl, refl, refl);
+        first = refl;
         bucket = is.access.bucket;
         placed = is.bucket;
         fits = omega (arith, sound.within is.access.bucket.dept);

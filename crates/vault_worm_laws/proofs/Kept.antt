@@ -119,7 +119,7 @@ removed_one v w t id r h keep le now held permitted own safe = by_id (eqb h.entr
 pub Safe-changed : (v : Vault) (t : ℕ) (who : List ℕ) (c : Change) → Sound v → Safe v → MayMake v t who c → Safe (changed v t c)
 Safe-changed v t who (AddDept name) sound safe may = stay v (changed v t (AddDept name)) t v.histories (λ by m. m) may.in_time safe
 Safe-changed v t who (AddCaller c) sound safe may =
-    stay v (changed v t (AddCaller c)) t v.histories (λ by m. rights-added v.callers c by may.allowed m) may.in_time safe
+    stay v (changed v t (AddCaller c)) t v.histories (λ by m. rights-added v.callers c by may.allowed.0 m) may.in_time safe
 Safe-changed v t who (CloseCaller name) sound safe may =
     stay v (changed v t (CloseCaller name)) t v.histories (λ by m. rights-closed v.callers name by ∙ m) may.in_time safe
 Safe-changed v t who (AddBucket name dept) sound safe may = stay v (changed v t (AddBucket name dept)) t v.histories (λ by m. m) may.in_time safe

@@ -101,7 +101,7 @@ next_retention-is v t who c a sound there =
     (λ e held. bind_if (permitted (retainable (lock_of v e.id) c.retention t c.bypass a.caller.rights.bypass)) (Retained (lock_of v e.id).retention c.retention t a.caller.rights.bypass) _ _ (retainable-is (lock_of v e.id).retention c.retention t c.bypass a.caller.rights.bypass)
     (λ p may. bind_if (free_setting v e.id) (λ u. nat_lt (count_by (setting_of v e.id)) most_settings ≡ true) _ _ (check-is (nat_lt (count_by (setting_of v e.id)) most_settings) VaultFull)
     (λ w free. record {
-      allowed = record { now = refl; entry = e; there = held.there; version = held.version; fits = ltb-true (count_by (setting_of v e.id)) most_settings free };
+      allowed = record { now = refl; entry = e; there = held.there; held = held.held; version = held.version; fits = ltb-true (count_by (setting_of v e.id)) most_settings free };
       held = (e, held.there, held.held);
       permitted = (refl, inl (setting-retains v t who a (lock_of v e.id) c.retention p there (ltb-true t c.retention.until later) may));
     }))))
@@ -117,7 +117,7 @@ next_hold-is v t who c sound =
     bind_if (version_meant v c.bucket c.key c.id) (IsHeldVersion v) _ _ (version_meant-is v c.bucket c.key c.id sound)
     (λ e held. bind_if (free_setting v e.id) (λ u. nat_lt (count_by (setting_of v e.id)) most_settings ≡ true) _ _ (check-is (nat_lt (count_by (setting_of v e.id)) most_settings) VaultFull)
     (λ w free. record {
-      allowed = record { now = refl; entry = e; there = held.there; version = held.version; fits = ltb-true (count_by (setting_of v e.id)) most_settings free };
+      allowed = record { now = refl; entry = e; there = held.there; held = held.held; version = held.version; fits = ltb-true (count_by (setting_of v e.id)) most_settings free };
       held = (e, held.there, held.held);
       permitted = (refl, inr (refl, refl));
     }))

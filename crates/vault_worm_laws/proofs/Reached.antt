@@ -43,7 +43,22 @@ Run-keeps P keeps v w (c ∷ cs) (r ∷ rs) run p =
     Run-keeps P keeps run.0 w cs rs run.2 (Makes-keeps P keeps v run.0 c.at c.who leads.0 leads.1 p)
 
 pub Sound-opening : Sound opening
-Sound-opening = record { ids = tt; enough_ids = lit≤ tt; order = lit≤ tt; in_time = tt; whole = tt; placed = tt; within = λ dept. lit≤ tt; rule_sets = tt; notes = tt }
+Sound-opening = record {
+  ids = tt;
+  enough_ids = lit≤ tt;
+  order = lit≤ tt;
+  in_time = tt;
+  whole = tt;
+  placed = tt;
+  within = λ dept. lit≤ tt;
+  ordered = record { departments = tt; callers = (tt, tt); buckets = tt; notes = tt };
+  employed = (refl, tt);
+  owned = tt;
+  periods = tt;
+  rule_sets = tt;
+  lines = tt;
+  notes = tt;
+}
 
 reached-Safe : (v : Vault) → Reached v → Sound v × Safe v
 reached-Safe v reached = Run-keeps Safe Safe-changed opening v reached.0 reached.1 reached.2 (Sound-opening, tt)

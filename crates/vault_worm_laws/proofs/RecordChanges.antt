@@ -3,7 +3,7 @@ use Rattle.std.proofs.Common.{IsTrue, ◌≤◌, length, ◌≡◌, ℕ, List, [
 use Rattle.std.specs.Prelude.{IfOk, IsSome, not, is_some}
 use Rattle.vault_base.specs.declared.refusal.Refusal.{Refusal}
 use Rattle.vault_base.specs.declared.refusal.Refusal.TheVariants.{NameTaken, BucketAlreadyExists, InvalidArgument, NoSuchLifecycleConfiguration}
-use Rattle.vault_rules.specs.Rules.{is_rule_set}
+use Rattle.vault_rules.specs.Rules.{is_rule_set, passes_if_given}
 use Rattle.vault_base.specs.declared.right.Right.TheVariants as right
 use Rattle.vault_core_model.specs.declared.change.Change.{Change}
 use Rattle.vault_core_model.specs.declared.change.Change.TheVariants as change
@@ -46,12 +46,17 @@ add_dept-changes v t who c =
     (λ a asked. bind_if (check (not (has_department v c.dept)) NameTaken) (λ u. not (has_department v c.dept) ≡ true) _ _ (check-is (not (has_department v c.dept)) NameTaken)
     (λ u free. one_change v t who (change.AddDept c.dept) (record { in_time = asked.in_time; allowed = not-true (has_department v c.dept) free; permitted = tt })))
 
+-- the department, where one is given, is there
+known_if_given : (v : Vault) (o : Option (List ℕ)) → IfOk (known_department_if_given v o) (λ u. IsTrue (passes_if_given (has_department v) o))
+known_if_given v None = refl
+known_if_given v (Some dept) = check-is (has_department v dept) InvalidArgument
+
 pub add_caller-changes : (v : Vault) (t : ℕ) (who : List ℕ) (c : AddCaller) → Changes v t who (records.add_caller v t who c)
 add_caller-changes v t who c =
     bind_if (administrator v t who) (IsAsking v t who) _ _ (administrator-is v t who)
-    (λ a asked. bind_if (known_department_if_given v c.dept) (λ u. Unit {0}) _ _ (any-is (known_department_if_given v c.dept))
+    (λ a asked. bind_if (known_department_if_given v c.dept) (λ u. IsTrue (passes_if_given (has_department v) c.dept)) _ _ (known_if_given v c.dept)
     (λ u known. bind_if (check (not (is_some (caller_of v c.caller))) NameTaken) (λ u. not (is_some (caller_of v c.caller)) ≡ true) _ _ (check-is (not (is_some (caller_of v c.caller))) NameTaken)
-    (λ w free. one_change v t who (change.AddCaller (records.new_caller c)) (record { in_time = asked.in_time; allowed = not_some (caller_of v c.caller) free; permitted = tt }))))
+    (λ w free. one_change v t who (change.AddCaller (records.new_caller c)) (record { in_time = asked.in_time; allowed = (not_some (caller_of v c.caller) free, known); permitted = tt }))))
 
 open_is_there : (o : Option Caller) → records.is_open o ≡ true → IsSome o
 open_is_there None e = absurd (cc e)
@@ -66,9 +71,9 @@ close_caller-changes v t who c =
 pub add_bucket-changes : (v : Vault) (t : ℕ) (who : List ℕ) (c : AddBucket) → Changes v t who (records.add_bucket v t who c)
 add_bucket-changes v t who c =
     bind_if (administrator v t who) (IsAsking v t who) _ _ (administrator-is v t who)
-    (λ a asked. bind_if (known_department v c.dept) (λ u. Unit {0}) _ _ (any-is (known_department v c.dept))
+    (λ a asked. bind_if (known_department v c.dept) (λ u. has_department v c.dept ≡ true) _ _ (check-is (has_department v c.dept) InvalidArgument)
     (λ u known. bind_if (check (not (is_some (config_of v c.bucket))) BucketAlreadyExists) (λ u. not (is_some (config_of v c.bucket)) ≡ true) _ _ (check-is (not (is_some (config_of v c.bucket))) BucketAlreadyExists)
-    (λ w free. one_change v t who (change.AddBucket c.bucket c.dept) (record { in_time = asked.in_time; allowed = not_some (config_of v c.bucket) free; permitted = tt }))))
+    (λ w free. one_change v t who (change.AddBucket c.bucket c.dept) (record { in_time = asked.in_time; allowed = (not_some (config_of v c.bucket) free, known); permitted = tt }))))
 
 pub set_default-changes : (v : Vault) (t : ℕ) (who : List ℕ) (c : SetDefault) → Changes v t who (records.set_default v t who c)
 set_default-changes v t who c =

@@ -112,6 +112,7 @@ may_step v bucket config t who key (Mark r) sound le placed finds free = record 
     now = refl;
     held = refl;
     whole = (refl, refl, refl, refl);
+    first = refl;
     bucket = config;
     placed = placed;
     fits = omega (arith, sound.within config.dept);

@@ -1,4 +1,4 @@
-use Rattle.vault_core_checks.proofs.Current.{newest_found, none_found, own_after}
+use Rattle.vault_core_checks.proofs.Current.{newest_found, none_found, own_after, held_found}
 use Rattle.vault_core_checks.proofs.entry.find_newest.Goals as goal
 
 -- no entry of the key is held
@@ -15,3 +15,6 @@ returns-clause-value g c = λ honest.
 
 pub returns-clause-own : goal.returns-clause-own
 returns-clause-own g c = λ honest. own_after (g.K.Keeper.vault c.args.keeper.now) (g.K.Keeper.vault c.head.new.self) c.read_entry.result c.head.ensures.same (c.read_entry.ensures.own honest)
+
+pub returns-clause-held : goal.returns-clause-held
+returns-clause-held g c = λ honest. held_found (g.K.Keeper.vault c.args.keeper.now) c.args.bucket.now c.args.key.now c.read_entry.result (returns-clause-value g c honest)
