@@ -80,6 +80,7 @@ fn find_lock_to_take_in<K: Keeper>(
     access: &Access,
 ) -> Result<Lock, Halt>
     ensures found { K.is_honest keeper.new → Finds result (outcome.lock_to_take_in (K.vault keeper.old) at command.now access.now) }
+    ensures line { OnOk result (IsTrue (outcome.is_line command.now.line)) }
     ensures small { OnOk result (length command.now.put.content ≤ 1048576) }
     ensures fits { K.is_honest keeper.new → OnOk result (admitted_bytes (K.vault keeper.old) access.now.bucket.dept + length command.now.put.content ≤ quota) }
     ensures same { K.vault keeper.new ≡ K.vault keeper.old }
