@@ -14,7 +14,7 @@ use vault_rules::plan::Held;
 use vault_rules::rule_set::RuleSet;
 use vault_tally::row::Row;
 
-/// Answers what a list keeper does, and notes each call as a line.
+/// Answers what a list keeper does, and notes each call but walks as a line.
 #[derive(Drop)]
 pub struct NotingKeeper {
     keeper: ListKeeper,
@@ -37,7 +37,7 @@ impl NotingKeeper {
 }
 
 /// Notes a call, and what it was about.
-fn note(calls: &mut String, call: &str, about: &str) -> Result<(), AllocError> {
+fn note_call(calls: &mut String, call: &str, about: &str) -> Result<(), AllocError> {
     calls.push_str(call)?;
     calls.push_str(about)?;
     calls.push('\n')?;
@@ -67,57 +67,57 @@ impl Keeper for NotingKeeper {
     }
 
     fn last(&mut self) -> Result<Moment, Fault> {
-        note(&mut self.calls, "last", "")?;
+        note_call(&mut self.calls, "last", "")?;
         self.keeper.last()
     }
 
     fn next_id(&mut self) -> Result<u64, Fault> {
-        note(&mut self.calls, "next id", "")?;
+        note_call(&mut self.calls, "next id", "")?;
         self.keeper.next_id()
     }
 
     fn caller(&mut self, name: &CallerName) -> Result<Option<Caller>, Fault> {
-        note(&mut self.calls, "caller ", name.as_str())?;
+        note_call(&mut self.calls, "caller ", name.as_str())?;
         self.keeper.caller(name)
     }
 
     fn dept(&mut self, name: &DeptName) -> Result<bool, Fault> {
-        note(&mut self.calls, "dept ", name.as_str())?;
+        note_call(&mut self.calls, "dept ", name.as_str())?;
         self.keeper.dept(name)
     }
 
     fn bucket(&mut self, name: &BucketName) -> Result<Option<BucketConfig>, Fault> {
-        note(&mut self.calls, "bucket ", name.as_str())?;
+        note_call(&mut self.calls, "bucket ", name.as_str())?;
         self.keeper.bucket(name)
     }
 
     fn rules(&mut self, bucket: &BucketName) -> Result<Option<RuleSet>, Fault> {
-        note(&mut self.calls, "rules ", bucket.as_str())?;
+        note_call(&mut self.calls, "rules ", bucket.as_str())?;
         self.keeper.rules(bucket)
     }
 
     fn head(&mut self, bucket: &BucketName, key: &ObjectKey) -> Result<Option<Head>, Fault> {
-        note(&mut self.calls, "head ", key.as_str())?;
+        note_call(&mut self.calls, "head ", key.as_str())?;
         self.keeper.head(bucket, key)
     }
 
     fn entries(&mut self, bucket: &BucketName, key: &ObjectKey) -> Result<Vec<Held>, Fault> {
-        note(&mut self.calls, "entries ", key.as_str())?;
+        note_call(&mut self.calls, "entries ", key.as_str())?;
         self.keeper.entries(bucket, key)
     }
 
     fn entry(&mut self, id: VersionId) -> Result<Option<Entry>, Fault> {
-        note(&mut self.calls, "entry", "")?;
+        note_call(&mut self.calls, "entry", "")?;
         self.keeper.entry(id)
     }
 
     fn setting(&mut self, id: VersionId) -> Result<Option<LastSetting>, Fault> {
-        note(&mut self.calls, "setting", "")?;
+        note_call(&mut self.calls, "setting", "")?;
         self.keeper.setting(id)
     }
 
     fn content(&mut self, id: VersionId) -> Result<Option<Content>, Fault> {
-        note(&mut self.calls, "content", "")?;
+        note_call(&mut self.calls, "content", "")?;
         self.keeper.content(id)
     }
 
@@ -128,7 +128,7 @@ impl Keeper for NotingKeeper {
         most: u32,
     ) -> Result<Vec<ObjectKey>, Fault> {
         let call = if most == 256 { "256 keys after " } else { "keys after " };
-        note(&mut self.calls, call, after.as_str())?;
+        note_call(&mut self.calls, call, after.as_str())?;
         self.keeper.keys(bucket, after, most)
     }
 
@@ -138,7 +138,7 @@ impl Keeper for NotingKeeper {
         batch: &BatchName,
         line: u32,
     ) -> Result<Option<Note>, Fault> {
-        note(&mut self.calls, "note", "")?;
+        note_call(&mut self.calls, "note", "")?;
         self.keeper.note(bucket, batch, line)
     }
 
@@ -147,12 +147,12 @@ impl Keeper for NotingKeeper {
     }
 
     fn totals(&mut self, dept: &DeptName) -> Result<Row, Fault> {
-        note(&mut self.calls, "totals ", dept.as_str())?;
+        note_call(&mut self.calls, "totals ", dept.as_str())?;
         self.keeper.totals(dept)
     }
 
     fn apply(&mut self, at: Moment, change: &Change) -> Result<(), Fault> {
-        note(&mut self.calls, kind_of(change), "")?;
+        note_call(&mut self.calls, kind_of(change), "")?;
         self.keeper.apply(at, change)
     }
 }
