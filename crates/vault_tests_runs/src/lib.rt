@@ -1,7 +1,9 @@
 //! Tests of lifecycle runs: stopped ones, pages of keys, vaults that are full; and of what a vault keeps of
-//! the entries that were removed.
+//! removed entries, and certifies.
 #![tactic(auto)]
 
+#[cfg(test)]
+mod certificates;
 #[cfg(test)]
 mod full;
 #[cfg(test)]

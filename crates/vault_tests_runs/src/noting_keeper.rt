@@ -54,8 +54,6 @@ fn kind_of(change: &Change) -> &'static str {
 }
 
 impl Keeper for NotingKeeper {
-    ghost use Rattle.std.specs.Prelude.{Unit};
-
     ghost is_honest = { λ _. Unit {0} };
 
     ghost vault = { λ k. k.keeper };
@@ -127,7 +125,11 @@ impl Keeper for NotingKeeper {
         after: &KeyPrefix,
         most: u32,
     ) -> Result<Vec<ObjectKey>, Fault> {
-        let call = if most == 256 { "256 keys after " } else { "keys after " };
+        let call = if most == 256 {
+            "256 keys after "
+        } else {
+            "keys after "
+        };
         note_call(&mut self.calls, call, after.as_str())?;
         self.keeper.keys(bucket, after, most)
     }

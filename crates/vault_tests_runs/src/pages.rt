@@ -42,7 +42,13 @@ fn with_versions(rt: &impl Abort, alloc: Global, keys: u32) -> Result<ListKeeper
 
 /// Each key has a delete marker alone, with which a run removes the key.
 fn with_markers(rt: &impl Abort, alloc: Global, keys: u32) -> Result<ListKeeper, Fail> {
-    vault(rt, alloc, keys, "\"do\":\"delete\"", "\"delete_marker\":true,")
+    vault(
+        rt,
+        alloc,
+        keys,
+        "\"do\":\"delete\"",
+        "\"delete_marker\":true,",
+    )
 }
 
 fn marks(rt: &impl Abort, alloc: Global, keys: u32, transcript: &str) -> Result<(), Fail> {

@@ -42,8 +42,6 @@ fn cause_of(entry: &Entry) -> (&'static str, &str) {
 }
 
 impl Sink for Register {
-    ghost use Rattle.std.specs.Prelude.{Unit};
-
     ghost takes = { λ _ _ _ _. Unit {0} };
 
     fn take(&mut self, entry: &Entry) -> bool {
