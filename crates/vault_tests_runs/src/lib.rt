@@ -1,9 +1,7 @@
 //! Tests of lifecycle runs: stopped ones, pages of keys, vaults that are full; and of what a vault keeps of
-//! removed entries, and certifies.
+//! removed entries.
 #![tactic(auto)]
 
-#[cfg(test)]
-mod certificates;
 #[cfg(test)]
 mod full;
 #[cfg(test)]

@@ -65,8 +65,9 @@ impl Keeper for NotingKeeper {
     }
 
     fn last(&mut self) -> Result<Moment, Fault> {
+        let last = self.keeper.last();
         note_call(&mut self.calls, "last", "")?;
-        self.keeper.last()
+        last
     }
 
     fn next_id(&mut self) -> Result<u64, Fault> {
