@@ -1,10 +1,13 @@
 //! A run of the history machine.
-ghost use Rattle.std.specs.Prelude.{◌≡◌, ◌≤◌, ◌+◌, ℕ, List, IfOk, OnErr};
+ghost use Rattle.std.specs.Prelude.{◌≡◌, ◌≤◌, ◌+◌, ℕ, List, IsTrue, IfOk, OnErr};
+ghost use Rattle.std.specs.List.{list_any};
+ghost use Rattle.vault_core_model.specs.Halts.{is_device_reply, Rose};
+ghost use Rattle.vault_core_model.specs.Sound.{Sound};
 ghost use Rattle.vault_core_model.specs.Step.{Run, Reached};
 ghost use Rattle.vault_worm_laws.specs.Once.{Extends};
 ghost use Rattle.vault_worm_laws.specs.Removals.{RemovalsWerePermitted};
 ghost use Rattle.vault_worm_laws.specs.Repeated.{BeginRun, CompleteRun};
-ghost use Rattle.vault_worm_laws.specs.Stored.{EachStandsOnce};
+ghost use Rattle.vault_worm_laws.specs.Stored.{EachStandsOnce, stored_bytes};
 ghost use Rattle.vault_worm_laws.specs.Worm.{Worm};
 ghost use Rattle.vault_core_model.specs.Totals.{admitted_bytes, held_bytes, removed_bytes};
 
@@ -30,15 +33,18 @@ pub fn run<K: Keeper>(
     ensures permitted { K.is_honest keeper.new → Reached (K.vault keeper.old) → RemovalsWerePermitted (K.vault keeper.new) }
     ensures worm { K.is_honest keeper.new → Reached (K.vault keeper.old) → Worm (K.vault keeper.new) }
     // What was admitted is neither lost nor altered, and its bytes stand in the held content or were removed.
-    ensures once { K.is_honest keeper.new → Reached (K.vault keeper.old) → Extends (K.vault keeper.old).histories (K.vault keeper.new).histories }
-    ensures stored { K.is_honest keeper.new → Reached (K.vault keeper.old) → EachStandsOnce (K.vault keeper.new) }
+    ensures once { K.is_honest keeper.new → Sound (K.vault keeper.old) → Extends (K.vault keeper.old).histories (K.vault keeper.new).histories }
+    ensures stored { K.is_honest keeper.new → Sound (K.vault keeper.old) → EachStandsOnce (K.vault keeper.new) }
+    ensures total { K.is_honest keeper.new → Sound (K.vault keeper.old) →
+        (dept : List ℕ) → admitted_bytes (K.vault keeper.new) dept ≡ stored_bytes (K.vault keeper.new) dept + removed_bytes (K.vault keeper.new) dept }
     // Lifecycle runs that were cut are the beginning of one run, and a last one that is done completes it.
-    ensures begun { K.is_honest keeper.new → Reached (K.vault keeper.old) → IfOk result (λ replies. BeginRun (K.vault keeper.old) commands.now replies.items (K.vault keeper.new)) }
-    ensures completed { K.is_honest keeper.new → Reached (K.vault keeper.old) → IfOk result (λ replies. CompleteRun (K.vault keeper.old) commands.now replies.items (K.vault keeper.new)) }
-    // Each byte that a department admitted is held or was removed.
+    ensures begun { K.is_honest keeper.new → Sound (K.vault keeper.old) → IfOk result (λ replies. BeginRun (K.vault keeper.old) commands.now replies.items (K.vault keeper.new)) }
+    ensures completed { K.is_honest keeper.new → Sound (K.vault keeper.old) → IfOk result (λ replies. CompleteRun (K.vault keeper.old) commands.now replies.items (K.vault keeper.new)) }
+    // These are the numbers that a report tells.
     ensures conserved { (dept : List ℕ) → admitted_bytes (K.vault keeper.new) dept ≡ held_bytes (K.vault keeper.new) dept + removed_bytes (K.vault keeper.new) dept }
     ensures honest { K.is_honest keeper.new → K.is_honest keeper.old }
     ensures counted { K.count keeper.old ≤ K.count keeper.new }
+    ensures device { IfOk result (λ replies. IsTrue (list_any is_device_reply replies.items) → Rose (K.count keeper.old) (K.count keeper.new)) }
 {
     let mut replies = Vec::with_capacity(alloc, commands.len())?;
     for timed in commands {

@@ -1,12 +1,14 @@
 //! One step of the history machine.
-ghost use Rattle.std.specs.Prelude.{◌≡◌, ◌≤◌, IsTrue, Result};
+ghost use Rattle.std.specs.Prelude.{◌≡◌, ◌≤◌, ◌∷◌, [], IsTrue, Result};
 ghost use Rattle.vault_base.specs.declared.refusal.Refusal.{Refusal};
 ghost use Rattle.vault_core_model.specs.declared.reply.Answer.{Answer};
 ghost use Rattle.vault_core_model.specs.Halts.{Meets, is_device, is_device_reply, Rose};
+ghost use Rattle.vault_core_model.specs.Sound.{Sound};
 ghost use Rattle.vault_core_model.specs.Step.{Answers, Step, Reached};
 ghost use Rattle.vault_core_model.specs.Vault.{Vault};
 ghost use Rattle.vault_worm_laws.specs.Once.{Extends};
 ghost use Rattle.vault_worm_laws.specs.Removals.{RemovalsWerePermitted};
+ghost use Rattle.vault_worm_laws.specs.Repeated.{BeginRun, CompleteRun, one_command};
 ghost use Rattle.vault_worm_laws.specs.Worm.{Worm};
 
 use std::alloc::Global;
@@ -45,7 +47,10 @@ pub fn step<K: Keeper>(
     ensures reached { K.is_honest keeper.new → Reached (K.vault keeper.old) → Reached (K.vault keeper.new) }
     ensures permitted { K.is_honest keeper.new → Reached (K.vault keeper.old) → RemovalsWerePermitted (K.vault keeper.new) }
     ensures worm { K.is_honest keeper.new → Reached (K.vault keeper.old) → Worm (K.vault keeper.new) }
-    ensures once { K.is_honest keeper.new → Reached (K.vault keeper.old) → Extends (K.vault keeper.old).histories (K.vault keeper.new).histories }
+    ensures once { K.is_honest keeper.new → Sound (K.vault keeper.old) → Extends (K.vault keeper.old).histories (K.vault keeper.new).histories }
+    // A lifecycle run that a fault cut has begun its plan, and the rest of it is left to do; one that is done leaves nothing.
+    ensures begun { K.is_honest keeper.new → Sound (K.vault keeper.old) → BeginRun (K.vault keeper.old) (one_command at who.now command.now) (result ∷ []) (K.vault keeper.new) }
+    ensures completed { K.is_honest keeper.new → Sound (K.vault keeper.old) → CompleteRun (K.vault keeper.old) (one_command at who.now command.now) (result ∷ []) (K.vault keeper.new) }
     ensures honest { K.is_honest keeper.new → K.is_honest keeper.old }
     ensures counted { K.count keeper.old ≤ K.count keeper.new }
     ensures device { IsTrue (is_device_reply result) → Rose (K.count keeper.old) (K.count keeper.new) }

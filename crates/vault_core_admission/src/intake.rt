@@ -17,7 +17,7 @@ use vault_core_model::access::Access;
 use vault_core_model::change::{Admission, Change};
 use vault_core_model::command::{Intake, Put};
 use vault_core_model::halt::Halt;
-use vault_core_model::keeper::Keeper;
+use vault_core_model::keeper::{Keeper, make_change};
 use vault_core_model::records::Note;
 use vault_core_model::reply::{Answer, TakenIn};
 use vault_lock::lock::Lock;
@@ -68,7 +68,7 @@ fn take_in<K: Keeper>(
         history: new_version(alloc, id, at, who, &command.put, lock)?,
         note: Some(new_note(id, command)?),
     };
-    keeper.apply(at, &Change::Admit(admission))?;
+    make_change(keeper, at, Change::Admit(admission))?;
     Ok(Answer::TakenIn(TakenIn { id, again: false }))
 }
 

@@ -11,7 +11,7 @@ use vault_core_checks::limit::find_id;
 use vault_core_model::change::{Admission, Change};
 use vault_core_model::command::Put;
 use vault_core_model::halt::Halt;
-use vault_core_model::keeper::Keeper;
+use vault_core_model::keeper::{Keeper, make_change};
 use vault_core_model::reply::Answer;
 
 /// Admits a new content version above whatever the key has.
@@ -34,6 +34,6 @@ pub fn put<K: Keeper>(
         history: new_version(alloc, id, at, who, command, lock)?,
         note: None,
     };
-    keeper.apply(at, &Change::Admit(admission))?;
+    make_change(keeper, at, Change::Admit(admission))?;
     Ok(Answer::Admitted(id))
 }

@@ -11,5 +11,3 @@ pub mod list_keeper;
 mod place;
 mod removed;
 mod sums;
-#[cfg(test)]
-mod tests;

@@ -192,3 +192,18 @@ pub trait Keeper {
         ensures counted { count self.old ≤ count self.new }
         ensures device { result ≡ Err Fault.Device → Rose (count self.old) (count self.new) };
 }
+
+/// Makes a change at a moment, as the keeper does, and drops it.
+///
+/// A command hands its change over here, so that it has none to drop on each of its own ways out.
+pub fn make_change<K: Keeper>(keeper: &mut K, at: Moment, change: Change) -> Result<(), Fault>
+    requires in_time { K.is_honest keeper.old → (K.vault keeper.old).last ≤ at }
+    requires allowed { K.is_honest keeper.old → Allows (K.vault keeper.old) at change }
+    ensures ok { OnOk result (K.vault keeper.new ≡ changed (K.vault keeper.old) at change) }
+    ensures err { OnErr result (K.vault keeper.new ≡ K.vault keeper.old) }
+    ensures honest { K.is_honest keeper.new → K.is_honest keeper.old }
+    ensures counted { K.count keeper.old ≤ K.count keeper.new }
+    ensures device { result ≡ Err Fault.Device → Rose (K.count keeper.old) (K.count keeper.new) }
+{
+    keeper.apply(at, &change)
+}

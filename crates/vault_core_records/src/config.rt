@@ -13,7 +13,7 @@ use vault_core_checks::caller::find_access;
 use vault_core_model::change::Change;
 use vault_core_model::command::{DropRules, GetDefault, GetRules, SetDefault, SetRules};
 use vault_core_model::halt::Halt;
-use vault_core_model::keeper::Keeper;
+use vault_core_model::keeper::{Keeper, make_change};
 use vault_core_model::reply::Answer;
 
 /// Sets or clears the default retention of versions placed later.
@@ -31,7 +31,7 @@ pub fn set_default<K: Keeper>(
     find_access(keeper, at, who, &command.bucket, Right::Config)?;
     check_default(command.default)?;
     let change = Change::SetDefault(command.bucket.clone()?, command.default);
-    keeper.apply(at, &change)?;
+    make_change(keeper, at, change)?;
     Ok(Answer::Nothing)
 }
 
@@ -68,7 +68,7 @@ pub fn set_rules<K: Keeper>(
     let _rules = command.rules.as_slice();
     find_access(keeper, at, who, &command.bucket, Right::Config)?;
     let change = Change::SetRules(command.bucket.clone()?, Some(command.rules.clone()?));
-    keeper.apply(at, &change)?;
+    make_change(keeper, at, change)?;
     Ok(Answer::Nothing)
 }
 
@@ -105,6 +105,6 @@ pub fn drop_rules<K: Keeper>(
 {
     find_access(keeper, at, who, &command.bucket, Right::Config)?;
     let change = Change::SetRules(command.bucket.clone()?, None);
-    keeper.apply(at, &change)?;
+    make_change(keeper, at, change)?;
     Ok(Answer::Nothing)
 }

@@ -13,7 +13,7 @@ use vault_core_checks::caller::{check_report, find_administrator, find_caller};
 use vault_core_model::change::Change;
 use vault_core_model::command::{AddBucket, AddCaller, AddDept, CloseCaller, Report};
 use vault_core_model::halt::{Fault, Halt};
-use vault_core_model::keeper::Keeper;
+use vault_core_model::keeper::{Keeper, make_change};
 use vault_core_model::records::Caller;
 use vault_core_model::reply::{self, Answer};
 
@@ -33,7 +33,7 @@ pub fn add_dept<K: Keeper>(
     if keeper.dept(&command.dept)? {
         return Err(Halt::Refused(Refusal::NameTaken));
     }
-    keeper.apply(at, &Change::AddDept(command.dept.clone()?))?;
+    make_change(keeper, at, Change::AddDept(command.dept.clone()?))?;
     Ok(Answer::Nothing)
 }
 
@@ -55,7 +55,7 @@ pub fn add_caller<K: Keeper>(
         return Err(Halt::Refused(Refusal::NameTaken));
     }
     let caller = new_caller(command)?;
-    keeper.apply(at, &Change::AddCaller(caller))?;
+    make_change(keeper, at, Change::AddCaller(caller))?;
     Ok(Answer::Nothing)
 }
 
@@ -87,7 +87,7 @@ pub fn close_caller<K: Keeper>(
     if !is_open(&found) {
         return Err(Halt::Refused(Refusal::InvalidArgument));
     }
-    keeper.apply(at, &Change::CloseCaller(command.caller.clone()?))?;
+    make_change(keeper, at, Change::CloseCaller(command.caller.clone()?))?;
     Ok(Answer::Nothing)
 }
 
@@ -119,7 +119,7 @@ pub fn add_bucket<K: Keeper>(
         return Err(Halt::Refused(Refusal::BucketAlreadyExists));
     }
     let change = Change::AddBucket(command.bucket.clone()?, command.dept.clone()?);
-    keeper.apply(at, &change)?;
+    make_change(keeper, at, change)?;
     Ok(Answer::Nothing)
 }
 

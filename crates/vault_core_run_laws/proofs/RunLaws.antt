@@ -8,7 +8,7 @@ use Rattle.vault_rules.specs.KeyPlan.{Planned, at_key, key_plan}
 use Rattle.vault_rules_laws.specs.Histories as plain
 use Rattle.vault_rules_laws.specs.BucketPlan.{key_plans}
 use Rattle.vault_rules_laws.specs.BucketLaws.{IsIn, IsUnder, IsRising, IsChronicle, are_rules}
-use Rattle.vault_rules_laws.proofs.KeyRepeat.{IsInOrder, rises}
+use Rattle.vault_rules.proofs.KeyRepeat.{IsInOrder, rises}
 use Rattle.vault_rules_laws.proofs.KeyByKey.{IsApart, IsAway, apart, flip_eq, away_in}
 use Rattle.vault_rules_laws.proofs.Entries.{chronicle_made, entries-away, order_entries}
 use Rattle.vault_rules_laws.proofs.OnePlan.{irreflexive, under_in}

@@ -15,7 +15,7 @@ use vault_base::name::{BucketName, ObjectKey, RuleId, VersionId};
 use vault_core_checks::limit::find_id;
 use vault_core_model::change::{Admission, Change};
 use vault_core_model::halt::{Fault, Halt};
-use vault_core_model::keeper::Keeper;
+use vault_core_model::keeper::{Keeper, make_change};
 use vault_core_model::records::{Author, Cause, Entry, History, Removal, Settings};
 use vault_core_model::reply::Counts;
 use vault_rules::plan::Step;
@@ -51,7 +51,7 @@ pub fn make_step<K: Keeper>(
         return Err(Halt::Fault(Fault::Memory));
     };
     let change = find_change(alloc, keeper, run, key, step)?;
-    keeper.apply(run.at, &change)?;
+    make_change(keeper, run.at, change)?;
     *counts = more;
     Ok(())
 }

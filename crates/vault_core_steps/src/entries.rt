@@ -17,7 +17,7 @@ use vault_core_model::access::Access;
 use vault_core_model::change::{Admission, Change};
 use vault_core_model::command::{Delete, DeleteVersion, Get, Head};
 use vault_core_model::halt::Halt;
-use vault_core_model::keeper::Keeper;
+use vault_core_model::keeper::{Keeper, make_change};
 use vault_core_model::records::{Author, Cause, Entry, History, Removal, Settings};
 use vault_core_model::reply::{Answer, Removed, Version};
 use vault_lock::lock::Permit;
@@ -81,7 +81,7 @@ pub fn delete<K: Keeper>(
         history: new_marker(alloc, id, at, who, command)?,
         note: None,
     };
-    keeper.apply(at, &Change::Admit(marker))?;
+    make_change(keeper, at, Change::Admit(marker))?;
     Ok(Answer::Marked(id))
 }
 
@@ -147,7 +147,7 @@ pub fn delete_version<K: Keeper>(
     let access = find_access(keeper, at, who, &command.bucket, Right::DeleteVersion)?;
     let removed = find_removable(keeper, at, &access, command)?;
     let removal = removal_by(at, who, removed.permit)?;
-    keeper.apply(at, &Change::Remove(command.id, removal))?;
+    make_change(keeper, at, Change::Remove(command.id, removal))?;
     Ok(Answer::Removed(removed))
 }
 

@@ -17,7 +17,7 @@ use vault_core_model::access::Access;
 use vault_core_model::change::{Change, NextSetting};
 use vault_core_model::command::{GetHold, GetRetention, SetHold, SetRetention};
 use vault_core_model::halt::Halt;
-use vault_core_model::keeper::Keeper;
+use vault_core_model::keeper::{Keeper, make_change};
 use vault_core_model::records::Setting;
 use vault_core_model::reply::Answer;
 use vault_lock::lock::{Lock, Permit};
@@ -72,8 +72,7 @@ pub fn set_retention<K: Keeper>(
 {
     let access = find_access(keeper, at, who, &command.bucket, Right::Retain)?;
     let NextSetting { id, setting } = find_next_retention(keeper, at, who, command, &access)?;
-    let change = Change::AddSetting(id, setting);
-    keeper.apply(at, &change)?;
+    make_change(keeper, at, Change::AddSetting(id, setting))?;
     Ok(Answer::Nothing)
 }
 
@@ -91,8 +90,7 @@ pub fn set_hold<K: Keeper>(
 {
     find_access(keeper, at, who, &command.bucket, Right::Hold)?;
     let NextSetting { id, setting } = find_next_hold(keeper, at, who, command)?;
-    let change = Change::AddSetting(id, setting);
-    keeper.apply(at, &change)?;
+    make_change(keeper, at, Change::AddSetting(id, setting))?;
     Ok(Answer::Nothing)
 }
 

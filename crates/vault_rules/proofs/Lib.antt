@@ -1,4 +1,5 @@
 pub mod Fit
+pub mod KeyRepeat
 pub mod Lasts
 pub mod Sets
 pub mod Truth

@@ -1,6 +1,8 @@
 //! The plan of a run at one key.
 ghost use Rattle.std.specs.Prelude.{◌≡◌, ℕ, ◌+◌, ◌++◌, ◌∷◌, [], length, IsTrue, IfOk, OnOk};
 ghost use Rattle.vault_rules.specs.KeyPlan.{ids_rise, key_plan};
+ghost use Rattle.vault_rules.specs.KeyRepeats.{is_in_order, Repeats};
+ghost use Rattle.vault_rules.specs.Rules.{is_rule_set};
 ghost use Rattle.vault_rules.specs.Walk.{dues, last_mark, marked_above, removal, removals, left_over, lone_removal};
 
 use crate::due::{first_for_current, first_for_marker, first_for_noncurrent};
@@ -38,7 +40,9 @@ pub enum Step {
 /// that is due, then the removal of each noncurrent entry that is due and not locked, then that
 /// of a lone marker that is due (Amazon S3 User Guide, "Lifecycle configuration elements").
 ///
-/// Each step names the first rule that makes its entry due. The error is want of memory.
+/// Each step names the first rule that makes its entry due. A run that stopped within the key may
+/// be given again: after some of these steps, made at that moment, the plan is the rest of them.
+/// The error is want of memory.
 pub fn plan_key(
     alloc: Global,
     rules: &RuleSet,
@@ -47,9 +51,25 @@ pub fn plan_key(
     now: Moment,
 ) -> Result<Vec<Step>, AllocError>
     requires { IsTrue (ids_rise held.now) }
+    ensures plan { IfOk result (λ steps. steps.items ≡ key_plan rules.now key.now held.now now) }
+    ensures repeats { IsTrue (is_in_order 0 0 now held.now) →
+        IfOk result (λ steps. Repeats rules.now key.now held.now now steps.items) }
+{
+    steps_of(alloc, rules.as_slice(), key, held, now)
+}
+
+/// The steps of a run now at a key by these rules, which are a rule set.
+fn steps_of(
+    alloc: Global,
+    rules: &[Rule],
+    key: &ObjectKey,
+    held: &[Held],
+    now: Moment,
+) -> Result<Vec<Step>, AllocError>
+    requires set { IsTrue (is_rule_set rules.now) }
+    requires order { IsTrue (ids_rise held.now) }
     ensures { IfOk result (λ steps. steps.items ≡ key_plan rules.now key.now held.now now) }
 {
-    let rules = rules.as_slice();
     let mut steps = Vec::new(alloc);
     if let Some(rule) = mark_of(rules, key, held, now) {
         steps.push(Step::Mark(rule))?;

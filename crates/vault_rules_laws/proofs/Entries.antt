@@ -13,8 +13,8 @@ use Rattle.vault_rules.proofs.Truth.{and_true, test_of_less}
 use Rattle.vault_rules.specs.KeyPlan.{Planned}
 use Rattle.vault_rules_laws.specs.Histories.{History, is_at, held_of, entries, new_marker, removed_by, made_at, made, made_all}
 use Rattle.vault_rules_laws.specs.BucketLaws.{IsChronicle}
-use Rattle.vault_rules_laws.specs.KeyRepeats.{without}
-use Rattle.vault_rules_laws.proofs.KeyRepeat.{IsBelow, IsInOrder}
+use Rattle.vault_rules.specs.KeyRepeats.{without}
+use Rattle.vault_rules.proofs.KeyRepeat.{IsBelow, IsInOrder}
 use Rattle.vault_rules_laws.proofs.KeySteps.{made_with, HasId, IsStepOf, AllNot, without_absent}
 
 -- x before these, where the test passes

@@ -13,7 +13,7 @@ use Rattle.vault_rules.proofs.Sets.{key_plan-walk}
 use Rattle.vault_rules_laws.specs.Histories.{History, is_at, held_of, entries}
 use Rattle.vault_rules_laws.specs.BucketPlan.{plan, key_plans}
 use Rattle.vault_rules_laws.specs.BucketLaws.{IsChronicle, are_rules, IsPlan, HasFree, IsFreeStep}
-use Rattle.vault_rules_laws.proofs.KeyRepeat.{IsInOrder, rises, left_all}
+use Rattle.vault_rules.proofs.KeyRepeat.{IsInOrder, rises, left_all}
 use Rattle.vault_rules_laws.proofs.Entries.{put_if, entries-cons, order_entries}
 use Rattle.vault_rules_laws.proofs.KeyByKey.{apart, key_by_key}
 use Rattle.vault_rules_laws.proofs.BucketRepeat.{IsFirst, first_of}

@@ -13,11 +13,11 @@ use Rattle.vault_rules.specs.declared.plan.Step.TheVariants.{Mark, Remove, Remov
 use Rattle.vault_rules.specs.KeyPlan.{Planned, at_key, mark_steps, removal_steps, lone_steps, kept, key_plan}
 use Rattle.vault_rules.specs.Walk.{Dues, dues, last_mark, mark_step, marked_by, later_phases, removals, removal, remove_step}
 use Rattle.vault_rules.proofs.Sets.{marks_from, removals_from, key_plan-walk}
-use Rattle.vault_rules_laws.specs.KeyRepeats.{without}
+use Rattle.vault_rules.specs.KeyRepeats.{without}
 use Rattle.vault_rules_laws.specs.Histories.{History, entries, new_marker, made, made_all}
 use Rattle.vault_rules_laws.specs.BucketPlan.{marks_at, removals_at, lone_at, after_marks, after_removals, plan, key_plans}
 use Rattle.vault_rules_laws.specs.BucketLaws.{IsIn, IsUnder, IsRising, IsChronicle, are_rules}
-use Rattle.vault_rules_laws.proofs.KeyRepeat.{IsInOrder, rises}
+use Rattle.vault_rules.proofs.KeyRepeat.{IsInOrder, rises}
 use Rattle.vault_rules_laws.proofs.KeySteps.{marked_with, later_any, fit_any, AreStepsOf, removal_steps_of, AllNot, AreElsewhere, withouts, withouts_elsewhere, withouts-kept, later-walk}
 use Rattle.vault_rules_laws.proofs.Entries.{entries-removed, entries-marked, bytes_same, order_entries, chronicle_made_all, id_of_one}
 

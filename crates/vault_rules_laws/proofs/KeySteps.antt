@@ -14,8 +14,8 @@ use Rattle.vault_rules.proofs.Fit.{IsFit, fit}
 use Rattle.vault_rules.proofs.Lasts.{IsLong, left_long, walk_unmarked}
 use Rattle.vault_rules.proofs.Sets.{removals_from, kept_from, lone_is, rise_push, key_plan-walk}
 use Rattle.vault_rules_laws.specs.BucketLaws.{are_rules}
-use Rattle.vault_rules_laws.specs.KeyRepeats.{without, made}
-use Rattle.vault_rules_laws.proofs.KeyRepeat.{IsBelow, IsInOrder, rises, one_step, mark_none, left_all, without_first, without_other, order_without}
+use Rattle.vault_rules.specs.KeyRepeats.{without, made}
+use Rattle.vault_rules.proofs.KeyRepeat.{IsBelow, IsInOrder, rises, one_step, mark_none, left_all, without_first, without_other, order_without}
 
 -- no rules make nothing due
 none_fit : (key : List ℕ) (t : ℕ) → IsFit (dues [] key t) t

@@ -2,6 +2,5 @@ pub mod BucketRepeat
 pub mod Entries
 pub mod FirstStep
 pub mod KeyByKey
-pub mod KeyRepeat
 pub mod KeySteps
 pub mod OnePlan

@@ -1,4 +1,3 @@
 pub mod BucketLaws
 pub mod BucketPlan
 pub mod Histories
-pub mod KeyRepeats

@@ -2,15 +2,7 @@
 //! nothing.
 #![tactic(auto)]
 
-ghost use Rattle.vault_rules_laws.specs.KeyRepeats.{KeyPlansRepeat};
 ghost use Rattle.vault_rules_laws.specs.BucketLaws.{PlansAreKeyByKey, PlansRepeat, PlansAreUnique, RunsAddUp, FirstStepsAreFree};
-
-/// A run that stopped within a key may be given again: after the first steps of a key's plan,
-/// made at one moment, its plan at that moment is the rest. The key's ids rise, and its
-/// admissions don't go back.
-pub fn key_plans_repeat()
-    ensures { KeyPlansRepeat }
-{}
 
 /// The plan of a bucket by its three phases over all its keys is the plans of its keys, one
 /// after another.

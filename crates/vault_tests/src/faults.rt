@@ -119,10 +119,9 @@ fn a_writer_that_fails(rt: HostRuntime) -> Result<(), Fail> {
 #[test]
 fn a_device_that_fails_once(rt: HostRuntime) -> Result<(), Fail> {
     let alloc = rt.alloc();
-    let mut keeper = FuseKeeper::new(opened(&rt, alloc)?, 0);
+    let mut keeper = FuseKeeper::new(opened(alloc)?, 0);
     assert_eq!(rt; keeper.faults(), 0);
     play(
-        &rt,
         alloc,
         &mut keeper,
         r#"
@@ -144,9 +143,8 @@ fn a_device_that_fails_once(rt: HostRuntime) -> Result<(), Fail> {
 #[test]
 fn a_device_that_fails_at_a_removal(rt: HostRuntime) -> Result<(), Fail> {
     let alloc = rt.alloc();
-    let mut keeper = FuseKeeper::new(opened(&rt, alloc)?, 1);
+    let mut keeper = FuseKeeper::new(opened(alloc)?, 1);
     play(
-        &rt,
         alloc,
         &mut keeper,
         r#"

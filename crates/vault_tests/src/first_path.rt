@@ -13,7 +13,6 @@ use vault_transcript::transcript::{opened, play, play_opened, replies};
 #[test]
 fn a_version_is_put_read_removed_and_charged(rt: HostRuntime) -> Result<(), Fail> {
     play_opened(
-        &rt,
         rt.alloc(),
         r#"
 {"at":"2024-01-15T10:30:00Z","as":"ann","do":"put","bucket":"docs","key":"a","text":"hello"}
@@ -41,7 +40,6 @@ fn no_input_gets_no_output(rt: HostRuntime) -> Result<(), Fail> {
 #[test]
 fn a_new_department_has_nothing(rt: HostRuntime) -> Result<(), Fail> {
     play_opened(
-        &rt,
         rt.alloc(),
         r#"
 {"at":"2014-01-01T00:00:00Z","as":"ann","do":"report","dept":"records"}
@@ -55,7 +53,6 @@ fn a_new_department_has_nothing(rt: HostRuntime) -> Result<(), Fail> {
 #[test]
 fn an_empty_version_is_a_version(rt: HostRuntime) -> Result<(), Fail> {
     play_opened(
-        &rt,
         rt.alloc(),
         r#"
 {"at":"2024-01-15T10:30:00Z","as":"ann","do":"put","bucket":"docs","key":"z","hex":""}
@@ -73,7 +70,6 @@ fn an_empty_version_is_a_version(rt: HostRuntime) -> Result<(), Fail> {
 #[test]
 fn a_second_that_crosses_midnight_counts_as_a_day(rt: HostRuntime) -> Result<(), Fail> {
     play_opened(
-        &rt,
         rt.alloc(),
         r#"
 {"at":"2024-01-15T23:59:59Z","as":"ann","do":"put","bucket":"docs","key":"a","text":"0123456789012345678901234567890123456789012345678901234567890123456789012345678901234567890123456789"}
@@ -89,7 +85,6 @@ fn a_second_that_crosses_midnight_counts_as_a_day(rt: HostRuntime) -> Result<(),
 #[test]
 fn hours_within_a_day_count_as_none(rt: HostRuntime) -> Result<(), Fail> {
     play_opened(
-        &rt,
         rt.alloc(),
         r#"
 {"at":"2024-01-15T00:00:00Z","as":"ann","do":"put","bucket":"docs","key":"a","text":"0123456789012345678901234567890123456789012345678901234567890123456789012345678901234567890123456789"}
@@ -106,7 +101,6 @@ fn hours_within_a_day_count_as_none(rt: HostRuntime) -> Result<(), Fail> {
 #[test]
 fn what_is_held_is_charged_up_to_the_reading(rt: HostRuntime) -> Result<(), Fail> {
     play_opened(
-        &rt,
         rt.alloc(),
         r#"
 {"at":"2024-02-28T23:59:59Z","as":"ann","do":"put","bucket":"docs","key":"a","text":"hello"}
@@ -126,7 +120,6 @@ fn what_is_held_is_charged_up_to_the_reading(rt: HostRuntime) -> Result<(), Fail
 #[test]
 fn the_version_on_top_is_current(rt: HostRuntime) -> Result<(), Fail> {
     play_opened(
-        &rt,
         rt.alloc(),
         r#"
 {"at":"2024-01-15T10:30:00Z","as":"ann","do":"put","bucket":"docs","key":"a","text":"hello"}
@@ -168,9 +161,8 @@ fn is_free_removal(reply: &Reply) -> bool {
 #[test]
 fn an_idle_bypass_is_not_recorded(rt: HostRuntime) -> Result<(), Fail> {
     let alloc = rt.alloc();
-    let mut keeper = opened(&rt, alloc)?;
+    let mut keeper = opened(alloc)?;
     play(
-        &rt,
         alloc,
         &mut keeper,
         r#"
@@ -188,7 +180,6 @@ fn an_idle_bypass_is_not_recorded(rt: HostRuntime) -> Result<(), Fail> {
 #[test]
 fn a_caller_may_have_all_rights(rt: HostRuntime) -> Result<(), Fail> {
     play_opened(
-        &rt,
         rt.alloc(),
         r#"
 {"at":"2014-01-01T00:00:00Z","as":"registrar","do":"add-caller","caller":"max","dept":"records","rights":["admin","config","put","retain","hold","get","list","delete","delete-version","run","report","bypass","put"]}
@@ -206,7 +197,6 @@ fn a_caller_may_have_all_rights(rt: HostRuntime) -> Result<(), Fail> {
 #[test]
 fn time_stands_still_or_goes_on(rt: HostRuntime) -> Result<(), Fail> {
     play_opened(
-        &rt,
         rt.alloc(),
         r#"
 {"at":"2024-01-15T10:30:00Z","as":"ann","do":"put","bucket":"docs","key":"a","text":"x"}
@@ -225,7 +215,6 @@ fn time_stands_still_or_goes_on(rt: HostRuntime) -> Result<(), Fail> {
 #[test]
 fn only_changes_move_the_clock(rt: HostRuntime) -> Result<(), Fail> {
     play_opened(
-        &rt,
         rt.alloc(),
         r#"
 {"at":"2024-01-15T10:30:00Z","as":"ann","do":"put","bucket":"docs","key":"a","text":""}

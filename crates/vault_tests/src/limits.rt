@@ -35,7 +35,7 @@ fn is_admitted(reply: Option<&Reply>, number: u32) -> bool {
 #[test]
 fn a_version_has_up_to_1048576_bytes(rt: HostRuntime) -> Result<(), Fail> {
     let alloc = rt.alloc();
-    let mut keeper = opened(&rt, alloc)?;
+    let mut keeper = opened(alloc)?;
     let mut commands = Vec::new(alloc);
     for size in [1_048_576, 1_048_577, 1] {
         commands.push(put(alloc, size)?)?;
@@ -51,7 +51,6 @@ fn a_version_has_up_to_1048576_bytes(rt: HostRuntime) -> Result<(), Fail> {
     );
     assert!(rt; is_admitted(replies.get(2), 2));
     play(
-        &rt,
         alloc,
         &mut keeper,
         r#"
@@ -64,7 +63,7 @@ fn a_version_has_up_to_1048576_bytes(rt: HostRuntime) -> Result<(), Fail> {
 #[test]
 fn a_key_has_up_to_1024_bytes(rt: HostRuntime) -> Result<(), Fail> {
     let alloc = rt.alloc();
-    let mut keeper = opened(&rt, alloc)?;
+    let mut keeper = opened(alloc)?;
     let keys = [
         ("a".repeat(alloc, 1_024)?, "{\"ok\":{\"version_id\":1}}\n"),
         (
@@ -92,9 +91,8 @@ fn a_key_has_up_to_1024_bytes(rt: HostRuntime) -> Result<(), Fail> {
 #[test]
 fn a_department_admits_up_to_1000000000000_bytes(rt: HostRuntime) -> Result<(), Fail> {
     let alloc = rt.alloc();
-    let mut keeper = RiggedKeeper::new(opened(&rt, alloc)?, 999_999_999_995, 1);
+    let mut keeper = RiggedKeeper::new(opened(alloc)?, 999_999_999_995, 1);
     play(
-        &rt,
         alloc,
         &mut keeper,
         r#"
@@ -104,7 +102,6 @@ fn a_department_admits_up_to_1000000000000_bytes(rt: HostRuntime) -> Result<(), 
     )?;
     assert_eq!(rt; keeper.asked(), 0);
     play(
-        &rt,
         alloc,
         &mut keeper,
         r#"
@@ -119,9 +116,8 @@ fn a_department_admits_up_to_1000000000000_bytes(rt: HostRuntime) -> Result<(), 
 #[test]
 fn a_full_department_admits_empty_versions(rt: HostRuntime) -> Result<(), Fail> {
     let alloc = rt.alloc();
-    let mut keeper = RiggedKeeper::new(opened(&rt, alloc)?, 1_000_000_000_000, 1);
+    let mut keeper = RiggedKeeper::new(opened(alloc)?, 1_000_000_000_000, 1);
     play(
-        &rt,
         alloc,
         &mut keeper,
         r#"
@@ -163,7 +159,7 @@ fn ids_end_at_1000000000(rt: HostRuntime) -> Result<(), Fail> {
         ),
     ];
     for (admitted, next_id, want, asked) in limits {
-        let mut keeper = RiggedKeeper::new(opened(&rt, alloc)?, admitted, next_id);
+        let mut keeper = RiggedKeeper::new(opened(alloc)?, admitted, next_id);
         let reply = replies(alloc, &mut keeper, line.as_bytes())?;
         assert_eq!(rt; reply.as_str(), want);
         assert_eq!(rt; keeper.asked(), asked);

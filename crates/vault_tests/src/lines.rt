@@ -84,9 +84,8 @@ fn a_longer_line_is_malformed(rt: HostRuntime) -> Result<(), Fail> {
 #[test]
 fn escapes_are_read(rt: HostRuntime) -> Result<(), Fail> {
     let alloc = rt.alloc();
-    let mut keeper = opened(&rt, alloc)?;
+    let mut keeper = opened(alloc)?;
     play(
-        &rt,
         alloc,
         &mut keeper,
         r#"

@@ -39,8 +39,8 @@ const AS_BEFORE: &str = r#"
 "#;
 
 fn peopled(rt: &impl Abort, alloc: Global) -> Result<ListKeeper, Fail> {
-    let mut keeper = opened(rt, alloc)?;
-    play(rt, alloc, &mut keeper, PEOPLE)?;
+    let mut keeper = opened(alloc)?;
+    play(alloc, &mut keeper, PEOPLE)?;
     Ok(keeper)
 }
 
@@ -49,7 +49,6 @@ fn readings_are_refused(rt: HostRuntime) -> Result<(), Fail> {
     let alloc = rt.alloc();
     let mut keeper = peopled(&rt, alloc)?;
     play(
-        &rt,
         alloc,
         &mut keeper,
         r#"
@@ -63,7 +62,7 @@ fn readings_are_refused(rt: HostRuntime) -> Result<(), Fail> {
   {"error":{"code":"InvalidArgument","n":10}}
 "#,
     )?;
-    play(&rt, alloc, &mut keeper, AS_BEFORE)
+    play(alloc, &mut keeper, AS_BEFORE)
 }
 
 #[test]
@@ -71,7 +70,6 @@ fn access_is_denied(rt: HostRuntime) -> Result<(), Fail> {
     let alloc = rt.alloc();
     let mut keeper = peopled(&rt, alloc)?;
     play(
-        &rt,
         alloc,
         &mut keeper,
         r#"
@@ -107,7 +105,7 @@ fn access_is_denied(rt: HostRuntime) -> Result<(), Fail> {
   {"error":{"code":"AccessDenied","n":3,"reason":"right:admin"}}
 "#,
     )?;
-    play(&rt, alloc, &mut keeper, AS_BEFORE)
+    play(alloc, &mut keeper, AS_BEFORE)
 }
 
 #[test]
@@ -115,7 +113,6 @@ fn what_is_not_there_is_named(rt: HostRuntime) -> Result<(), Fail> {
     let alloc = rt.alloc();
     let mut keeper = peopled(&rt, alloc)?;
     play(
-        &rt,
         alloc,
         &mut keeper,
         r#"
@@ -147,7 +144,7 @@ fn what_is_not_there_is_named(rt: HostRuntime) -> Result<(), Fail> {
   {"error":{"code":"NoSuchVersion","n":6}}
 "#,
     )?;
-    play(&rt, alloc, &mut keeper, AS_BEFORE)
+    play(alloc, &mut keeper, AS_BEFORE)
 }
 
 /// A department that isn't there comes before a name that is taken.
@@ -156,7 +153,6 @@ fn names_are_used_once(rt: HostRuntime) -> Result<(), Fail> {
     let alloc = rt.alloc();
     let mut keeper = peopled(&rt, alloc)?;
     play(
-        &rt,
         alloc,
         &mut keeper,
         r#"
@@ -178,13 +174,12 @@ fn names_are_used_once(rt: HostRuntime) -> Result<(), Fail> {
   {"error":{"code":"InvalidArgument","n":10}}
 "#,
     )?;
-    play(&rt, alloc, &mut keeper, AS_BEFORE)
+    play(alloc, &mut keeper, AS_BEFORE)
 }
 
 #[test]
 fn values_are_read_strictly(rt: HostRuntime) -> Result<(), Fail> {
     play_opened(
-        &rt,
         rt.alloc(),
         r#"
 {"at":"2024-01-15T10:30:00Z","as":"registrar","do":"add-dept","dept":"Court"}

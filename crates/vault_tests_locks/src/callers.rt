@@ -6,7 +6,6 @@ use vault_transcript::transcript::play_opened;
 #[test]
 fn a_closed_caller_is_denied_everything(rt: HostRuntime) -> Result<(), Fail> {
     play_opened(
-        &rt,
         rt.alloc(),
         r#"
 {"at":"2024-01-15T10:30:00Z","as":"ann","do":"put","bucket":"docs","key":"a","text":"x"}
@@ -65,7 +64,6 @@ fn a_closed_caller_is_denied_everything(rt: HostRuntime) -> Result<(), Fail> {
 #[test]
 fn a_caller_is_closed_once_and_for_good(rt: HostRuntime) -> Result<(), Fail> {
     play_opened(
-        &rt,
         rt.alloc(),
         r#"
 {"at":"2024-01-15T10:30:00Z","as":"ann","do":"close-caller","caller":"gov"}

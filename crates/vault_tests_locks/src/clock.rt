@@ -6,7 +6,6 @@ use vault_transcript::transcript::play_opened;
 #[test]
 fn reads_and_idle_runs_leave_the_clock(rt: HostRuntime) -> Result<(), Fail> {
     play_opened(
-        &rt,
         rt.alloc(),
         r#"
 {"at":"2024-01-15T10:30:00Z","as":"ann","do":"put","bucket":"docs","key":"a","text":"hello"}
@@ -43,7 +42,6 @@ fn reads_and_idle_runs_leave_the_clock(rt: HostRuntime) -> Result<(), Fail> {
 #[test]
 fn every_change_moves_the_clock(rt: HostRuntime) -> Result<(), Fail> {
     play_opened(
-        &rt,
         rt.alloc(),
         r#"
 {"at":"2024-01-15T10:30:00Z","as":"ann","do":"put","bucket":"docs","key":"a","text":"x"}

@@ -6,7 +6,6 @@ use vault_transcript::transcript::play_opened;
 #[test]
 fn no_bypass_lifts_a_hold(rt: HostRuntime) -> Result<(), Fail> {
     play_opened(
-        &rt,
         rt.alloc(),
         r#"
 {"at":"2024-01-15T10:30:00Z","as":"ann","do":"put","bucket":"docs","key":"a","text":"x","mode":"GOVERNANCE","until":"2030-01-01T00:00:00Z","hold":"ON"}
@@ -39,7 +38,6 @@ fn no_bypass_lifts_a_hold(rt: HostRuntime) -> Result<(), Fail> {
 #[test]
 fn a_hold_is_named_before_compliance(rt: HostRuntime) -> Result<(), Fail> {
     play_opened(
-        &rt,
         rt.alloc(),
         r#"
 {"at":"2024-01-15T10:30:00Z","as":"ann","do":"put","bucket":"docs","key":"a","text":"x","mode":"COMPLIANCE","until":"2030-01-01T00:00:00Z","hold":"ON"}
@@ -58,7 +56,6 @@ fn a_hold_is_named_before_compliance(rt: HostRuntime) -> Result<(), Fail> {
 #[test]
 fn a_hold_and_a_retention_are_set_apart(rt: HostRuntime) -> Result<(), Fail> {
     play_opened(
-        &rt,
         rt.alloc(),
         r#"
 {"at":"2024-01-15T10:30:00Z","as":"ann","do":"put","bucket":"docs","key":"a","text":"hello"}

@@ -6,7 +6,6 @@ use vault_transcript::transcript::play_opened;
 #[test]
 fn a_marker_hides_a_locked_version_that_stays(rt: HostRuntime) -> Result<(), Fail> {
     play_opened(
-        &rt,
         rt.alloc(),
         r#"
 {"at":"2024-01-15T10:30:00Z","as":"ann","do":"put","bucket":"docs","key":"a","text":"hello","mode":"COMPLIANCE","until":"2030-01-01T00:00:00Z","hold":"ON"}
@@ -37,7 +36,6 @@ fn a_marker_hides_a_locked_version_that_stays(rt: HostRuntime) -> Result<(), Fai
 #[test]
 fn a_marker_has_no_lock(rt: HostRuntime) -> Result<(), Fail> {
     play_opened(
-        &rt,
         rt.alloc(),
         r#"
 {"at":"2024-01-15T10:30:00Z","as":"ann","do":"put","bucket":"docs","key":"a","text":"x"}

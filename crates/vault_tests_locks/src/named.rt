@@ -6,7 +6,6 @@ use vault_transcript::transcript::play_opened;
 #[test]
 fn an_id_names_the_version_whose_lock_is_meant(rt: HostRuntime) -> Result<(), Fail> {
     play_opened(
-        &rt,
         rt.alloc(),
         r#"
 {"at":"2024-01-15T10:30:00Z","as":"ann","do":"put","bucket":"docs","key":"a","text":"hello"}
@@ -43,7 +42,6 @@ fn an_id_names_the_version_whose_lock_is_meant(rt: HostRuntime) -> Result<(), Fa
 #[test]
 fn an_id_that_is_not_held_under_the_key_is_no_version(rt: HostRuntime) -> Result<(), Fail> {
     play_opened(
-        &rt,
         rt.alloc(),
         r#"
 {"at":"2024-01-15T10:30:00Z","as":"ann","do":"put","bucket":"docs","key":"a","text":"x"}

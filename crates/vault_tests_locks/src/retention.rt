@@ -7,7 +7,6 @@ use vault_transcript::transcript::play_opened;
 #[test]
 fn an_end_at_noon_frees_the_version_at_noon(rt: HostRuntime) -> Result<(), Fail> {
     play_opened(
-        &rt,
         rt.alloc(),
         r#"
 {"at":"2024-01-15T10:30:00Z","as":"ann","do":"put","bucket":"docs","key":"a","text":"x","mode":"COMPLIANCE","until":"2024-02-01T12:00:00Z"}
@@ -32,7 +31,6 @@ fn an_end_at_noon_frees_the_version_at_noon(rt: HostRuntime) -> Result<(), Fail>
 #[test]
 fn compliance_is_extended_and_never_shortened(rt: HostRuntime) -> Result<(), Fail> {
     play_opened(
-        &rt,
         rt.alloc(),
         r#"
 {"at":"2024-01-15T10:30:00Z","as":"ann","do":"put","bucket":"docs","key":"a","text":"x","mode":"COMPLIANCE","until":"2030-01-01T00:00:00Z"}
@@ -61,7 +59,6 @@ fn compliance_is_extended_and_never_shortened(rt: HostRuntime) -> Result<(), Fai
 #[test]
 fn governance_is_extended_without_a_bypass(rt: HostRuntime) -> Result<(), Fail> {
     play_opened(
-        &rt,
         rt.alloc(),
         r#"
 {"at":"2024-01-15T10:30:00Z","as":"ann","do":"put","bucket":"docs","key":"a","text":"x","mode":"GOVERNANCE","until":"2030-01-01T00:00:00Z"}
@@ -84,7 +81,6 @@ fn governance_is_extended_without_a_bypass(rt: HostRuntime) -> Result<(), Fail> 
 #[test]
 fn governance_turns_into_compliance_by_bypass_alone(rt: HostRuntime) -> Result<(), Fail> {
     play_opened(
-        &rt,
         rt.alloc(),
         r#"
 {"at":"2024-01-15T10:30:00Z","as":"ann","do":"put","bucket":"docs","key":"a","text":"x","mode":"GOVERNANCE","until":"2030-01-01T00:00:00Z"}
@@ -111,7 +107,6 @@ fn governance_turns_into_compliance_by_bypass_alone(rt: HostRuntime) -> Result<(
 #[test]
 fn what_takes_the_place_of_an_ended_retention_is_free(rt: HostRuntime) -> Result<(), Fail> {
     play_opened(
-        &rt,
         rt.alloc(),
         r#"
 {"at":"2024-01-15T10:30:00Z","as":"ann","do":"put","bucket":"docs","key":"a","text":"x","mode":"COMPLIANCE","until":"2024-02-01T12:00:00Z"}
@@ -139,7 +134,6 @@ fn what_takes_the_place_of_an_ended_retention_is_free(rt: HostRuntime) -> Result
 #[test]
 fn a_default_is_for_later_versions_without_a_retention(rt: HostRuntime) -> Result<(), Fail> {
     play_opened(
-        &rt,
         rt.alloc(),
         r#"
 {"at":"2024-02-29T12:00:00Z","as":"ann","do":"put","bucket":"docs","key":"o","text":"x"}

@@ -6,7 +6,6 @@ use vault_transcript::transcript::play_opened;
 #[test]
 fn a_run_marks_locked_content_and_removes_it_once_it_is_free(rt: HostRuntime) -> Result<(), Fail> {
     play_opened(
-        &rt,
         rt.alloc(),
         r#"
 {"at":"2014-01-01T00:00:00Z","as":"ann","do":"set-rules","bucket":"docs","rules":[{"ID":"r1","Status":"Enabled","Expiration":{"Days":1},"NoncurrentVersionExpiration":{"NoncurrentDays":1}}]}
@@ -29,7 +28,6 @@ fn a_run_marks_locked_content_and_removes_it_once_it_is_free(rt: HostRuntime) ->
 #[test]
 fn noncurrent_days_begin_with_each_successor(rt: HostRuntime) -> Result<(), Fail> {
     play_opened(
-        &rt,
         rt.alloc(),
         r#"
 {"at":"2014-01-01T00:00:00Z","as":"ann","do":"set-rules","bucket":"docs","rules":[{"ID":"r1","Status":"Enabled","NoncurrentVersionExpiration":{"NoncurrentDays":1}}]}
@@ -59,7 +57,6 @@ fn noncurrent_days_begin_with_each_successor(rt: HostRuntime) -> Result<(), Fail
 #[test]
 fn a_removed_successor_moves_the_noncurrent_time_on(rt: HostRuntime) -> Result<(), Fail> {
     play_opened(
-        &rt,
         rt.alloc(),
         r#"
 {"at":"2014-01-01T00:00:00Z","as":"ann","do":"set-rules","bucket":"docs","rules":[{"ID":"r1","Status":"Enabled","NoncurrentVersionExpiration":{"NoncurrentDays":2}}]}
@@ -94,7 +91,6 @@ fn a_removed_successor_moves_the_noncurrent_time_on(rt: HostRuntime) -> Result<(
 #[test]
 fn a_rule_is_for_its_prefix_while_it_is_enabled(rt: HostRuntime) -> Result<(), Fail> {
     play_opened(
-        &rt,
         rt.alloc(),
         r#"
 {"at":"2014-01-01T00:00:00Z","as":"ann","do":"set-rules","bucket":"docs","rules":[{"ID":"r1","Status":"Disabled","Expiration":{"Days":1}},{"ID":"r2","Status":"Enabled","Prefix":"b/","Expiration":{"Days":2}}]}

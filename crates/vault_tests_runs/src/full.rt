@@ -1,7 +1,6 @@
 //! Vaults whose ids are used up.
 use crate::full_keeper::FullKeeper;
 use std::alloc::Global;
-use std::process::Abort;
 use std::test::Fail;
 use vault_core_list::list_keeper::ListKeeper;
 use vault_transcript::transcript::{opened, play};
@@ -23,9 +22,9 @@ const BEFORE: &str = r#"
   {"ok":{"delete_marker":true,"version_id":5}}
 "#;
 
-fn filled(rt: &impl Abort, alloc: Global, ids: u64) -> Result<FullKeeper, Fail> {
-    let mut keeper: ListKeeper = opened(rt, alloc)?;
-    play(rt, alloc, &mut keeper, BEFORE)?;
+fn filled(alloc: Global, ids: u64) -> Result<FullKeeper, Fail> {
+    let mut keeper: ListKeeper = opened(alloc)?;
+    play(alloc, &mut keeper, BEFORE)?;
     Ok(FullKeeper::new(keeper, ids))
 }
 
@@ -33,9 +32,8 @@ fn filled(rt: &impl Abort, alloc: Global, ids: u64) -> Result<FullKeeper, Fail> 
 #[test]
 fn a_mark_that_finds_no_id_stops_the_run(rt: HostRuntime) -> Result<(), Fail> {
     let alloc = rt.alloc();
-    let mut keeper = filled(&rt, alloc, 1)?;
+    let mut keeper = filled(alloc, 1)?;
     play(
-        &rt,
         alloc,
         &mut keeper,
         r#"
@@ -49,7 +47,6 @@ fn a_mark_that_finds_no_id_stops_the_run(rt: HostRuntime) -> Result<(), Fail> {
     )?;
     let mut below = keeper.into_keeper();
     play(
-        &rt,
         alloc,
         &mut below,
         r#"
@@ -65,9 +62,8 @@ fn a_mark_that_finds_no_id_stops_the_run(rt: HostRuntime) -> Result<(), Fail> {
 #[test]
 fn a_first_mark_that_finds_no_id_leaves_the_vault_as_it_was(rt: HostRuntime) -> Result<(), Fail> {
     let alloc = rt.alloc();
-    let mut keeper = filled(&rt, alloc, 0)?;
+    let mut keeper = filled(alloc, 0)?;
     play(
-        &rt,
         alloc,
         &mut keeper,
         r#"
@@ -83,9 +79,8 @@ fn a_first_mark_that_finds_no_id_leaves_the_vault_as_it_was(rt: HostRuntime) -> 
 #[test]
 fn removals_are_made_in_a_full_vault(rt: HostRuntime) -> Result<(), Fail> {
     let alloc = rt.alloc();
-    let mut keeper = filled(&rt, alloc, 0)?;
+    let mut keeper = filled(alloc, 0)?;
     play(
-        &rt,
         alloc,
         &mut keeper,
         r#"
@@ -101,9 +96,8 @@ fn removals_are_made_in_a_full_vault(rt: HostRuntime) -> Result<(), Fail> {
 #[test]
 fn a_full_vault_admits_nothing(rt: HostRuntime) -> Result<(), Fail> {
     let alloc = rt.alloc();
-    let mut keeper = filled(&rt, alloc, 0)?;
+    let mut keeper = filled(alloc, 0)?;
     play(
-        &rt,
         alloc,
         &mut keeper,
         r#"

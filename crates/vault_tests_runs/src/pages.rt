@@ -17,33 +17,31 @@ const RUN: &str = r#"
 
 /// The keys `k1001`, `k1002` .. get an entry each, with the ids 1, 2 ..
 fn vault(
-    rt: &impl Abort,
     alloc: Global,
     keys: u32,
     command: &str,
     marker: &str,
 ) -> Result<ListKeeper, Fail> {
-    let mut keeper = opened(rt, alloc)?;
-    play(rt, alloc, &mut keeper, RULES)?;
+    let mut keeper = opened(alloc)?;
+    play(alloc, &mut keeper, RULES)?;
     for id in 1..=keys {
         let key = id.saturating_add(1_000);
         let lines = format!(in alloc;
             "{{\"at\":\"2024-03-01T00:00:00Z\",\"as\":\"ann\",\"bucket\":\"docs\",\"key\":\"k{key}\",{command}}}\n  {{\"ok\":{{{marker}\"version_id\":{id}}}}}\n"
         )?;
-        play(rt, alloc, &mut keeper, lines.as_str())?;
+        play(alloc, &mut keeper, lines.as_str())?;
     }
     Ok(keeper)
 }
 
 /// Each key has a version, which a run marks.
-fn with_versions(rt: &impl Abort, alloc: Global, keys: u32) -> Result<ListKeeper, Fail> {
-    vault(rt, alloc, keys, "\"do\":\"put\",\"text\":\"x\"", "")
+fn with_versions(alloc: Global, keys: u32) -> Result<ListKeeper, Fail> {
+    vault(alloc, keys, "\"do\":\"put\",\"text\":\"x\"", "")
 }
 
 /// Each key has a delete marker alone, with which a run removes the key.
-fn with_markers(rt: &impl Abort, alloc: Global, keys: u32) -> Result<ListKeeper, Fail> {
+fn with_markers(alloc: Global, keys: u32) -> Result<ListKeeper, Fail> {
     vault(
-        rt,
         alloc,
         keys,
         "\"do\":\"delete\"",
@@ -51,20 +49,19 @@ fn with_markers(rt: &impl Abort, alloc: Global, keys: u32) -> Result<ListKeeper,
     )
 }
 
-fn marks(rt: &impl Abort, alloc: Global, keys: u32, transcript: &str) -> Result<(), Fail> {
-    let mut keeper = with_versions(rt, alloc, keys)?;
-    play(rt, alloc, &mut keeper, transcript)
+fn marks(alloc: Global, keys: u32, transcript: &str) -> Result<(), Fail> {
+    let mut keeper = with_versions(alloc, keys)?;
+    play(alloc, &mut keeper, transcript)
 }
 
-fn removes(rt: &impl Abort, alloc: Global, keys: u32, transcript: &str) -> Result<(), Fail> {
-    let mut keeper = with_markers(rt, alloc, keys)?;
-    play(rt, alloc, &mut keeper, transcript)
+fn removes(alloc: Global, keys: u32, transcript: &str) -> Result<(), Fail> {
+    let mut keeper = with_markers(alloc, keys)?;
+    play(alloc, &mut keeper, transcript)
 }
 
 #[test]
 fn a_run_marks_3_keys(rt: HostRuntime) -> Result<(), Fail> {
     marks(
-        &rt,
         rt.alloc(),
         3,
         r#"
@@ -81,7 +78,6 @@ fn a_run_marks_3_keys(rt: HostRuntime) -> Result<(), Fail> {
 #[test]
 fn a_run_marks_256_keys(rt: HostRuntime) -> Result<(), Fail> {
     marks(
-        &rt,
         rt.alloc(),
         256,
         r#"
@@ -98,7 +94,6 @@ fn a_run_marks_256_keys(rt: HostRuntime) -> Result<(), Fail> {
 #[test]
 fn a_run_marks_257_keys(rt: HostRuntime) -> Result<(), Fail> {
     marks(
-        &rt,
         rt.alloc(),
         257,
         r#"
@@ -115,7 +110,6 @@ fn a_run_marks_257_keys(rt: HostRuntime) -> Result<(), Fail> {
 #[test]
 fn a_run_marks_600_keys(rt: HostRuntime) -> Result<(), Fail> {
     marks(
-        &rt,
         rt.alloc(),
         600,
         r#"
@@ -133,7 +127,6 @@ fn a_run_marks_600_keys(rt: HostRuntime) -> Result<(), Fail> {
 #[test]
 fn a_run_removes_3_keys(rt: HostRuntime) -> Result<(), Fail> {
     removes(
-        &rt,
         rt.alloc(),
         3,
         r#"
@@ -148,7 +141,6 @@ fn a_run_removes_3_keys(rt: HostRuntime) -> Result<(), Fail> {
 #[test]
 fn a_run_removes_256_keys(rt: HostRuntime) -> Result<(), Fail> {
     removes(
-        &rt,
         rt.alloc(),
         256,
         r#"
@@ -163,7 +155,6 @@ fn a_run_removes_256_keys(rt: HostRuntime) -> Result<(), Fail> {
 #[test]
 fn a_run_removes_257_keys(rt: HostRuntime) -> Result<(), Fail> {
     removes(
-        &rt,
         rt.alloc(),
         257,
         r#"
@@ -178,7 +169,6 @@ fn a_run_removes_257_keys(rt: HostRuntime) -> Result<(), Fail> {
 #[test]
 fn a_run_removes_600_keys(rt: HostRuntime) -> Result<(), Fail> {
     removes(
-        &rt,
         rt.alloc(),
         600,
         r#"
@@ -219,7 +209,7 @@ fn compare_calls(
 ) -> Result<(), Fail> {
     let mut keeper = NotingKeeper::new(alloc, vault);
     let transcript = format!(in alloc; "{RUN}  {reply}\n")?;
-    play(rt, alloc, &mut keeper, transcript.as_str())?;
+    play(alloc, &mut keeper, transcript.as_str())?;
     assert_eq!(rt; keeper.calls(), calls);
     Ok(())
 }
@@ -227,7 +217,7 @@ fn compare_calls(
 #[test]
 fn a_run_reads_each_key_before_it_changes_it(rt: HostRuntime) -> Result<(), Fail> {
     let alloc = rt.alloc();
-    let vault = with_versions(&rt, alloc, 3)?;
+    let vault = with_versions(alloc, 3)?;
     compare_calls(
         &rt,
         alloc,
@@ -253,7 +243,7 @@ fn a_run_reads_each_key_before_it_changes_it(rt: HostRuntime) -> Result<(), Fail
 #[test]
 fn a_run_that_removes_its_keys_asks_for_no_id(rt: HostRuntime) -> Result<(), Fail> {
     let alloc = rt.alloc();
-    let vault = with_markers(&rt, alloc, 3)?;
+    let vault = with_markers(alloc, 3)?;
     compare_calls(
         &rt,
         alloc,
@@ -277,7 +267,7 @@ fn a_run_that_removes_its_keys_asks_for_no_id(rt: HostRuntime) -> Result<(), Fai
 #[test]
 fn behind_256_keys_more_are_asked_for(rt: HostRuntime) -> Result<(), Fail> {
     let alloc = rt.alloc();
-    let vault = with_versions(&rt, alloc, 256)?;
+    let vault = with_versions(alloc, 256)?;
     let calls = calls_wanted(alloc, 256, "next id\nadmit")?;
     compare_calls(
         &rt,
@@ -291,7 +281,7 @@ fn behind_256_keys_more_are_asked_for(rt: HostRuntime) -> Result<(), Fail> {
 #[test]
 fn a_257th_key_is_on_a_page_of_its_own(rt: HostRuntime) -> Result<(), Fail> {
     let alloc = rt.alloc();
-    let vault = with_versions(&rt, alloc, 257)?;
+    let vault = with_versions(alloc, 257)?;
     let calls = calls_wanted(alloc, 257, "next id\nadmit")?;
     compare_calls(
         &rt,
@@ -305,7 +295,7 @@ fn a_257th_key_is_on_a_page_of_its_own(rt: HostRuntime) -> Result<(), Fail> {
 #[test]
 fn three_pages_are_read_of_600_keys(rt: HostRuntime) -> Result<(), Fail> {
     let alloc = rt.alloc();
-    let vault = with_versions(&rt, alloc, 600)?;
+    let vault = with_versions(alloc, 600)?;
     let calls = calls_wanted(alloc, 600, "next id\nadmit")?;
     compare_calls(
         &rt,
@@ -320,7 +310,7 @@ fn three_pages_are_read_of_600_keys(rt: HostRuntime) -> Result<(), Fail> {
 #[test]
 fn three_pages_are_read_of_600_keys_that_go(rt: HostRuntime) -> Result<(), Fail> {
     let alloc = rt.alloc();
-    let vault = with_markers(&rt, alloc, 600)?;
+    let vault = with_markers(alloc, 600)?;
     let calls = calls_wanted(alloc, 600, "remove")?;
     compare_calls(
         &rt,

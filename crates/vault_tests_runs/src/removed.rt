@@ -94,16 +94,16 @@ fn walk(
     Ok(())
 }
 
-fn with_three_removed(rt: &impl Abort, alloc: Global) -> Result<ListKeeper, Fail> {
-    let mut keeper = opened(rt, alloc)?;
-    play(rt, alloc, &mut keeper, THREE_REMOVALS)?;
+fn with_three_removed(alloc: Global) -> Result<ListKeeper, Fail> {
+    let mut keeper = opened(alloc)?;
+    play(alloc, &mut keeper, THREE_REMOVALS)?;
     Ok(keeper)
 }
 
 #[test]
 fn removed_entries_are_handed_on_by_rising_id(rt: HostRuntime) -> Result<(), Fail> {
     let alloc = rt.alloc();
-    let mut keeper = with_three_removed(&rt, alloc)?;
+    let mut keeper = with_three_removed(alloc)?;
     walk(
         &rt,
         alloc,
@@ -118,7 +118,7 @@ fn removed_entries_are_handed_on_by_rising_id(rt: HostRuntime) -> Result<(), Fai
 #[test]
 fn a_sink_that_refuses_has_got_a_beginning(rt: HostRuntime) -> Result<(), Fail> {
     let alloc = rt.alloc();
-    let mut keeper = with_three_removed(&rt, alloc)?;
+    let mut keeper = with_three_removed(alloc)?;
     walk(&rt, alloc, &mut keeper, 0, false, "")?;
     walk(&rt, alloc, &mut keeper, 1, false, "1 b rule r1\n")?;
     walk(
@@ -142,7 +142,7 @@ fn a_sink_that_refuses_has_got_a_beginning(rt: HostRuntime) -> Result<(), Fail> 
 #[test]
 fn where_nothing_was_removed_nothing_is_handed_on(rt: HostRuntime) -> Result<(), Fail> {
     let alloc = rt.alloc();
-    let mut keeper = opened(&rt, alloc)?;
+    let mut keeper = opened(alloc)?;
     walk(&rt, alloc, &mut keeper, 0, true, "")
 }
 
@@ -181,8 +181,8 @@ fn author(alloc: Global, keeper: &mut ListKeeper, number: u32) -> Result<String,
 #[test]
 fn the_first_rule_that_makes_due_is_the_cause(rt: HostRuntime) -> Result<(), Fail> {
     let alloc = rt.alloc();
-    let mut keeper = opened(&rt, alloc)?;
-    play(&rt, alloc, &mut keeper, RULES_IN_ORDER)?;
+    let mut keeper = opened(alloc)?;
+    play(alloc, &mut keeper, RULES_IN_ORDER)?;
     walk(
         &rt,
         alloc,

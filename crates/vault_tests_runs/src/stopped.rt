@@ -41,9 +41,9 @@ const AFTER: &str = r#"
 "#;
 
 /// The vault before the run, over a device that fails after so many changes.
-fn fused(rt: &impl Abort, alloc: Global, changes: u64) -> Result<FuseKeeper<ListKeeper>, Fail> {
-    let mut keeper = opened(rt, alloc)?;
-    play(rt, alloc, &mut keeper, BEFORE)?;
+fn fused(alloc: Global, changes: u64) -> Result<FuseKeeper<ListKeeper>, Fail> {
+    let mut keeper = opened(alloc)?;
+    play(alloc, &mut keeper, BEFORE)?;
     Ok(FuseKeeper::new(keeper, changes))
 }
 
@@ -54,20 +54,19 @@ fn stop_and_repeat(
     changes: u64,
     transcript: &str,
 ) -> Result<(), Fail> {
-    let mut keeper = fused(rt, alloc, changes)?;
-    play(rt, alloc, &mut keeper, transcript)?;
+    let mut keeper = fused(alloc, changes)?;
+    play(alloc, &mut keeper, transcript)?;
     assert_eq!(rt; keeper.faults(), 1);
-    play(rt, alloc, &mut keeper, AFTER)
+    play(alloc, &mut keeper, AFTER)
 }
 
 /// The run by which the stopped ones are judged.
 #[test]
 fn an_unbroken_run_makes_four_changes(rt: HostRuntime) -> Result<(), Fail> {
     let alloc = rt.alloc();
-    let mut keeper = opened(&rt, alloc)?;
-    play(&rt, alloc, &mut keeper, BEFORE)?;
+    let mut keeper = opened(alloc)?;
+    play(alloc, &mut keeper, BEFORE)?;
     play(
-        &rt,
         alloc,
         &mut keeper,
         r#"
@@ -77,7 +76,7 @@ fn an_unbroken_run_makes_four_changes(rt: HostRuntime) -> Result<(), Fail> {
   {"ok":{"changes":0,"lone":0,"marked":0,"removed":0}}
 "#,
     )?;
-    play(&rt, alloc, &mut keeper, AFTER)
+    play(alloc, &mut keeper, AFTER)
 }
 
 /// Nothing was made, so the clock stands still.
@@ -158,9 +157,8 @@ fn a_run_that_stops_before_a_lone_marker_removes_it_the_next_time(
 #[test]
 fn a_device_that_fails_behind_the_last_change_stops_no_run(rt: HostRuntime) -> Result<(), Fail> {
     let alloc = rt.alloc();
-    let mut keeper = fused(&rt, alloc, 4)?;
+    let mut keeper = fused(alloc, 4)?;
     play(
-        &rt,
         alloc,
         &mut keeper,
         r#"
@@ -172,5 +170,5 @@ fn a_device_that_fails_behind_the_last_change_stops_no_run(rt: HostRuntime) -> R
     )?;
     assert_eq!(rt; keeper.faults(), 0);
     let mut below = keeper.into_keeper();
-    play(&rt, alloc, &mut below, AFTER)
+    play(alloc, &mut below, AFTER)
 }

@@ -6,7 +6,6 @@ use vault_transcript::transcript::play_opened;
 #[test]
 fn a_shortened_governance_ends_at_its_new_end(rt: HostRuntime) -> Result<(), Fail> {
     play_opened(
-        &rt,
         rt.alloc(),
         r#"
 {"at":"2024-01-15T10:30:00Z","as":"ann","do":"put","bucket":"docs","key":"a","text":"hello","mode":"GOVERNANCE","until":"2030-01-01T00:00:00Z"}
@@ -31,7 +30,6 @@ fn a_shortened_governance_ends_at_its_new_end(rt: HostRuntime) -> Result<(), Fai
 #[test]
 fn compliance_set_by_bypass_holds_against_bypass(rt: HostRuntime) -> Result<(), Fail> {
     play_opened(
-        &rt,
         rt.alloc(),
         r#"
 {"at":"2024-01-15T10:30:00Z","as":"ann","do":"put","bucket":"docs","key":"a","text":"hello","mode":"GOVERNANCE","until":"2030-01-01T00:00:00Z"}

@@ -6,7 +6,6 @@ use vault_transcript::transcript::play_opened;
 #[test]
 fn four_years_from_a_leap_day_end_on_one(rt: HostRuntime) -> Result<(), Fail> {
     play_opened(
-        &rt,
         rt.alloc(),
         r#"
 {"at":"2024-02-29T12:00:00Z","as":"ann","do":"set-default","bucket":"docs","mode":"GOVERNANCE","years":4}
@@ -23,7 +22,6 @@ fn four_years_from_a_leap_day_end_on_one(rt: HostRuntime) -> Result<(), Fail> {
 #[test]
 fn one_year_from_a_leap_day_ends_a_day_early(rt: HostRuntime) -> Result<(), Fail> {
     play_opened(
-        &rt,
         rt.alloc(),
         r#"
 {"at":"2024-02-29T12:00:00Z","as":"ann","do":"set-default","bucket":"docs","mode":"GOVERNANCE","years":1}
@@ -40,7 +38,6 @@ fn one_year_from_a_leap_day_ends_a_day_early(rt: HostRuntime) -> Result<(), Fail
 #[test]
 fn the_longest_default_is_counted_in_days(rt: HostRuntime) -> Result<(), Fail> {
     play_opened(
-        &rt,
         rt.alloc(),
         r#"
 {"at":"2024-01-01T00:00:00Z","as":"ann","do":"set-default","bucket":"docs","mode":"COMPLIANCE","days":36500}
@@ -57,7 +54,6 @@ fn the_longest_default_is_counted_in_days(rt: HostRuntime) -> Result<(), Fail> {
 #[test]
 fn a_default_may_end_at_the_last_moment(rt: HostRuntime) -> Result<(), Fail> {
     play_opened(
-        &rt,
         rt.alloc(),
         r#"
 {"at":"9999-12-30T23:59:59Z","as":"ann","do":"set-default","bucket":"docs","mode":"COMPLIANCE","days":1}
@@ -74,7 +70,6 @@ fn a_default_may_end_at_the_last_moment(rt: HostRuntime) -> Result<(), Fail> {
 #[test]
 fn a_default_past_the_last_moment_admits_nothing(rt: HostRuntime) -> Result<(), Fail> {
     play_opened(
-        &rt,
         rt.alloc(),
         r#"
 {"at":"9999-12-31T00:00:00Z","as":"ann","do":"set-default","bucket":"docs","mode":"COMPLIANCE","days":1}
@@ -91,7 +86,6 @@ fn a_default_past_the_last_moment_admits_nothing(rt: HostRuntime) -> Result<(), 
 #[test]
 fn a_default_is_a_mode_and_one_period(rt: HostRuntime) -> Result<(), Fail> {
     play_opened(
-        &rt,
         rt.alloc(),
         r#"
 {"at":"2024-01-15T10:30:00Z","as":"ann","do":"set-default","bucket":"docs","mode":"COMPLIANCE","days":0}

@@ -6,7 +6,6 @@ use vault_transcript::transcript::play_opened;
 #[test]
 fn a_line_is_taken_in_once(rt: HostRuntime) -> Result<(), Fail> {
     play_opened(
-        &rt,
         rt.alloc(),
         r#"
 {"at":"2024-01-15T10:30:00Z","as":"ann","do":"put","bucket":"docs","key":"p","text":"x"}
@@ -37,7 +36,6 @@ fn a_line_is_taken_in_once(rt: HostRuntime) -> Result<(), Fail> {
 #[test]
 fn a_line_is_known_after_its_version_was_removed(rt: HostRuntime) -> Result<(), Fail> {
     play_opened(
-        &rt,
         rt.alloc(),
         r#"
 {"at":"2024-01-15T10:30:00Z","as":"ann","do":"intake","bucket":"docs","batch":"b1","line":1,"key":"a","text":"a"}
@@ -56,7 +54,6 @@ fn a_line_is_known_after_its_version_was_removed(rt: HostRuntime) -> Result<(), 
 #[test]
 fn a_line_that_asks_for_something_else_conflicts(rt: HostRuntime) -> Result<(), Fail> {
     play_opened(
-        &rt,
         rt.alloc(),
         r#"
 {"at":"2024-01-15T10:30:00Z","as":"ann","do":"intake","bucket":"docs","batch":"b1","line":1,"key":"a","text":"a","hold":"ON"}
@@ -89,7 +86,6 @@ fn a_line_that_asks_for_something_else_conflicts(rt: HostRuntime) -> Result<(), 
 #[test]
 fn batches_and_lines_are_apart(rt: HostRuntime) -> Result<(), Fail> {
     play_opened(
-        &rt,
         rt.alloc(),
         r#"
 {"at":"2024-01-15T10:30:00Z","as":"ann","do":"intake","bucket":"docs","batch":"b1","line":1,"key":"a","text":"a"}
@@ -112,7 +108,6 @@ fn batches_and_lines_are_apart(rt: HostRuntime) -> Result<(), Fail> {
 #[test]
 fn the_note_is_asked_before_the_arguments(rt: HostRuntime) -> Result<(), Fail> {
     play_opened(
-        &rt,
         rt.alloc(),
         r#"
 {"at":"2024-01-15T10:30:00Z","as":"ann","do":"intake","bucket":"docs","batch":"b1","line":1,"key":"a","text":"a","mode":"GOVERNANCE","until":"2024-01-15T10:30:01Z"}
@@ -135,7 +130,6 @@ fn the_note_is_asked_before_the_arguments(rt: HostRuntime) -> Result<(), Fail> {
 #[test]
 fn a_repeated_line_does_not_move_the_clock(rt: HostRuntime) -> Result<(), Fail> {
     play_opened(
-        &rt,
         rt.alloc(),
         r#"
 {"at":"2024-01-15T10:30:00Z","as":"ann","do":"intake","bucket":"docs","batch":"b1","line":1,"key":"a","text":"a"}

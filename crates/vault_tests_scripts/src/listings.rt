@@ -6,7 +6,6 @@ use vault_transcript::transcript::play_opened;
 #[test]
 fn a_listing_goes_by_key_and_newest_first(rt: HostRuntime) -> Result<(), Fail> {
     play_opened(
-        &rt,
         rt.alloc(),
         r#"
 {"at":"2024-01-15T10:30:00Z","as":"ann","do":"put","bucket":"docs","key":"a","text":"hello"}
@@ -39,7 +38,6 @@ fn a_listing_goes_by_key_and_newest_first(rt: HostRuntime) -> Result<(), Fail> {
 #[test]
 fn a_prefix_chooses_keys(rt: HostRuntime) -> Result<(), Fail> {
     play_opened(
-        &rt,
         rt.alloc(),
         r#"
 {"at":"2024-01-15T10:30:00Z","as":"ann","do":"put","bucket":"docs","key":"a","text":"hello"}
@@ -76,7 +74,6 @@ fn a_prefix_chooses_keys(rt: HostRuntime) -> Result<(), Fail> {
 #[test]
 fn heads_and_locks_are_told(rt: HostRuntime) -> Result<(), Fail> {
     play_opened(
-        &rt,
         rt.alloc(),
         r#"
 {"at":"2024-01-15T10:30:00Z","as":"ann","do":"put","bucket":"docs","key":"a","text":"hello","mode":"GOVERNANCE","until":"2030-01-01T00:00:00Z"}

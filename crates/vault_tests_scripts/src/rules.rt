@@ -6,7 +6,6 @@ use vault_transcript::transcript::play_opened;
 #[test]
 fn faulty_rules_are_refused_at_reading(rt: HostRuntime) -> Result<(), Fail> {
     play_opened(
-        &rt,
         rt.alloc(),
         r#"
 {"at":"2024-01-15T10:30:00Z","as":"ann","do":"set-rules","bucket":"docs","rules":[]}
@@ -37,7 +36,6 @@ fn faulty_rules_are_refused_at_reading(rt: HostRuntime) -> Result<(), Fail> {
 #[test]
 fn rules_are_told_as_they_were_set(rt: HostRuntime) -> Result<(), Fail> {
     play_opened(
-        &rt,
         rt.alloc(),
         r#"
 {"at":"2024-01-15T10:30:00Z","as":"ann","do":"set-rules","bucket":"docs","rules":[{"ID":"r1","Status":"Enabled","Expiration":{"Days":3}}]}

@@ -6,7 +6,6 @@ use vault_transcript::transcript::play_opened;
 #[test]
 fn days_end_at_the_midnight_behind_them(rt: HostRuntime) -> Result<(), Fail> {
     play_opened(
-        &rt,
         rt.alloc(),
         r#"
 {"at":"2014-01-01T00:00:00Z","as":"ann","do":"set-rules","bucket":"docs","rules":[{"ID":"r1","Status":"Enabled","Expiration":{"Days":3}}]}
@@ -25,7 +24,6 @@ fn days_end_at_the_midnight_behind_them(rt: HostRuntime) -> Result<(), Fail> {
 #[test]
 fn days_from_midnight_end_at_midnight(rt: HostRuntime) -> Result<(), Fail> {
     play_opened(
-        &rt,
         rt.alloc(),
         r#"
 {"at":"2014-01-01T00:00:00Z","as":"ann","do":"set-rules","bucket":"docs","rules":[{"ID":"r1","Status":"Enabled","Expiration":{"Days":3}}]}
@@ -44,7 +42,6 @@ fn days_from_midnight_end_at_midnight(rt: HostRuntime) -> Result<(), Fail> {
 #[test]
 fn the_newest_noncurrent_versions_stay(rt: HostRuntime) -> Result<(), Fail> {
     play_opened(
-        &rt,
         rt.alloc(),
         r#"
 {"at":"2014-01-01T00:00:00Z","as":"ann","do":"set-rules","bucket":"docs","rules":[{"ID":"r1","Status":"Enabled","NoncurrentVersionExpiration":{"NoncurrentDays":1,"NewerNoncurrentVersions":2}}]}
@@ -75,7 +72,6 @@ fn the_newest_noncurrent_versions_stay(rt: HostRuntime) -> Result<(), Fail> {
 #[test]
 fn a_mark_counts_in_the_same_run(rt: HostRuntime) -> Result<(), Fail> {
     play_opened(
-        &rt,
         rt.alloc(),
         r#"
 {"at":"2014-01-01T00:00:00Z","as":"ann","do":"set-rules","bucket":"docs","rules":[{"ID":"r1","Status":"Enabled","Expiration":{"Days":1},"NoncurrentVersionExpiration":{"NoncurrentDays":1,"NewerNoncurrentVersions":1}}]}
@@ -98,7 +94,6 @@ fn a_mark_counts_in_the_same_run(rt: HostRuntime) -> Result<(), Fail> {
 #[test]
 fn a_lone_marker_goes_at_once(rt: HostRuntime) -> Result<(), Fail> {
     play_opened(
-        &rt,
         rt.alloc(),
         r#"
 {"at":"2014-01-01T00:00:00Z","as":"ann","do":"set-rules","bucket":"docs","rules":[{"ID":"r1","Status":"Enabled","Expiration":{"ExpiredObjectDeleteMarker":true}}]}
@@ -121,7 +116,6 @@ fn a_lone_marker_goes_at_once(rt: HostRuntime) -> Result<(), Fail> {
 #[test]
 fn a_lone_marker_goes_after_its_days(rt: HostRuntime) -> Result<(), Fail> {
     play_opened(
-        &rt,
         rt.alloc(),
         r#"
 {"at":"2014-01-01T00:00:00Z","as":"ann","do":"set-rules","bucket":"docs","rules":[{"ID":"r1","Status":"Enabled","Expiration":{"Days":1}}]}
@@ -140,7 +134,6 @@ fn a_lone_marker_goes_after_its_days(rt: HostRuntime) -> Result<(), Fail> {
 #[test]
 fn a_marker_above_a_hold_stays(rt: HostRuntime) -> Result<(), Fail> {
     play_opened(
-        &rt,
         rt.alloc(),
         r#"
 {"at":"2014-01-01T00:00:00Z","as":"ann","do":"set-rules","bucket":"docs","rules":[{"ID":"r1","Status":"Enabled","Expiration":{"ExpiredObjectDeleteMarker":true},"NoncurrentVersionExpiration":{"NoncurrentDays":1}}]}
@@ -159,7 +152,6 @@ fn a_marker_above_a_hold_stays(rt: HostRuntime) -> Result<(), Fail> {
 #[test]
 fn a_run_needs_its_right(rt: HostRuntime) -> Result<(), Fail> {
     play_opened(
-        &rt,
         rt.alloc(),
         r#"
 {"at":"2014-01-01T00:00:00Z","as":"ann","do":"run","bucket":"docs"}

@@ -6,7 +6,6 @@ use vault_transcript::transcript::play_opened;
 #[test]
 fn unknown_members_are_malformed(rt: HostRuntime) -> Result<(), Fail> {
     play_opened(
-        &rt,
         rt.alloc(),
         r#"
 {"at":"2024-01-15T10:30:00Z","as":"ann","do":"add-dept","dept":"records","x":1}
@@ -77,7 +76,6 @@ fn unknown_members_are_malformed(rt: HostRuntime) -> Result<(), Fail> {
 #[test]
 fn members_of_other_shapes_are_malformed(rt: HostRuntime) -> Result<(), Fail> {
     play_opened(
-        &rt,
         rt.alloc(),
         r#"
 {"at":"2024-01-15T10:30:00Z","as":"ann","do":"set-default","bucket":"docs","days":1.0}
@@ -124,7 +122,6 @@ fn members_of_other_shapes_are_malformed(rt: HostRuntime) -> Result<(), Fail> {
 #[test]
 fn bad_values_are_invalid(rt: HostRuntime) -> Result<(), Fail> {
     play_opened(
-        &rt,
         rt.alloc(),
         r#"
 {"at":"2024-01-15T10:30:00Z","as":"ann","do":"set-default","bucket":"docs","days":3}
@@ -173,7 +170,6 @@ fn bad_values_are_invalid(rt: HostRuntime) -> Result<(), Fail> {
 #[test]
 fn a_late_end_is_out_of_range(rt: HostRuntime) -> Result<(), Fail> {
     play_opened(
-        &rt,
         rt.alloc(),
         r#"
 {"at":"2024-01-15T10:30:00Z","as":"ann","do":"put","bucket":"docs","key":"a","text":"b","mode":"COMPLIANCE","until":"9999-12-31T23:59:59.5Z"}
@@ -186,7 +182,6 @@ fn a_late_end_is_out_of_range(rt: HostRuntime) -> Result<(), Fail> {
 #[test]
 fn a_certificate_is_no_line_yet(rt: HostRuntime) -> Result<(), Fail> {
     play_opened(
-        &rt,
         rt.alloc(),
         r#"
 {"at":"2024-01-15T10:30:00Z","as":"ann","do":"certificate","bucket":"docs","id":1}

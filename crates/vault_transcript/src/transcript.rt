@@ -1,6 +1,7 @@
 //! Transcripts: scripts over a vault, with the replies that they are to get.
+ghost use Rattle.std.specs.Prelude.{◌≡◌, ◌++◌, ◌∷◌, [], OnOk};
+
 use std::alloc::Global;
-use std::process::Abort;
 use std::test::Fail;
 use vault_core_list::list_keeper::ListKeeper;
 use vault_core_model::keeper::Keeper;
@@ -28,12 +29,7 @@ pub fn replies<K: Keeper>(alloc: Global, keeper: &mut K, script: &[u8]) -> Resul
 
 /// Carries a transcript out over a vault. A line that begins with two spaces is the reply that the line
 /// above it is to get.
-pub fn play<K: Keeper>(
-    rt: &impl Abort,
-    alloc: Global,
-    keeper: &mut K,
-    transcript: &str,
-) -> Result<(), Fail> {
+pub fn play<K: Keeper>(alloc: Global, keeper: &mut K, transcript: &str) -> Result<(), Fail> {
     let mut script = String::new(alloc);
     let mut wanted = String::new(alloc);
     for line in transcript.lines() {
@@ -43,25 +39,41 @@ pub fn play<K: Keeper>(
         }
     }
     let written = replies(alloc, keeper, script.as_bytes())?;
-    assert_eq!(rt; written.as_str(), wanted.as_str());
-    Ok(())
+    compare(written.as_str(), wanted.as_str())
 }
 
-fn push_line(text: &mut String, line: &str) -> Result<(), Fail> {
+/// Fails where the replies aren't the wanted ones, with the first line that differs.
+fn compare(written: &str, wanted: &str) -> Result<(), Fail> {
+    if written == wanted {
+        return Ok(());
+    }
+    let differing = written
+        .lines()
+        .zip(wanted.lines())
+        .find(|(given, reply)| given != reply);
+    match differing {
+        Some((given, reply)) => Err(Fail::new(format_args!("wanted {reply}, got {given}"))),
+        None => Err(Fail::new("some replies are wanting, or there are more than wanted")),
+    }
+}
+
+fn push_line(text: &mut String, line: &str) -> Result<(), Fail>
+    ensures { OnOk result (text.new.items ≡ text.old.items ++ line.now ++ 10 ∷ []) }
+{
     text.push_str(line)?;
     text.push('\n')?;
     Ok(())
 }
 
 /// A vault in which the opening lines were accepted.
-pub fn opened(rt: &impl Abort, alloc: Global) -> Result<ListKeeper, Fail> {
+pub fn opened(alloc: Global) -> Result<ListKeeper, Fail> {
     let mut keeper = ListKeeper::new(alloc)?;
-    play(rt, alloc, &mut keeper, OPENING)?;
+    play(alloc, &mut keeper, OPENING)?;
     Ok(keeper)
 }
 
 /// Carries a transcript out over a vault in which the opening lines were accepted.
-pub fn play_opened(rt: &impl Abort, alloc: Global, transcript: &str) -> Result<(), Fail> {
-    let mut keeper = opened(rt, alloc)?;
-    play(rt, alloc, &mut keeper, transcript)
+pub fn play_opened(alloc: Global, transcript: &str) -> Result<(), Fail> {
+    let mut keeper = opened(alloc)?;
+    play(alloc, &mut keeper, transcript)
 }

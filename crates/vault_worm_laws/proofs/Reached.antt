@@ -1,5 +1,5 @@
 -- What every permitted change keeps holds of every vault that is reached.
-use Rattle.std.proofs.Common.{◌≡◌, ℕ, ◌+◌, ap, ◌∙◌, List, [], ◌∷◌, sym, subst, lit≤, ◌++◌, refl}
+use Rattle.std.proofs.Common.{ℕ, List, [], ◌∷◌, sym, subst, lit≤, ◌++◌, refl}
 use Rattle.vault_core_model.specs.declared.change.Change.{Change}
 use Rattle.vault_core_model.specs.declared.command.Command.{Command}
 use Rattle.vault_core_model.specs.declared.command.Timed.{Timed}
@@ -8,20 +8,16 @@ use Rattle.vault_core_model.specs.Vault.{Vault, opening}
 use Rattle.vault_core_model.specs.Change.{changed}
 use Rattle.vault_core_model.specs.Sound.{Sound}
 use Rattle.vault_core_model.specs.Step.{Step, Run, Reached}
-use Rattle.vault_core_model.specs.Totals.{admitted_bytes, removed_bytes}
-use Rattle.vault_core_laws.proofs.Conserved.{admitted-conserved}
 use Rattle.vault_core_laws.proofs.Runs.{Run-push}
 use Rattle.vault_core_laws.proofs.Soundness.{Sound-changed}
 use Rattle.vault_worm_laws.specs.Callers.{KeepsCallers}
 use Rattle.vault_worm_laws.specs.Chains.{MayMake, Makes}
 use Rattle.vault_worm_laws.specs.Once.{Extends}
 use Rattle.vault_worm_laws.specs.Removals.{RemovalsWerePermitted}
-use Rattle.vault_worm_laws.specs.Stored.{EachStandsOnce, stored_bytes}
 use Rattle.vault_worm_laws.specs.Worm.{Worm}
 use Rattle.vault_worm_laws.proofs.Once.{Extends-changed, extends_itself}
 use Rattle.vault_worm_laws.proofs.Callers.{Callers-changed, keeps_itself}
 use Rattle.vault_worm_laws.proofs.StepChanges.{Step-leads}
-use Rattle.vault_worm_laws.proofs.Stored.{Sound-stands_once, held-stored}
 use Rattle.vault_worm_laws.proofs.Kept.{Safe, Safe-changed, Safe-Worm, Safe-permitted}
 
 -- a permitted change keeps P
@@ -57,11 +53,8 @@ reached-Worm v reached = Safe-Worm v (reached-Safe v reached).1
 pub reached-permitted : (v : Vault) → Reached v → RemovalsWerePermitted v
 reached-permitted v reached = Safe-permitted v (reached-Safe v reached).1
 
-pub reached-stands_once : (v : Vault) → Reached v → EachStandsOnce v
-reached-stands_once v reached = Sound-stands_once v (reached-Sound v reached)
-
-pub reached-conserved : (v : Vault) (dept : List ℕ) → Reached v → admitted_bytes v dept ≡ stored_bytes v dept + removed_bytes v dept
-reached-conserved v dept reached = admitted-conserved v dept ∙ ap (λ n. n + removed_bytes v dept) (held-stored v dept (reached-Sound v reached))
+pub run-Sound : (v w : Vault) (cs : List Timed) (rs : List Reply) → Sound v → Run v cs rs w → Sound w
+run-Sound v w cs rs sound run = (Run-keeps (λ u. Unit {0}) (λ u t who c s p may. tt) v w cs rs run (sound, tt)).0
 
 pub run-extends : (v w : Vault) (cs : List Timed) (rs : List Reply) → Sound v → Run v cs rs w → Extends v.histories w.histories
 run-extends v w cs rs sound run =
@@ -77,7 +70,7 @@ step-reached v w t who c r before step =
     let timed : Timed = record { at = t; who = who; command = c } in
     (before.0 ++ timed ∷ [], before.1 ++ r ∷ [], Run-push opening v w before.0 before.1 timed r before.2 step)
 
-pub step-extends : (v w : Vault) (t : ℕ) (who : List ℕ) (c : Command) (r : Reply) → Reached v → Step v t who c r w → Extends v.histories w.histories
-step-extends v w t who c r before step =
+pub step-extends : (v w : Vault) (t : ℕ) (who : List ℕ) (c : Command) (r : Reply) → Sound v → Step v t who c r w → Extends v.histories w.histories
+step-extends v w t who c r sound step =
     let timed : Timed = record { at = t; who = who; command = c } in
-    run-extends v w (timed ∷ []) (r ∷ []) (reached-Sound v before) (w, step, refl)
+    run-extends v w (timed ∷ []) (r ∷ []) sound (w, step, refl)

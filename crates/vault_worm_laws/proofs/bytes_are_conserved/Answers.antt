@@ -1,8 +1,8 @@
-use Rattle.vault_worm_laws.proofs.Reached.{reached-stands_once, reached-conserved}
+use Rattle.vault_worm_laws.proofs.Stored.{Sound-stands_once, Sound-conserved}
 use Rattle.vault_worm_laws.proofs.bytes_are_conserved.Goals as goal
 
 pub returns-clause-each : goal.returns-clause-each
-returns-clause-each c = reached-stands_once
+returns-clause-each c = Sound-stands_once
 
 pub returns-clause-total : goal.returns-clause-total
-returns-clause-total c = reached-conserved
+returns-clause-total c = Sound-conserved

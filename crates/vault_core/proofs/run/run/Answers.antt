@@ -1,4 +1,7 @@
-use Rattle.std.proofs.Common.{◌<◌, ◌++◌, List, length, rules, subst, take_all}
+use Rattle.std.proofs.Common.{◌<◌, ◌++◌, ◌∙◌, List, [], ◌∷◌, length, rules, sym, ap, subst, take_all, inl, inr}
+use Rattle.std.specs.List.{list_any}
+use Rattle.std.proofs.lemmas.List.Folds.{list_any-append}
+use Rattle.vault_core_model.specs.Halts.{is_device_reply}
 use Rattle.std.proofs.lemmas.List.{take_more}
 use Rattle.vault_core_model.specs.declared.command.Timed.{Timed}
 use Rattle.vault_core_model.specs.Step.{Run}
@@ -6,7 +9,9 @@ use Rattle.vault_core_laws.proofs.Runs.{Run-push, Run-append}
 use Rattle.vault_core_laws.proofs.Conserved.{admitted-conserved}
 use Rattle.vault_worm_laws.proofs.Once.{extends_itself}
 use Rattle.vault_worm_laws.proofs.Repeated.{run-begins, run-completes}
-use Rattle.vault_worm_laws.proofs.Reached.{reached-Sound, reached-permitted, reached-Worm, reached-stands_once, run-extends}
+use Rattle.vault_worm_laws.proofs.Reached.{reached-permitted, reached-Worm, run-Sound, run-extends}
+use Rattle.vault_worm_laws.proofs.Stored.{Sound-stands_once, Sound-conserved}
+use Rattle.vault_core.proofs.Device.{any_last, Rose-before, Rose-after}
 use Rattle.vault_core.proofs.run.run.Goals as goal
 
 -- the run so far goes on by this step
@@ -19,6 +24,12 @@ loop-timed-preserved g c = record {
       (Run-push _ _ _ _ _ c.timed-item.result c.step-reply.result (c.loop-timed.invariant.so_far (c.step-reply.ensures.honest h)) (c.step-reply.ensures.step h));
   room = search rules;
   told = search rules;
+  device = λ any.
+      let split = sym (list_any-append is_device_reply c.loop-timed.replies.items (c.step-reply.result ∷ [])) ∙ (sym (ap (list_any is_device_reply) c.in_ok-push.ensures.items) ∙ any) in
+      elim (any_last c.loop-timed.replies.items c.step-reply.result split) [
+        | inl before ↦ Rose-before _ _ _ (c.loop-timed.invariant.device before) c.step-reply.ensures.counted
+        | inr now ↦ Rose-after _ _ _ c.loop-timed.invariant.counted c.step-reply.ensures.counted (c.step-reply.ensures.device now)
+      ];
 }
 
 -- the run to the vault before, and then this one
@@ -46,23 +57,29 @@ pub returns-clause-worm : goal.returns-clause-worm
 returns-clause-worm g c = λ h before. reached-Worm _ (returns-clause-reached g c h before)
 
 pub returns-in_err-replies-clause-once : goal.returns-in_err-replies-clause-once
-returns-in_err-replies-clause-once g c = λ h before. extends_itself _
+returns-in_err-replies-clause-once g c = λ h sound. extends_itself _
 
 pub returns-clause-once : goal.returns-clause-once
-returns-clause-once g c = λ h before. run-extends _ _ _ _ (reached-Sound _ before) (c.loop-timed.invariant.so_far h)
+returns-clause-once g c = λ h sound. run-extends _ _ _ _ sound (c.loop-timed.invariant.so_far h)
 
 pub returns-in_err-replies-clause-stored : goal.returns-in_err-replies-clause-stored
-returns-in_err-replies-clause-stored g c = λ h before. reached-stands_once _ before
+returns-in_err-replies-clause-stored g c = λ h sound. Sound-stands_once _ sound
 
 pub returns-clause-stored : goal.returns-clause-stored
-returns-clause-stored g c = λ h before. reached-stands_once _ (returns-clause-reached g c h before)
+returns-clause-stored g c = λ h sound. Sound-stands_once _ (run-Sound _ _ _ _ sound (c.loop-timed.invariant.so_far h))
+
+pub returns-in_err-replies-clause-total : goal.returns-in_err-replies-clause-total
+returns-in_err-replies-clause-total g c = λ h sound dept. Sound-conserved _ dept sound
+
+pub returns-clause-total : goal.returns-clause-total
+returns-clause-total g c = λ h sound dept. Sound-conserved _ dept (run-Sound _ _ _ _ sound (c.loop-timed.invariant.so_far h))
 
 pub returns-clause-begun : goal.returns-clause-begun
-returns-clause-begun g c = λ h before.
+returns-clause-begun g c = λ h sound.
     let all = take_all c.loop-timed.timed-index c.args.commands.now c.loop-timed-test.false in
-    run-begins _ _ _ _ (reached-Sound _ before) (subst (λ (cs : List Timed). Run (g.K.Keeper.vault c.args.keeper.now) cs c.loop-timed.replies.items (g.K.Keeper.vault c.loop-timed.keeper)) all (c.loop-timed.invariant.so_far h))
+    run-begins _ _ _ _ sound (subst (λ (cs : List Timed). Run (g.K.Keeper.vault c.args.keeper.now) cs c.loop-timed.replies.items (g.K.Keeper.vault c.loop-timed.keeper)) all (c.loop-timed.invariant.so_far h))
 
 pub returns-clause-completed : goal.returns-clause-completed
-returns-clause-completed g c = λ h before.
+returns-clause-completed g c = λ h sound.
     let all = take_all c.loop-timed.timed-index c.args.commands.now c.loop-timed-test.false in
-    run-completes _ _ _ _ (reached-Sound _ before) (subst (λ (cs : List Timed). Run (g.K.Keeper.vault c.args.keeper.now) cs c.loop-timed.replies.items (g.K.Keeper.vault c.loop-timed.keeper)) all (c.loop-timed.invariant.so_far h))
+    run-completes _ _ _ _ sound (subst (λ (cs : List Timed). Run (g.K.Keeper.vault c.args.keeper.now) cs c.loop-timed.replies.items (g.K.Keeper.vault c.loop-timed.keeper)) all (c.loop-timed.invariant.so_far h))

@@ -1,4 +1,6 @@
-use Rattle.std.proofs.Common.{◌≡◌, ◌≤◌, length, take, vec_capacity, vec_len}
+use Rattle.std.proofs.Common.{◌≡◌, ◌≤◌, IsTrue, length, take, vec_capacity, vec_len}
+use Rattle.std.specs.List.{list_any}
+use Rattle.vault_core_model.specs.Halts.{is_device_reply, Rose}
 use Rattle.vault_core_model.specs.Step.{Run}
 use Rattle.vault_core.proofs.run.run.Given as goal
 
@@ -10,4 +12,5 @@ invariant-loop-timed g l = record {
   so_far : g.K.Keeper.is_honest l.keeper → Run (g.K.Keeper.vault l.fn.keeper) (take l.timed-index l.commands) l.replies.items (g.K.Keeper.vault l.keeper);
   room : length l.commands ≤ vec_capacity l.replies;
   told : vec_len l.replies ≡ l.timed-index;
+  device : IsTrue (list_any is_device_reply l.replies.items) → Rose (g.K.Keeper.count l.fn.keeper) (g.K.Keeper.count l.keeper);
 }

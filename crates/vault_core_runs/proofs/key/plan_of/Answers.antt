@@ -12,4 +12,4 @@ returns-clause-causes c =
     let hs = c.args.held.now in
     let t = c.args.run.now.at in
     IfOk-weaker _ _ c.plan_key.result
-    (λ steps e. subst (λ (l : List Step). HaveCauses rules l) (sym e) (plan_has_causes rules key t hs)) c.plan_key.ensures
+    (λ steps e. subst (λ (l : List Step). HaveCauses rules l) (sym e) (plan_has_causes rules key t hs)) c.plan_key.ensures.plan

@@ -1,11 +1,10 @@
 -- A run that stopped within a key may be given again.
-use Rattle.std.specs.Prelude.{◌≡◌, ℕ, ◌&&◌, ◌==◌, Bool, not, nat_lt, nat_le, List, [], ◌∷◌, ◌++◌, take, drop, filter, IsTrue}
+use Rattle.std.specs.Prelude.{◌≡◌, ℕ, ◌&&◌, ◌==◌, Bool, not, nat_lt, nat_le, List, [], ◌∷◌, ◌++◌, take, drop, filter}
 use Rattle.vault_rules.specs.declared.plan.Held.{Held}
 use Rattle.vault_rules.specs.declared.rule.Rule.{Rule}
 use Rattle.vault_rules.specs.declared.plan.Step.{Step}
 use Rattle.vault_rules.specs.declared.plan.Step.TheVariants.{Mark, Remove, RemoveLone}
 use Rattle.vault_rules.specs.KeyPlan.{key_plan, marker_on}
-use Rattle.vault_rules.specs.Rules.{is_rule_set}
 
 -- the entries but the one of that id
 abbrev pub without : ℕ → List Held → List Held
@@ -27,10 +26,6 @@ abbrev pub is_in_order : ℕ → ℕ → ℕ → List Held → Bool
 is_in_order id from t [] = nat_le from t
 is_in_order id from t (x ∷ xs) = nat_lt id x.id && nat_le from x.admitted && is_in_order x.id x.admitted t xs
 
--- the plan of a key after its first n steps is the rest of the plan
-abbrev pub KeyPlansRepeat : Type 0
-KeyPlansRepeat =
-    (rules : List Rule) (key : List ℕ) (hs : List Held) (t n : ℕ)
-    → IsTrue (is_rule_set rules)
-    → IsTrue (is_in_order 0 0 t hs)
-    → key_plan rules key (made_all t hs (take n (key_plan rules key hs t))) t ≡ drop n (key_plan rules key hs t)
+-- after the first n of these steps, made at t, the key's plan at t is the rest of them
+abbrev pub Repeats : List Rule → List ℕ → List Held → ℕ → List Step → Type 0
+Repeats rules key hs t steps = (n : ℕ) → key_plan rules key (made_all t hs (take n steps)) t ≡ drop n steps

@@ -9,7 +9,7 @@ use Rattle.vault_rules.specs.declared.plan.Step.{Step}
 use Rattle.vault_rules.specs.declared.plan.Step.TheVariants.{Mark, Remove, RemoveLone}
 use Rattle.vault_rules.specs.Rules.{is_rule_set}
 use Rattle.vault_rules.specs.KeyPlan.{ids_rise, id_above, key_plan}
-use Rattle.vault_rules_laws.specs.KeyRepeats.{without, made, made_all, is_in_order}
+use Rattle.vault_rules.specs.KeyRepeats.{without, made, made_all, is_in_order, Repeats}
 use Rattle.vault_rules.specs.Walk.{Dues, dues, unless, last_mark, marker_at, marked_by, removal, mark_step, remove_step, lone_step, removals, keep_if, left_over, lone_removal, later_phases, walk}
 use Rattle.vault_rules.proofs.Fit.{IsFalling, fit}
 use Rattle.vault_rules.proofs.Lasts.{walk_unmarked}
@@ -284,5 +284,5 @@ up_to_tested id from t (x ∷ xs) h =
     let e = tested id from t x xs h in
     (from_up_to x.id x.admitted t xs e.rest, up_to_tested x.id x.admitted t xs e.rest)
 
-pub key_plan_repeats : (rules : List Rule) (key : List ℕ) (hs : List Held) (t n : ℕ) → IsTrue (is_rule_set rules) → IsTrue (is_in_order 0 0 t hs) → key_plan rules key (made_all t hs (take n (key_plan rules key hs t))) t ≡ drop n (key_plan rules key hs t)
-key_plan_repeats rules key hs t n set h = repeats rules key t (fit rules key t set).falling hs (key_plan rules key hs t) n (order_tested 0 0 t hs h) (up_to_tested 0 0 t hs h) refl
+pub key_plan_repeats : (rules : List Rule) (key : List ℕ) (hs : List Held) (t : ℕ) (steps : List Step) → IsTrue (is_rule_set rules) → IsTrue (is_in_order 0 0 t hs) → steps ≡ key_plan rules key hs t → Repeats rules key hs t steps
+key_plan_repeats rules key hs t steps set h e n = repeats rules key t (fit rules key t set).falling hs steps n (order_tested 0 0 t hs h) (up_to_tested 0 0 t hs h) (sym e)

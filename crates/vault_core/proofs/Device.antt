@@ -1,0 +1,31 @@
+-- A failure of the device that was told within a run.
+use Rattle.std.proofs.Common.{◌≡◌, ℕ, ◌<◌, ◌≤◌, Bool, true, false, List, [], ◌∷◌, IsTrue, refl, arith, inl, inr}
+use Rattle.std.specs.Prelude.{◌⊎◌, ◌||◌, nat_lt}
+use Rattle.std.specs.List.{list_any}
+use Rattle.std.proofs.lemmas.Bool.Decides.{nat_tests}
+use Rattle.vault_rules.proofs.Truth.{less_of_test}
+use Rattle.vault_core_model.specs.declared.reply.Reply.{Reply}
+use Rattle.vault_core_model.specs.Halts.{is_device_reply, Rose}
+
+-- it was told before, or in the last reply
+pub any_last : (replies : List Reply) (reply : Reply) → IsTrue (list_any is_device_reply replies || list_any is_device_reply (reply ∷ [])) → IsTrue (list_any is_device_reply replies) ⊎ IsTrue (is_device_reply reply)
+any_last replies reply = either (list_any is_device_reply replies) (is_device_reply reply)
+  where
+    either : (b c : Bool) → IsTrue (b || (c || false)) → IsTrue b ⊎ IsTrue c
+    either true c e = inl refl
+    either false true e = inr refl
+    either false false e = absurd (cc)
+
+not_less_of_test : (m n : ℕ) → nat_lt m n ≡ false → n ≤ m
+not_less_of_test m n e = grind (arith, nat_tests)
+
+-- a count that rose goes on, and doesn't go back
+pub Rose-before : (old mid new : ℕ) → Rose old mid → mid ≤ new → Rose old new
+Rose-before old mid new rose le = λ room. let up = rose room in omega (arith, up, le)
+
+pub Rose-after : (old mid new : ℕ) → old ≤ mid → mid ≤ new → Rose mid new → Rose old new
+Rose-after old mid new low le rose = λ room. cases (nat_lt mid 18446744073709551615) refl room
+  where
+    cases : (b : Bool) → nat_lt mid 18446744073709551615 ≡ b → old < 18446744073709551615 → old < new
+    cases true e room = let up = rose (less_of_test mid 18446744073709551615 e) in omega (arith, up, low)
+    cases false e room = let full = not_less_of_test mid 18446744073709551615 e in omega (arith, full, room, le)
