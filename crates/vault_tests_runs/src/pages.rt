@@ -16,12 +16,7 @@ const RUN: &str = r#"
 "#;
 
 /// The keys `k1001`, `k1002` .. get an entry each, with the ids 1, 2 ..
-fn vault(
-    alloc: Global,
-    keys: u32,
-    command: &str,
-    marker: &str,
-) -> Result<ListKeeper, Fail> {
+fn vault(alloc: Global, keys: u32, command: &str, marker: &str) -> Result<ListKeeper, Fail> {
     let mut keeper = opened(alloc)?;
     play(alloc, &mut keeper, RULES)?;
     for id in 1..=keys {
@@ -41,12 +36,7 @@ fn with_versions(alloc: Global, keys: u32) -> Result<ListKeeper, Fail> {
 
 /// Each key has a delete marker alone, with which a run removes the key.
 fn with_markers(alloc: Global, keys: u32) -> Result<ListKeeper, Fail> {
-    vault(
-        alloc,
-        keys,
-        "\"do\":\"delete\"",
-        "\"delete_marker\":true,",
-    )
+    vault(alloc, keys, "\"do\":\"delete\"", "\"delete_marker\":true,")
 }
 
 fn marks(alloc: Global, keys: u32, transcript: &str) -> Result<(), Fail> {
