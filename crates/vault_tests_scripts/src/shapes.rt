@@ -118,6 +118,40 @@ fn members_of_other_shapes_are_malformed(rt: HostRuntime) -> Result<(), Fail> {
     )
 }
 
+/// Of a member that stands twice the last one counts; the text nests at most 127 deep all the same.
+#[test]
+fn the_last_of_two_members_counts(rt: HostRuntime) -> Result<(), Fail> {
+    play_opened(
+        rt.alloc(),
+        r#"
+{"at":"2024-01-15T10:30:00Z","as":"ann","do":"put","bucket":"docs","key":"a","key":"b","text":"x","do":"head","do":"put"}
+  {"ok":{"version_id":1}}
+{"at":"2024-01-15T10:30:00Z","as":"ann","do":"put","bucket":"docs","key":"a","text":[[[[[[[[[[[[[[[[[[[[[[[[[[[[[[[[[[[[[[[[[[[[[[[[[[[[[[[[[[[[[[[[[[[[[[[[[[[[[[[[[[[[[[[[[[[[[[[[[[[[[[[[[[[[[[[[[[[[[[[[[[[[[[]]]]]]]]]]]]]]]]]]]]]]]]]]]]]]]]]]]]]]]]]]]]]]]]]]]]]]]]]]]]]]]]]]]]]]]]]]]]]]]]]]]]]]]]]]]]]]]]]]]]]]]]]]]]]]]]]]]]]]]]]]]]]],"text":"y"}
+  {"ok":{"version_id":2}}
+{"at":"2024-01-15T10:30:00Z","as":"ann","do":"put","bucket":"docs","key":"a","text":[[[[[[[[[[[[[[[[[[[[[[[[[[[[[[[[[[[[[[[[[[[[[[[[[[[[[[[[[[[[[[[[[[[[[[[[[[[[[[[[[[[[[[[[[[[[[[[[[[[[[[[[[[[[[[[[[[[[[[[[[[[[[[[]]]]]]]]]]]]]]]]]]]]]]]]]]]]]]]]]]]]]]]]]]]]]]]]]]]]]]]]]]]]]]]]]]]]]]]]]]]]]]]]]]]]]]]]]]]]]]]]]]]]]]]]]]]]]]]]]]]]]]]]]]]]]]],"text":"z"}
+  {"error":{"code":"MalformedBody","n":12}}
+{"at":"2024-01-15T10:30:00Z","as":"ann","do":"list-versions","bucket":"docs"}
+  {"ok":{"entries":[{"admitted":"2024-01-15T10:30:00Z","current":true,"delete_marker":false,"key":"a","size":1,"version_id":2},{"admitted":"2024-01-15T10:30:00Z","current":true,"delete_marker":false,"key":"b","size":1,"version_id":1}],"more":false}}
+"#,
+    )
+}
+
+/// A right that is named twice is a right.
+#[test]
+fn a_right_named_twice_counts_once(rt: HostRuntime) -> Result<(), Fail> {
+    play_opened(
+        rt.alloc(),
+        r#"
+{"at":"2024-01-15T10:30:00Z","as":"registrar","do":"add-caller","caller":"bob","dept":"records","rights":["put","list","put"]}
+  {"ok":{}}
+{"at":"2024-01-15T10:30:00Z","as":"bob","do":"put","bucket":"docs","key":"a","text":"x"}
+  {"ok":{"version_id":1}}
+{"at":"2024-01-15T10:30:00Z","as":"bob","do":"get","bucket":"docs","key":"a"}
+  {"error":{"code":"AccessDenied","n":3,"reason":"right:get"}}
+"#,
+    )
+}
+
 /// Values out of their range, and members that don't stand together.
 #[test]
 fn bad_values_are_invalid(rt: HostRuntime) -> Result<(), Fail> {

@@ -1,5 +1,5 @@
 //! Transcripts: scripts over a vault, with the replies that they are to get.
-ghost use Rattle.std.specs.Prelude.{◌≡◌, ◌++◌, ◌∷◌, [], OnOk};
+ghost use Rattle.std.specs.Prelude.{◌≡◌, ◌++◌, ◌∷◌, [], OnOk, string_bytes};
 
 use std::alloc::Global;
 use std::test::Fail;
@@ -58,7 +58,7 @@ fn compare(written: &str, wanted: &str) -> Result<(), Fail> {
 }
 
 fn push_line(text: &mut String, line: &str) -> Result<(), Fail>
-    ensures { OnOk result (text.new.items ≡ text.old.items ++ line.now ++ 10 ∷ []) }
+    ensures { OnOk result (string_bytes text.new ≡ string_bytes text.old ++ line.now ++ 10 ∷ []) }
 {
     text.push_str(line)?;
     text.push('\n')?;
