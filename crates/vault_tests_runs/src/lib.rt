@@ -1,0 +1,16 @@
+//! Tests of lifecycle runs: stopped ones, pages of keys, vaults that are full; and of what a vault keeps of
+//! removed entries.
+#![tactic(auto)]
+
+#[cfg(test)]
+mod full;
+#[cfg(test)]
+mod full_keeper;
+#[cfg(test)]
+mod noting_keeper;
+#[cfg(test)]
+mod pages;
+#[cfg(test)]
+mod removed;
+#[cfg(test)]
+mod stopped;
