@@ -36,7 +36,7 @@ abbrev pub cause_name : Permit → List ℕ
 cause_name Free = codes "request"
 cause_name Bypass = codes "bypass"
 
--- a text of ASCII
+-- a text, as its bytes in UTF-8
 abbrev pub text : List ℕ → Data
 text bytes = string bytes
 
