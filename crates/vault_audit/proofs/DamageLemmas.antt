@@ -27,7 +27,8 @@ use Rattle.vault_audit_model.specs.Tables.{departments_tree, callers_tree, bucke
 use Rattle.vault_audit_walk.specs.Records.{AreRecords}
 use Rattle.vault_audit.specs.Entries.{IsPast, IsEntryBy}
 use Rattle.vault_audit.specs.Meta.{IsMetaOf}
-use Rattle.vault_audit.specs.Numbers.{AreNumbered, AreEntriesUpTo}
+use Rattle.vault_audit_model.specs.Relations.{AreNumbered}
+use Rattle.vault_audit.specs.Numbers.{AreEntriesUpTo}
 
 -- ---- the answer of a look
 

@@ -16,7 +16,8 @@ use Rattle.vault_audit_walk.specs.Walk.{Walked}
 use Rattle.vault_audit_walk.proofs.ScanLemmas.{walked, first_cmp}
 use Rattle.vault_audit_walk.proofs.PassLemmas.{walk_yes, walk_no}
 use Rattle.vault_audit.specs.declared.numbers.NumberPass.{NumberPass}
-use Rattle.vault_audit.specs.Numbers.{GoesOn, AreNumbered, ComesNext, with_entry, AreEntriesUpTo}
+use Rattle.vault_audit_model.specs.Relations.{GoesOn, AreNumbered}
+use Rattle.vault_audit.specs.Numbers.{ComesNext, with_entry, AreEntriesUpTo}
 use Rattle.vault_audit.proofs.EntryLemmas.{same_row}
 use Rattle.vault_audit.proofs.TextLemmas.{numbers_walk, numbers_walk_is, numbers_walk_plain}
 

@@ -5,7 +5,8 @@ ghost use Rattle.sqlite.specs.Held.{state};
 ghost use Rattle.vault_core_model.specs.Vault.{Vault, next_id};
 ghost use Rattle.vault_audit_model.specs.Spells.{AreSound};
 ghost use Rattle.vault_audit_model.specs.Tables.{vault_schema};
-ghost use Rattle.vault_audit.specs.Numbers.{GoesOn, AreEntriesUpTo};
+ghost use Rattle.vault_audit_model.specs.Relations.{GoesOn};
+ghost use Rattle.vault_audit.specs.Numbers.{AreEntriesUpTo};
 
 use crate::row_check::refused;
 use sqlite::{Alter, Connection, Error, Row};
