@@ -1,5 +1,5 @@
 -- What a statement that makes a table does to the database.
-use Rattle.std.proofs.Common.{◌≡◌, ◌⊎◌, inl, inr, ℕ, ◌+◌, List, [], ◌∷◌, ◌++◌, Bool, true, false, None, Ok, Err, Result, OnOk, OnErr, sym, ap, subst, ◌∙◌}
+use Rattle.std.proofs.Common.{◌≡◌, ◌⊎◌, inl, inr, ℕ, ◌+◌, List, [], ◌∷◌, ◌++◌, false, None, Ok, Err, Result, OnOk, OnErr, sym, ap, subst, ◌∙◌}
 use Rattle.std.specs.List.{AllByRecursion}
 use Rattle.sqlite_value.specs.Order.{Row}
 use Rattle.sqlite_trees.specs.Tree.{Trees}
@@ -65,8 +65,8 @@ made_as t table it old new count was h =
     let last : Columns = record table { tree = next_tree schema } in
     let rows = none_has_a_row schema.tables last old.now.trees new.now.trees was.rows kept empty in
     record {
-    schema = ap (λ (d : Database). d.schema) now ∙ after;
-    rows = subst (λ (s : Schema). AllByRecursion (λ c. new.now.trees c.tree ≡ []) s.tables) it.next rows;
+      schema = ap (λ (d : Database). d.schema) now ∙ after;
+      rows = subst (λ (s : Schema). AllByRecursion (λ c. new.now.trees c.tree ≡ []) s.tables) it.next rows;
     }
 
 pub table_made : (t : Table) (old new : State) (count : ℕ) → HasFirst (place_of t) old.now → Executes (creation_of t) [] old new (Ok count) → HasFirst (place_of t + 1) new.now

@@ -1,15 +1,19 @@
 -- A new vault is in its limits, and sound.
-use Rattle.std.proofs.Common.{lit≤, refl}
-use Rattle.vault_core_model.specs.Vault.{opening}
+use Rattle.std.proofs.Common.{◌≡◌, lit≤, refl, sym, subst}
+use Rattle.std.proofs.lemmas.Str.{IsUtf8-from_is_utf8}
+use Rattle.sqlite_trees.specs.Tree.{Trees}
+use Rattle.sqlite.specs.Effect.{Database}
+use Rattle.vault_core_model.specs.Vault.{opening, registrar_name}
 use Rattle.vault_core_model.specs.Sound.{Sound}
 use Rattle.vault_audit_model.specs.Limits.{IsInLimits}
-use Rattle.vault_audit_model.specs.Spells.{IsKept}
+use Rattle.vault_audit_model.specs.Spells.{IsKept, AreSound}
+use Rattle.vault_store_create.specs.Create.{AreOpening}
 
 is_in_limits : IsInLimits opening
 is_in_limits = record {
   last = lit≤ tt;
   departments = tt;
-  callers = (record { name = (?, refl); dept = tt }, tt);
+  callers = (record { name = (IsUtf8-from_is_utf8 registrar_name refl, refl); dept = tt }, tt);
   buckets = tt;
   notes = tt;
   histories = tt;
@@ -35,3 +39,8 @@ is_sound = record {
 
 pub is_kept : IsKept opening
 is_kept = record { limits = is_in_limits; sound = is_sound }
+
+-- the trees of a new vault are told by the schema that they list
+pub left : (db : Database) → AreSound db opening → (trees : Trees) → trees ≡ db.trees → AreOpening trees
+left db sound trees same =
+    subst (λ t. AreOpening t) (sym same) (subst (λ s. AreSound (record { schema = s; trees = db.trees }) opening) sound.spells.schema sound)

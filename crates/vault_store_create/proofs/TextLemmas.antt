@@ -14,7 +14,7 @@ use Rattle.sqlite.specs.Does.{lacks_sequence}
 use Rattle.sqlite.proofs.Callers.{IsPlain, command_of, statement_of}
 use Rattle.sqlite_catalog.specs.Change.{created}
 use Rattle.vault_audit_model.specs.Texts.{creation_of}
-use Rattle.vault_audit_model.specs.Tables.{vault_schema, meta_tree, callers_tree, meta, departments, callers, buckets, rules, entries, contents, settings, intake, heads}
+use Rattle.vault_audit_model.specs.Tables.{vault_schema, meta, departments, callers, buckets, rules, entries, contents, settings, intake, heads}
 use Rattle.vault_store_create.specs.Create.{place_of, schema_of_first}
 
 -- The statement makes this table, after the tables that come before it.
@@ -93,7 +93,7 @@ meta_row_terms = lit (Int (pos 1)) ∷ lit Null ∷ lit (Int (pos 1)) ∷ lit (I
 abbrev pub registrar_terms : List Term
 registrar_terms = lit Null ∷ lit (Text (codes "registrar")) ∷ lit Null ∷ lit (Int (pos 1)) ∷ lit (Int (pos 0)) ∷ []
 
-pub meta_row_is : command_of (understood vault_schema meta_row_text) ≡ Insert meta_tree (Values meta_row_terms 5)
+pub meta_row_is : command_of (understood vault_schema meta_row_text) ≡ Insert (place_of table.Meta) (Values meta_row_terms 5)
 unfolding understood everything
 meta_row_is = refl
 
@@ -101,7 +101,7 @@ pub meta_row_plain : IsPlain (understood vault_schema meta_row_text)
 unfolding understood everything
 meta_row_plain = (refl, refl)
 
-pub registrar_is : command_of (understood vault_schema registrar_text) ≡ Insert callers_tree (Values registrar_terms 5)
+pub registrar_is : command_of (understood vault_schema registrar_text) ≡ Insert (place_of table.Callers) (Values registrar_terms 5)
 unfolding understood everything
 registrar_is = refl
 

@@ -5,8 +5,8 @@ ghost use Rattle.sqlite.specs.Held.{state};
 ghost use Rattle.vault_store_create.specs.Create.{Moves, HasFirst, place_of};
 
 use sqlite::{Alter, Error, Transaction};
-use vault_base::refusal::Table;
 use vault_audit_model::schema::creation;
+use vault_base::refusal::Table;
 
 /// Makes a table, all those before it being there.
 fn make_table<S: Alter>(tx: &mut Transaction<'_, S>, table: Table) -> Result<usize, Error>
