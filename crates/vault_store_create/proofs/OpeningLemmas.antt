@@ -1,6 +1,5 @@
 -- A new vault is in its limits, and sound.
 use Rattle.std.proofs.Common.{◌≡◌, lit≤, refl, sym, subst}
-use Rattle.std.proofs.lemmas.Str.{IsUtf8-from_is_utf8}
 use Rattle.sqlite_trees.specs.Tree.{Trees}
 use Rattle.sqlite.specs.Effect.{Database}
 use Rattle.vault_core_model.specs.Vault.{opening, registrar_name}
@@ -10,10 +9,11 @@ use Rattle.vault_audit_model.specs.Spells.{IsKept, AreSound}
 use Rattle.vault_store_create.specs.Create.{AreOpening}
 
 is_in_limits : IsInLimits opening
+unfolding lib.Utf8.encode
 is_in_limits = record {
   last = lit≤ tt;
   departments = tt;
-  callers = (record { name = (IsUtf8-from_is_utf8 registrar_name refl, refl); dept = tt }, tt);
+  callers = (record { name = ((registrar_name, (refl, refl)), refl); dept = tt }, tt);
   buckets = tt;
   notes = tt;
   histories = tt;
