@@ -29,8 +29,8 @@ use Rattle.vault_base.specs.declared.refusal.Table.TheVariants as table
 use Rattle.vault_core_model.specs.Vault.{opening}
 use Rattle.vault_audit_model.specs.Tables.{vault_schema, meta, callers, meta_tree, callers_tree}
 use Rattle.vault_audit_model.specs.Rows.{caller_row, caller_columns, meta_columns}
-use Rattle.vault_audit_model.specs.Spells.{Spells}
-use Rattle.vault_store_create.specs.Create.{place_of, HasFirst, HasMetaRow, IsOpening}
+use Rattle.vault_audit_model.specs.Spells.{Spells, AreSound}
+use Rattle.vault_store_create.specs.Create.{place_of, HasFirst, HasMetaRow, IsFilled}
 use Rattle.vault_store_create.proofs.OpeningLemmas.{is_kept}
 use Rattle.vault_store_create.proofs.TextLemmas.{meta_row_text, meta_row_terms, meta_row_is, meta_row_plain, registrar_text, registrar_terms, registrar_is, registrar_plain}
 use Rattle.vault_store_create.proofs.CreateLemmas.{went, same_value}
@@ -92,7 +92,7 @@ meta_put old new count was h =
     }
 
 -- the tables are those of a new vault after the statement that puts its caller
-pub registrar_put : (old new : State) (count : ℕ) → HasMetaRow old.now → Executes registrar_text [] old new (Ok count) → IsOpening new.now
+pub registrar_put : (old new : State) (count : ℕ) → HasMetaRow old.now → Executes registrar_text [] old new (Ok count) → IsFilled new.now
 registrar_put old new count was h =
     let command = Insert (place_of table.Callers) (Values registrar_terms 5) in
     let w = runs_as registrar_text [] old new vault_schema was.schema command registrar_is registrar_plain count h in
@@ -120,8 +120,9 @@ registrar_put old new count was h =
       intake = rw (same.1.1.1.1.1.1.1.0 (omega arith) ∙ none.1.1.1.1.1.1.1.0) (IsPermutation-refl []);
       kept = is_kept;
     } in
-    record {
+    let sound : AreSound new.now opening = record {
       spells = spelled;
       numbers = rw departments (IsPermutation-refl []);
       heads = rw (same.1.1.1.1.1.1.1.1.0 (omega arith) ∙ none.1.1.1.1.1.1.1.1.0) (IsPermutation-refl []);
-    }
+    } in
+    record { opening = sound; listed = w.sound }

@@ -5,7 +5,8 @@ use Rattle.sqlite_trees.specs.Tree.{Trees}
 use Rattle.sqlite.specs.declared.error.Error.{Error}
 use Rattle.sqlite.specs.declared.error.Error.TheVariants.{SqliteFailure}
 use Rattle.sqlite.specs.declared.error.ErrorCode.TheVariants as code
-use Rattle.sqlite.specs.Effect.{Database}
+use Rattle.sqlite_catalog.specs.Listing.{IsSound}
+use Rattle.sqlite.specs.Effect.{Database, IsDatabase}
 use Rattle.sqlite.specs.Schema.{Schema}
 use Rattle.sqlite.specs.State.{State}
 use Rattle.vault_base.specs.declared.refusal.Table.{Table}
@@ -57,13 +58,15 @@ pub record HasMetaRow (db : Database) : Type 0 where
   pub meta : map meta_columns (db.trees meta_tree) ≡ meta_row (meta_of opening) ∷ []
   pub rows : AllByRecursion (λ t. db.trees t.tree ≡ []) (drop 1 vault_schema.tables)
 
--- the tables of a new vault
-abbrev pub IsOpening : Database → Type 0
-IsOpening db = AreSound db opening
+-- the tables of a new vault, and the list of them
+pub record IsFilled (db : Database) : Type 0 where
+  pub opening : AreSound db opening
+  pub listed : IsDatabase db
 
--- what an opening reads in these trees, where they list the schema of every vault, is a new vault
-abbrev pub AreOpening : Trees → Type 0
-AreOpening trees = IsOpening (record { schema = vault_schema; trees = trees })
+-- what the next opening reads in these trees is a new vault: they list the schema of every vault, and no other
+pub record AreOpening (trees : Trees) : Type 0 where
+  pub opening : AreSound (record { schema = vault_schema; trees = trees }) opening
+  pub listed : IsSound vault_schema trees
 
 -- an error of the store is told as want of memory, or else as a failure of the device
 abbrev pub refusal_of : Error → Refusal
