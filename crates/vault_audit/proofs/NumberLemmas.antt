@@ -1,6 +1,6 @@
 -- The walk over the entries by their ids.
 use Rattle.std.specs.Ordering.{int_cmp}
-use Rattle.std.proofs.Common.{◌<◌, ◌≡◌, ℕ, ◌+◌, pos, List, [], ◌∷◌, length, map, true, false, Bool, Some, None, Option, Ordering, Less, IsPermutation, IsSorted, refl, sym, ap, subst, ◌∙◌, arith, add-zero}
+use Rattle.std.proofs.Common.{◌<◌, ◌≡◌, ℕ, ◌+◌, pos, List, [], ◌∷◌, length, map, true, false, Some, None, Less, IsPermutation, IsSorted, refl, sym, ap, ◌∙◌, arith, add-zero}
 use Rattle.std.specs.List.{AllByRecursion}
 use Rattle.sqlite_value.specs.Order.{Row}
 use Rattle.sqlite_value.proofs.OrderLemmas.{value_cmp-Int}
@@ -16,9 +16,9 @@ use Rattle.vault_audit_walk.specs.Walk.{Walked}
 use Rattle.vault_audit_walk.proofs.ScanLemmas.{walked, first_cmp}
 use Rattle.vault_audit_walk.proofs.PassLemmas.{walk_yes, walk_no}
 use Rattle.vault_audit.specs.declared.numbers.NumberPass.{NumberPass}
-use Rattle.vault_audit_model.specs.Relations.{GoesOn, AreNumbered}
+use Rattle.vault_audit_model.specs.Relations.{AreNumbered}
 use Rattle.vault_audit.specs.Numbers.{ComesNext, with_entry, AreEntriesUpTo}
-use Rattle.vault_audit.proofs.EntryLemmas.{same_row}
+use Rattle.vault_audit_model.proofs.SameRows.{same_entry}
 use Rattle.vault_audit.proofs.TextLemmas.{numbers_walk, numbers_walk_is, numbers_walk_plain}
 
 abbrev Fit : NumberPass → List Entry → Type 0
@@ -66,10 +66,10 @@ start = record { next = 1; low = 0 }
 module _ (old new : State) (has : old.now.schema ≡ vault_schema) (same : IsUnchanged old new) (r : NumberPass) where
   pub numbers_yes : Walked (Takes entry_row ComesNext with_entry) (Refuses entry_row ComesNext with_entry) numbers_walk old new start r true → AreEntriesUpTo new.now (Some r.next)
   numbers_yes h =
-      let it = walk_yes entry_row ComesNext with_entry same_row vault_schema numbers_walk _ _ numbers_walk_is.0 source answers old new has same start r h in
+      let it = walk_yes entry_row ComesNext with_entry same_entry vault_schema numbers_walk _ _ numbers_walk_is.0 source answers old new has same start r h in
       let next : r.next ≡ (end_of start it.0).next = ap (λ (p : NumberPass). p.next) it.3 in
       let count = counted start it.0 in
       (it.0, it.1, numbered start it.0 it.2, omega (arith, next, count))
 
   pub numbers_no : Walked (Takes entry_row ComesNext with_entry) (Refuses entry_row ComesNext with_entry) numbers_walk old new start r false → AreEntriesUpTo new.now None
-  numbers_no h es are numbers = walk_no entry_row ComesNext with_entry same_row vault_schema numbers_walk _ _ numbers_walk_is.0 source answers old new has same start r (rise start) h es are (fitting start es numbers)
+  numbers_no h es are numbers = walk_no entry_row ComesNext with_entry same_entry vault_schema numbers_walk _ _ numbers_walk_is.0 source answers old new has same start r (rise start) h es are (fitting start es numbers)
