@@ -12,7 +12,7 @@ use Rattle.vault_core_model.specs.declared.records.Cause.TheVariants as cause
 use Rattle.vault_audit_model.specs.Values.{number, flag, bytes_or_null}
 use Rattle.vault_core_model.specs.Sound.{LiesBetween}
 use Rattle.vault_audit_model.specs.Rows.{entry_row, author_kind, author_name, cause_number, cause_text, removal_at, removal_cause, removal_by}
-use Rattle.vault_audit.specs.Entries.{IsPast}
+use Rattle.vault_audit_model.specs.Relations.{IsPast}
 
 removed_as : (admitted last : ℕ) (r s : Option Removal) → removal_at r ≡ removal_at s → LiesBetween admitted last r → LiesBetween admitted last s
 removed_as admitted last r None e h = tt

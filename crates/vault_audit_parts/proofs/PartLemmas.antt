@@ -25,11 +25,11 @@ use Rattle.vault_core_model.specs.Totals.{items_in}
 use Rattle.vault_core_model.specs.Vault.{Vault, config_in}
 use Rattle.vault_audit_model.specs.declared.rows.MetaRow.{MetaRow}
 use Rattle.vault_audit_model.specs.Limits.{IsInLimits, IsHistory, IsEntry, IsSizedAs, IsSetting, IsBucket, AreRules, IsRule, IsNote}
-use Rattle.vault_audit_model.specs.Relations.{AreNumbered, HasContent, HasContentAs, HasSettings, HasSettingsAs, NamesOneOf}
+use Rattle.vault_audit_model.specs.Relations.{AreNumbered, IsPast, HasContent, HasContentAs, HasSettings, HasSettingsAs, NamesOneOf}
 use Rattle.vault_audit_model.specs.Rows.{meta_row, meta_columns, entry_row, entry_columns, content_row, content_columns, setting_row, setting_columns}
 use Rattle.vault_audit_model.specs.Spells.{Spells, IsKept, contents_in, settings_in, meta_of}
 use Rattle.vault_audit_model.specs.Tables.{meta_tree, entries_tree, contents_tree, settings_tree}
-use Rattle.vault_audit_parts.specs.Parts.{AreParts, IsPast, joined, vault_of}
+use Rattle.vault_audit_parts.specs.Parts.{AreParts, joined, vault_of}
 use Rattle.vault_audit_parts.proofs.JoinLemmas.{entries_in, joined_entries, joined_contents, joined_settings, items_same, entry_found, joined_contents_are, joined_settings_are}
 
 -- ---- lists

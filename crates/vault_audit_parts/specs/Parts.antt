@@ -1,24 +1,21 @@
 -- What the tables tell, each by itself, and the vault that this makes.
-use Rattle.std.specs.Prelude.{◌≡◌, ℕ, ◌+◌, ◌≤◌, List, [], ◌∷◌, length, map, sum_by, IsSome, IsTrue, IsPermutation}
+use Rattle.std.specs.Prelude.{◌≡◌, ℕ, ◌+◌, ◌≤◌, List, [], ◌∷◌, length, map, IsSome, IsTrue, IsPermutation}
 use Rattle.std.specs.List.{AllByRecursion, list_any}
 use Rattle.std.specs.Str.{bytes_eq}
 use Rattle.sqlite_value.specs.declared.value.Value.TheVariants.{Text}
 use Rattle.sqlite_value.specs.Order.{column}
 use Rattle.sqlite.specs.Effect.{Database}
 use Rattle.vault_rules.specs.Rules.{passes_if_given}
-use Rattle.vault_tally.specs.Row.{size_of, quota}
 use Rattle.vault_core_model.specs.declared.records.Bucket.{Bucket}
 use Rattle.vault_core_model.specs.declared.records.Caller.{Caller}
 use Rattle.vault_core_model.specs.declared.records.Entry.{Entry}
 use Rattle.vault_core_model.specs.declared.records.History.{History}
 use Rattle.vault_core_model.specs.declared.records.Note.{Note}
 use Rattle.vault_core_model.specs.Order.{IsAscending, name_cmp, caller_cmp}
-use Rattle.vault_core_model.specs.Sound.{LiesBetween}
-use Rattle.vault_core_model.specs.Totals.{items_in}
 use Rattle.vault_core_model.specs.Vault.{Vault, config_in}
 use Rattle.vault_audit_model.specs.declared.rows.MetaRow.{MetaRow}
 use Rattle.vault_audit_model.specs.Limits.{IsMetaRow, IsPlainName, IsCaller}
-use Rattle.vault_audit_model.specs.Relations.{AreEntries, AreContents, AreSettings, AreNotes, AreBuckets}
+use Rattle.vault_audit_model.specs.Relations.{AreEntries, AreContents, AreSettings, AreNotes, AreBuckets, IsPast, IsWithin}
 use Rattle.vault_audit_model.specs.Rows.{meta_row, caller_row, meta_columns, caller_columns}
 use Rattle.vault_audit_model.specs.Tables.{vault_schema, meta_tree, departments_tree, callers_tree}
 
@@ -38,10 +35,6 @@ AreCallers db cs =
 abbrev pub IsMeta : Database → List Entry → MetaRow → Type 0
 IsMeta db es m =
     IsPermutation (meta_row m ∷ []) (map meta_columns (db.trees meta_tree)) × IsMetaRow m × (m.next ≡ length es + 1)
-
--- admitted by the last moment, and removed, if it was, from then to the last moment
-abbrev pub IsPast : ℕ → Entry → Type 0
-IsPast last e = (e.admitted ≤ last) × LiesBetween e.admitted last e.removal
 
 -- the department of that name is one of these
 abbrev pub IsAmong : List (List ℕ) → List ℕ → Type 0
@@ -83,4 +76,4 @@ pub record AreParts (db : Database) (m : MetaRow) (departments : List (List ℕ)
   pub employed : AllByRecursion (WorksFor departments) callers
   pub owned : AllByRecursion (λ (b : Bucket). IsAmong departments b.config.dept) buckets
   pub placed : AllByRecursion (λ (e : Entry). IsSome (config_in buckets e.bucket)) entries
-  pub within : (dept : List ℕ) → sum_by size_of (items_in buckets dept contents) ≤ quota
+  pub within : (dept : List ℕ) → IsWithin buckets contents dept
