@@ -1,6 +1,6 @@
 -- The walk over the entries by their ids.
 use Rattle.std.specs.Ordering.{int_cmp}
-use Rattle.std.proofs.Common.{◌<◌, ◌≡◌, ℕ, ◌+◌, pos, List, [], ◌∷◌, length, map, true, false, Bool, Some, None, Option, Ordering, Less, IsPermutation, IsSorted, refl, sym, ap, subst, ◌∙◌, arith, add-zero}
+use Rattle.std.proofs.Common.{◌<◌, ◌≡◌, ℕ, ◌+◌, pos, List, [], ◌∷◌, length, map, true, false, Some, None, Less, IsPermutation, IsSorted, refl, sym, ap, ◌∙◌, arith, add-zero}
 use Rattle.std.specs.List.{AllByRecursion}
 use Rattle.sqlite_value.specs.Order.{Row}
 use Rattle.sqlite_value.proofs.OrderLemmas.{value_cmp-Int}
@@ -17,7 +17,7 @@ use Rattle.vault_audit_walk.specs.Walk.{Walked}
 use Rattle.vault_audit_walk.proofs.ScanLemmas.{walked, first_cmp}
 use Rattle.vault_audit_walk.proofs.PassLemmas.{walk_yes, walk_no}
 use Rattle.vault_audit.specs.declared.numbers.NumberPass.{NumberPass}
-use Rattle.vault_audit_model.specs.Relations.{GoesOn, AreNumbered}
+use Rattle.vault_audit_model.specs.Relations.{AreNumbered}
 use Rattle.vault_audit.specs.Numbers.{ComesNext, with_entry, AreEntriesUpTo}
 use Rattle.vault_audit.proofs.TextLemmas.{numbers_walk, numbers_walk_is, numbers_walk_plain}
 

@@ -5,6 +5,8 @@ use Rattle.std.proofs.lemmas.Cmp.{nat_list_cmp_total, nat_cmp_total, tied_itself
 use Rattle.sqlite_value.specs.declared.value.Value.TheVariants.{Text}
 use Rattle.sqlite_value.specs.Order.{column}
 use Rattle.sqlite.specs.Effect.{Database}
+use Rattle.sqlite_rules.specs.Lists.{Has}
+use Rattle.sqlite_rules.proofs.ListLemmas.{all_has}
 use Rattle.vault_rules.specs.Rules.{is_rule_set, passes_if_given}
 use Rattle.vault_rules.specs.declared.rule.Rule.{Rule}
 use Rattle.vault_core_model.specs.declared.records.Bucket.{Bucket}
@@ -25,7 +27,7 @@ use Rattle.vault_audit_model.specs.Spells.{Spells, meta_of, bucket_of, rules_fro
 use Rattle.vault_audit_model.specs.Tables.{meta_tree, departments_tree, callers_tree, buckets_tree, rules_tree, entries_tree, contents_tree, settings_tree, intake_tree}
 use Rattle.vault_audit_model.proofs.SameRows.{text_same, same_meta, same_caller, same_bucket, same_rule, same_entry, same_content, same_setting, same_note}
 use Rattle.vault_core_laws.proofs.NameOrder.{callers_total, buckets_total, notes_total}
-use Rattle.vault_audit_laws.proofs.Members.{Stands, IsWithin, at_stands, matched, within_by_rows, tied_same, same_ascending, AreNumberedFrom, ascending_numbered, by_number_total, same_parts}
+use Rattle.vault_audit_laws.proofs.Members.{IsWithin, matched, within_by_rows, tied_same, same_ascending, AreNumberedFrom, ascending_numbered, by_number_total, same_parts}
 
 -- ---- parts at their places
 
@@ -83,21 +85,21 @@ same_settings id place rs ss there back =
 
 -- ---- parts name what they are of
 
-rules_of_name : (name : List ℕ) (place : ℕ) (rules : List Rule) (r : RuleRow) → Stands r (rules_from name place rules) → r.bucket ≡ name
+rules_of_name : (name : List ℕ) (place : ℕ) (rules : List Rule) (r : RuleRow) → Has (rules_from name place rules) r → r.bucket ≡ name
 rules_of_name name place [] r h = elim h [ ]
 rules_of_name name place (s ∷ ss) r (inl e) = ap (λ (x : RuleRow). x.bucket) e
 rules_of_name name place (s ∷ ss) r (inr h) = rules_of_name name (place + 1) ss r h
 
-rules_given_name : (name : List ℕ) (rules : Option (List Rule)) (r : RuleRow) → Stands r (rules_if_given name rules) → r.bucket ≡ name
+rules_given_name : (name : List ℕ) (rules : Option (List Rule)) (r : RuleRow) → Has (rules_if_given name rules) r → r.bucket ≡ name
 rules_given_name name None r h = elim h [ ]
 rules_given_name name (Some rules) r h = rules_of_name name 1 rules r h
 
-content_of_id : (id : ℕ) (content : Option (List ℕ)) (c : ContentRow) → Stands c (content_if_given id content) → c.id ≡ id
+content_of_id : (id : ℕ) (content : Option (List ℕ)) (c : ContentRow) → Has (content_if_given id content) c → c.id ≡ id
 content_of_id id None c h = elim h [ ]
 content_of_id id (Some bytes) c (inl e) = ap (λ (x : ContentRow). x.id) e
 content_of_id id (Some bytes) c (inr h) = elim h [ ]
 
-settings_of_id : (id place : ℕ) (settings : List Setting) (s : SettingRow) → Stands s (settings_from id place settings) → s.id ≡ id
+settings_of_id : (id place : ℕ) (settings : List Setting) (s : SettingRow) → Has (settings_from id place settings) s → s.id ≡ id
 settings_of_id id place [] s h = elim h [ ]
 settings_of_id id place (t ∷ ts) s (inl e) = ap (λ (x : SettingRow). x.id) e
 settings_of_id id place (t ∷ ts) s (inr h) = settings_of_id id (place + 1) ts s h
@@ -113,11 +115,11 @@ ids_numbered n (h ∷ hs) ids = (ids.0, ids_numbered (n + 1) hs ids.1)
 
 -- ---- records of one name or id
 
-one_bucket : (bs : List Bucket) → IsAscending bucket_cmp bs → (a b : Bucket) → Stands a bs → Stands b bs → a.name ≡ b.name → a ≡ b
+one_bucket : (bs : List Bucket) → IsAscending bucket_cmp bs → (a b : Bucket) → Has bs a → Has bs b → a.name ≡ b.name → a ≡ b
 one_bucket bs ascending a b in_a in_b same =
     tied_same bucket_cmp buckets_total bs ascending a b in_a in_b (subst (λ n. name_cmp a.name n ≡ Equal) same (tied_itself nat_list_cmp_total a.name))
 
-one_history : (hs : List History) → IsAscending (on id_of nat_cmp) hs → (g h : History) → Stands g hs → Stands h hs → g.entry.id ≡ h.entry.id → g ≡ h
+one_history : (hs : List History) → IsAscending (on id_of nat_cmp) hs → (g h : History) → Has hs g → Has hs h → g.entry.id ≡ h.entry.id → g ≡ h
 one_history hs ascending g h in_g in_h same =
     tied_same (on id_of nat_cmp) (by_number_total id_of) hs ascending g h in_g in_h (subst (λ n. nat_cmp g.entry.id n ≡ Equal) same (tied_itself nat_cmp_total g.entry.id))
 
@@ -164,36 +166,36 @@ module _ (db : Database) where
   settings_within : (v w : Vault) → Spells db v → Spells db w → IsWithin (flat_map settings_in v.histories) (flat_map settings_in w.histories)
   settings_within v w it is = within_by_rows setting_row same_setting (flat_map settings_in v.histories) (flat_map settings_in w.histories) (map setting_columns (db.trees settings_tree)) it.settings is.settings
 
-  bucket_rules : (v w : Vault) → Spells db v → Spells db w → (a b : Bucket) → Stands a v.buckets → Stands b w.buckets → a.name ≡ b.name → IsWithin (rules_in a) (rules_in b)
+  bucket_rules : (v w : Vault) → Spells db v → Spells db w → (a b : Bucket) → Has v.buckets a → Has w.buckets b → a.name ≡ b.name → IsWithin (rules_in a) (rules_in b)
   bucket_rules v w it is =
       same_parts (λ (b : Bucket). b.name) (λ (r : RuleRow). r.bucket) rules_in (λ b r h. rules_given_name b.name b.rules r h) v.buckets w.buckets
       (one_bucket w.buckets is.kept.sound.ordered.buckets) (rules_within v w it is)
 
-  history_content : (v w : Vault) → Spells db v → Spells db w → (g h : History) → Stands g v.histories → Stands h w.histories → g.entry.id ≡ h.entry.id → IsWithin (contents_in g) (contents_in h)
+  history_content : (v w : Vault) → Spells db v → Spells db w → (g h : History) → Has v.histories g → Has w.histories h → g.entry.id ≡ h.entry.id → IsWithin (contents_in g) (contents_in h)
   history_content v w it is =
       same_parts id_of (λ (c : ContentRow). c.id) contents_in (λ h c there. content_of_id h.entry.id h.content c there) v.histories w.histories
       (one_history w.histories (ordered_ids w is)) (contents_within v w it is)
 
-  history_settings : (v w : Vault) → Spells db v → Spells db w → (g h : History) → Stands g v.histories → Stands h w.histories → g.entry.id ≡ h.entry.id → IsWithin (settings_in g) (settings_in h)
+  history_settings : (v w : Vault) → Spells db v → Spells db w → (g h : History) → Has v.histories g → Has w.histories h → g.entry.id ≡ h.entry.id → IsWithin (settings_in g) (settings_in h)
   history_settings v w it is =
       same_parts id_of (λ (s : SettingRow). s.id) settings_in (λ h s there. settings_of_id h.entry.id 1 h.settings s there) v.histories w.histories
       (one_history w.histories (ordered_ids w is)) (settings_within v w it is)
 
-  same_bucket_there : (v w : Vault) → Spells db v → Spells db w → (a b : Bucket) → Stands a v.buckets → Stands b w.buckets → bucket_of a ≡ bucket_of b → a ≡ b
+  same_bucket_there : (v w : Vault) → Spells db v → Spells db w → (a b : Bucket) → Has v.buckets a → Has w.buckets b → bucket_of a ≡ bucket_of b → a ≡ b
   same_bucket_there v w it is a b in_v in_w same =
       let name : a.name ≡ b.name = ap (λ r. r.name) same in
       let there = subst (λ n. IsWithin (rules_in a) (rules_if_given n b.rules)) (sym name) (bucket_rules v w it is a b in_v in_w name) in
       let back = subst (λ n. IsWithin (rules_if_given n b.rules) (rules_in a)) (sym name) (bucket_rules w v is it b a in_w in_v (sym name)) in
       let rules : a.rules ≡ b.rules =
-      same_rules_given a.name a.rules b.rules (at_stands HasRuleSet a v.buckets it.kept.sound.rule_sets in_v) (at_stands HasRuleSet b w.buckets is.kept.sound.rule_sets in_w) there back in
+      same_rules_given a.name a.rules b.rules (all_has HasRuleSet v.buckets a it.kept.sound.rule_sets in_v) (all_has HasRuleSet w.buckets b is.kept.sound.rule_sets in_w) there back in
       alike_buckets a.name b.name a.config b.config a.rules b.rules name (ap (λ r. r.config) same) rules
 
   buckets_within : (v w : Vault) → Spells db v → Spells db w → IsWithin v.buckets w.buckets
   buckets_within v w it is a in_v =
       let found = matched (λ b. bucket_row (bucket_of b)) v.buckets w.buckets (map bucket_columns (db.trees buckets_tree)) it.buckets is.buckets a in_v in
-      subst (λ b. Stands b w.buckets) (sym (same_bucket_there v w it is a found.0 in_v found.1 (same_bucket (bucket_of a) (bucket_of found.0) found.2))) found.1
+      subst (λ b. Has w.buckets b) (sym (same_bucket_there v w it is a found.0 in_v found.1 (same_bucket (bucket_of a) (bucket_of found.0) found.2))) found.1
 
-  same_history_there : (v w : Vault) → Spells db v → Spells db w → (g h : History) → Stands g v.histories → Stands h w.histories → g.entry ≡ h.entry → g ≡ h
+  same_history_there : (v w : Vault) → Spells db v → Spells db w → (g h : History) → Has v.histories g → Has w.histories h → g.entry ≡ h.entry → g ≡ h
   same_history_there v w it is g h in_v in_w same =
       let id : g.entry.id ≡ h.entry.id = ap (λ e. e.id) same in
       let content : g.content ≡ h.content =
@@ -207,7 +209,7 @@ module _ (db : Database) where
   histories_within : (v w : Vault) → Spells db v → Spells db w → IsWithin v.histories w.histories
   histories_within v w it is g in_v =
       let found = matched (λ h. entry_row h.entry) v.histories w.histories (map entry_columns (db.trees entries_tree)) it.entries is.entries g in_v in
-      subst (λ h. Stands h w.histories) (sym (same_history_there v w it is g found.0 in_v found.1 (same_entry g.entry found.0.entry found.2))) found.1
+      subst (λ h. Has w.histories h) (sym (same_history_there v w it is g found.0 in_v found.1 (same_entry g.entry found.0.entry found.2))) found.1
 
   same_last : (v w : Vault) → Spells db v → Spells db w → v.last ≡ w.last
   same_last v w it is =
