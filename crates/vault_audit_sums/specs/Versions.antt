@@ -1,10 +1,10 @@
 -- The sums over the versions in some buckets, taken over the entries one by one.
-use Rattle.std.specs.Prelude.{◌≡◌, ℕ, ◌+◌, ◌≤◌, Bool, true, false, not, ◌&&◌, List, [], ◌∷◌, ◌++◌, option_map, IsTrue}
+use Rattle.std.specs.Prelude.{◌≡◌, ℕ, ◌+◌, ◌≤◌, Bool, true, false, not, ◌&&◌, List, [], ◌∷◌, ◌++◌, Option, Some, None, option_map, sum_by, IsTrue}
 use Rattle.std.specs.List.{list_any}
 use Rattle.std.specs.Str.{bytes_eq}
 use Rattle.sqlite_value.specs.Order.{Row as Values}
 use Rattle.vault_base.specs.Days.{day}
-use Rattle.vault_tally.specs.Row.{Item, IsRowOf, AreBounded, quota}
+use Rattle.vault_tally.specs.Row.{Item, IsRowOf, AreBounded, size_of, quota}
 use Rattle.vault_tally.specs.declared.row.Row.{Row}
 use Rattle.vault_core_model.specs.declared.records.Entry.{Entry}
 use Rattle.vault_audit_model.specs.Limits.{IsEntry}
@@ -44,3 +44,8 @@ GoesIn p row q = (e : Entry) × (row ≡ entry_row e) × (q.names ≡ p.names) �
 -- the row tells no entry, or one that counts and is above the quota
 abbrev pub GoesBeyond : SumPass → Values → Type 0
 GoesBeyond p row = (e : Entry) → row ≡ entry_row e → IsEntry e → IsTrue (counts p.names.items e) × (¬ (p.sums.admitted + e.size ≤ quota))
+
+-- the row of the versions in these buckets; or they are above the quota
+abbrev pub IsSumOf : List (List ℕ) → List Entry → Option Row → Type 0
+IsSumOf names es (Some sums) = IsRowOf sums (items_told names es) × (sum_by size_of (items_told names es) ≤ quota)
+IsSumOf names es None = ¬ (sum_by size_of (items_told names es) ≤ quota)
