@@ -95,7 +95,7 @@ extended es row =
 abbrev with_beside : Row → Row → Row
 with_beside r x = column r 0 ∷ column r 2 ∷ column x 4 ∷ column x 5 ∷ column x 9 ∷ []
 
-one_each : (f : Row → List Row) (g : Row → Row) → ((r : Row) → f r ≡ g r ∷ []) → (rows : List Row) → flat_map f rows ≡ map g rows
+pub one_each : (f : Row → List Row) (g : Row → Row) → ((r : Row) → f r ≡ g r ∷ []) → (rows : List Row) → flat_map f rows ≡ map g rows
 one_each f g same [] = refl
 one_each f g same (r ∷ rows) = rw (same r) (ap (λ xs. g r ∷ xs) (one_each f g same rows))
 

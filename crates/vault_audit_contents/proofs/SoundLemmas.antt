@@ -62,7 +62,7 @@ module _ (db : Database) (es : List Entry) (are : AreEntries db es) (held count 
       let same = same_if held count h in
       let size = told.2 in
       let rows = it.1.contents in
-      (it.0, it.1.entries, subst (λ (xs : List ContentRow). IsPermutation (map content_row xs) (map content_columns (db.trees contents_tree))) (sym rows) its.0, it.1.all (omega (arith, all, same, size)))
+      (it.0, (it.1.entries, subst (λ (xs : List ContentRow). IsPermutation (map content_row xs) (map content_columns (db.trees contents_tree))) (sym rows) its.0, it.1.all (omega (arith, all, same, size))))
   as_many false h = λ hs it.
       let its = given_of db es hs are it in
       let n = its.count in
