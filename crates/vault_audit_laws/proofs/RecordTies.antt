@@ -58,6 +58,10 @@ found_in (c ∷ cs) name b (inr there) same =
     elim (bytes_eq c.name name) as (λ t. IsSome (option_map (λ (x : Bucket). x.config) (cond t (Some c) (find (λ (x : Bucket). bytes_eq x.name name) cs))))
     [ true ↦ refl | false ↦ found_in cs name b there same ]
 
+placed_by : (buckets : List Bucket) (name : List ℕ) (row : Row) (b : Bucket) → Has buckets b → Text name ≡ column row 1 → bucket_columns row ≡ bucket_row (bucket_of b) → IsSome (config_in buckets name)
+placed_by buckets name row b there is same =
+    found_in buckets name b there ((bytes_eq-Decides b.name name).1 (sym (text_same name b.name (is ∙ ap (λ r. column r 0) same))))
+
 module _ (db : Database) (tied : AreTied db) where
   pub callers_employed : (departments : List (List ℕ)) (callers : List Caller) → IsPermutation (map (λ d. Text d) departments) (map (λ r. column r 1) (db.trees departments_tree))
       → IsPermutation (map caller_row callers) (map caller_columns (db.trees callers_tree)) → AllByRecursion (λ (c : Caller). IsTrue (passes_if_given (is_among departments) c.dept)) callers
@@ -84,5 +88,4 @@ module _ (db : Database) (tied : AreTied db) where
       (in_column entry_row entry_columns 1 entries (db.trees entries_tree) are 2 (λ r. refl) e there) in
       let row = has_mapped (λ r. column r 1) (db.trees buckets_tree) (Text e.bucket) (given_text names e.bucket tie) in
       let found = has_mapped (λ b. bucket_row (bucket_of b)) buckets (bucket_columns row.0) (permuted_within (map (λ b. bucket_row (bucket_of b)) buckets) (map bucket_columns (db.trees buckets_tree)) held (bucket_columns row.0) (mapped_has bucket_columns (db.trees buckets_tree) row.0 row.1)) in
-      let same : e.bucket ≡ found.0.name = text_same e.bucket found.0.name (row.2 ∙ ap (λ r. column r 0) found.2) in
-      found_in buckets e.bucket found.0 found.1 ((bytes_eq-Decides found.0.name e.bucket).1 (sym same)))
+      placed_by buckets e.bucket row.0 found.0 found.1 row.2 found.2)
