@@ -1,5 +1,5 @@
 -- What the references between rows say of the records that the rows tell.
-use Rattle.std.proofs.Common.{◌≡◌, ◌⊎◌, inl, inr, ℕ, Bool, true, false, cond, List, [], ◌∷◌, map, find, Option, Some, None, option_map, IsSome, IsTrue, IsPermutation, refl, sym, ap, subst, ◌∙◌}
+use Rattle.std.proofs.Common.{◌≡◌, ◌⊎◌, inl, inr, ℕ, true, false, cond, List, [], ◌∷◌, map, find, Option, Some, None, option_map, IsSome, IsTrue, IsPermutation, refl, sym, ap, subst, ◌∙◌}
 use Rattle.std.specs.List.{AllByRecursion}
 use Rattle.std.specs.Str.{bytes_eq}
 use Rattle.std.proofs.lemmas.List.Sorted.{IsPermutation-sym}
@@ -21,7 +21,7 @@ use Rattle.vault_audit_model.specs.Spells.{bucket_of}
 use Rattle.vault_audit_model.specs.Tables.{departments_tree, callers_tree, buckets_tree, entries_tree}
 use Rattle.vault_audit_model.specs.Values.{text_or_null}
 use Rattle.vault_audit_model.proofs.SameRows.{text_same}
-use Rattle.vault_audit_laws.specs.Ties.{HaveParents, AreTied, is_among}
+use Rattle.vault_audit_laws.specs.Ties.{AreTied, is_among}
 use Rattle.vault_audit_laws.proofs.Members.{permuted_within}
 
 -- the value that a record's row has in a column stands in that column of its table
@@ -65,17 +65,17 @@ placed_by buckets name row b there is same =
 module _ (db : Database) (tied : AreTied db) where
   pub callers_employed : (departments : List (List ℕ)) (callers : List Caller) → IsPermutation (map (λ d. Text d) departments) (map (λ r. column r 1) (db.trees departments_tree))
       → IsPermutation (map caller_row callers) (map caller_columns (db.trees callers_tree)) → AllByRecursion (λ (c : Caller). IsTrue (passes_if_given (is_among departments) c.dept)) callers
-  callers_employed departments callers named_ are =
+  callers_employed departments callers told are =
       all_from (λ (c : Caller). IsTrue (passes_if_given (is_among departments) c.dept)) callers (λ c there.
-      among_if_given departments (map (λ r. column r 1) (db.trees departments_tree)) c.dept named_
+      among_if_given departments (map (λ r. column r 1) (db.trees departments_tree)) c.dept told
       (all_has (λ v. (v ≡ Null) ⊎ Has (map (λ r. column r 1) (db.trees departments_tree)) v) (map (λ r. column r 2) (db.trees callers_tree)) (text_or_null c.dept) tied.departments_of_callers
       (in_column caller_row caller_columns 1 callers (db.trees callers_tree) are 2 (λ r. refl) c there)))
 
   pub buckets_owned : (departments : List (List ℕ)) (buckets : List Bucket) → IsPermutation (map (λ d. Text d) departments) (map (λ r. column r 1) (db.trees departments_tree))
       → IsPermutation (map (λ b. bucket_row (bucket_of b)) buckets) (map bucket_columns (db.trees buckets_tree)) → AllByRecursion (λ (b : Bucket). IsTrue (is_among departments b.config.dept)) buckets
-  buckets_owned departments buckets named_ are =
+  buckets_owned departments buckets told are =
       all_from (λ (b : Bucket). IsTrue (is_among departments b.config.dept)) buckets (λ b there.
-      among departments (map (λ r. column r 1) (db.trees departments_tree)) b.config.dept named_
+      among departments (map (λ r. column r 1) (db.trees departments_tree)) b.config.dept told
       (all_has (λ v. (v ≡ Null) ⊎ Has (map (λ r. column r 1) (db.trees departments_tree)) v) (map (λ r. column r 2) (db.trees buckets_tree)) (Text b.config.dept) tied.departments_of_buckets
       (in_column (λ x. bucket_row (bucket_of x)) bucket_columns 1 buckets (db.trees buckets_tree) are 2 (λ r. refl) b there)))
 
