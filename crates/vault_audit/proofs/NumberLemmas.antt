@@ -9,6 +9,7 @@ use Rattle.sqlite_sql.specs.Term.{col}
 use Rattle.sqlite.specs.Effect.{Database}
 use Rattle.sqlite.specs.State.{State, Shown, IsUnchanged}
 use Rattle.vault_core_model.specs.declared.records.Entry.{Entry}
+use Rattle.vault_audit_model.proofs.SameRows.{same_entry}
 use Rattle.vault_audit_model.specs.Rows.{entry_row, entry_columns}
 use Rattle.vault_audit_model.specs.Tables.{vault_schema, entries_tree}
 use Rattle.vault_audit_walk.specs.Pass.{Takes, Refuses, AllFit, after}
@@ -18,7 +19,6 @@ use Rattle.vault_audit_walk.proofs.PassLemmas.{walk_yes, walk_no}
 use Rattle.vault_audit.specs.declared.numbers.NumberPass.{NumberPass}
 use Rattle.vault_audit_model.specs.Relations.{AreNumbered}
 use Rattle.vault_audit.specs.Numbers.{ComesNext, with_entry, AreEntriesUpTo}
-use Rattle.vault_audit_model.proofs.SameRows.{same_entry}
 use Rattle.vault_audit.proofs.TextLemmas.{numbers_walk, numbers_walk_is, numbers_walk_plain}
 
 abbrev Fit : NumberPass → List Entry → Type 0
@@ -49,19 +49,24 @@ above p x (e ∷ es) less fit =
     let below : x.id < e.id = omega (arith, fit.0.1.0) in
     (value_cmp-Int (pos x.id) (pos e.id) ∙ rises x.id e.id below, above (with_entry p e) x es (omega arith) fit.1)
 
+-- so their rows rise
 rise : (p : NumberPass) (es : List Entry) → Fit p es → IsAscending (λ a b. first_cmp a b ≡ Less) (map entry_row es)
 rise p [] fit = tt
 rise p (e ∷ es) fit = (above (with_entry p e) e es (omega (arith, fit.0.1.0)) fit.1, rise (with_entry p e) es fit.1)
 
-abbrev source : Database → List Row
+abbrev pub source : Database → List Row
 source db = map entry_columns (db.trees entries_tree)
 
-answers : (a b : State) → a.now.schema ≡ vault_schema → (rows : List Row) → Shown numbers_walk [] a b rows → IsPermutation (source a.now) rows × IsSorted first_cmp rows
+pub answers : (a b : State) → a.now.schema ≡ vault_schema → (rows : List Row) → Shown numbers_walk [] a b rows → IsPermutation (source a.now) rows × IsSorted first_cmp rows
 answers a b schema rows shown =
     walked numbers_walk a b vault_schema schema numbers_walk_plain numbers_walk_is.1 9 0 (col 1 2 ∷ col 1 3 ∷ col 1 4 ∷ col 1 5 ∷ col 1 6 ∷ col 1 7 ∷ col 1 8 ∷ col 1 9 ∷ col 1 10 ∷ col 1 11 ∷ col 1 12 ∷ []) _ numbers_walk_is.0 refl rows shown
 
 abbrev start : NumberPass
 start = record { next = 1; low = 0 }
+
+-- the rows of numbered entries rise
+pub rising : (es : List Entry) → AreNumbered 1 0 es → IsAscending (λ a b. first_cmp a b ≡ Less) (map entry_row es)
+rising es are = rise start es (fitting start es are)
 
 module _ (old new : State) (has : old.now.schema ≡ vault_schema) (same : IsUnchanged old new) (r : NumberPass) where
   pub numbers_yes : Walked (Takes entry_row ComesNext with_entry) (Refuses entry_row ComesNext with_entry) numbers_walk old new start r true → AreEntriesUpTo new.now (Some r.next)
