@@ -165,12 +165,12 @@ fn find_removable<K: Keeper>(
     ensures counted { K.count keeper.old ≤ K.count keeper.new }
     ensures device { IsTrue (is_device result) → Rose (K.count keeper.old) (K.count keeper.new) }
 {
-    let entry = find_held(keeper, &command.bucket, &command.key, command.id)?;
+    let marker = find_held(keeper, &command.bucket, &command.key, command.id)?.marker;
     let lock = find_setting(keeper, command.id)?.lock;
     let permit = check_removal(&lock, at, command.bypass, access.caller.rights.bypass)?;
     Ok(Removed {
         id: command.id,
-        marker: entry.marker,
+        marker,
         permit,
     })
 }
