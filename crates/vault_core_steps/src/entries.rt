@@ -156,8 +156,10 @@ pub fn delete_version<K: Keeper>(
     ensures counted { K.count keeper.old ≤ K.count keeper.new }
     ensures device { IsTrue (is_device result) → Rose (K.count keeper.old) (K.count keeper.new) }
 {
-    let access = find_access(keeper, at, who, &command.bucket, Right::DeleteVersion)?;
-    let removed = find_removable(keeper, at, &access, command)?;
+    let removed = {
+        let access = find_access(keeper, at, who, &command.bucket, Right::DeleteVersion)?;
+        find_removable(keeper, at, &access, command)
+    }?;
     let removal = removal_by(at, who, removed.permit)?;
     make_change(keeper, at, Change::Remove(command.id, removal))?;
     Ok(Answer::Removed(removed))

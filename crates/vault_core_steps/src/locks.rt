@@ -70,8 +70,10 @@ pub fn set_retention<K: Keeper>(
     ensures counted { K.count keeper.old ≤ K.count keeper.new }
     ensures device { IsTrue (is_device result) → Rose (K.count keeper.old) (K.count keeper.new) }
 {
-    let access = find_access(keeper, at, who, &command.bucket, Right::Retain)?;
-    let NextSetting { id, setting } = find_next_retention(keeper, at, who, command, &access)?;
+    let NextSetting { id, setting } = {
+        let access = find_access(keeper, at, who, &command.bucket, Right::Retain)?;
+        find_next_retention(keeper, at, who, command, &access)
+    }?;
     make_change(keeper, at, Change::AddSetting(id, setting))?;
     Ok(Answer::Nothing)
 }
