@@ -1,25 +1,19 @@
 -- Rows of a table, each beside the entry that it names.
-use Rattle.std.specs.Ordering.{int_cmp, on, ordering_then, is_eq, is_lt}
-use Rattle.std.proofs.Common.{◌≡◌, ◌⊎◌, ◌<◌, inl, inr, ℕ, ◌+◌, pos, negsuc, List, [], ◌∷◌, ◌++◌, length, map, filter, flat_map, find, Bool, true, false, ◌==◌, ◌&&◌, cond, Option, Some, None, Ordering, Less, Equal, Greater, All, IsPermutation, IsSorted, refl, sym, ap, subst, ◌∙◌, true≢false, arith}
-use Rattle.std.specs.List.{AllByRecursion, list_all}
+use Rattle.std.specs.Ordering.{int_cmp, is_eq}
+use Rattle.std.proofs.Common.{◌≡◌, ◌⊎◌, ◌<◌, inl, inr, ℕ, ◌+◌, pos, List, [], ◌∷◌, map, filter, find, Bool, true, false, ◌==◌, Option, Some, None, Ordering, Less, Equal, Greater, IsPermutation, refl, sym, ap, subst, ◌∙◌, true≢false, arith}
 use Rattle.std.specs.Prelude.{slice_get}
 use Rattle.std.proofs.lemmas.Cmp.{alike_right}
-use Rattle.std.proofs.lemmas.List.{get_or-map, length-map}
-use Rattle.std.proofs.lemmas.List.Elements.{All-from_recursion}
-use Rattle.std.proofs.lemmas.List.Sorted.{IsPermutation-map, IsPermutation-sym, IsPermutation-trans, All-permutation, length_permutation}
-use Rattle.sqlite_trees.specs.Tree.{Trees}
-use Rattle.sqlite_keyed.proofs.ListLemmas.{map-map, map-flat_map, filter-map, filter_same, slice_get-filter, IsPermutation-filter}
+use Rattle.std.proofs.lemmas.List.Sorted.{length_permutation}
+use Rattle.sqlite_keyed.proofs.ListLemmas.{filter-map, slice_get-filter, IsPermutation-filter}
 use Rattle.sqlite_value.specs.declared.value.Value.{Value}
 use Rattle.sqlite_value.specs.declared.value.Value.TheVariants.{Null, Int, Real, Text, Blob}
-use Rattle.sqlite_value.specs.declared.keys.Key.{Key}
 use Rattle.sqlite_value.specs.declared.keys.Collation.TheVariants.{Binary}
 use Rattle.sqlite_value.specs.Order.{Row, column, value_cmp}
 use Rattle.sqlite_value.proofs.OrderLemmas.{value_cmp_total, value_cmp-Int}
 use Rattle.sqlite_sql.specs.declared.ops.BinaryOp.TheVariants.{Compare}
 use Rattle.sqlite_sql.specs.declared.ops.CompareOp.TheVariants.{Eq}
 use Rattle.sqlite_sql.specs.Ops.{binary, is_true, from_truth}
-use Rattle.sqlite_sql.specs.Term.{Term, Env, lit, col, op2, eval_all}
-use Rattle.sqlite_sql.specs.Query.{Query, inner, left, end, or_nulls, IsAnswer, Output, output, output_cmp}
+use Rattle.sqlite_sql.specs.Query.{or_nulls}
 use Rattle.sqlite.proofs.Callers.{one_permutation}
 use Rattle.vault_core_model.specs.declared.records.Entry.{Entry}
 use Rattle.vault_audit_model.specs.Rows.{entry_row, entry_columns}

@@ -1,11 +1,11 @@
 -- The walk over contents beside the entries.
-use Rattle.std.specs.Ordering.{int_cmp, ordering_then, is_lt}
-use Rattle.std.proofs.Common.{◌≡◌, ℕ, ◌+◌, ◌≤◌, ◌<◌, pos, List, [], ◌∷◌, ◌==◌, length, map, filter, flat_map, find, Bool, true, false, Some, None, Option, Ordering, Less, Equal, Greater, All, IsPermutation, IsSorted, refl, sym, ap, subst, ◌∙◌, arith, add-zero}
+use Rattle.std.specs.Ordering.{int_cmp, is_lt}
+use Rattle.std.proofs.Common.{◌≡◌, ℕ, ◌+◌, ◌<◌, pos, List, [], ◌∷◌, ◌==◌, length, map, filter, flat_map, find, true, false, Some, None, Option, Less, IsPermutation, IsSorted, refl, sym, ap, subst, ◌∙◌, arith, add-zero}
 use Rattle.std.specs.List.{AllByRecursion}
 use Rattle.std.proofs.lemmas.List.Elements.{All-from_recursion, recursion_from_All}
-use Rattle.std.proofs.lemmas.List.Sorted.{IsPermutation-map, IsPermutation-sym, IsPermutation-trans, All-permutation}
+use Rattle.std.proofs.lemmas.List.Sorted.{IsPermutation-map, IsPermutation-sym, All-permutation}
 use Rattle.sha2.specs.Sha256.{sha256}
-use Rattle.sqlite_trees.specs.Tree.{Trees, IsAscending}
+use Rattle.sqlite_trees.specs.Tree.{IsAscending}
 use Rattle.sqlite_keyed.proofs.ListLemmas.{map-map}
 use Rattle.sqlite_value.specs.declared.value.Value.{Value}
 use Rattle.sqlite_value.specs.declared.value.Value.TheVariants.{Null, Blob}
@@ -13,7 +13,7 @@ use Rattle.sqlite_value.specs.declared.keys.Collation.TheVariants.{Binary}
 use Rattle.sqlite_value.specs.Keys.{ascending}
 use Rattle.sqlite_value.specs.Order.{Row, column, value_cmp}
 use Rattle.sqlite_value.proofs.OrderLemmas.{value_cmp-Int, then-Equal}
-use Rattle.sqlite_sql.specs.Term.{Env, eval, eval_all, col}
+use Rattle.sqlite_sql.specs.Term.{eval, col}
 use Rattle.sqlite_sql.specs.Query.{or_nulls}
 use Rattle.sqlite.specs.Effect.{Database}
 use Rattle.sqlite.specs.State.{State, Shown, IsUnchanged}
@@ -22,8 +22,8 @@ use Rattle.vault_core_model.specs.declared.records.History.{History}
 use Rattle.vault_core_model.specs.declared.records.Removal.{Removal}
 use Rattle.vault_audit_model.specs.declared.rows.ContentRow.{ContentRow}
 use Rattle.vault_audit_model.specs.Limits.{IsContentRow}
-use Rattle.vault_audit_model.specs.Relations.{AreEntries, AreNumbered, AreContents, HasContent}
-use Rattle.vault_audit_model.specs.Rows.{content_row, content_columns, entry_row, entry_columns, removal_at}
+use Rattle.vault_audit_model.specs.Relations.{AreEntries, AreNumbered, AreContents}
+use Rattle.vault_audit_model.specs.Rows.{content_row, content_columns, entry_columns, removal_at}
 use Rattle.vault_audit_model.specs.Spells.{contents_in}
 use Rattle.vault_audit_model.specs.Tables.{vault_schema, contents_tree, entries_tree}
 use Rattle.vault_audit_model.specs.Values.{number, bytes_or_null}
@@ -36,7 +36,7 @@ use Rattle.vault_audit_contents.specs.Contents.{IsContentOf, IsContentIn, AreRis
 use Rattle.vault_audit_contents.specs.Passes.{ComesLater, with_content}
 use Rattle.vault_audit_contents.proofs.BesideLemmas.{is_of, row_beside, beside, beside_is, beside_number}
 use Rattle.vault_audit_contents.proofs.JoinLemmas.{beside_of, shown_beside, join_rows, joined, IsOrderOf}
-use Rattle.vault_audit_contents.proofs.MergeLemmas.{entries_in, IsGiven, taken}
+use Rattle.vault_audit_contents.proofs.MergeLemmas.{IsGiven, taken}
 use Rattle.vault_audit_contents.proofs.RowLemmas.{same_row}
 use Rattle.vault_audit_contents.proofs.TextLemmas.{contents_walk, contents_shown, contents_walk_is, contents_walk_plain}
 

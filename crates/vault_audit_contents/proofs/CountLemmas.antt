@@ -1,5 +1,5 @@
 -- The count of the held versions.
-use Rattle.std.proofs.Common.{◌≡◌, ℕ, ◌+◌, List, [], ◌∷◌, ◌&&◌, length, map, filter, Bool, true, false, not, is_none, cond, Some, None, Option, IsPermutation, refl, sym, ap, subst, ◌∙◌, arith}
+use Rattle.std.proofs.Common.{◌≡◌, ◌+◌, List, [], ◌∷◌, ◌&&◌, length, map, filter, Bool, true, false, not, is_none, Some, None, Option, IsPermutation, refl, ap, subst, ◌∙◌, arith}
 use Rattle.std.proofs.lemmas.List.{length-map}
 use Rattle.std.proofs.lemmas.List.Sorted.{IsPermutation-map, IsPermutation-trans, length_permutation}
 use Rattle.sqlite_keyed.proofs.ListLemmas.{map-map, filter-map, filter_same, IsPermutation-filter}

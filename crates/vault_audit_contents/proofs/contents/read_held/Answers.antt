@@ -1,4 +1,4 @@
-use Rattle.std.proofs.Common.{rules, ◌≡◌, ◌≤◌, length, sym, ◌∙◌, ap}
+use Rattle.std.proofs.Common.{rules, ◌≡◌, ◌≤◌, length, ◌∙◌, ap}
 use Rattle.sha2.specs.Sha256.{sha256}
 use Rattle.sqlite_value.specs.declared.value.Value.TheVariants.{Null, Blob}
 use Rattle.sqlite_value.specs.Order.{column}
