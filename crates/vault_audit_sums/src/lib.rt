@@ -2,5 +2,6 @@
 #![tactic(auto)]
 
 pub mod department;
+pub mod listed;
 pub mod owned;
 pub mod versions;
