@@ -3,3 +3,4 @@ pub mod SumLemmas
 pub mod OwnedLemmas
 pub mod DepartmentLemmas
 pub mod ListedLemmas
+pub mod TableLemmas

@@ -4,4 +4,5 @@
 pub mod department;
 pub mod listed;
 pub mod owned;
+pub mod sums;
 pub mod versions;
