@@ -1,0 +1,2 @@
+//! The settings of the versions.
+#![tactic(auto)]
