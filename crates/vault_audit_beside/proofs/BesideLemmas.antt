@@ -1,5 +1,5 @@
 -- A query that puts beside each row of a table the rows of another that agree with it, or nothing where there is none.
-use Rattle.std.proofs.Common.{◌≡◌, ◌≢◌, ◌&&◌, ◌==◌, ℕ, pos, negsuc, List, [], ◌∷◌, ◌++◌, map, filter, flat_map, Bool, true, false, not, None, IsPermutation, refl, sym, ap, subst, ◌∙◌, ◌||◌, cond, arith}
+use Rattle.std.proofs.Common.{◌≡◌, ◌≢◌, ◌&&◌, ◌==◌, ℕ, pos, negsuc, List, [], ◌∷◌, ◌++◌, map, filter, flat_map, Bool, true, false, not, None, IsPermutation, refl, sym, ap, ap₂, subst, ◌∙◌, ◌||◌, cond, arith}
 use Rattle.std.specs.List.{AllByRecursion, list_any}
 use Rattle.std.proofs.lemmas.List.Elements.{recursion_from_All, filter_passes}
 use Rattle.std.proofs.lemmas.List.Sorted.{IsPermutation-map, IsPermutation-sym}
@@ -40,13 +40,13 @@ all_from_flat : {A B : Type 0} (P : B → Type 0) (f : A → List B) (xs : List 
 all_from_flat P f [] all = tt
 all_from_flat P f (x ∷ xs) all = (front P (f x) (flat_map f xs) all, all_from_flat P f xs (all_behind P (f x) (flat_map f xs) all))
 
+all_joined : {B : Type 0} (P : B → Type 0) (xs ys : List B) → AllByRecursion P xs → AllByRecursion P ys → AllByRecursion P (xs ++ ys)
+all_joined P [] ys p q = q
+all_joined P (x ∷ xs) ys p q = (p.0, all_joined P xs ys p.1 q)
+
 all_to_flat : {A B : Type 0} (P : B → Type 0) (f : A → List B) (xs : List A) → AllByRecursion (λ x. AllByRecursion P (f x)) xs → AllByRecursion P (flat_map f xs)
 all_to_flat P f [] all = tt
-all_to_flat P f (x ∷ xs) all = join (f x) all.0
-  where
-    join : (ys : List _) → AllByRecursion P ys → AllByRecursion P (ys ++ flat_map f xs)
-    join [] mine = all_to_flat P f xs all.1
-    join (y ∷ ys) mine = (mine.0, join ys mine.1)
+all_to_flat P f (x ∷ xs) all = all_joined P (f x) (flat_map f xs) all.0 (all_to_flat P f xs all.1)
 
 -- ---- SELECT shown, b.c FROM t AS a LEFT JOIN other AS b ON b.c = a.d
 
@@ -169,7 +169,7 @@ empty_filter p [] = refl
 empty_filter p (x ∷ xs) = elim (p x) as (λ b. is_empty (cond b (x ∷ filter p xs) (filter p xs)) ≡ not (b || list_any p xs)) [ true ↦ refl | false ↦ empty_filter p xs ]
 
 module _ (shown : Term) (c d : ℕ) (r : Row) (b : Bool) (tells : (s : Row) → eval shown ([] ∷ r ∷ s ∷ []) ≡ flag b) where
-  is_beside : Row → Bool
+  abbrev is_beside : Row → Bool
   is_beside s = agrees (column s c) (column r d) && true
 
   abbrev pub is_met : List Row → Bool
@@ -177,7 +177,7 @@ module _ (shown : Term) (c d : ℕ) (r : Row) (b : Bool) (tells : (s : Row) → 
 
   any_same : (xs : List Row) → list_any is_beside xs ≡ is_met xs
   any_same [] = refl
-  any_same (x ∷ xs) = rw (and_true (agrees (column x c) (column r d)), any_same xs) refl
+  any_same (x ∷ xs) = ap₂ ◌||◌ (and_true (agrees (column x c) (column r d))) (any_same xs)
 
   none_there : (others : List Row) → is_empty (filter is_beside others) ≡ not (is_met others)
   none_there others = empty_filter is_beside others ∙ ap not (any_same others)
