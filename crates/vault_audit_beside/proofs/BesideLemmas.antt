@@ -108,11 +108,12 @@ pub record LooksBeside (schema : Schema) (sql : List ℕ) (t other : ℕ) (shown
   pub unlisted : reads_listing schema sql ≡ false
   pub plain : IsPlain (understood schema sql)
 
-module _ {schema : Schema} {sql : List ℕ} {t other : ℕ} {shown : Term} {c d : ℕ} {names : List (List ℕ)} (it : LooksBeside schema sql t other shown c d names) (bare : (trees : Trees) → overlay trees [] ≡ trees) where
+module _ {schema : Schema} {sql : List ℕ} {t other : ℕ} {shown : Term} {c d : ℕ} {names : List (List ℕ)} (it : LooksBeside schema sql t other shown c d names) (bare : (trees : Trees) → (overlay trees [] t ≡ trees t) × (overlay trees [] other ≡ trees other)) where
   looked : (old new : State) → old.now.schema ≡ schema → (rows : List Row) → Shown sql [] old new rows → IsPermutation (beside_rows t other shown c d old.now.trees) rows
   looked old new has rows h =
       let read = reads_as sql [] old new schema has _ it.command it.plain it.unlisted rows h in
-      subst (λ trees. IsPermutation (beside_rows t other shown c d trees) rows) (bare old.now.trees) (beside_answer t other shown c d (overlay old.now.trees []) rows (read.answer Null))
+      let same = ap₂ (λ (here there : List Row). flat_map (beside_row shown c d there) here) (bare old.now.trees).0 (bare old.now.trees).1 in
+      subst (λ xs. IsPermutation xs rows) same (beside_answer t other shown c d (overlay old.now.trees []) rows (read.answer Null))
 
   -- a check of each such row
   module _ (Takes : Row → Type 0) (old new : State) (has : old.now.schema ≡ schema) (same : IsUnchanged old new) where

@@ -1,7 +1,7 @@
 -- The rules by their buckets and places.
-use Rattle.std.specs.Prelude.{◌≡◌, ℕ, ◌+◌, ◌⊎◌, Bool, true, false, ◌==◌, if◌then◌else◌, List, [], ◌∷◌, ◌++◌, length, map, Option, Some, None, IfSome, IsTrue, IsPermutation}
+use Rattle.std.specs.Prelude.{◌≡◌, ℕ, ◌+◌, ◌⊎◌, Bool, true, false, ◌==◌, if◌then◌else◌, List, [], ◌∷◌, ◌++◌, length, map, Option, Some, None, IfSome, IsTrue, IsPermutation, MatchBool}
 use Rattle.std.specs.List.{AllByRecursion, list_any}
-use Rattle.std.specs.Str.{bytes_eq}
+use Rattle.std.specs.Ordering.{is_eq}
 use Rattle.std.specs.declared.cmp.Ordering.TheVariants.{Less}
 use Rattle.sqlite.specs.Effect.{Database}
 use Rattle.vault_rules.specs.Rules.{is_rule_set}
@@ -73,4 +73,11 @@ TellRuns db false = (xs : List RuleRow) → AreRowsOf db xs → ¬ AreRuns xs
 
 -- the rule is of one of the buckets
 abbrev pub IsOfOne : List BucketRow → RuleRow → Type 0
-IsOfOne bs r = list_any (λ b. bytes_eq b.name r.bucket) bs ≡ true
+IsOfOne bs r = list_any (λ b. is_eq (name_cmp b.name r.bucket)) bs ≡ true
+
+abbrev pub Tell : Bool → Type 0 → Type 0
+Tell b P = MatchBool b P (¬ P)
+
+-- whether each rule has its bucket
+abbrev pub TellOwners : Database → Bool → Type 0
+TellOwners db b = (bs : List BucketRow) → AreBucketRows db bs → (xs : List RuleRow) → AreRowsOf db xs → Tell b (AllByRecursion (IsOfOne bs) xs)

@@ -92,9 +92,9 @@ module _ (db : Database) (es : List Entry) (are : AreEntries db es) (xs : List S
 
 module _ (old new : State) (has : old.now.schema ≡ vault_schema) (same : IsUnchanged old new) where
   pub presence : (b : Bool) → Checked TellsAbsence settings_beside old new b → TellPresence new.now b
-  presence true h es are xs rows = set_yes new.now es are xs rows (beside_yes settings_beside_is (λ trees. refl) TellsAbsence old new has same h)
-  presence false h es are xs rows = λ all. beside_no settings_beside_is (λ trees. refl) TellsAbsence old new has same h (set_no new.now es are xs rows all)
+  presence true h es are xs rows = set_yes new.now es are xs rows (beside_yes settings_beside_is (λ trees. (refl, refl)) TellsAbsence old new has same h)
+  presence false h es are xs rows = λ all. beside_no settings_beside_is (λ trees. (refl, refl)) TellsAbsence old new has same h (set_no new.now es are xs rows all)
 
   pub owners : (b : Bool) → Checked TellsAbsence entries_beside old new b → TellOwners new.now b
-  owners true h es are xs rows = owned_yes new.now es are xs rows (beside_yes entries_beside_is (λ trees. refl) TellsAbsence old new has same h)
-  owners false h es are xs rows = λ all. beside_no entries_beside_is (λ trees. refl) TellsAbsence old new has same h (owned_no new.now es are xs rows all)
+  owners true h es are xs rows = owned_yes new.now es are xs rows (beside_yes entries_beside_is (λ trees. (refl, refl)) TellsAbsence old new has same h)
+  owners false h es are xs rows = λ all. beside_no entries_beside_is (λ trees. (refl, refl)) TellsAbsence old new has same h (owned_no new.now es are xs rows all)

@@ -11,6 +11,7 @@ use Rattle.vault_core_model.specs.declared.records.Entry.{Entry}
 use Rattle.vault_core_model.specs.declared.records.History.{History}
 use Rattle.vault_core_model.specs.Sound.{IsWhole, IsWholeAs, AreIdsFrom, AreInOrder}
 use Rattle.vault_core_model.specs.Vault.{Vault}
+use Rattle.vault_audit_model.specs.declared.rows.SettingRow.{SettingRow}
 use Rattle.vault_audit_model.specs.Limits.{IsHistory}
 use Rattle.vault_audit_model.specs.Relations.{AreEntries, AreNumbered, AreSettings, TellSettings, HasSettingsAs, HasSettings}
 use Rattle.vault_audit_model.specs.Rows.{entry_row, entry_columns, setting_row, setting_columns}
@@ -50,7 +51,7 @@ module _ (db : Database) (es : List Entry) (are : AreEntries db es) where
   pub all_hold : TellPlaces db true → TellPresence db true → TellOwners db true → TellSettings db es true
   all_hold (xs, rows, fit) present owned =
       let it = make 0 0 es xs are.1 fit (present es are xs rows) (bounded 1 0 es xs are.1 (owned es are xs rows)) in
-      (it.histories, it.entries, subst (λ (ys : List _). IsPermutation (map setting_row ys) (map setting_columns (db.trees settings_tree))) (sym it.rows) rows, it.have)
+      (it.histories, (it.entries, subst (λ (ys : List SettingRow). IsPermutation (map setting_row ys) (map setting_columns (db.trees settings_tree))) (sym it.rows) rows, it.have))
 
   pub not_placed : TellPlaces db false → TellSettings db es false
   not_placed none hs (same, rows, all) = none (flat_map settings_in hs) rows (placed 1 0 no_setting es hs (omega arith) are.1 same all)

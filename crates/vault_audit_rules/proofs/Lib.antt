@@ -1,0 +1,5 @@
+pub mod TextLemmas
+pub mod RowLemmas
+pub mod RiseLemmas
+pub mod GroupLemmas
+pub mod TellLemmas
