@@ -41,7 +41,7 @@ impl Pass for NumberPass {
 
     ghost stops = { λ p row. Refuses entry_row ComesNext with_entry p row };
 
-    #[tactic(auto, using(crate::proofs::EntryLemmas::same_entry))]
+    #[tactic(auto, using(crate::proofs::EntryLemmas::one_entry))]
     fn take(&mut self, row: &Row) -> Result<bool, Error> {
         let entry = match read_entry(row) {
             Ok(entry) => entry,

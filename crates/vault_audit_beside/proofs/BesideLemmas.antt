@@ -24,6 +24,7 @@ use Rattle.sqlite.specs.Listing.{understood, reads_listing}
 use Rattle.sqlite.specs.State.{State, Shown, IsUnchanged}
 use Rattle.sqlite.proofs.Callers.{IsPlain, command_of, reads_as}
 use Rattle.vault_audit_model.specs.Values.{number, flag}
+use Rattle.vault_audit_model.proofs.SameRows.{flag_same}
 use Rattle.vault_audit_walk.specs.Records.{Checked}
 use Rattle.vault_audit_walk.proofs.ScanLemmas.{goes_on_to}
 use Rattle.vault_audit_walk.proofs.RecordLemmas.{between, front}
@@ -143,15 +144,6 @@ unfolding binary
 null_apart u v h e = absurd (let no : agrees Null v ≡ true = subst (λ w. agrees w v ≡ true) e h in cc)
 
 -- ---- one row
-
-number_same : (a b : ℕ) → number a ≡ number b → a ≡ b
-number_same a b e = cc
-
-flag_same : (a b : Bool) → flag a ≡ flag b → a ≡ b
-flag_same false false e = refl
-flag_same true true e = refl
-flag_same false true e = absurd (let n : 0 ≡ 1 = number_same 0 1 e in omega (arith, n))
-flag_same true false e = absurd (let n : 1 ≡ 0 = number_same 1 0 e in omega (arith, n))
 
 turned : (a b : Bool) → a ≡ not b → b ≡ not a
 turned a true e = rw e refl

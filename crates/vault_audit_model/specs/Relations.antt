@@ -1,18 +1,21 @@
 -- What the rows of the tables are to each other, told of one table at a time.
-use Rattle.std.specs.Prelude.{◌≡◌, ℕ, ◌+◌, ◌≤◌, Bool, true, false, ◌==◌, List, [], ◌∷◌, length, map, find, flat_map, Option, None, IsPermutation}
+use Rattle.std.specs.Prelude.{◌≡◌, ℕ, ◌+◌, ◌≤◌, Bool, true, false, ◌==◌, List, [], ◌∷◌, length, map, find, flat_map, sum_by, Option, None, IsPermutation}
 use Rattle.std.specs.List.{AllByRecursion}
 use Rattle.sqlite.specs.Effect.{Database}
+use Rattle.vault_tally.specs.Row.{size_of, quota}
 use Rattle.vault_core_model.specs.declared.records.Bucket.{Bucket}
 use Rattle.vault_core_model.specs.declared.records.Entry.{Entry}
 use Rattle.vault_core_model.specs.declared.records.History.{History}
 use Rattle.vault_core_model.specs.declared.records.Note.{Note}
 use Rattle.vault_core_model.specs.Checks.{most_settings}
 use Rattle.vault_core_model.specs.Order.{IsAscending, bucket_cmp, note_cmp}
-use Rattle.vault_core_model.specs.Sound.{HasItsBytes, IsNoted}
+use Rattle.vault_core_model.specs.Sound.{HasItsBytes, IsNoted, LiesBetween}
+use Rattle.vault_core_model.specs.Totals.{items_in}
 use Rattle.vault_core_model.specs.Vault.{Vault}
-use Rattle.vault_audit_model.specs.Limits.{IsBucket, IsEntry, IsNote, IsSetting}
+use Rattle.vault_audit_model.specs.declared.rows.DepartmentRow.{DepartmentRow}
+use Rattle.vault_audit_model.specs.Limits.{IsBucket, IsEntry, IsNote, IsPlainName, IsSetting}
 use Rattle.vault_audit_model.specs.Rows.{bucket_row, rule_row, entry_row, content_row, setting_row, note_row, department_row, head_row, bucket_columns, rule_columns, entry_columns, content_columns, setting_columns, note_columns, department_columns, head_columns}
-use Rattle.vault_audit_model.specs.Spells.{bucket_of, rules_in, contents_in, settings_in, department_in, heads_in}
+use Rattle.vault_audit_model.specs.Spells.{bucket_of, rules_in, contents_in, settings_in, sums_over, heads_in}
 use Rattle.vault_audit_model.specs.Tables.{departments_tree, buckets_tree, rules_tree, entries_tree, contents_tree, settings_tree, intake_tree, heads_tree}
 
 -- ---- entries
@@ -102,13 +105,27 @@ TellBuckets db false = (bs : List Bucket) → ¬ AreBuckets db bs
 
 -- ---- running numbers
 
--- the rows of departments have the five sums over the vault's versions
-abbrev pub AreSums : Database → Vault → Type 0
-AreSums db v = IsPermutation (map (λ d. department_row (department_in v d)) v.departments) (map department_columns (db.trees departments_tree))
+-- admitted by the last moment, and removed, if it was, from then to the last moment
+abbrev pub IsPast : ℕ → Entry → Type 0
+IsPast last e = (e.admitted ≤ last) × LiesBetween e.admitted last e.removal
 
-abbrev pub TellSums : Database → Vault → Bool → Type 0
-TellSums db v true = AreSums db v
-TellSums db v false = ¬ AreSums db v
+-- a department with the sums over the versions among these that its buckets had, removed ones included
+abbrev pub department_with : List Bucket → List History → List ℕ → DepartmentRow
+department_with bs hs name = record { name = name; sums = sums_over (items_in bs name hs) }
+
+-- it didn't admit more than it may
+abbrev pub IsWithin : List Bucket → List History → List ℕ → Type 0
+IsWithin bs hs name = sum_by size_of (items_in bs name hs) ≤ quota
+
+-- the rows of departments are these departments with their sums
+abbrev pub AreSums : Database → List Bucket → List History → List (List ℕ) → Type 0
+AreSums db bs hs ds =
+    IsPermutation (map (λ d. department_row (department_with bs hs d)) ds) (map department_columns (db.trees departments_tree))
+    × AllByRecursion IsPlainName ds × AllByRecursion (IsWithin bs hs) ds
+
+abbrev pub TellSums : Database → List Bucket → List History → Bool → Type 0
+TellSums db bs hs true = (ds : List (List ℕ)) × AreSums db bs hs ds
+TellSums db bs hs false = (ds : List (List ℕ)) → ¬ AreSums db bs hs ds
 
 -- the rows of heads are those of the vault's keys
 abbrev pub AreHeads : Database → Vault → Type 0

@@ -45,7 +45,7 @@ impl Pass for BucketPass {
 
     ghost stops = { λ p row. Refuses bucket_row IsNextBucket with_bucket p row };
 
-    #[tactic(auto, using(crate::proofs::RowLemmas::same_bucket))]
+    #[tactic(auto, using(crate::proofs::RowLemmas::one_bucket))]
     fn take(&mut self, row: &Row) -> Result<bool, Error> {
         let bucket = match read_bucket(row) {
             Ok(bucket) => bucket,

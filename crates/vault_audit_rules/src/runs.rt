@@ -68,7 +68,7 @@ impl Pass for RulePass {
 
     ghost stops = { λ p row. Refuses rule_row ComesNext with_rule p row };
 
-    #[tactic(auto, using(crate::proofs::RowLemmas::same_rule, crate::proofs::RiseLemmas::joined, crate::proofs::RiseLemmas::begun))]
+    #[tactic(auto, using(crate::proofs::RowLemmas::one_rule, crate::proofs::RiseLemmas::joined, crate::proofs::RiseLemmas::begun))]
     fn take(&mut self, row: &Row) -> Result<bool, Error> {
         let rule = match read_rule(row) {
             Ok(rule) => rule,

@@ -13,6 +13,7 @@ use Rattle.vault_lock.specs.declared.retention.Retention.{Retention}
 use Rattle.vault_audit_model.specs.declared.rows.SettingRow.{SettingRow}
 use Rattle.vault_audit_model.specs.Rows.{setting_row, mode_number, retention_mode, retention_until}
 use Rattle.vault_audit_model.specs.Values.{number, flag}
+use Rattle.vault_audit_model.proofs.SameRows.{same_setting}
 use Rattle.vault_audit_walk.specs.Pass.{AllFit}
 use Rattle.vault_audit_walk.proofs.PairLemmas.{pair_cmp}
 use Rattle.vault_audit_settings.specs.declared.placed.SettingPass.{SettingPass}
@@ -20,55 +21,8 @@ use Rattle.vault_audit_settings.specs.Places.{ComesNext, with_setting}
 
 -- ---- one row tells one setting
 
-number_same : (a b : ℕ) → number a ≡ number b → a ≡ b
-number_same a b e = cc
-
-flag_same : (a b : Bool) → flag a ≡ flag b → a ≡ b
-flag_same false false e = refl
-flag_same true true e = refl
-flag_same false true e = absurd (let n : 0 ≡ 1 = number_same 0 1 e in omega (arith, n))
-flag_same true false e = absurd (let n : 1 ≡ 0 = number_same 1 0 e in omega (arith, n))
-
-text_same : (a b : List ℕ) → ◌≡◌ {A = Value} (Text a) (Text b) → a ≡ b
-text_same a b e = cc
-
-mode_same : (m n : Mode) → mode_number (Some m) ≡ mode_number (Some n) → m ≡ n
-mode_same Governance Governance e = refl
-mode_same Compliance Compliance e = refl
-mode_same Governance Compliance e = absurd (omega (arith, e))
-mode_same Compliance Governance e = absurd (omega (arith, e))
-
-abbrev retention_as : Mode → ℕ → Retention
-retention_as mode until = record { mode = mode; until = until }
-
-retention_alike : (m n : Mode) (a b : ℕ) → m ≡ n → a ≡ b → retention_as m a ≡ retention_as n b
-retention_alike m n a b p q = rw (p, q) refl
-
-retention_same : (r s : Option Retention) → retention_mode r ≡ retention_mode s → retention_until r ≡ retention_until s → r ≡ s
-retention_same None None p q = refl
-retention_same None (Some s) p q = absurd cc
-retention_same (Some r) None p q = absurd cc
-retention_same (Some r) (Some s) p q =
-    ap Some (retention_alike r.mode s.mode r.until s.until (mode_same r.mode s.mode (number_same _ _ p)) (number_same _ _ q))
-
-abbrev made : ℕ → ℕ → ℕ → List ℕ → Option Retention → Bool → Bool → SettingRow
-made id place at by retention hold bypass =
-    record { id = id; place = place; setting = record { at = at; by = by; lock = record { retention = retention; hold = hold }; bypass = bypass } }
-
-alike : (a b c d e f : ℕ) (g h : List ℕ) (i j : Option Retention) (k l m n : Bool) → a ≡ b → c ≡ d → e ≡ f → g ≡ h → i ≡ j → k ≡ l → m ≡ n → made a c e g i k m ≡ made b d f h j l n
-alike a b c d e f g h i j k l m n e1 e2 e3 e4 e5 e6 e7 = rw (e1, e2, e3, e4, e5, e6, e7) refl
-
-cell : (row other : Row) (at : ℕ) → row ≡ other → column row at ≡ column other at
-cell row other at e = ap (λ r. column r at) e
-
-pub same_row : (x y : SettingRow) → setting_row x ≡ setting_row y → x ≡ y
-same_row x y e =
-    let one = cell (setting_row x) (setting_row y) in
-    alike x.id y.id x.place y.place x.setting.at y.setting.at x.setting.by y.setting.by x.setting.lock.retention y.setting.lock.retention x.setting.lock.hold y.setting.lock.hold x.setting.bypass y.setting.bypass
-    (number_same _ _ (one 0 e)) (number_same _ _ (one 1 e)) (number_same _ _ (one 2 e)) (text_same _ _ (one 3 e)) (retention_same _ _ (one 4 e) (one 5 e)) (flag_same _ _ (one 6 e)) (flag_same _ _ (one 7 e))
-
-pub same_setting : (row : Row) (x y : SettingRow) → row ≡ setting_row x → row ≡ setting_row y → x ≡ y
-same_setting row x y is_x is_y = same_row x y (sym is_x ∙ is_y)
+pub one_setting : (row : Row) (x y : SettingRow) → row ≡ setting_row x → row ≡ setting_row y → x ≡ y
+one_setting row x y is_x is_y = same_setting x y (sym is_x ∙ is_y)
 
 -- ---- the rows rise
 

@@ -23,7 +23,8 @@ use Rattle.vault_audit_walk.proofs.PairLemmas.{pair_walked, pair_cmp, pair_cmp_t
 use Rattle.vault_audit_walk.proofs.PassLemmas.{pass_yes, pass_no}
 use Rattle.vault_audit_settings.specs.declared.placed.SettingPass.{SettingPass}
 use Rattle.vault_audit_settings.specs.Places.{ComesNext, with_setting, no_setting, TellPlaces, TellPresence, TellOwners}
-use Rattle.vault_audit_settings.proofs.RowLemmas.{same_row, rise}
+use Rattle.vault_audit_model.proofs.SameRows.{same_setting}
+use Rattle.vault_audit_settings.proofs.RowLemmas.{rise}
 use Rattle.vault_audit_settings.proofs.HistoryLemmas.{placed, all_set, all_owned, bounded, make}
 use Rattle.vault_audit_settings.proofs.TextLemmas.{placed_walk, placed_walk_is, placed_walk_plain, settings_beside, entries_beside}
 use Rattle.vault_audit_settings.proofs.PresenceLemmas.{presence, owners}
@@ -41,9 +42,9 @@ answers a b schema rows shown = pair_walked placed_walk a b vault_schema schema 
 module _ (old new : State) (has : old.now.schema ≡ vault_schema) (same : IsUnchanged old new) (r : SettingPass) where
   pub places : (b : Bool) → Walked (Takes setting_row ComesNext with_setting) (Refuses setting_row ComesNext with_setting) placed_walk old new no_setting r b → TellPlaces new.now b
   places true h =
-      let it = pass_yes setting_row ComesNext with_setting same_row pair_cmp pair_cmp_total vault_schema placed_walk _ _ placed_walk_is.0 source answers old new has same no_setting r h in
+      let it = pass_yes setting_row ComesNext with_setting same_setting pair_cmp pair_cmp_total vault_schema placed_walk _ _ placed_walk_is.0 source answers old new has same no_setting r h in
       (it.0, it.1, it.2)
-  places false h = pass_no setting_row ComesNext with_setting same_row pair_cmp pair_cmp_total vault_schema placed_walk _ _ placed_walk_is.0 source answers old new has same no_setting r (rise no_setting) h
+  places false h = pass_no setting_row ComesNext with_setting same_setting pair_cmp pair_cmp_total vault_schema placed_walk _ _ placed_walk_is.0 source answers old new has same no_setting r (rise no_setting) h
 
 -- ---- together
 

@@ -40,7 +40,7 @@ impl Pass for SettingPass {
 
     ghost stops = { λ p row. Refuses setting_row ComesNext with_setting p row };
 
-    #[tactic(auto, using(crate::proofs::RowLemmas::same_setting))]
+    #[tactic(auto, using(crate::proofs::RowLemmas::one_setting))]
     fn take(&mut self, row: &Row) -> Result<bool, Error> {
         let setting = match read_setting(row) {
             Ok(setting) => setting,

@@ -1,0 +1,4 @@
+//! The running rows of the departments, beside the sums over their versions.
+#![tactic(auto)]
+
+pub mod versions;
