@@ -1,20 +1,22 @@
 -- A query that puts beside each row of a table the rows of another that agree with it, or nothing where there is none.
-use Rattle.std.proofs.Common.{◌≡◌, ◌≢◌, ◌&&◌, ◌==◌, ℕ, pos, negsuc, List, [], ◌∷◌, ◌++◌, map, filter, flat_map, Bool, true, false, not, None, IsPermutation, refl, sym, ap, ap₂, subst, ◌∙◌, ◌||◌, cond, arith}
+use Rattle.std.proofs.Common.{◌≡◌, ◌≢◌, ◌&&◌, ◌==◌, ℕ, pos, negsuc, List, [], ◌∷◌, ◌++◌, map, filter, flat_map, Bool, true, false, not, Some, None, IsPermutation, refl, sym, ap, ap₂, subst, ◌∙◌, ◌||◌, cond, arith}
 use Rattle.std.specs.List.{AllByRecursion, list_any}
 use Rattle.std.proofs.lemmas.List.Elements.{recursion_from_All, filter_passes}
-use Rattle.std.proofs.lemmas.List.Sorted.{IsPermutation-map, IsPermutation-sym}
+use Rattle.std.specs.Cmp.Lexicographic.{slice_cmp}
+use Rattle.std.specs.Ordering.{nat_cmp, is_eq}
+use Rattle.std.proofs.lemmas.List.Sorted.{IsPermutation-map, IsPermutation-sym, list_any-IsPermutation}
 use Rattle.std.proofs.lemmas.Bool.Decides.{nat_tests}
 use Rattle.sqlite_trees.specs.Tree.{Trees}
-use Rattle.sqlite_trees.proofs.ListLemmas.{map-map, map-flat_map, all-permutation}
+use Rattle.sqlite_trees.proofs.ListLemmas.{map-map, map-flat_map, all-permutation, all-map, all_from_map}
 use Rattle.sqlite_value.specs.declared.value.Value.{Value}
-use Rattle.sqlite_value.specs.declared.value.Value.TheVariants.{Null, Int, Real, Text, Blob}
+use Rattle.sqlite_value.specs.declared.value.Value.TheVariants.{Null, Int, Text}
 use Rattle.sqlite_value.specs.declared.keys.Collation.TheVariants.{Binary}
 use Rattle.sqlite_value.specs.Order.{Row, column}
 use Rattle.sqlite_value.proofs.OrderLemmas.{value_cmp-Int, value_cmp-Text}
 use Rattle.sqlite_sql.specs.declared.ops.BinaryOp.TheVariants.{Compare}
 use Rattle.sqlite_sql.specs.declared.ops.CompareOp.TheVariants.{Eq}
-use Rattle.sqlite_sql.specs.Ops.{binary, is_true}
-use Rattle.sqlite_sql.specs.Term.{Term, Env, lit, col, op2, eval, eval_all}
+use Rattle.sqlite_sql.specs.Ops.{binary, is_true, from_truth}
+use Rattle.sqlite_sql.specs.Term.{Term, lit, col, op2, eval, eval_all}
 use Rattle.sqlite_sql.specs.Query.{Query, inner, left, end, IsAnswer, Output, output, matches, or_nulls}
 use Rattle.sqlite_sql.specs.Program.{overlay}
 use Rattle.sqlite_schema.specs.declared.schema.Schema.{Schema}
@@ -143,6 +145,14 @@ null_apart : (u v : Value) → agrees u v ≡ true → u ≢ Null
 unfolding binary
 null_apart u v h e = absurd (let no : agrees Null v ≡ true = subst (λ w. agrees w v ≡ true) e h in cc)
 
+truth_back : (b : Bool) → is_true (from_truth (Some b)) ≡ b
+truth_back true = refl
+truth_back false = refl
+
+pub agree_texts : (a b : List ℕ) → agrees (Text a) (Text b) ≡ is_eq (slice_cmp nat_cmp a b)
+unfolding binary
+agree_texts a b = ap (λ o. is_true (from_truth (Some (is_eq o)))) (value_cmp-Text a b) ∙ truth_back (is_eq (slice_cmp nat_cmp a b))
+
 -- ---- one row
 
 turned : (a b : Bool) → a ≡ not b → b ≡ not a
@@ -216,3 +226,35 @@ module _ (shown : Term) (c d : ℕ) (r : Row) (b : Bool) (tells : (s : Row) → 
 
   pub met_no : (others : List Row) → is_met others ≡ not b → AllByRecursion TellsAbsence (beside_row shown c d others r)
   met_no others same = or_none (filter is_beside others) (agreeing others) (none_there others ∙ sym (turned (is_met others) b same))
+
+-- ---- records
+
+any_map : {A B : Type 0} (p : B → Bool) (f : A → B) (xs : List A) → list_any p (map f xs) ≡ list_any (λ x. p (f x)) xs
+any_map p f [] = refl
+any_map p f (x ∷ xs) = ap (λ b. p (f x) || b) (any_map p f xs)
+
+any_alike : {A : Type 0} (p q : A → Bool) → ((x : A) → p x ≡ q x) → (xs : List A) → list_any p xs ≡ list_any q xs
+any_alike p q same [] = refl
+any_alike p q same (x ∷ xs) = ap₂ ◌||◌ (same x) (any_alike p q same xs)
+
+-- rows that agree with the value are there where records are that pass the test
+module _ {X : Type 0} (row_of : X → Row) (columns : Row → Row) (value : Value) (test : X → Bool) (first : (x : X) → agrees (column (row_of x) 0) value ≡ test x) where
+  pub met_as : (xs : List X) (stored : List Row) → IsPermutation (map row_of xs) (map columns stored) → list_any (λ s. agrees (column (columns s) 0) value) stored ≡ list_any test xs
+  met_as xs stored are =
+      sym (any_map (λ row. agrees (column row 0) value) columns stored)
+      ∙ sym (list_any-IsPermutation (λ row. agrees (column row 0) value) (map row_of xs) (map columns stored) are)
+      ∙ any_map (λ row. agrees (column row 0) value) row_of xs
+      ∙ any_alike (λ x. agrees (column (row_of x) 0) value) test first xs
+
+-- what holds of the columns of all stored rows holds of the rows of the records
+module _ {X : Type 0} (row_of : X → Row) (columns : Row → Row) (P : Row → Type 0) where
+  pub of_records : (xs : List X) (stored : List Row) → IsPermutation (map row_of xs) (map columns stored) → AllByRecursion (λ r. P (columns r)) stored → AllByRecursion (λ x. P (row_of x)) xs
+  of_records xs stored are all = all_from_map P row_of xs (all-permutation P _ _ (IsPermutation-sym _ _ are) (all-map P columns stored all))
+
+  pub of_stored : (xs : List X) (stored : List Row) → IsPermutation (map row_of xs) (map columns stored) → AllByRecursion (λ x. P (row_of x)) xs → AllByRecursion (λ r. P (columns r)) stored
+  of_stored xs stored are all = all_from_map P columns stored (all-permutation P _ _ are (all-map P row_of xs all))
+
+module _ {X : Type 0} {P Q : X → Type 0} where
+  pub each : ((x : X) → P x → Q x) → (xs : List X) → AllByRecursion P xs → AllByRecursion Q xs
+  each f [] all = tt
+  each f (x ∷ xs) all = (f x all.0, each f xs all.1)

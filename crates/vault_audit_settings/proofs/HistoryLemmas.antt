@@ -8,11 +8,10 @@ use Rattle.vault_core_model.specs.declared.records.History.{History}
 use Rattle.vault_core_model.specs.declared.records.Setting.{Setting}
 use Rattle.vault_core_model.specs.Checks.{most_settings}
 use Rattle.vault_audit_model.specs.declared.rows.SettingRow.{SettingRow}
-use Rattle.vault_audit_model.specs.Limits.{IsSetting}
 use Rattle.vault_audit_model.specs.Relations.{AreNumbered, HasSettingsAs, HasSettings}
 use Rattle.vault_audit_model.specs.Spells.{settings_from, settings_in}
 use Rattle.vault_audit_settings.specs.declared.placed.SettingPass.{SettingPass}
-use Rattle.vault_audit_settings.specs.Places.{with_setting, IsSetAs, IsOfOne}
+use Rattle.vault_audit_settings.specs.Places.{IsSetAs, IsOfOne}
 use Rattle.vault_audit_settings.proofs.RowLemmas.{Fit}
 use Rattle.vault_audit_settings.proofs.PlaceLemmas.{at_place, enter, cut, later_ids, has_id, none_later, none_in, is_some_of, any_in, has_append, first_fits}
 

@@ -1,5 +1,5 @@
 -- Settings that come one after the other, cut into those of each id.
-use Rattle.std.proofs.Common.{◌≡◌, ◌≤◌, ◌<◌, ◌+◌, ◌⊎◌, ◌||◌, ◌==◌, inl, inr, ℕ, zero, suc, List, [], ◌∷◌, ◌++◌, length, Bool, true, false, not, refl, sym, ap, ap₂, subst, ◌∙◌, IsTrue, arith}
+use Rattle.std.proofs.Common.{◌≡◌, ◌≤◌, ◌<◌, ◌+◌, ◌⊎◌, ◌||◌, ◌==◌, inl, inr, ℕ, zero, suc, List, [], ◌∷◌, ◌++◌, length, Bool, true, false, refl, ap₂, subst, IsTrue, arith}
 use Rattle.std.specs.List.{AllByRecursion, list_any}
 use Rattle.std.proofs.lemmas.Bool.Decides.{nat_tests}
 use Rattle.std.proofs.lemmas.List.Folds.{list_any-append}
@@ -9,7 +9,6 @@ use Rattle.vault_audit_model.specs.declared.rows.SettingRow.{SettingRow}
 use Rattle.vault_audit_model.specs.Limits.{IsSetting}
 use Rattle.vault_audit_model.specs.Spells.{settings_from}
 use Rattle.vault_audit_settings.specs.declared.placed.SettingPass.{SettingPass}
-use Rattle.vault_audit_settings.specs.Places.{ComesNext, with_setting}
 use Rattle.vault_audit_settings.proofs.RowLemmas.{Fit}
 
 abbrev pub at_place : ℕ → ℕ → SettingPass

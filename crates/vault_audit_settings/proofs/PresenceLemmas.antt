@@ -1,8 +1,6 @@
 -- Whether the versions are the entries with settings, told by the rows that stand beside each other.
-use Rattle.std.proofs.Common.{◌≡◌, ◌||◌, ◌==◌, ℕ, pos, List, [], ◌∷◌, map, Bool, true, false, not, IsPermutation, MatchBool, refl, sym, ap, ap₂, subst, ◌∙◌}
+use Rattle.std.proofs.Common.{◌≡◌, ◌==◌, ℕ, pos, List, Bool, true, false, refl, sym, ◌∙◌}
 use Rattle.std.specs.List.{AllByRecursion, list_any}
-use Rattle.std.proofs.lemmas.List.Sorted.{IsPermutation-sym, list_any-IsPermutation}
-use Rattle.sqlite_trees.proofs.ListLemmas.{all-permutation, all-map, all_from_map}
 use Rattle.sqlite_value.specs.declared.value.Value.TheVariants.{Int}
 use Rattle.sqlite_value.specs.Order.{Row, column}
 use Rattle.sqlite_sql.specs.Term.{col, lit}
@@ -16,39 +14,9 @@ use Rattle.vault_audit_model.specs.Tables.{vault_schema, entries_tree, settings_
 use Rattle.vault_audit_model.specs.Values.{number}
 use Rattle.vault_audit_walk.specs.Records.{Checked}
 use Rattle.vault_audit_beside.specs.Beside.{TellsAbsence}
-use Rattle.vault_audit_beside.proofs.BesideLemmas.{agrees, agree_numbers, beside_row, beside_yes, beside_no, met_yes, met_no}
+use Rattle.vault_audit_beside.proofs.BesideLemmas.{agrees, agree_numbers, beside_row, beside_yes, beside_no, met_yes, met_no, met_as, of_records, of_stored, each}
 use Rattle.vault_audit_settings.specs.Places.{AreRowsOf, IsSetAs, IsOfOne, TellPresence, TellOwners}
 use Rattle.vault_audit_settings.proofs.TextLemmas.{settings_beside, settings_beside_is, entries_beside, entries_beside_is}
-
-any_map : {A B : Type 0} (p : B → Bool) (f : A → B) (xs : List A) → list_any p (map f xs) ≡ list_any (λ x. p (f x)) xs
-any_map p f [] = refl
-any_map p f (x ∷ xs) = ap (λ b. p (f x) || b) (any_map p f xs)
-
-any_alike : {A : Type 0} (p q : A → Bool) → ((x : A) → p x ≡ q x) → (xs : List A) → list_any p xs ≡ list_any q xs
-any_alike p q same [] = refl
-any_alike p q same (x ∷ xs) = ap₂ ◌||◌ (same x) (any_alike p q same xs)
-
--- rows with that number are there where records with it are
-module _ {X : Type 0} (row_of : X → Row) (columns : Row → Row) (id_of : X → ℕ) (first : (x : X) → column (row_of x) 0 ≡ number (id_of x)) where
-  met_as : (xs : List X) (stored : List Row) (i : ℕ) → IsPermutation (map row_of xs) (map columns stored) → list_any (λ s. agrees (column (columns s) 0) (number i)) stored ≡ list_any (λ x. id_of x == i) xs
-  met_as xs stored i are =
-      sym (any_map (λ row. agrees (column row 0) (number i)) columns stored)
-      ∙ sym (list_any-IsPermutation (λ row. agrees (column row 0) (number i)) (map row_of xs) (map columns stored) are)
-      ∙ any_map (λ row. agrees (column row 0) (number i)) row_of xs
-      ∙ any_alike (λ x. agrees (column (row_of x) 0) (number i)) (λ x. id_of x == i) (λ x. ap (λ v. agrees v (number i)) (first x) ∙ agree_numbers (id_of x) i) xs
-
--- what holds of the columns of all stored rows holds of the rows of the records
-module _ {X : Type 0} (row_of : X → Row) (columns : Row → Row) (P : Row → Type 0) where
-  of_records : (xs : List X) (stored : List Row) → IsPermutation (map row_of xs) (map columns stored) → AllByRecursion (λ r. P (columns r)) stored → AllByRecursion (λ x. P (row_of x)) xs
-  of_records xs stored are all = all_from_map P row_of xs (all-permutation P _ _ (IsPermutation-sym _ _ are) (all-map P columns stored all))
-
-  of_stored : (xs : List X) (stored : List Row) → IsPermutation (map row_of xs) (map columns stored) → AllByRecursion (λ x. P (row_of x)) xs → AllByRecursion (λ r. P (columns r)) stored
-  of_stored xs stored are all = all_from_map P columns stored (all-permutation P _ _ are (all-map P row_of xs all))
-
-module _ {X : Type 0} {P Q : X → Type 0} where
-  each : ((x : X) → P x → Q x) → (xs : List X) → AllByRecursion P xs → AllByRecursion Q xs
-  each f [] all = tt
-  each f (x ∷ xs) all = (f x all.0, each f xs all.1)
 
 -- ---- each entry beside its settings
 
@@ -61,7 +29,7 @@ module _ (db : Database) (es : List Entry) (are : AreEntries db es) (xs : List S
   Besides row = AllByRecursion TellsAbsence (beside_row (col 1 3) 1 0 Settings row)
 
   has : (i : ℕ) → list_any (λ s. agrees (column s 1) (number i)) Settings ≡ list_any (λ x. x.id == i) xs
-  has i = met_as setting_row setting_columns (λ x. x.id) (λ x. refl) xs Settings i rows
+  has i = met_as setting_row setting_columns (number i) (λ x. x.id == i) (λ x. agree_numbers x.id i) xs Settings rows
 
   set_yes : AllByRecursion (λ r. AllByRecursion TellsAbsence (beside_row (col 1 4) 1 0 Settings r)) (db.trees entries_tree) → AllByRecursion (IsSetAs xs) es
   set_yes all =
@@ -80,7 +48,7 @@ module _ (db : Database) (es : List Entry) (are : AreEntries db es) (xs : List S
   Owners row = AllByRecursion TellsAbsence (beside_row (lit (Int (pos 0))) 0 0 Entries row)
 
   owns : (i : ℕ) → list_any (λ s. agrees (column s 0) (number i)) Entries ≡ list_any (λ e. e.id == i) es
-  owns i = met_as entry_row entry_columns (λ e. e.id) (λ e. refl) es Entries i are.0
+  owns i = met_as entry_row entry_columns (number i) (λ e. e.id == i) (λ e. agree_numbers e.id i) es Entries are.0
 
   owned_yes : AllByRecursion (λ r. AllByRecursion TellsAbsence (beside_row (lit (Int (pos 0))) 0 1 Entries r)) (db.trees settings_tree) → AllByRecursion (IsOfOne es) xs
   owned_yes all =

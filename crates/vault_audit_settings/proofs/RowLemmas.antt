@@ -1,18 +1,12 @@
 -- One row tells one setting, and the rows of settings that come one after the other rise.
-use Rattle.std.proofs.Common.{◌≡◌, ◌<◌, ◌+◌, ◌⊎◌, inl, inr, ℕ, pos, List, [], ◌∷◌, map, Bool, true, false, Option, Some, None, Less, Equal, refl, sym, ap, subst, ◌∙◌, arith}
+use Rattle.std.proofs.Common.{◌≡◌, ◌<◌, ◌+◌, ◌⊎◌, inl, inr, ℕ, pos, List, [], ◌∷◌, map, Less, Equal, refl, sym, ◌∙◌, arith}
 use Rattle.std.specs.List.{AllByRecursion}
 use Rattle.std.specs.Ordering.{int_cmp}
-use Rattle.sqlite_value.specs.declared.value.Value.{Value}
-use Rattle.sqlite_value.specs.declared.value.Value.TheVariants.{Text}
-use Rattle.sqlite_value.specs.Order.{Row, column}
+use Rattle.sqlite_value.specs.Order.{Row}
 use Rattle.sqlite_value.proofs.OrderLemmas.{value_cmp-Int}
 use Rattle.sqlite_trees.specs.Tree.{IsAscending}
-use Rattle.vault_lock.specs.declared.retention.Mode.{Mode}
-use Rattle.vault_lock.specs.declared.retention.Mode.TheVariants.{Governance, Compliance}
-use Rattle.vault_lock.specs.declared.retention.Retention.{Retention}
 use Rattle.vault_audit_model.specs.declared.rows.SettingRow.{SettingRow}
-use Rattle.vault_audit_model.specs.Rows.{setting_row, mode_number, retention_mode, retention_until}
-use Rattle.vault_audit_model.specs.Values.{number, flag}
+use Rattle.vault_audit_model.specs.Rows.{setting_row}
 use Rattle.vault_audit_model.proofs.SameRows.{same_setting}
 use Rattle.vault_audit_walk.specs.Pass.{AllFit}
 use Rattle.vault_audit_walk.proofs.PairLemmas.{pair_cmp}

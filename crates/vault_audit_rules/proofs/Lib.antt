@@ -1,5 +1,0 @@
-pub mod TextLemmas
-pub mod RowLemmas
-pub mod RiseLemmas
-pub mod GroupLemmas
-pub mod TellLemmas
