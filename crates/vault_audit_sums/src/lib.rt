@@ -1,4 +1,5 @@
 //! The running rows of the departments, beside the sums over their versions.
 #![tactic(auto)]
 
+pub mod owned;
 pub mod versions;
