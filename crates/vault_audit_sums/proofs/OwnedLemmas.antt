@@ -1,10 +1,10 @@
 -- The walk over the buckets that gathers those of a department.
-use Rattle.std.proofs.Common.{◌≡◌, ℕ, List, [], ◌∷◌, ◌++◌, map, find, cond, option_map, Bool, true, false, ◌&&◌, ◌||◌, Option, Some, None, IsSomeAnd, IsTrue, Ordering, Less, is_eq, nat_cmp, IsPermutation, refl, sym, ap, subst, ◌∙◌, append_assoc, append-nil}
+use Rattle.std.proofs.Common.{◌≡◌, ℕ, List, [], ◌∷◌, map, find, cond, option_map, Bool, true, false, ◌&&◌, ◌||◌, Option, Some, Less, is_eq, nat_cmp, IsPermutation, refl, sym, ap, subst, ◌∙◌}
 use Rattle.std.specs.List.{AllByRecursion, list_any}
 use Rattle.std.specs.Cmp.Lexicographic.{slice_cmp}
 use Rattle.std.specs.Str.{bytes_eq}
 use Rattle.std.proofs.lemmas.List.Folds.{list_any-append}
-use Rattle.std.proofs.lemmas.List.Sorted.{IsPermutation-sym, IsPermutation-trans, list_any-IsPermutation}
+use Rattle.std.proofs.lemmas.List.Sorted.{IsPermutation-trans, list_any-IsPermutation}
 use Rattle.std.proofs.lemmas.Map.Text.{is_eq-slice_cmp}
 use Rattle.std.proofs.lemmas.Slice.Eq.{bytes_eq-Decides}
 use Rattle.sqlite_value.specs.declared.value.Value.{Value}
@@ -17,7 +17,6 @@ use Rattle.vault_core_model.specs.declared.records.Bucket.{Bucket}
 use Rattle.vault_core_model.specs.Order.{IsAscending, bucket_cmp}
 use Rattle.vault_core_model.specs.Totals.{is_of_department}
 use Rattle.vault_core_model.specs.Vault.{config_in}
-use Rattle.vault_audit_model.specs.declared.rows.BucketRow.{BucketRow}
 use Rattle.vault_audit_model.specs.Limits.{IsBucket, IsBucketRow}
 use Rattle.vault_audit_model.specs.Relations.{AreBuckets}
 use Rattle.vault_audit_model.specs.Rows.{bucket_row, bucket_columns}
