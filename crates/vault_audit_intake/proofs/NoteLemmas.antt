@@ -1,6 +1,6 @@
 -- The walk over intake beside the entries.
 use Rattle.std.specs.Ordering.{int_cmp, nat_cmp, ordering_then}
-use Rattle.std.proofs.Common.{◌≡◌, ℕ, pos, List, [], ◌∷◌, ◌==◌, map, filter, flat_map, find, Bool, true, false, Some, None, Option, Ordering, Less, Equal, IsPermutation, IsSorted, refl, sym, ap, subst, ◌∙◌, arith}
+use Rattle.std.proofs.Common.{◌≡◌, ℕ, pos, List, [], ◌∷◌, ◌==◌, map, filter, find, Bool, true, false, Some, None, Option, Ordering, Less, Equal, IsPermutation, IsSorted, refl, sym, ap, subst, ◌∙◌, arith}
 use Rattle.std.specs.List.{AllByRecursion}
 use Rattle.std.specs.Cmp.{IsTotalOrder}
 use Rattle.std.proofs.lemmas.List.Elements.{All-from_recursion, recursion_from_All}
@@ -18,7 +18,6 @@ use Rattle.sqlite_sql.proofs.QueryLemmas.{key_cmp_total}
 use Rattle.sqlite.specs.Effect.{Database}
 use Rattle.sqlite.specs.State.{State, Shown, IsUnchanged}
 use Rattle.vault_core_model.specs.declared.records.Entry.{Entry}
-use Rattle.vault_core_model.specs.declared.records.History.{History}
 use Rattle.vault_core_model.specs.declared.records.Note.{Note}
 use Rattle.vault_core_model.specs.Reads.{entry_of}
 use Rattle.vault_core_model.specs.Order.{IsAscending, name_cmp, note_cmp}
@@ -27,13 +26,13 @@ use Rattle.vault_core_model.specs.Vault.{Vault}
 use Rattle.vault_core_laws.proofs.NameOrder.{notes_total}
 use Rattle.vault_audit_model.specs.Limits.{IsNote}
 use Rattle.vault_audit_model.specs.Relations.{AreEntries, AreNotes, TellNotes, NamesOneOf}
-use Rattle.vault_audit_model.specs.Rows.{note_row, note_columns, entry_row, entry_columns}
+use Rattle.vault_audit_model.specs.Rows.{note_row, note_columns, entry_columns}
 use Rattle.vault_audit_model.specs.Spells.{AreSound}
 use Rattle.vault_audit_model.specs.Tables.{vault_schema, intake_tree, entries_tree}
 use Rattle.vault_audit_model.specs.Values.{number, bytes_or_null}
 use Rattle.vault_audit_model.proofs.SameRows.{number_same, text_same}
 use Rattle.vault_audit_parts.proofs.JoinLemmas.{entry_found}
-use Rattle.vault_audit_walk.specs.Pass.{Takes, Refuses, AllFit, after}
+use Rattle.vault_audit_walk.specs.Pass.{Takes, Refuses, AllFit}
 use Rattle.vault_audit_walk.specs.Walk.{Walked}
 use Rattle.vault_audit_walk.proofs.PassLemmas.{pass_yes, pass_no}
 use Rattle.vault_audit_contents.proofs.BesideLemmas.{is_of, row_beside, beside, beside_is, beside_number}

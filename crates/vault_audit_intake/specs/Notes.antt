@@ -1,5 +1,5 @@
 -- Notes beside the versions that they tell of.
-use Rattle.std.specs.Prelude.{◌≡◌, List, [], ◌∷◌, Option, None, Some}
+use Rattle.std.specs.Prelude.{◌≡◌, [], ◌∷◌, Option, None, Some}
 use Rattle.std.specs.declared.cmp.Ordering.TheVariants.{Less}
 use Rattle.sqlite_value.specs.declared.value.Value.TheVariants.{Text, Blob}
 use Rattle.sqlite_value.specs.Order.{Row}
