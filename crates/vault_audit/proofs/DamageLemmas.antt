@@ -25,9 +25,11 @@ use Rattle.vault_audit_model.specs.Rows.{meta_row, department_row, caller_row, b
 use Rattle.vault_audit_model.specs.Spells.{AreSound, meta_of, bucket_of, rules_from, rules_if_given, rules_in, content_if_given, contents_in, settings_from, settings_in, department_in, head_in, heads_in}
 use Rattle.vault_audit_model.specs.Tables.{departments_tree, callers_tree, buckets_tree, rules_tree, entries_tree, contents_tree, settings_tree, intake_tree, heads_tree}
 use Rattle.vault_audit_walk.specs.Records.{AreRecords}
-use Rattle.vault_audit.specs.Entries.{IsPast, IsEntryBy}
+use Rattle.vault_audit_model.specs.Relations.{IsPast}
+use Rattle.vault_audit.specs.Entries.{IsEntryBy}
 use Rattle.vault_audit.specs.Meta.{IsMetaOf}
-use Rattle.vault_audit.specs.Numbers.{AreNumbered, AreEntriesUpTo}
+use Rattle.vault_audit_model.specs.Relations.{AreNumbered}
+use Rattle.vault_audit.specs.Numbers.{AreEntriesUpTo}
 
 -- ---- the answer of a look
 

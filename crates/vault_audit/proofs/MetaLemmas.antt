@@ -1,6 +1,6 @@
 -- The walk over meta.
-use Rattle.std.proofs.Common.{◌≡◌, List, [], ◌∷◌, map, true, false, Bool, Some, None, Option, Ordering, Less, IsPermutation, IsSorted, refl, sym, ap, subst, ◌∙◌}
-use Rattle.std.proofs.Common.{arith, length, ℕ}
+use Rattle.std.proofs.Common.{◌≡◌, List, [], ◌∷◌, map, true, false, Some, None, Option, Less, IsPermutation, IsSorted, refl, ap, subst}
+use Rattle.std.proofs.Common.{arith}
 use Rattle.std.proofs.lemmas.List.Sorted.{length_permutation}
 use Rattle.sqlite_value.specs.Order.{Row}
 use Rattle.sqlite_trees.specs.Tree.{IsAscending}
@@ -11,23 +11,13 @@ use Rattle.vault_audit_model.specs.declared.rows.MetaRow.{MetaRow}
 use Rattle.vault_audit.specs.declared.meta.MetaPass.{MetaPass}
 use Rattle.vault_audit_model.specs.Tables.{vault_schema}
 use Rattle.vault_audit_model.specs.Rows.{meta_row, meta_columns}
+use Rattle.vault_audit_model.proofs.SameRows.{same_meta}
 use Rattle.vault_audit.specs.Meta.{IsFirstMeta, with_meta, IsMetaOf}
 use Rattle.vault_audit_walk.specs.Pass.{Takes, Refuses, AllFit, after}
 use Rattle.vault_audit_walk.specs.Walk.{Walked}
 use Rattle.vault_audit_walk.proofs.ScanLemmas.{walked, first_cmp}
 use Rattle.vault_audit_walk.proofs.PassLemmas.{walk_yes, walk_no}
 use Rattle.vault_audit.proofs.TextLemmas.{meta_walk, meta_walk_is, meta_walk_plain}
-
-abbrev made : ℕ → ℕ → MetaRow
-made a b = record { last = a; next = b }
-
-alike : (a b a' b' : ℕ) → a ≡ a' → b ≡ b' → made a b ≡ made a' b'
-alike a b a' b' p q = rw (p, q) refl
-
-same_row : (x y : MetaRow) → meta_row x ≡ meta_row y → x ≡ y
-same_row x y e =
-    let p : x.last ≡ y.last = cc in
-    let q : x.next ≡ y.next = cc in alike x.last x.next y.last y.next p q
 
 abbrev source : Database → List Row
 source db = map meta_columns (db.trees 0)
@@ -45,7 +35,7 @@ rise (x ∷ y ∷ xs) fit = absurd (let never = fit.1.0.0 in cc)
 
 module _ (old new : State) (has : old.now.schema ≡ vault_schema) (same : IsUnchanged old new) (r : MetaPass) where
   pub meta_yes : Walked (Takes meta_row IsFirstMeta with_meta) (Refuses meta_row IsFirstMeta with_meta) meta_walk old new start r true → (x : MetaRow) → r.found ≡ Some x → IsMetaOf new.now (Some x)
-  meta_yes h = one (walk_yes meta_row IsFirstMeta with_meta same_row vault_schema meta_walk _ _ meta_walk_is.0 source answers old new has same start r h)
+  meta_yes h = one (walk_yes meta_row IsFirstMeta with_meta same_meta vault_schema meta_walk _ _ meta_walk_is.0 source answers old new has same start r h)
     where
       one : (xs : List MetaRow) × IsPermutation (map meta_row xs) (source new.now) × AllFit meta_row IsFirstMeta with_meta start xs × (r ≡ after meta_row IsFirstMeta with_meta start xs) → (x : MetaRow) → r.found ≡ Some x → IsMetaOf new.now (Some x)
       one ([], are, fit, is) x found = absurd (let e = ap (λ (p : MetaPass). p.found) is in cc)
@@ -56,7 +46,7 @@ module _ (old new : State) (has : old.now.schema ≡ vault_schema) (same : IsUnc
 
   -- no row at all
   pub meta_none : Walked (Takes meta_row IsFirstMeta with_meta) (Refuses meta_row IsFirstMeta with_meta) meta_walk old new start r true → r.found ≡ None → IsMetaOf new.now None
-  meta_none h = one (walk_yes meta_row IsFirstMeta with_meta same_row vault_schema meta_walk _ _ meta_walk_is.0 source answers old new has same start r h)
+  meta_none h = one (walk_yes meta_row IsFirstMeta with_meta same_meta vault_schema meta_walk _ _ meta_walk_is.0 source answers old new has same start r h)
     where
       one : (xs : List MetaRow) × IsPermutation (map meta_row xs) (source new.now) × AllFit meta_row IsFirstMeta with_meta start xs × (r ≡ after meta_row IsFirstMeta with_meta start xs) → r.found ≡ None → IsMetaOf new.now None
       one ([], are, fit, is) none x one_row head = absurd (let a = length_permutation _ _ are in let b = length_permutation _ _ one_row in omega arith)
@@ -64,7 +54,7 @@ module _ (old new : State) (has : old.now.schema ≡ vault_schema) (same : IsUnc
       one (y ∷ z ∷ more, are, fit, is) none x one_row head = absurd (let never = fit.1.0.0 in cc)
 
   pub meta_no : Walked (Takes meta_row IsFirstMeta with_meta) (Refuses meta_row IsFirstMeta with_meta) meta_walk old new start r false → IsMetaOf new.now None
-  meta_no h x are head = walk_no meta_row IsFirstMeta with_meta same_row vault_schema meta_walk _ _ meta_walk_is.0 source answers old new has same start r rise h (x ∷ []) are ((refl, head), tt)
+  meta_no h x are head = walk_no meta_row IsFirstMeta with_meta same_meta vault_schema meta_walk _ _ meta_walk_is.0 source answers old new has same start r rise h (x ∷ []) are ((refl, head), tt)
 
   pub meta_all : Walked (Takes meta_row IsFirstMeta with_meta) (Refuses meta_row IsFirstMeta with_meta) meta_walk old new start r true → IsMetaOf new.now r.found
   meta_all h = of r.found refl

@@ -1,20 +1,12 @@
 -- The entries by their ids.
-use Rattle.std.specs.Prelude.{◌≡◌, ℕ, ◌+◌, ◌≤◌, List, [], ◌∷◌, length, map, Option, None, Some, IsPermutation}
+use Rattle.std.specs.Prelude.{◌≡◌, ℕ, ◌+◌, List, length, map, Option, None, Some, IsPermutation}
 use Rattle.sqlite.specs.Effect.{Database}
 use Rattle.vault_core_model.specs.declared.records.Entry.{Entry}
 use Rattle.vault_audit_model.specs.Limits.{IsEntry}
 use Rattle.vault_audit_model.specs.Rows.{entry_row, entry_columns}
+use Rattle.vault_audit_model.specs.Relations.{GoesOn, AreNumbered}
 use Rattle.vault_audit_model.specs.Tables.{entries_tree}
 use Rattle.vault_audit.specs.declared.numbers.NumberPass.{NumberPass}
-
--- the entry has the next id, and wasn't admitted before the one before it
-abbrev pub GoesOn : ℕ → ℕ → Entry → Type 0
-GoesOn next low e = (e.id ≡ next) × (low ≤ e.admitted)
-
--- the ids go on from `next` without a gap, and no admission goes back
-abbrev pub AreNumbered : ℕ → ℕ → List Entry → Type 0
-AreNumbered next low [] = Unit {0}
-AreNumbered next low (e ∷ es) = (IsEntry e × GoesOn next low e) × AreNumbered (next + 1) e.admitted es
 
 -- one entry of a walk
 abbrev pub ComesNext : NumberPass → Entry → Type 0

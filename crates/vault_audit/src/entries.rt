@@ -8,7 +8,8 @@ ghost use Rattle.vault_audit_model.specs.Rows.{entry_row, entry_columns};
 ghost use Rattle.vault_core_model.specs.Sound.{LiesBetween};
 ghost use Rattle.vault_core_model.specs.Vault.{Vault};
 ghost use Rattle.vault_audit_model.specs.Spells.{AreSound};
-ghost use Rattle.vault_audit.specs.Entries.{IsPast, IsEntryBy};
+ghost use Rattle.vault_audit_model.specs.Relations.{IsPast};
+ghost use Rattle.vault_audit.specs.Entries.{IsEntryBy};
 
 use crate::row_check::refused;
 use sqlite::{Alter, Connection, Error, Row};

@@ -5,7 +5,8 @@ ghost use Rattle.sqlite.specs.Held.{state};
 ghost use Rattle.vault_core_model.specs.Vault.{Vault, next_id};
 ghost use Rattle.vault_audit_model.specs.Spells.{AreSound};
 ghost use Rattle.vault_audit_model.specs.Tables.{vault_schema};
-ghost use Rattle.vault_audit.specs.Numbers.{GoesOn, AreEntriesUpTo};
+ghost use Rattle.vault_audit_model.specs.Relations.{GoesOn};
+ghost use Rattle.vault_audit.specs.Numbers.{AreEntriesUpTo};
 
 use crate::row_check::refused;
 use sqlite::{Alter, Connection, Error, Row};
@@ -40,7 +41,7 @@ impl Pass for NumberPass {
 
     ghost stops = { λ p row. Refuses entry_row ComesNext with_entry p row };
 
-    #[tactic(auto, using(crate::proofs::EntryLemmas::same_entry))]
+    #[tactic(auto, using(crate::proofs::EntryLemmas::one_entry))]
     fn take(&mut self, row: &Row) -> Result<bool, Error> {
         let entry = match read_entry(row) {
             Ok(entry) => entry,

@@ -10,7 +10,7 @@ use vault_audit_rows::records::{
 use vault_audit_walk::check::Check;
 
 /// What an unread row is told as: a row that tells no such record doesn't pass.
-pub(crate) fn refused(misread: Misread) -> Result<bool, Error>
+pub fn refused(misread: Misread) -> Result<bool, Error>
     ensures { IfOk result (λ passes. (passes ≡ false) × (misread ≡ Misread.Wrong)) }
 {
     match misread {

@@ -1,1 +1,2 @@
+pub mod SameRows
 pub mod TextLemmas

@@ -4,3 +4,4 @@ pub mod Texts
 pub mod Rows
 pub mod Limits
 pub mod Spells
+pub mod Relations

@@ -34,7 +34,7 @@ each_item test buckets dept (h ∷ hs) all =
       | false ↦ each_item test buckets dept hs all.1
     ]
 
-dated : (admitted last : ℕ) (o : Option Removal) → admitted ≤ last → last ≤ last_moment → LiesBetween admitted last o → (nat_le (day admitted) (end_day (option_map (λ r. day r.at) o) last_day) && nat_le (end_day (option_map (λ r. day r.at) o) last_day) last_day) ≡ true
+pub dated : (admitted last : ℕ) (o : Option Removal) → admitted ≤ last → last ≤ last_moment → LiesBetween admitted last o → (nat_le (day admitted) (end_day (option_map (λ r. day r.at) o) last_day) && nat_le (end_day (option_map (λ r. day r.at) o) last_day) last_day) ≡ true
 dated admitted last None early le lies = both_true _ _ (le_true (day admitted) last_day (day-le admitted last_moment (omega arith))) (le_true last_day last_day (omega arith))
 dated admitted last (Some r) early le lies = both_true _ _ (le_true (day admitted) (day r.at) (day-le admitted r.at lies.0)) (le_true (day r.at) last_day (day-le r.at last_moment (omega (arith, lies.1))))
 

@@ -113,13 +113,13 @@ free_bucket bs name free = none_of (bucket_in bs name) free
 
 -- ---- the orders of the records
 
-callers_total : IsTotalOrder caller_cmp
+pub callers_total : IsTotalOrder caller_cmp
 callers_total = on_texts (λ (c : Caller). c.name)
 
-buckets_total : IsTotalOrder bucket_cmp
+pub buckets_total : IsTotalOrder bucket_cmp
 buckets_total = on_texts (λ (b : Bucket). b.name)
 
-notes_total : IsTotalOrder note_cmp
+pub notes_total : IsTotalOrder note_cmp
 notes_total =
     then_total (on_texts (λ (n : Note). n.bucket)) (then_total (on_texts (λ (n : Note). n.batch)) (on_total (λ (n : Note). n.line) nat_cmp_total))
 

@@ -1,0 +1,233 @@
+-- Two vaults that the rows of one database spell are one vault.
+use Rattle.std.proofs.Common.{◌≡◌, inl, inr, ℕ, ◌+◌, List, [], ◌∷◌, map, flat_map, Option, Some, None, IsTrue, Equal, nat_cmp, refl, sym, ap, subst, ◌∙◌}
+use Rattle.std.specs.Ordering.{on}
+use Rattle.std.proofs.lemmas.Cmp.{nat_list_cmp_total, nat_cmp_total, tied_itself}
+use Rattle.sqlite_value.specs.declared.value.Value.TheVariants.{Text}
+use Rattle.sqlite_value.specs.Order.{column}
+use Rattle.sqlite.specs.Effect.{Database}
+use Rattle.sqlite_rules.specs.Lists.{Has}
+use Rattle.sqlite_rules.proofs.ListLemmas.{all_has}
+use Rattle.vault_rules.specs.Rules.{is_rule_set, passes_if_given}
+use Rattle.vault_rules.specs.declared.rule.Rule.{Rule}
+use Rattle.vault_core_model.specs.declared.records.Bucket.{Bucket}
+use Rattle.vault_core_model.specs.declared.records.BucketConfig.{BucketConfig}
+use Rattle.vault_core_model.specs.declared.records.Caller.{Caller}
+use Rattle.vault_core_model.specs.declared.records.Entry.{Entry}
+use Rattle.vault_core_model.specs.declared.records.History.{History}
+use Rattle.vault_core_model.specs.declared.records.Note.{Note}
+use Rattle.vault_core_model.specs.declared.records.Setting.{Setting}
+use Rattle.vault_core_model.specs.Order.{IsAscending, name_cmp, caller_cmp, bucket_cmp, note_cmp}
+use Rattle.vault_core_model.specs.Sound.{AreIdsFrom, HasRuleSet}
+use Rattle.vault_core_model.specs.Vault.{Vault}
+use Rattle.vault_audit_model.specs.declared.rows.ContentRow.{ContentRow}
+use Rattle.vault_audit_model.specs.declared.rows.RuleRow.{RuleRow}
+use Rattle.vault_audit_model.specs.declared.rows.SettingRow.{SettingRow}
+use Rattle.vault_audit_model.specs.Rows.{meta_row, caller_row, bucket_row, rule_row, entry_row, content_row, setting_row, note_row, meta_columns, caller_columns, bucket_columns, rule_columns, entry_columns, content_columns, setting_columns, note_columns}
+use Rattle.vault_audit_model.specs.Spells.{Spells, meta_of, bucket_of, rules_from, rules_if_given, rules_in, content_if_given, contents_in, settings_from, settings_in}
+use Rattle.vault_audit_model.specs.Tables.{meta_tree, departments_tree, callers_tree, buckets_tree, rules_tree, entries_tree, contents_tree, settings_tree, intake_tree}
+use Rattle.vault_audit_model.proofs.SameRows.{text_same, same_meta, same_caller, same_bucket, same_rule, same_entry, same_content, same_setting, same_note}
+use Rattle.vault_core_laws.proofs.NameOrder.{callers_total, buckets_total, notes_total}
+use Rattle.vault_audit_laws.proofs.Members.{IsWithin, matched, within_by_rows, tied_same, same_ascending, AreNumberedFrom, ascending_numbered, by_number_total, same_parts}
+
+-- ---- parts at their places
+
+rules_numbered : (bucket : List ℕ) (place : ℕ) (rules : List Rule) → AreNumberedFrom (λ (r : RuleRow). r.place) place (rules_from bucket place rules)
+rules_numbered bucket place [] = tt
+rules_numbered bucket place (r ∷ rs) = (refl, rules_numbered bucket (place + 1) rs)
+
+rules_back : (bucket : List ℕ) (place : ℕ) (rules : List Rule) → map (λ (r : RuleRow). r.rule) (rules_from bucket place rules) ≡ rules
+rules_back bucket place [] = refl
+rules_back bucket place (r ∷ rs) = ap (λ xs. r ∷ xs) (rules_back bucket (place + 1) rs)
+
+same_rules : (bucket : List ℕ) (place : ℕ) (rs ss : List Rule) → IsWithin (rules_from bucket place rs) (rules_from bucket place ss) → IsWithin (rules_from bucket place ss) (rules_from bucket place rs) → rs ≡ ss
+same_rules bucket place rs ss there back =
+    let by = λ (r : RuleRow). r.place in
+    let same : rules_from bucket place rs ≡ rules_from bucket place ss =
+    same_ascending (on by nat_cmp) (by_number_total by) (rules_from bucket place rs) (rules_from bucket place ss)
+    (ascending_numbered by place (rules_from bucket place rs) (rules_numbered bucket place rs)) (ascending_numbered by place (rules_from bucket place ss) (rules_numbered bucket place ss)) there back in
+    sym (rules_back bucket place rs) ∙ ap (map (λ (r : RuleRow). r.rule)) same ∙ rules_back bucket place ss
+
+-- rules that may be given are not empty, so none are told from some
+no_rules_apart : (bucket : List ℕ) (rules : List Rule) → IsTrue (is_rule_set rules) → IsWithin (rules_from bucket 1 rules) [] → ⊥
+no_rules_apart bucket [] is none = absurd (cc is)
+no_rules_apart bucket (r ∷ rs) is none = none (record { bucket = bucket; place = 1; rule = r }) (inl refl)
+
+same_rules_given : (bucket : List ℕ) (o p : Option (List Rule)) → IsTrue (passes_if_given is_rule_set o) → IsTrue (passes_if_given is_rule_set p) → IsWithin (rules_if_given bucket o) (rules_if_given bucket p) → IsWithin (rules_if_given bucket p) (rules_if_given bucket o) → o ≡ p
+same_rules_given bucket None None first second there back = refl
+same_rules_given bucket None (Some ss) first second there back = absurd (no_rules_apart bucket ss second back)
+same_rules_given bucket (Some rs) None first second there back = absurd (no_rules_apart bucket rs first there)
+same_rules_given bucket (Some rs) (Some ss) first second there back = ap Some (same_rules bucket 1 rs ss there back)
+
+same_contents_given : (id : ℕ) (o p : Option (List ℕ)) → IsWithin (content_if_given id o) (content_if_given id p) → IsWithin (content_if_given id p) (content_if_given id o) → o ≡ p
+same_contents_given id None None there back = refl
+same_contents_given id None (Some b) there back = elim (back (record { id = id; content = b }) (inl refl)) [ ]
+same_contents_given id (Some a) None there back = elim (there (record { id = id; content = a }) (inl refl)) [ ]
+same_contents_given id (Some a) (Some b) there back = elim (there (record { id = id; content = a }) (inl refl)) [
+  | inl e ↦ ap Some (ap (λ (c : ContentRow). c.content) e)
+  | inr none ↦ absurd none
+]
+
+settings_numbered : (id place : ℕ) (settings : List Setting) → AreNumberedFrom (λ (s : SettingRow). s.place) place (settings_from id place settings)
+settings_numbered id place [] = tt
+settings_numbered id place (s ∷ ss) = (refl, settings_numbered id (place + 1) ss)
+
+settings_back : (id place : ℕ) (settings : List Setting) → map (λ (s : SettingRow). s.setting) (settings_from id place settings) ≡ settings
+settings_back id place [] = refl
+settings_back id place (s ∷ ss) = ap (λ xs. s ∷ xs) (settings_back id (place + 1) ss)
+
+same_settings : (id place : ℕ) (rs ss : List Setting) → IsWithin (settings_from id place rs) (settings_from id place ss) → IsWithin (settings_from id place ss) (settings_from id place rs) → rs ≡ ss
+same_settings id place rs ss there back =
+    let by = λ (s : SettingRow). s.place in
+    let same : settings_from id place rs ≡ settings_from id place ss =
+    same_ascending (on by nat_cmp) (by_number_total by) (settings_from id place rs) (settings_from id place ss)
+    (ascending_numbered by place (settings_from id place rs) (settings_numbered id place rs)) (ascending_numbered by place (settings_from id place ss) (settings_numbered id place ss)) there back in
+    sym (settings_back id place rs) ∙ ap (map (λ (s : SettingRow). s.setting)) same ∙ settings_back id place ss
+
+-- ---- parts name what they are of
+
+rules_of_name : (name : List ℕ) (place : ℕ) (rules : List Rule) (r : RuleRow) → Has (rules_from name place rules) r → r.bucket ≡ name
+rules_of_name name place [] r h = elim h [ ]
+rules_of_name name place (s ∷ ss) r (inl e) = ap (λ (x : RuleRow). x.bucket) e
+rules_of_name name place (s ∷ ss) r (inr h) = rules_of_name name (place + 1) ss r h
+
+rules_given_name : (name : List ℕ) (rules : Option (List Rule)) (r : RuleRow) → Has (rules_if_given name rules) r → r.bucket ≡ name
+rules_given_name name None r h = elim h [ ]
+rules_given_name name (Some rules) r h = rules_of_name name 1 rules r h
+
+content_of_id : (id : ℕ) (content : Option (List ℕ)) (c : ContentRow) → Has (content_if_given id content) c → c.id ≡ id
+content_of_id id None c h = elim h [ ]
+content_of_id id (Some bytes) c (inl e) = ap (λ (x : ContentRow). x.id) e
+content_of_id id (Some bytes) c (inr h) = elim h [ ]
+
+settings_of_id : (id place : ℕ) (settings : List Setting) (s : SettingRow) → Has (settings_from id place settings) s → s.id ≡ id
+settings_of_id id place [] s h = elim h [ ]
+settings_of_id id place (t ∷ ts) s (inl e) = ap (λ (x : SettingRow). x.id) e
+settings_of_id id place (t ∷ ts) s (inr h) = settings_of_id id (place + 1) ts s h
+
+-- ---- histories by their ids
+
+abbrev id_of : History → ℕ
+id_of h = h.entry.id
+
+ids_numbered : (n : ℕ) (hs : List History) → AreIdsFrom n hs → AreNumberedFrom id_of n hs
+ids_numbered n [] ids = tt
+ids_numbered n (h ∷ hs) ids = (ids.0, ids_numbered (n + 1) hs ids.1)
+
+-- ---- records of one name or id
+
+one_bucket : (bs : List Bucket) → IsAscending bucket_cmp bs → (a b : Bucket) → Has bs a → Has bs b → a.name ≡ b.name → a ≡ b
+one_bucket bs ascending a b in_a in_b same =
+    tied_same bucket_cmp buckets_total bs ascending a b in_a in_b (subst (λ n. name_cmp a.name n ≡ Equal) same (tied_itself nat_list_cmp_total a.name))
+
+one_history : (hs : List History) → IsAscending (on id_of nat_cmp) hs → (g h : History) → Has hs g → Has hs h → g.entry.id ≡ h.entry.id → g ≡ h
+one_history hs ascending g h in_g in_h same =
+    tied_same (on id_of nat_cmp) (by_number_total id_of) hs ascending g h in_g in_h (subst (λ n. nat_cmp g.entry.id n ≡ Equal) same (tied_itself nat_cmp_total g.entry.id))
+
+abbrev bucket_with : List ℕ → BucketConfig → Option (List Rule) → Bucket
+bucket_with name config rules = record { name = name; config = config; rules = rules }
+
+alike_buckets : (a b : List ℕ) (c d : BucketConfig) (e f : Option (List Rule)) → a ≡ b → c ≡ d → e ≡ f → bucket_with a c e ≡ bucket_with b d f
+alike_buckets a b c d e f p q r = rw (p, q, r) refl
+
+abbrev history_with : Entry → Option (List ℕ) → List Setting → History
+history_with entry content settings = record { entry = entry; content = content; settings = settings }
+
+alike_histories : (a b : Entry) (c d : Option (List ℕ)) (e f : List Setting) → a ≡ b → c ≡ d → e ≡ f → history_with a c e ≡ history_with b d f
+alike_histories a b c d e f p q r = rw (p, q, r) refl
+
+abbrev vault_with : ℕ → List (List ℕ) → List Caller → List Bucket → List Note → List History → Vault
+vault_with last departments callers buckets notes histories =
+    record { last = last; departments = departments; callers = callers; buckets = buckets; notes = notes; histories = histories }
+
+alike_vaults : (a0 a1 : ℕ) (b0 b1 : List (List ℕ)) (c0 c1 : List Caller) (d0 d1 : List Bucket) (e0 e1 : List Note) (f0 f1 : List History) → a0 ≡ a1 → b0 ≡ b1 → c0 ≡ c1 → d0 ≡ d1 → e0 ≡ e1 → f0 ≡ f1 → vault_with a0 b0 c0 d0 e0 f0 ≡ vault_with a1 b1 c1 d1 e1 f1
+alike_vaults a0 a1 b0 b1 c0 c1 d0 d1 e0 e1 f0 f1 p q r s t u = rw (p, q, r, s, t, u) refl
+
+-- ---- what the one vault has the other has
+
+module _ (db : Database) where
+  ordered_ids : (v : Vault) → Spells db v → IsAscending (on id_of nat_cmp) v.histories
+  ordered_ids v it = ascending_numbered id_of 1 v.histories (ids_numbered 1 v.histories it.kept.sound.ids)
+
+  departments_within : (v w : Vault) → Spells db v → Spells db w → IsWithin v.departments w.departments
+  departments_within v w it is = within_by_rows (λ d. Text d) text_same v.departments w.departments (map (λ r. column r 1) (db.trees departments_tree)) it.departments is.departments
+
+  callers_within : (v w : Vault) → Spells db v → Spells db w → IsWithin v.callers w.callers
+  callers_within v w it is = within_by_rows caller_row same_caller v.callers w.callers (map caller_columns (db.trees callers_tree)) it.callers is.callers
+
+  notes_within : (v w : Vault) → Spells db v → Spells db w → IsWithin v.notes w.notes
+  notes_within v w it is = within_by_rows note_row same_note v.notes w.notes (map note_columns (db.trees intake_tree)) it.intake is.intake
+
+  rules_within : (v w : Vault) → Spells db v → Spells db w → IsWithin (flat_map rules_in v.buckets) (flat_map rules_in w.buckets)
+  rules_within v w it is = within_by_rows rule_row same_rule (flat_map rules_in v.buckets) (flat_map rules_in w.buckets) (map rule_columns (db.trees rules_tree)) it.rules is.rules
+
+  contents_within : (v w : Vault) → Spells db v → Spells db w → IsWithin (flat_map contents_in v.histories) (flat_map contents_in w.histories)
+  contents_within v w it is = within_by_rows content_row same_content (flat_map contents_in v.histories) (flat_map contents_in w.histories) (map content_columns (db.trees contents_tree)) it.contents is.contents
+
+  settings_within : (v w : Vault) → Spells db v → Spells db w → IsWithin (flat_map settings_in v.histories) (flat_map settings_in w.histories)
+  settings_within v w it is = within_by_rows setting_row same_setting (flat_map settings_in v.histories) (flat_map settings_in w.histories) (map setting_columns (db.trees settings_tree)) it.settings is.settings
+
+  bucket_rules : (v w : Vault) → Spells db v → Spells db w → (a b : Bucket) → Has v.buckets a → Has w.buckets b → a.name ≡ b.name → IsWithin (rules_in a) (rules_in b)
+  bucket_rules v w it is =
+      same_parts (λ (b : Bucket). b.name) (λ (r : RuleRow). r.bucket) rules_in (λ b r h. rules_given_name b.name b.rules r h) v.buckets w.buckets
+      (one_bucket w.buckets is.kept.sound.ordered.buckets) (rules_within v w it is)
+
+  history_content : (v w : Vault) → Spells db v → Spells db w → (g h : History) → Has v.histories g → Has w.histories h → g.entry.id ≡ h.entry.id → IsWithin (contents_in g) (contents_in h)
+  history_content v w it is =
+      same_parts id_of (λ (c : ContentRow). c.id) contents_in (λ h c there. content_of_id h.entry.id h.content c there) v.histories w.histories
+      (one_history w.histories (ordered_ids w is)) (contents_within v w it is)
+
+  history_settings : (v w : Vault) → Spells db v → Spells db w → (g h : History) → Has v.histories g → Has w.histories h → g.entry.id ≡ h.entry.id → IsWithin (settings_in g) (settings_in h)
+  history_settings v w it is =
+      same_parts id_of (λ (s : SettingRow). s.id) settings_in (λ h s there. settings_of_id h.entry.id 1 h.settings s there) v.histories w.histories
+      (one_history w.histories (ordered_ids w is)) (settings_within v w it is)
+
+  same_bucket_there : (v w : Vault) → Spells db v → Spells db w → (a b : Bucket) → Has v.buckets a → Has w.buckets b → bucket_of a ≡ bucket_of b → a ≡ b
+  same_bucket_there v w it is a b in_v in_w same =
+      let name : a.name ≡ b.name = ap (λ r. r.name) same in
+      let there = subst (λ n. IsWithin (rules_in a) (rules_if_given n b.rules)) (sym name) (bucket_rules v w it is a b in_v in_w name) in
+      let back = subst (λ n. IsWithin (rules_if_given n b.rules) (rules_in a)) (sym name) (bucket_rules w v is it b a in_w in_v (sym name)) in
+      let rules : a.rules ≡ b.rules =
+      same_rules_given a.name a.rules b.rules (all_has HasRuleSet v.buckets a it.kept.sound.rule_sets in_v) (all_has HasRuleSet w.buckets b is.kept.sound.rule_sets in_w) there back in
+      alike_buckets a.name b.name a.config b.config a.rules b.rules name (ap (λ r. r.config) same) rules
+
+  buckets_within : (v w : Vault) → Spells db v → Spells db w → IsWithin v.buckets w.buckets
+  buckets_within v w it is a in_v =
+      let found = matched (λ b. bucket_row (bucket_of b)) v.buckets w.buckets (map bucket_columns (db.trees buckets_tree)) it.buckets is.buckets a in_v in
+      subst (λ b. Has w.buckets b) (sym (same_bucket_there v w it is a found.0 in_v found.1 (same_bucket (bucket_of a) (bucket_of found.0) found.2))) found.1
+
+  same_history_there : (v w : Vault) → Spells db v → Spells db w → (g h : History) → Has v.histories g → Has w.histories h → g.entry ≡ h.entry → g ≡ h
+  same_history_there v w it is g h in_v in_w same =
+      let id : g.entry.id ≡ h.entry.id = ap (λ e. e.id) same in
+      let content : g.content ≡ h.content =
+      same_contents_given g.entry.id g.content h.content (subst (λ i. IsWithin (contents_in g) (content_if_given i h.content)) (sym id) (history_content v w it is g h in_v in_w id))
+      (subst (λ i. IsWithin (content_if_given i h.content) (contents_in g)) (sym id) (history_content w v is it h g in_w in_v (sym id))) in
+      let settings : g.settings ≡ h.settings =
+      same_settings g.entry.id 1 g.settings h.settings (subst (λ i. IsWithin (settings_in g) (settings_from i 1 h.settings)) (sym id) (history_settings v w it is g h in_v in_w id))
+      (subst (λ i. IsWithin (settings_from i 1 h.settings) (settings_in g)) (sym id) (history_settings w v is it h g in_w in_v (sym id))) in
+      alike_histories g.entry h.entry g.content h.content g.settings h.settings same content settings
+
+  histories_within : (v w : Vault) → Spells db v → Spells db w → IsWithin v.histories w.histories
+  histories_within v w it is g in_v =
+      let found = matched (λ h. entry_row h.entry) v.histories w.histories (map entry_columns (db.trees entries_tree)) it.entries is.entries g in_v in
+      subst (λ h. Has w.histories h) (sym (same_history_there v w it is g found.0 in_v found.1 (same_entry g.entry found.0.entry found.2))) found.1
+
+  same_last : (v w : Vault) → Spells db v → Spells db w → v.last ≡ w.last
+  same_last v w it is =
+      elim (within_by_rows meta_row same_meta (meta_of v ∷ []) (meta_of w ∷ []) (map meta_columns (db.trees meta_tree)) it.meta is.meta (meta_of v) (inl refl)) [
+        | inl e ↦ ap (λ m. m.last) e
+        | inr none ↦ absurd none
+      ]
+
+-- ---- the vault
+
+pub same_vault : (db : Database) (v w : Vault) → Spells db v → Spells db w → v ≡ w
+same_vault db v w it is =
+    let first = it.kept.sound.ordered in
+    let second = is.kept.sound.ordered in
+    alike_vaults v.last w.last v.departments w.departments v.callers w.callers v.buckets w.buckets v.notes w.notes v.histories w.histories
+    (same_last db v w it is)
+    (same_ascending name_cmp nat_list_cmp_total v.departments w.departments first.departments second.departments (departments_within db v w it is) (departments_within db w v is it))
+    (same_ascending caller_cmp callers_total v.callers w.callers first.callers second.callers (callers_within db v w it is) (callers_within db w v is it))
+    (same_ascending bucket_cmp buckets_total v.buckets w.buckets first.buckets second.buckets (buckets_within db v w it is) (buckets_within db w v is it))
+    (same_ascending note_cmp notes_total v.notes w.notes first.notes second.notes (notes_within db v w it is) (notes_within db w v is it))
+    (same_ascending (on id_of nat_cmp) (by_number_total id_of) v.histories w.histories (ordered_ids db v it) (ordered_ids db w is) (histories_within db v w it is) (histories_within db w v is it))

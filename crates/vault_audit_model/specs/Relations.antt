@@ -1,0 +1,136 @@
+-- What the rows of the tables are to each other, told of one table at a time.
+use Rattle.std.specs.Prelude.{◌≡◌, ℕ, ◌+◌, ◌≤◌, Bool, true, false, ◌==◌, List, [], ◌∷◌, length, map, find, flat_map, sum_by, Option, None, IsPermutation}
+use Rattle.std.specs.List.{AllByRecursion}
+use Rattle.sqlite.specs.Effect.{Database}
+use Rattle.vault_tally.specs.Row.{size_of, quota}
+use Rattle.vault_core_model.specs.declared.records.Bucket.{Bucket}
+use Rattle.vault_core_model.specs.declared.records.Entry.{Entry}
+use Rattle.vault_core_model.specs.declared.records.History.{History}
+use Rattle.vault_core_model.specs.declared.records.Note.{Note}
+use Rattle.vault_core_model.specs.Checks.{most_settings}
+use Rattle.vault_core_model.specs.Order.{IsAscending, bucket_cmp, note_cmp}
+use Rattle.vault_core_model.specs.Sound.{HasItsBytes, IsNoted, LiesBetween}
+use Rattle.vault_core_model.specs.Totals.{items_in}
+use Rattle.vault_core_model.specs.Vault.{Vault}
+use Rattle.vault_audit_model.specs.declared.rows.DepartmentRow.{DepartmentRow}
+use Rattle.vault_audit_model.specs.Limits.{IsBucket, IsEntry, IsNote, IsPlainName, IsSetting}
+use Rattle.vault_audit_model.specs.Rows.{bucket_row, rule_row, entry_row, content_row, setting_row, note_row, department_row, head_row, bucket_columns, rule_columns, entry_columns, content_columns, setting_columns, note_columns, department_columns, head_columns}
+use Rattle.vault_audit_model.specs.Spells.{bucket_of, rules_in, contents_in, settings_in, sums_over, heads_in}
+use Rattle.vault_audit_model.specs.Tables.{departments_tree, buckets_tree, rules_tree, entries_tree, contents_tree, settings_tree, intake_tree, heads_tree}
+
+-- ---- entries
+
+-- the entry has the next id, and wasn't admitted before the one before it
+abbrev pub GoesOn : ℕ → ℕ → Entry → Type 0
+GoesOn next low e = (e.id ≡ next) × (low ≤ e.admitted)
+
+-- the ids go on from `next` without a gap, and no admission goes back
+abbrev pub AreNumbered : ℕ → ℕ → List Entry → Type 0
+AreNumbered next low [] = Unit {0}
+AreNumbered next low (e ∷ es) = (IsEntry e × GoesOn next low e) × AreNumbered (next + 1) e.admitted es
+
+-- the rows of the entries are these, which have the ids 1, 2, 3 and so on
+abbrev pub AreEntries : Database → List Entry → Type 0
+AreEntries db es = IsPermutation (map entry_row es) (map entry_columns (db.trees entries_tree)) × AreNumbered 1 0 es
+
+-- ---- contents
+
+-- a held version has its bytes; a removed one and a marker have none
+abbrev pub HasContentAs : Bool → History → Type 0
+HasContentAs true h = h.content ≡ None
+HasContentAs false h = HasItsBytes h.entry.removal h.content h.entry
+
+abbrev pub HasContent : History → Type 0
+HasContent h = HasContentAs h.entry.marker h
+
+-- the rows of contents are the bytes of these histories of the entries
+abbrev pub AreContents : Database → List Entry → List History → Type 0
+AreContents db es hs =
+    (map (λ h. h.entry) hs ≡ es) × IsPermutation (map content_row (flat_map contents_in hs)) (map content_columns (db.trees contents_tree))
+    × AllByRecursion HasContent hs
+
+-- whether there are such histories
+abbrev pub TellContents : Database → List Entry → Bool → Type 0
+TellContents db es true = (hs : List History) × AreContents db es hs
+TellContents db es false = (hs : List History) → ¬ AreContents db es hs
+
+-- ---- settings
+
+-- a version has at least one setting, and no more than it may; a marker has none
+abbrev pub HasSettingsAs : Bool → History → Type 0
+HasSettingsAs true h = h.settings ≡ []
+HasSettingsAs false h = (1 ≤ length h.settings) × (length h.settings ≤ most_settings)
+
+abbrev pub HasSettings : History → Type 0
+HasSettings h = HasSettingsAs h.entry.marker h × AllByRecursion IsSetting h.settings
+
+-- the rows of settings are those of these histories of the entries, each at its place
+abbrev pub AreSettings : Database → List Entry → List History → Type 0
+AreSettings db es hs =
+    (map (λ h. h.entry) hs ≡ es) × IsPermutation (map setting_row (flat_map settings_in hs)) (map setting_columns (db.trees settings_tree))
+    × AllByRecursion HasSettings hs
+
+abbrev pub TellSettings : Database → List Entry → Bool → Type 0
+TellSettings db es true = (hs : List History) × AreSettings db es hs
+TellSettings db es false = (hs : List History) → ¬ AreSettings db es hs
+
+-- ---- intake
+
+-- the note names the version among these entries that it tells of
+abbrev pub NamesOneOf : List Entry → Note → Type 0
+NamesOneOf es n = IsNoted n (find (λ e. e.id == n.id) es)
+
+-- the rows of intake are these notes, each of a version
+abbrev pub AreNotes : Database → List Entry → List Note → Type 0
+AreNotes db es ns =
+    IsPermutation (map note_row ns) (map note_columns (db.trees intake_tree)) × IsAscending note_cmp ns × AllByRecursion IsNote ns
+    × AllByRecursion (NamesOneOf es) ns
+
+abbrev pub TellNotes : Database → List Entry → Bool → Type 0
+TellNotes db es true = (ns : List Note) × AreNotes db es ns
+TellNotes db es false = (ns : List Note) → ¬ AreNotes db es ns
+
+-- ---- buckets and rules
+
+-- the rows of buckets and of rules are these buckets, each with no rules or with a set that it may have
+abbrev pub AreBuckets : Database → List Bucket → Type 0
+AreBuckets db bs =
+    IsPermutation (map (λ b. bucket_row (bucket_of b)) bs) (map bucket_columns (db.trees buckets_tree))
+    × IsPermutation (map rule_row (flat_map rules_in bs)) (map rule_columns (db.trees rules_tree)) × IsAscending bucket_cmp bs
+    × AllByRecursion IsBucket bs
+
+abbrev pub TellBuckets : Database → Bool → Type 0
+TellBuckets db true = (bs : List Bucket) × AreBuckets db bs
+TellBuckets db false = (bs : List Bucket) → ¬ AreBuckets db bs
+
+-- ---- running numbers
+
+-- admitted by the last moment, and removed, if it was, from then to the last moment
+abbrev pub IsPast : ℕ → Entry → Type 0
+IsPast last e = (e.admitted ≤ last) × LiesBetween e.admitted last e.removal
+
+-- a department with the sums over the versions among these that its buckets had, removed ones included
+abbrev pub department_with : List Bucket → List History → List ℕ → DepartmentRow
+department_with bs hs name = record { name = name; sums = sums_over (items_in bs name hs) }
+
+-- it didn't admit more than it may
+abbrev pub IsWithin : List Bucket → List History → List ℕ → Type 0
+IsWithin bs hs name = sum_by size_of (items_in bs name hs) ≤ quota
+
+-- the rows of departments are these departments with their sums
+abbrev pub AreSums : Database → List Bucket → List History → List (List ℕ) → Type 0
+AreSums db bs hs ds =
+    IsPermutation (map (λ d. department_row (department_with bs hs d)) ds) (map department_columns (db.trees departments_tree))
+    × AllByRecursion IsPlainName ds × AllByRecursion (IsWithin bs hs) ds
+
+abbrev pub TellSums : Database → List Bucket → List History → Bool → Type 0
+TellSums db bs hs true = (ds : List (List ℕ)) × AreSums db bs hs ds
+TellSums db bs hs false = (ds : List (List ℕ)) → ¬ AreSums db bs hs ds
+
+-- the rows of heads are those of the vault's keys
+abbrev pub AreHeads : Database → Vault → Type 0
+AreHeads db v = IsPermutation (map head_row (heads_in v)) (map head_columns (db.trees heads_tree))
+
+abbrev pub TellHeads : Database → Vault → Bool → Type 0
+TellHeads db v true = AreHeads db v
+TellHeads db v false = ¬ AreHeads db v

@@ -1,0 +1,79 @@
+-- What the tables tell, each by itself, and the vault that this makes.
+use Rattle.std.specs.Prelude.{◌≡◌, ℕ, ◌+◌, ◌≤◌, List, [], ◌∷◌, length, map, IsSome, IsTrue, IsPermutation}
+use Rattle.std.specs.List.{AllByRecursion, list_any}
+use Rattle.std.specs.Str.{bytes_eq}
+use Rattle.sqlite_value.specs.declared.value.Value.TheVariants.{Text}
+use Rattle.sqlite_value.specs.Order.{column}
+use Rattle.sqlite.specs.Effect.{Database}
+use Rattle.vault_rules.specs.Rules.{passes_if_given}
+use Rattle.vault_core_model.specs.declared.records.Bucket.{Bucket}
+use Rattle.vault_core_model.specs.declared.records.Caller.{Caller}
+use Rattle.vault_core_model.specs.declared.records.Entry.{Entry}
+use Rattle.vault_core_model.specs.declared.records.History.{History}
+use Rattle.vault_core_model.specs.declared.records.Note.{Note}
+use Rattle.vault_core_model.specs.Order.{IsAscending, name_cmp, caller_cmp}
+use Rattle.vault_core_model.specs.Vault.{Vault, config_in}
+use Rattle.vault_audit_model.specs.declared.rows.MetaRow.{MetaRow}
+use Rattle.vault_audit_model.specs.Limits.{IsMetaRow, IsPlainName, IsCaller}
+use Rattle.vault_audit_model.specs.Relations.{AreEntries, AreContents, AreSettings, AreNotes, AreBuckets, IsPast, IsWithin}
+use Rattle.vault_audit_model.specs.Rows.{meta_row, caller_row, meta_columns, caller_columns}
+use Rattle.vault_audit_model.specs.Tables.{vault_schema, meta_tree, departments_tree, callers_tree}
+
+-- the rows of departments have these names
+abbrev pub AreDepartments : Database → List (List ℕ) → Type 0
+AreDepartments db ds =
+    IsPermutation (map (λ d. Text d) ds) (map (λ r. column r 1) (db.trees departments_tree)) × IsAscending name_cmp ds
+    × AllByRecursion IsPlainName ds
+
+-- the rows of callers are these
+abbrev pub AreCallers : Database → List Caller → Type 0
+AreCallers db cs =
+    IsPermutation (map caller_row cs) (map caller_columns (db.trees callers_tree)) × IsAscending caller_cmp cs
+    × AllByRecursion IsCaller cs
+
+-- the row of meta is this one, whose next id is behind all entries
+abbrev pub IsMeta : Database → List Entry → MetaRow → Type 0
+IsMeta db es m =
+    IsPermutation (meta_row m ∷ []) (map meta_columns (db.trees meta_tree)) × IsMetaRow m × (m.next ≡ length es + 1)
+
+-- the department of that name is one of these
+abbrev pub IsAmong : List (List ℕ) → List ℕ → Type 0
+IsAmong ds name = IsTrue (list_any (λ d. bytes_eq d name) ds)
+
+-- the caller's department, where there is one, is one of these
+abbrev pub WorksFor : List (List ℕ) → Caller → Type 0
+WorksFor ds c = IsTrue (passes_if_given (λ name. list_any (λ d. bytes_eq d name) ds) c.dept)
+
+-- the contents are those of the first, the settings those of the second; both are of the same entries
+abbrev pub joined : List History → List History → List History
+joined [] ss = []
+joined (c ∷ cs) [] = []
+joined (c ∷ cs) (s ∷ ss) = record { entry = c.entry; content = c.content; settings = s.settings } ∷ joined cs ss
+
+-- the vault of these parts
+abbrev pub vault_of : MetaRow → List (List ℕ) → List Caller → List Bucket → List Note → List History → List History → Vault
+vault_of m departments callers buckets notes contents settings = record {
+  last = m.last;
+  departments = departments;
+  callers = callers;
+  buckets = buckets;
+  notes = notes;
+  histories = joined contents settings;
+}
+
+-- what each table tells by itself, and what ties them to each other
+pub record AreParts (db : Database) (m : MetaRow) (departments : List (List ℕ)) (callers : List Caller) (buckets : List Bucket) (notes : List Note) (entries : List Entry) (contents settings : List History) : Type 0 where
+  pub schema : db.schema ≡ vault_schema
+  pub meta : IsMeta db entries m
+  pub departments_are : AreDepartments db departments
+  pub callers_are : AreCallers db callers
+  pub buckets_are : AreBuckets db buckets
+  pub entries_are : AreEntries db entries
+  pub contents_are : AreContents db entries contents
+  pub settings_are : AreSettings db entries settings
+  pub notes_are : AreNotes db entries notes
+  pub past : AllByRecursion (IsPast m.last) entries
+  pub employed : AllByRecursion (WorksFor departments) callers
+  pub owned : AllByRecursion (λ (b : Bucket). IsAmong departments b.config.dept) buckets
+  pub placed : AllByRecursion (λ (e : Entry). IsSome (config_in buckets e.bucket)) entries
+  pub within : (dept : List ℕ) → IsWithin buckets contents dept

@@ -1,0 +1,22 @@
+//! The vault that the rows of the tables spell, put together from what each table tells by itself.
+//! Its one law is the contract of a public function that does nothing.
+#![tactic(auto)]
+
+ghost use Rattle.std.specs.Prelude.{ℕ, List};
+ghost use Rattle.sqlite.specs.Effect.{Database};
+ghost use Rattle.vault_core_model.specs.declared.records.Bucket.{Bucket};
+ghost use Rattle.vault_core_model.specs.declared.records.Caller.{Caller};
+ghost use Rattle.vault_core_model.specs.declared.records.Entry.{Entry};
+ghost use Rattle.vault_core_model.specs.declared.records.History.{History};
+ghost use Rattle.vault_core_model.specs.declared.records.Note.{Note};
+ghost use Rattle.vault_audit_model.specs.declared.rows.MetaRow.{MetaRow};
+ghost use Rattle.vault_audit_model.specs.Spells.{Spells};
+ghost use Rattle.vault_audit_parts.specs.Parts.{AreParts, vault_of};
+
+/// The rows spell the vault that their parts make.
+pub fn parts_make_the_vault()
+    ensures { (db : Database) (m : MetaRow) (departments : List (List ℕ)) (callers : List Caller) (buckets : List Bucket)
+        (notes : List Note) (entries : List Entry) (contents settings : List History) →
+        AreParts db m departments callers buckets notes entries contents settings →
+        Spells db (vault_of m departments callers buckets notes contents settings) }
+{}

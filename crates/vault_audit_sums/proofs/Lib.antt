@@ -1,0 +1,4 @@
+pub mod ItemLemmas
+pub mod SumLemmas
+pub mod OwnedLemmas
+pub mod DepartmentLemmas

@@ -1,0 +1,73 @@
+-- What a statement that makes a table does to the database.
+use Rattle.std.proofs.Common.{◌≡◌, ◌⊎◌, inl, inr, ℕ, ◌+◌, List, [], ◌∷◌, ◌++◌, false, None, Ok, Err, Result, OnOk, OnErr, sym, ap, subst, ◌∙◌}
+use Rattle.std.specs.List.{AllByRecursion}
+use Rattle.sqlite_value.specs.Order.{Row}
+use Rattle.sqlite_trees.specs.Tree.{Trees}
+use Rattle.sqlite.specs.declared.error.Error.{Error}
+use Rattle.sqlite.specs.Effect.{Database}
+use Rattle.sqlite.specs.Does.{Tally, lacks_sequence}
+use Rattle.sqlite.specs.Schema.{Schema}
+use Rattle.sqlite.specs.Table.{Table as Columns}
+use Rattle.sqlite.specs.Command.TheVariants.{CreateTable}
+use Rattle.sqlite.specs.State.{State, Executes, ExecutesInside, Writes, KeepsCommit}
+use Rattle.sqlite.proofs.Callers.{runs_as}
+use Rattle.sqlite_catalog.specs.Change.{created, next_tree, KeepsRows}
+use Rattle.vault_base.specs.declared.refusal.Table.{Table}
+use Rattle.vault_audit_model.specs.Texts.{creation_of}
+use Rattle.vault_store_create.specs.Create.{Moves, HasFirst, place_of, schema_of_first}
+use Rattle.vault_store_create.proofs.TextLemmas.{Creates, creates}
+
+-- a part that gave a value did not stop on the way
+pub went : {B E R : Type 0} {b : B} {Stops : E → Type 0} → ((stop : E) × Stops stop × (Ok b ≡ Err stop)) ⊎ R → R
+went (inl stopped) = absurd (let e = stopped.2 in cc)
+went (inr on) = on
+
+pub same_value : {B E : Type 0} {a b : B} → ◌≡◌ {A = Result B E} (Ok a) (Ok b) → a ≡ b
+same_value e = cc
+
+-- a statement of a transaction that runs is a part that goes from one kind of database to another
+pub moves_if : (text : List ℕ) (params : Row) (old new : State) (From To : Database → Type 0) (r : Result ℕ Error) → ((count : ℕ) → From old.now → Executes text params old new (Ok count) → To new.now)
+    → ExecutesInside 0 text params old new r → OnOk r (Moves old new From To)
+moves_if text params old new From To (Err e) does h = tt
+moves_if text params old new From To (Ok count) does (h, shown, _) =
+    record { was_open = shown.was_open; is_open = shown.is_open; inside = shown.mode; committed = shown.committed_is; goes = λ from. does count from h }
+
+-- one that is refused leaves the last commit
+pub kept_if_refused : (text : List ℕ) (params : Row) (old new : State) (r : Result ℕ Error) → ExecutesInside 0 text params old new r → OnErr r (KeepsCommit old new)
+kept_if_refused text params old new (Ok count) h = tt
+kept_if_refused text params old new (Err e) (inl (_, inl same)) = record { was_open = λ _. same.0.was_open; committed = λ _. same.0.committed_is }
+kept_if_refused text params old new (Err e) (inl (_, inr undone)) = record { was_open = undone.was_open; committed = λ is_open. (undone.undone is_open).1 }
+kept_if_refused text params old new (Err e) (inr (_, _, same)) = record { was_open = λ _. same.0.was_open; committed = λ _. same.0.committed_is }
+
+-- where the tables have no row, nor has one more, none has
+none_has_a_row : (tables : List Columns) (last : Columns) (old new : Trees) → AllByRecursion (λ t. old t.tree ≡ []) tables → KeepsRows tables old new → new last.tree ≡ []
+    → AllByRecursion (λ t. new t.tree ≡ []) (tables ++ last ∷ [])
+none_has_a_row [] last old new empty kept none = (none, tt)
+none_has_a_row (t ∷ ts) last old new empty kept none = (kept.0 ∙ empty.0, none_has_a_row ts last old new empty.1 kept.1 none)
+
+-- the table is there after its statement, without a row
+made_as : (t : Table) (table : Columns) → Creates t table → (old new : State) (count : ℕ) → HasFirst (place_of t) old.now → Executes (creation_of t) [] old new (Ok count) → HasFirst (place_of t + 1) new.now
+made_as t table it old new count was h =
+    let text = creation_of t in
+    let schema = schema_of_first (place_of t) in
+    let w = subst (λ s. Writes old new None CreateTable s [] count) it.whole (runs_as text [] old new schema was.schema CreateTable it.command it.plain count h) in
+    let all = went w.changed in
+    let first = went all.1 in
+    let made = first.1 in
+    let both : Ok made.table ≡ Ok table = sym made.defined ∙ it.defined in
+    let same : made.table ≡ table = cc in
+    let after : first.0.schema ≡ schema_of_first (place_of t + 1) = made.is ∙ ap (λ s. created s made.table) was.schema ∙ ap (created schema) same ∙ it.next in
+    let plain : lacks_sequence first.0.schema ≡ false = ap lacks_sequence after ∙ it.uncounted in
+    let now : new.now ≡ first.0 = ap (λ (p : Tally × Database). p.1) (same_value all.2) ∙ same_value (rw plain at first.2) in
+    let trees = ap (λ (d : Database). d.trees) now in
+    let empty = subst (λ s. new.now.trees (next_tree s) ≡ []) was.schema (subst (λ (d : Trees). d (next_tree old.now.schema) ≡ []) (sym trees) made.empty) in
+    let kept = subst (λ s. KeepsRows s.tables old.now.trees new.now.trees) was.schema (subst (λ (d : Trees). KeepsRows old.now.schema.tables old.now.trees d) (sym trees) made.others) in
+    let last : Columns = record table { tree = next_tree schema } in
+    let rows = none_has_a_row schema.tables last old.now.trees new.now.trees was.rows kept empty in
+    record {
+      schema = ap (λ (d : Database). d.schema) now ∙ after;
+      rows = subst (λ (s : Schema). AllByRecursion (λ c. new.now.trees c.tree ≡ []) s.tables) it.next rows;
+    }
+
+pub table_made : (t : Table) (old new : State) (count : ℕ) → HasFirst (place_of t) old.now → Executes (creation_of t) [] old new (Ok count) → HasFirst (place_of t + 1) new.now
+table_made t = let it = creates t in made_as t it.0 it.1

@@ -1,0 +1,4 @@
+mod TextLemmas
+mod CreateLemmas
+mod InsertLemmas
+mod OpeningLemmas

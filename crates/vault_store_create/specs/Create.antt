@@ -1,0 +1,78 @@
+-- The way from a store without tables to a new vault.
+use Rattle.std.specs.Prelude.{◌≡◌, ◌⊎◌, ◌==◌, ℕ, [], ◌∷◌, filter, map, take, drop, IsTrue}
+use Rattle.std.specs.List.{AllByRecursion, list_any}
+use Rattle.sqlite_trees.specs.Tree.{Trees}
+use Rattle.sqlite.specs.declared.error.Error.{Error}
+use Rattle.sqlite.specs.declared.error.Error.TheVariants.{SqliteFailure}
+use Rattle.sqlite.specs.declared.error.ErrorCode.TheVariants as code
+use Rattle.sqlite_catalog.specs.Listing.{IsSound}
+use Rattle.sqlite.specs.Effect.{Database, IsDatabase}
+use Rattle.sqlite.specs.Schema.{Schema}
+use Rattle.sqlite.specs.State.{State}
+use Rattle.vault_base.specs.declared.refusal.Table.{Table}
+use Rattle.vault_base.specs.declared.refusal.Table.TheVariants as table
+use Rattle.vault_base.specs.declared.refusal.Refusal.{Refusal}
+use Rattle.vault_base.specs.declared.refusal.Refusal.TheVariants.{Memory, Device}
+use Rattle.vault_core_model.specs.Vault.{opening}
+use Rattle.vault_audit_model.specs.Tables.{vault_schema, meta_tree}
+use Rattle.vault_audit_model.specs.Rows.{meta_row, meta_columns}
+use Rattle.vault_audit_model.specs.Spells.{meta_of, AreSound}
+
+-- how many tables are made before this one
+abbrev pub place_of : Table → ℕ
+place_of table.Meta = 0
+place_of table.Departments = 1
+place_of table.Callers = 2
+place_of table.Buckets = 3
+place_of table.Rules = 4
+place_of table.Entries = 5
+place_of table.Contents = 6
+place_of table.Settings = 7
+place_of table.Intake = 8
+place_of table.Heads = 9
+
+-- the first so many tables of a vault, with their indexes
+abbrev pub schema_of_first : ℕ → Schema
+schema_of_first n = record {
+  tables = take n vault_schema.tables;
+  indexes = filter (λ i. list_any (λ t. t.tree == i.table) (take n vault_schema.tables)) vault_schema.indexes;
+  views = [];
+}
+
+-- these and no others are there, and none has a row
+pub record HasFirst (n : ℕ) (db : Database) : Type 0 where
+  pub schema : db.schema ≡ schema_of_first n
+  pub rows : AllByRecursion (λ t. db.trees t.tree ≡ []) (take n vault_schema.tables)
+
+-- A part of a transaction goes from a database of one kind to one of another, and leaves the last commit alone.
+pub record Moves (old new : State) (From To : Database → Type 0) : Type 0 where
+  pub was_open : IsTrue old.is_open
+  pub is_open : IsTrue new.is_open
+  pub inside : IsTrue new.in_transaction
+  pub committed : new.committed ≡ old.committed
+  pub goes : From old.now → To new.now
+
+-- All tables are there, and meta has its row; none has another.
+pub record HasMetaRow (db : Database) : Type 0 where
+  pub schema : db.schema ≡ vault_schema
+  pub meta : map meta_columns (db.trees meta_tree) ≡ meta_row (meta_of opening) ∷ []
+  pub rows : AllByRecursion (λ t. db.trees t.tree ≡ []) (drop 1 vault_schema.tables)
+
+-- the tables of a new vault, and the list of them
+pub record IsFilled (db : Database) : Type 0 where
+  pub opening : AreSound db opening
+  pub listed : IsDatabase db
+
+-- what the next opening reads in these trees is a new vault: they list the schema of every vault, and no other
+pub record AreOpening (trees : Trees) : Type 0 where
+  pub opening : AreSound (record { schema = vault_schema; trees = trees }) opening
+  pub listed : IsSound vault_schema trees
+
+-- an error of the store is told as want of memory, or else as a failure of the device
+abbrev pub refusal_of : Error → Refusal
+refusal_of (SqliteFailure code.OutOfMemory) = Memory
+refusal_of _ = Device
+
+-- the refusals of a making that was begun
+abbrev pub IsFault : Refusal → Type 0
+IsFault r = (r ≡ Memory) ⊎ (r ≡ Device)

@@ -1,0 +1,85 @@
+//! A new vault in a store that is empty.
+ghost use Rattle.std.specs.Prelude.{◌≡◌, ◌≢◌, ◌↔◌, false, IsTrue, OnOk, OnErr, IfErr};
+ghost use Rattle.sqlite.specs.State.{HasCleanDisk, KeepsCommit, Survives};
+ghost use Rattle.sqlite.specs.Held.{state};
+ghost use Rattle.vault_core_model.specs.Vault.{opening};
+ghost use Rattle.vault_audit_model.specs.Spells.{AreSound};
+ghost use Rattle.vault_audit_model.specs.Tables.{no_schema};
+ghost use Rattle.vault_store_create.specs.Create.{Moves, HasFirst, IsFilled, AreOpening, IsFault, refusal_of};
+
+use crate::first_rows::{put_meta, put_registrar};
+use crate::tables::make_tables;
+use sqlite::{Alter, Connection, Error, ErrorCode, Transaction};
+use sqlite_schema::schema::Schema;
+use vault_base::refusal::Refusal;
+
+/// Whether a store has no table, index or view.
+fn is_blank(schema: &Schema) -> bool
+    ensures { IsTrue result ↔ (schema.now ≡ no_schema) }
+{
+    schema.tables.is_empty() && schema.indexes.is_empty() && schema.views.is_empty()
+}
+
+/// What an error of the store is told as.
+fn refusal_of(error: Error) -> Refusal
+    ensures { result ≡ refusal_of error }
+{
+    match error {
+        Error::SqliteFailure(ErrorCode::OutOfMemory) => Refusal::Memory,
+        _ => Refusal::Device,
+    }
+}
+
+/// Makes the tables and their first rows.
+fn put_opening<S: Alter>(tx: &mut Transaction<'_, S>) -> Result<(), Error>
+    ensures same_reference { tx.new.conn.ghost_name ≡ tx.old.conn.ghost_name }
+    ensures made { HasCleanDisk (state S.Store tx.new.conn.now) → IsTrue tx.old.conn.now.in_transaction
+        → OnOk result (Moves (state S.Store tx.old.conn.now) (state S.Store tx.new.conn.now) (HasFirst 0) IsFilled) }
+    ensures kept { HasCleanDisk (state S.Store tx.new.conn.now) → IsTrue tx.old.conn.now.in_transaction
+        → OnErr result (KeepsCommit (state S.Store tx.old.conn.now) (state S.Store tx.new.conn.now)) }
+    ensures survives { Survives (state S.Store tx.old.conn.now) (state S.Store tx.new.conn.now) (λ _. ⊥) }
+{
+    make_tables(tx)?;
+    put_meta(tx)?;
+    put_registrar(tx)?;
+    Ok(())
+}
+
+/// Makes a new vault in an empty store, by one transaction: its tables, and the one caller `registrar`.
+///
+/// `NameTaken` where the store has a table, an index or a view. `Memory` where the store wanted memory.
+/// `Device` where it refused for another cause, as for a transaction that is already begun. Nothing is changed then.
+pub fn fill<S: Alter>(conn: &mut Connection<S>) -> Result<(), Refusal>
+    ensures opening { HasCleanDisk (state S.Store conn.new) → OnOk result (AreSound (state S.Store conn.new).now opening) }
+    ensures committed { HasCleanDisk (state S.Store conn.new)
+        → OnOk result (IsTrue (state S.Store conn.new).is_open × ((state S.Store conn.new).committed ≡ (state S.Store conn.new).now)) }
+
+    // What a crash may leave after that is this vault alone.
+    ensures alone { HasCleanDisk (state S.Store conn.new) → OnOk result ((db : _) → (state S.Store conn.new).may_leave db → AreOpening db) }
+    ensures settled { OnOk result (conn.new.in_transaction ≡ false) }
+    ensures taken { (result ≡ Err Refusal.NameTaken) ↔ ((state S.Store conn.old).now.schema ≢ no_schema) }
+    ensures untouched { result ≡ Err Refusal.NameTaken → conn.new ≡ conn.old }
+    ensures faults { IfErr result (λ r. r ≢ Refusal.NameTaken → IsFault r) }
+    ensures nothing { HasCleanDisk (state S.Store conn.new) → IsTrue (state S.Store conn.new).is_open
+        → OnErr result (((state S.Store conn.new).now ≡ (state S.Store conn.old).now) × ((state S.Store conn.new).committed ≡ (state S.Store conn.old).committed)) }
+    ensures mode { conn.old.in_transaction ≡ false → conn.new.in_transaction ≡ false }
+
+    // What a crash may leave, at any moment of the call: what it could leave before, or this vault.
+    ensures crash { Survives (state S.Store conn.old) (state S.Store conn.new) AreOpening }
+{
+    if !is_blank(conn.schema()) {
+        return Err(Refusal::NameTaken);
+    }
+    if !conn.is_autocommit() {
+        return Err(Refusal::Device);
+    }
+    let mut tx = conn.transaction();
+    match put_opening(&mut tx) {
+        Ok(()) => {}
+        Err(error) => return Err(refusal_of(error)),
+    }
+    match tx.commit() {
+        Ok(()) => Ok(()),
+        Err(error) => Err(refusal_of(error)),
+    }
+}

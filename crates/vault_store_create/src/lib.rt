@@ -1,0 +1,6 @@
+//! A new vault: its tables and their first rows, made in a store that is empty.
+#![tactic(auto)]
+
+pub mod create;
+mod first_rows;
+mod tables;
