@@ -1,0 +1,2 @@
+pub mod CompareLemmas
+pub mod DifferenceLemmas

@@ -1,0 +1,4 @@
+pub mod Compare
+pub mod Forms
+pub mod Parts
+pub mod Places

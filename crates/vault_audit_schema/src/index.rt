@@ -1,0 +1,85 @@
+//! The indexes that the keys of the tables bring.
+
+ghost use Rattle.vault_audit_schema.specs.Forms.{index_of};
+
+use crate::compare::Form;
+use sqlite_schema::schema::Index;
+use sqlite_value::keys::Order;
+use vault_base::refusal::Table;
+
+/// The index of a table's key.
+#[derive(Clone, Copy, Debug)]
+pub(crate) struct IndexForm {
+    pub(crate) table: Table,
+    pub(crate) name: &'static str,
+    /// The tree of the index, which follows that of its table.
+    pub(crate) tree: u32,
+    pub(crate) table_tree: u32,
+    pub(crate) places: &'static [usize],
+}
+
+/// The indexes in the order in which they are made.
+pub(crate) static INDEXES: [IndexForm; 7] = [
+    IndexForm {
+        table: Table::Departments,
+        name: "sqlite_autoindex_departments_1",
+        tree: 2,
+        table_tree: 1,
+        places: &[1],
+    },
+    IndexForm {
+        table: Table::Callers,
+        name: "sqlite_autoindex_callers_1",
+        tree: 4,
+        table_tree: 3,
+        places: &[1],
+    },
+    IndexForm {
+        table: Table::Buckets,
+        name: "sqlite_autoindex_buckets_1",
+        tree: 6,
+        table_tree: 5,
+        places: &[1],
+    },
+    IndexForm {
+        table: Table::Rules,
+        name: "sqlite_autoindex_rules_1",
+        tree: 8,
+        table_tree: 7,
+        places: &[1, 2],
+    },
+    IndexForm {
+        table: Table::Settings,
+        name: "sqlite_autoindex_settings_1",
+        tree: 12,
+        table_tree: 11,
+        places: &[1, 2],
+    },
+    IndexForm {
+        table: Table::Intake,
+        name: "sqlite_autoindex_intake_1",
+        tree: 14,
+        table_tree: 13,
+        places: &[1, 2, 3],
+    },
+    IndexForm {
+        table: Table::Heads,
+        name: "sqlite_autoindex_heads_1",
+        tree: 16,
+        table_tree: 15,
+        places: &[1, 2],
+    },
+];
+
+impl Form<Index> for IndexForm {
+    ghost shape = { index_of };
+
+    fn is_form_of(&self, part: &Index) -> bool {
+        part.name.as_slice() == self.name.as_bytes()
+            && part.tree == self.tree
+            && part.table == self.table_tree
+            && part.columns.as_slice() == self.places
+            && part.order == Order::PLAIN
+            && part.is_unique
+    }
+}
