@@ -21,12 +21,7 @@ const TABLES: [Table; 10] = [
 ];
 
 /// What is told of the ten tables, where `text` makes `changed`, or leaves it out if it is empty, and `more` follows.
-fn told(
-    alloc: Global,
-    changed: Table,
-    text: &str,
-    more: &[&str],
-) -> Result<Option<Table>, Error> {
+fn told(alloc: Global, changed: Table, text: &str, more: &[&str]) -> Result<Option<Table>, Error> {
     let mut conn = Connection::open_in_memory(alloc)?;
     for table in &TABLES {
         let text = if *table == changed {
@@ -119,8 +114,20 @@ fn a_changed_table_is_told(rt: HostRuntime) -> Result<(), Fail> {
 fn what_stands_beside_the_tables_is_told(rt: HostRuntime) -> Result<(), Fail> {
     let other = "CREATE TABLE other (x INTEGER) STRICT";
     assert_eq!(rt; told_beside(rt.alloc(), &[other])?, Some(Table::Meta));
-    assert_eq!(rt; told_beside(rt.alloc(), &[other, "CREATE INDEX by_x ON other (x)"])?, Some(Table::Meta));
-    assert_eq!(rt; told_beside(rt.alloc(), &["CREATE INDEX by_size ON entries (size)"])?, Some(Table::Entries));
-    assert_eq!(rt; told_beside(rt.alloc(), &["CREATE VIEW sizes AS SELECT size FROM entries"])?, Some(Table::Meta));
+    assert_eq!(rt;
+        told_beside(rt.alloc(), &[other, "CREATE INDEX by_x ON other (x)"])?,
+        Some(Table::Meta)
+    );
+    assert_eq!(rt;
+        told_beside(rt.alloc(), &["CREATE INDEX by_size ON entries (size)"])?,
+        Some(Table::Entries)
+    );
+    assert_eq!(rt;
+        told_beside(
+            rt.alloc(),
+            &["CREATE VIEW sizes AS SELECT size FROM entries"]
+        )?,
+        Some(Table::Meta)
+    );
     Ok(())
 }
