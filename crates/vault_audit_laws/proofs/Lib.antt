@@ -1,2 +1,4 @@
 pub mod Members
+pub mod RecordTies
+pub mod TieLemmas
 pub mod Uniqueness

@@ -42,7 +42,7 @@ text_same a b e = cc
 blob_same : (a b : List ℕ) → ◌≡◌ {A = Value} (Blob a) (Blob b) → a ≡ b
 blob_same a b e = cc
 
-flag_same : (a b : Bool) → flag a ≡ flag b → a ≡ b
+pub flag_same : (a b : Bool) → flag a ≡ flag b → a ≡ b
 flag_same false false e = refl
 flag_same true true e = refl
 flag_same false true e = absurd (let n : 0 ≡ 1 = number_same 0 1 e in omega (arith, n))

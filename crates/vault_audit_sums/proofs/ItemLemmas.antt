@@ -1,5 +1,5 @@
 -- Versions that are counted one by one.
-use Rattle.std.proofs.Common.{◌≡◌, ℕ, ◌+◌, ◌≤◌, List, [], ◌∷◌, ◌++◌, sum_by, IsTrue, arith}
+use Rattle.std.proofs.Common.{◌+◌, ◌≤◌, List, [], ◌∷◌, ◌++◌, sum_by, IsTrue, arith}
 use Rattle.std.proofs.lemmas.List.Sums.{sum_by_push}
 use Rattle.sqlite_keyed.proofs.ListLemmas.{list_all_push}
 use Rattle.vault_tally.specs.Row.{Item, AreBounded, is_dated, size_of, quota}

@@ -1,12 +1,12 @@
 -- The walk over the entries that sums the versions in some buckets.
-use Rattle.std.proofs.Common.{◌≡◌, ℕ, ◌+◌, ◌≤◌, List, [], ◌∷◌, ◌++◌, map, sum_by, Bool, true, false, Option, Some, None, IfSome, IsTrue, Less, IsPermutation, refl, sym, ap, subst, ◌∙◌, arith, append_assoc, append-nil}
+use Rattle.std.proofs.Common.{◌≡◌, ℕ, ◌+◌, ◌≤◌, List, [], ◌∷◌, ◌++◌, map, sum_by, Bool, true, false, Option, Some, None, IfSome, IsTrue, IsPermutation, refl, sym, ap, subst, ◌∙◌, arith, append_assoc, append-nil}
 use Rattle.std.specs.List.{AllByRecursion}
 use Rattle.std.proofs.lemmas.List.Sorted.{IsPermutation-trans}
 use Rattle.std.proofs.lemmas.List.Sums.{sum_by-append, sum_by-cons}
 use Rattle.sqlite_value.specs.Order.{Row as Values}
 use Rattle.sqlite_keyed.proofs.SortLemmas.{sorted_unique}
 use Rattle.sqlite.specs.Effect.{Database}
-use Rattle.sqlite.specs.State.{State, Shown, IsUnchanged}
+use Rattle.sqlite.specs.State.{State, IsUnchanged}
 use Rattle.vault_base.specs.Days.{last_moment}
 use Rattle.vault_tally.specs.Row.{Item, IsRowOf, AreBounded, is_dated, size_of, quota}
 use Rattle.vault_tally.specs.declared.row.Row.{Row}

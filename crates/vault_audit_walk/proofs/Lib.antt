@@ -2,3 +2,4 @@ pub mod WalkLemmas
 pub mod ScanLemmas
 pub mod PassLemmas
 pub mod RecordLemmas
+pub mod PairLemmas

@@ -75,6 +75,8 @@ pub(crate) fn new_version(
 ) -> Result<History, AllocError>
     ensures { IfOk result (λ history. history ≡ outcome.new_version id at who.now command.now lock) }
 {
+    let settings = first_settings(alloc, at, who, lock)?;
+    let content = command.content.clone()?;
     let entry = Entry {
         id,
         bucket: command.bucket.clone()?,
@@ -88,8 +90,8 @@ pub(crate) fn new_version(
     };
     Ok(History {
         entry,
-        content: Some(command.content.clone()?),
-        settings: first_settings(alloc, at, who, lock)?,
+        content: Some(content),
+        settings,
     })
 }
 

@@ -83,8 +83,7 @@ pub fn close_caller<K: Keeper>(
     ensures device { IsTrue (is_device result) → Rose (K.count keeper.old) (K.count keeper.new) }
 {
     find_administrator(keeper, at, who)?;
-    let found = keeper.caller(&command.caller)?;
-    if !is_open(&found) {
+    if !is_open(&keeper.caller(&command.caller)?) {
         return Err(Halt::Refused(Refusal::InvalidArgument));
     }
     make_change(keeper, at, Change::CloseCaller(command.caller.clone()?))?;
@@ -135,8 +134,10 @@ pub fn report<K: Keeper>(
     ensures counted { K.count keeper.old ≤ K.count keeper.new }
     ensures device { IsTrue (is_device result) → Rose (K.count keeper.old) (K.count keeper.new) }
 {
-    let caller = find_caller(keeper, at, who)?;
-    check_report(&caller, &command.dept)?;
+    {
+        let caller = find_caller(keeper, at, who)?;
+        check_report(&caller, &command.dept)
+    }?;
     check_dept(keeper, &command.dept)?;
     Ok(Answer::Report(sums_of(keeper, &command.dept, at)?))
 }

@@ -1,9 +1,10 @@
 //! Entries: reading, delete markers, removal.
-ghost use Rattle.std.specs.Prelude.{◌≡◌, ◌≤◌, IsTrue, IfOk, OnOk, None};
+ghost use Rattle.std.specs.Prelude.{◌≡◌, ◌≤◌, [], IsTrue, IfOk, OnOk, None, unwrap_or};
 ghost use Rattle.vault_core_model.specs.Halts.{Finds, Meets, is_device, Rose};
 ghost use Rattle.vault_core_model.specs.declared.records.Author.TheVariants as author;
 ghost use Rattle.vault_core_model.specs.Allowed.{IsAdmission, IsHeldId};
 ghost use Rattle.vault_core_model.specs.EntryOutcomes as outcome;
+ghost use Rattle.vault_core_model.specs.Reads.{content_of};
 
 use std::alloc::{AllocError, Global};
 use vault_base::content::Content;
@@ -16,7 +17,7 @@ use vault_core_checks::limit::find_id;
 use vault_core_model::access::Access;
 use vault_core_model::change::{Admission, Change};
 use vault_core_model::command::{Delete, DeleteVersion, Get, Head};
-use vault_core_model::halt::Halt;
+use vault_core_model::halt::{Fault, Halt};
 use vault_core_model::keeper::{Keeper, make_change};
 use vault_core_model::records::{Author, Cause, Entry, History, Removal, Settings};
 use vault_core_model::reply::{Answer, Removed, Version};
@@ -38,11 +39,22 @@ pub fn get<K: Keeper>(
     find_access(keeper, at, who, &command.bucket, Right::Get)?;
     let entry = find_version(keeper, &command.bucket, &command.key, command.id)?;
     let lock = find_setting(keeper, entry.id)?.lock;
-    let content = match keeper.content(entry.id)? {
-        Some(content) => content,
-        None => Content::new(Vec::new(alloc)),
-    };
+    let content = read_content(alloc, keeper, entry.id)?;
     Ok(Answer::Version(Version { entry, lock }, content))
+}
+
+/// The bytes that stand under an id, or none.
+fn read_content<K: Keeper>(alloc: Global, keeper: &mut K, id: VersionId) -> Result<Content, Fault>
+    ensures value { K.is_honest keeper.new → IfOk result (λ content. content ≡ unwrap_or (content_of (K.vault keeper.old) id) []) }
+    ensures same { K.vault keeper.new ≡ K.vault keeper.old }
+    ensures honest { K.is_honest keeper.new → K.is_honest keeper.old }
+    ensures counted { K.count keeper.old ≤ K.count keeper.new }
+    ensures device { result ≡ Err Fault.Device → Rose (K.count keeper.old) (K.count keeper.new) }
+{
+    match keeper.content(id)? {
+        Some(content) => Ok(content),
+        None => Ok(Content::new(Vec::new(alloc))),
+    }
 }
 
 /// Reads a content version without its bytes.
@@ -144,8 +156,10 @@ pub fn delete_version<K: Keeper>(
     ensures counted { K.count keeper.old ≤ K.count keeper.new }
     ensures device { IsTrue (is_device result) → Rose (K.count keeper.old) (K.count keeper.new) }
 {
-    let access = find_access(keeper, at, who, &command.bucket, Right::DeleteVersion)?;
-    let removed = find_removable(keeper, at, &access, command)?;
+    let removed = {
+        let access = find_access(keeper, at, who, &command.bucket, Right::DeleteVersion)?;
+        find_removable(keeper, at, &access, command)
+    }?;
     let removal = removal_by(at, who, removed.permit)?;
     make_change(keeper, at, Change::Remove(command.id, removal))?;
     Ok(Answer::Removed(removed))
@@ -165,12 +179,12 @@ fn find_removable<K: Keeper>(
     ensures counted { K.count keeper.old ≤ K.count keeper.new }
     ensures device { IsTrue (is_device result) → Rose (K.count keeper.old) (K.count keeper.new) }
 {
-    let entry = find_held(keeper, &command.bucket, &command.key, command.id)?;
+    let marker = find_held(keeper, &command.bucket, &command.key, command.id)?.marker;
     let lock = find_setting(keeper, command.id)?.lock;
     let permit = check_removal(&lock, at, command.bypass, access.caller.rights.bypass)?;
     Ok(Removed {
         id: command.id,
-        marker: entry.marker,
+        marker,
         permit,
     })
 }

@@ -35,8 +35,8 @@ pub fn get_retention<K: Keeper>(
     ensures device { IsTrue (is_device result) → Rose (K.count keeper.old) (K.count keeper.new) }
 {
     find_access(keeper, at, who, &command.bucket, Right::Get)?;
-    let entry = find_version(keeper, &command.bucket, &command.key, command.id)?;
-    let last = find_setting(keeper, entry.id)?;
+    let id = find_version(keeper, &command.bucket, &command.key, command.id)?.id;
+    let last = find_setting(keeper, id)?;
     Ok(Answer::Retention(last.lock.retention))
 }
 
@@ -53,8 +53,8 @@ pub fn get_hold<K: Keeper>(
     ensures device { IsTrue (is_device result) → Rose (K.count keeper.old) (K.count keeper.new) }
 {
     find_access(keeper, at, who, &command.bucket, Right::Get)?;
-    let entry = find_version(keeper, &command.bucket, &command.key, command.id)?;
-    let last = find_setting(keeper, entry.id)?;
+    let id = find_version(keeper, &command.bucket, &command.key, command.id)?.id;
+    let last = find_setting(keeper, id)?;
     Ok(Answer::Hold(last.lock.hold))
 }
 
@@ -70,8 +70,10 @@ pub fn set_retention<K: Keeper>(
     ensures counted { K.count keeper.old ≤ K.count keeper.new }
     ensures device { IsTrue (is_device result) → Rose (K.count keeper.old) (K.count keeper.new) }
 {
-    let access = find_access(keeper, at, who, &command.bucket, Right::Retain)?;
-    let NextSetting { id, setting } = find_next_retention(keeper, at, who, command, &access)?;
+    let NextSetting { id, setting } = {
+        let access = find_access(keeper, at, who, &command.bucket, Right::Retain)?;
+        find_next_retention(keeper, at, who, command, &access)
+    }?;
     make_change(keeper, at, Change::AddSetting(id, setting))?;
     Ok(Answer::Nothing)
 }
@@ -111,8 +113,8 @@ fn find_next_retention<K: Keeper>(
     ensures device { IsTrue (is_device result) → Rose (K.count keeper.old) (K.count keeper.new) }
 {
     check_end(at, Some(command.retention))?;
-    let entry = find_version(keeper, &command.bucket, &command.key, command.id)?;
-    let last = find_setting(keeper, entry.id)?;
+    let id = find_version(keeper, &command.bucket, &command.key, command.id)?.id;
+    let last = find_setting(keeper, id)?;
     let permit = check_retention(
         &last.lock,
         command.retention,
@@ -126,7 +128,7 @@ fn find_next_retention<K: Keeper>(
         hold: last.lock.hold,
     };
     Ok(NextSetting {
-        id: entry.id,
+        id,
         setting: new_setting(at, who, lock, permit)?,
     })
 }
@@ -146,15 +148,15 @@ fn find_next_hold<K: Keeper>(
     ensures counted { K.count keeper.old ≤ K.count keeper.new }
     ensures device { IsTrue (is_device result) → Rose (K.count keeper.old) (K.count keeper.new) }
 {
-    let entry = find_version(keeper, &command.bucket, &command.key, command.id)?;
-    let last = find_setting(keeper, entry.id)?;
+    let id = find_version(keeper, &command.bucket, &command.key, command.id)?.id;
+    let last = find_setting(keeper, id)?;
     check_settings(last.count)?;
     let lock = Lock {
         retention: last.lock.retention,
         hold: command.hold,
     };
     Ok(NextSetting {
-        id: entry.id,
+        id,
         setting: new_setting(at, who, lock, Permit::Free)?,
     })
 }

@@ -1,5 +1,5 @@
 -- The lines of replies.
-use Rattle.std.specs.Prelude.{ℕ, List, [], ◌∷◌, ◌++◌, codes, Bool, true, false, if◌then◌else◌, map, Option, Some, None, option_map}
+use Rattle.std.specs.Prelude.{ℕ, List, [], ◌∷◌, ◌++◌, codes, Bool, true, false, map, Option, Some, None, option_map}
 use Rattle.hex.specs.Hex.{encode_lower}
 use Rattle.serde_json.specs.Data.{Data, null, boolean, string, number, unsigned, array, object, Members, member, no_members}
 use Rattle.serde_json.specs.View.{items_of}
@@ -52,12 +52,19 @@ abbrev pub digest_value : Option (List ℕ) → Data
 digest_value None = null
 digest_value (Some digest) = text (encode_lower digest)
 
+-- a version by its texts and values
+abbrev pub version_members : Version → List ℕ → List ℕ → Data → Data → Data
+version_members v admitted digits retention sha256 = object (member (codes "admitted") (text admitted) (member (codes "hex") (text digits) (member (codes "hold") (text (hold_name v.lock.hold)) (member (codes "retention") retention (member (codes "sha256") sha256 (member (codes "size") (whole v.entry.size) (member (codes "version_id") (whole v.entry.id) no_members)))))))
+
 abbrev pub version_value : Version → List ℕ → Data
-version_value v content = object (member (codes "admitted") (text (moment_text v.entry.admitted)) (member (codes "hex") (text (encode_lower content)) (member (codes "hold") (text (hold_name v.lock.hold)) (member (codes "retention") (retention_value v.lock.retention) (member (codes "sha256") (digest_value v.entry.digest) (member (codes "size") (whole v.entry.size) (member (codes "version_id") (whole v.entry.id) no_members)))))))
+version_value v content = version_members v (moment_text v.entry.admitted) (encode_lower content) (retention_value v.lock.retention) (digest_value v.entry.digest)
 
 -- the same without the bytes
+abbrev pub head_members : Version → List ℕ → Data → Data → Data
+head_members v admitted retention sha256 = object (member (codes "admitted") (text admitted) (member (codes "hold") (text (hold_name v.lock.hold)) (member (codes "retention") retention (member (codes "sha256") sha256 (member (codes "size") (whole v.entry.size) (member (codes "version_id") (whole v.entry.id) no_members))))))
+
 abbrev pub head_value : Version → Data
-head_value v = object (member (codes "admitted") (text (moment_text v.entry.admitted)) (member (codes "hold") (text (hold_name v.lock.hold)) (member (codes "retention") (retention_value v.lock.retention) (member (codes "sha256") (digest_value v.entry.digest) (member (codes "size") (whole v.entry.size) (member (codes "version_id") (whole v.entry.id) no_members))))))
+head_value v = head_members v (moment_text v.entry.admitted) (retention_value v.lock.retention) (digest_value v.entry.digest)
 
 abbrev pub period_value : Mode → Period → Data
 period_value mode (Days n) = object (member (codes "days") (whole n) (member (codes "mode") (text (mode_name mode)) no_members))
@@ -82,12 +89,16 @@ expiration_of None false = None
 abbrev pub noncurrent_value : Noncurrent → Data
 noncurrent_value n = object (if_there (codes "NewerNoncurrentVersions") (option_map whole n.newer) (member (codes "NoncurrentDays") (whole n.days) no_members))
 
-abbrev pub rule_value : Rule → Data
-rule_value r =
-    object (if_there (codes "Expiration") (expiration_of r.days r.lone_markers)
+-- a rule with this expiration and this removal of noncurrent versions
+abbrev pub rule_members : Option Data → Option Data → Rule → Data
+rule_members expiration noncurrent r =
+    object (if_there (codes "Expiration") expiration
     (member (codes "ID") (text r.id)
-    (if_there (codes "NoncurrentVersionExpiration") (option_map noncurrent_value r.noncurrent)
+    (if_there (codes "NoncurrentVersionExpiration") noncurrent
     (member (codes "Prefix") (text r.prefix) (member (codes "Status") (text (status_name r.enabled)) no_members)))))
+
+abbrev pub rule_value : Rule → Data
+rule_value r = rule_members (expiration_of r.days r.lone_markers) (option_map noncurrent_value r.noncurrent) r
 
 abbrev pub rules_value : List Rule → Data
 rules_value rules = object (member (codes "rules") (array (items_of (map rule_value rules))) no_members)
@@ -129,11 +140,15 @@ answer_value (answer.Report report) = report_value report
 answer_value (answer.Certificate entry) = object (member (codes "version_id") (whole entry.id) no_members)
 answer_value (answer.TakenIn taken) = taken_in_value taken
 
+-- a refusal's name and number
+abbrev pub numbered_value : Refusal → Data
+numbered_value refusal = object (member (codes "code") (text (name_of refusal)) (member (codes "n") (whole (number_of refusal)) no_members))
+
 -- a refusal's name and number, and what else it tells
 abbrev pub refusal_value : Refusal → Data
 refusal_value (AccessDenied reason) = object (member (codes "code") (text (name_of (AccessDenied reason))) (member (codes "n") (whole (number_of (AccessDenied reason))) (member (codes "reason") (text (reason_name reason)) no_members)))
 refusal_value (NoSuchKey marker) = object (member (codes "code") (text (name_of (NoSuchKey marker))) (member (codes "marker") (boolean marker) (member (codes "n") (whole (number_of (NoSuchKey marker))) no_members)))
-refusal_value refusal = object (member (codes "code") (text (name_of refusal)) (member (codes "n") (whole (number_of refusal)) no_members))
+refusal_value refusal = numbered_value refusal
 
 abbrev pub stop_name : Stop → List ℕ
 stop_name Memory = codes "Memory"

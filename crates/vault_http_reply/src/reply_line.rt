@@ -1,13 +1,14 @@
 //! Replies to lines.
 ghost use Rattle.std.specs.Prelude.{◌≡◌, IfOk, map, option_map, string_bytes};
 ghost use Rattle.serde_json.specs.View.{view};
+ghost use Rattle.vault_base.specs.declared.refusal.Refusal.TheVariants.{AccessDenied, NoSuchKey};
 ghost use Rattle.vault_http_reply.specs.ReplyLine as spec;
 
 use crate::rule_value::rules_value;
 use serde_json::{Value, json};
 use std::alloc::{AllocError, Global};
 use vault_base::content::{Content, Digest};
-use vault_base::refusal::Refusal;
+use vault_base::refusal::{Reason, Refusal};
 use vault_core_model::reply::{
     Answer, Counts, Listed, Page, Removed, Reply, Report, Stop, TakenIn, Version,
 };
@@ -52,12 +53,34 @@ fn version_value(alloc: Global, version: &Version, content: &Content) -> Result<
     let digits = hex::encode(alloc, content.as_slice())?;
     let retention = retention_value(alloc, version.lock.retention)?;
     let sha256 = digest_value(alloc, entry.digest.as_ref())?;
+    version_members(
+        alloc,
+        version,
+        admitted.as_str(),
+        digits.as_str(),
+        retention,
+        sha256,
+    )
+}
+
+/// The members of a version whose texts and values are made.
+fn version_members(
+    alloc: Global,
+    version: &Version,
+    admitted: &str,
+    digits: &str,
+    retention: Value,
+    sha256: Value,
+) -> Result<Value, AllocError>
+    ensures { IfOk result (λ value. view value ≡ spec.version_members version.now admitted.now digits.now (view retention) (view sha256)) }
+{
+    let entry = &version.entry;
     json!(in alloc; {
-        "admitted": admitted.as_str(),
-        "hex": digits.as_str(),
-        "hold": hold_name(version.lock.hold),
         "retention": retention,
         "sha256": sha256,
+        "admitted": admitted,
+        "hex": digits,
+        "hold": hold_name(version.lock.hold),
         "size": entry.size,
         "version_id": entry.id.number()
     })
@@ -70,11 +93,25 @@ fn head_value(alloc: Global, version: &Version) -> Result<Value, AllocError>
     let admitted = entry.admitted.text(alloc)?;
     let retention = retention_value(alloc, version.lock.retention)?;
     let sha256 = digest_value(alloc, entry.digest.as_ref())?;
+    head_members(alloc, version, admitted.as_str(), retention, sha256)
+}
+
+/// The members of a head whose text and values are made.
+fn head_members(
+    alloc: Global,
+    version: &Version,
+    admitted: &str,
+    retention: Value,
+    sha256: Value,
+) -> Result<Value, AllocError>
+    ensures { IfOk result (λ value. view value ≡ spec.head_members version.now admitted.now (view retention) (view sha256)) }
+{
+    let entry = &version.entry;
     json!(in alloc; {
-        "admitted": admitted.as_str(),
-        "hold": hold_name(version.lock.hold),
         "retention": retention,
         "sha256": sha256,
+        "admitted": admitted,
+        "hold": hold_name(version.lock.hold),
         "size": entry.size,
         "version_id": entry.id.number()
     })
@@ -196,19 +233,33 @@ fn answer_value(alloc: Global, answer: &Answer) -> Result<Value, AllocError>
     }
 }
 
+fn denied_value(alloc: Global, reason: Reason) -> Result<Value, AllocError>
+    ensures { IfOk result (λ value. view value ≡ spec.refusal_value (AccessDenied reason)) }
+{
+    let refusal = Refusal::AccessDenied(reason);
+    json!(in alloc; {"code": refusal.name(), "n": refusal.number(), "reason": reason.name()})
+}
+
+fn no_key_value(alloc: Global, marker: bool) -> Result<Value, AllocError>
+    ensures { IfOk result (λ value. view value ≡ spec.refusal_value (NoSuchKey marker)) }
+{
+    let refusal = Refusal::NoSuchKey(marker);
+    json!(in alloc; {"code": refusal.name(), "marker": marker, "n": refusal.number()})
+}
+
+fn numbered_value(alloc: Global, refusal: Refusal) -> Result<Value, AllocError>
+    ensures { IfOk result (λ value. view value ≡ spec.numbered_value refusal) }
+{
+    json!(in alloc; {"code": refusal.name(), "n": refusal.number()})
+}
+
 fn refusal_value(alloc: Global, refusal: Refusal) -> Result<Value, AllocError>
     ensures { IfOk result (λ value. view value ≡ spec.refusal_value refusal) }
 {
-    let code = refusal.name();
-    let number = refusal.number();
     match refusal {
-        Refusal::AccessDenied(reason) => {
-            json!(in alloc; {"code": code, "n": number, "reason": reason.name()})
-        }
-        Refusal::NoSuchKey(marker) => {
-            json!(in alloc; {"code": code, "marker": marker, "n": number})
-        }
-        _ => json!(in alloc; {"code": code, "n": number}),
+        Refusal::AccessDenied(reason) => denied_value(alloc, reason),
+        Refusal::NoSuchKey(marker) => no_key_value(alloc, marker),
+        _ => numbered_value(alloc, refusal),
     }
 }
 

@@ -1,5 +1,5 @@
 //! Lifecycle rules as S3's JSON has them (API Reference, "GetBucketLifecycleConfiguration").
-ghost use Rattle.std.specs.Prelude.{◌≡◌, IfOk, map, option_map};
+ghost use Rattle.std.specs.Prelude.{◌≡◌, IfOk, None, Some, map, option_map};
 ghost use Rattle.serde_json.specs.View.{view};
 ghost use Rattle.vault_http_reply.specs.ReplyLine as spec;
 
@@ -28,26 +28,76 @@ fn rule_values(alloc: Global, rules: &[Rule]) -> Result<Vec<Value>, AllocError>
 }
 
 /// What is absent is left out; a prefix is printed also where it is empty.
+///
+/// The values are handed on to a function for each object, so that each has few ways out on which to drop them.
 fn rule_value(alloc: Global, rule: &Rule) -> Result<Value, AllocError>
     ensures { IfOk result (λ value. view value ≡ spec.rule_value rule.now) }
+{
+    match expiration_of(alloc, rule.days, rule.lone_markers)? {
+        None => lasting_value(alloc, rule),
+        Some(expiration) => expiring_value(alloc, expiration, rule),
+    }
+}
+
+/// A rule without an expiration.
+fn lasting_value(alloc: Global, rule: &Rule) -> Result<Value, AllocError>
+    ensures { IfOk result (λ value. view value ≡ spec.rule_members None (option_map spec.noncurrent_value rule.now.noncurrent) rule.now) }
+{
+    match noncurrent_of(alloc, rule.noncurrent)? {
+        None => plain_value(alloc, rule),
+        Some(noncurrent) => removing_value(alloc, noncurrent, rule),
+    }
+}
+
+/// A rule with this expiration.
+fn expiring_value(alloc: Global, expiration: Value, rule: &Rule) -> Result<Value, AllocError>
+    ensures { IfOk result (λ value. view value ≡ spec.rule_members (Some (view expiration)) (option_map spec.noncurrent_value rule.now.noncurrent) rule.now) }
+{
+    match noncurrent_of(alloc, rule.noncurrent)? {
+        None => expiring_alone_value(alloc, expiration, rule),
+        Some(noncurrent) => whole_value(alloc, expiration, noncurrent, rule),
+    }
+}
+
+fn plain_value(alloc: Global, rule: &Rule) -> Result<Value, AllocError>
+    ensures { IfOk result (λ value. view value ≡ spec.rule_members None None rule.now) }
 {
     let id = rule.id.as_str();
     let prefix = rule.prefix.as_str();
     let status = status_name(rule.enabled);
-    let expiration = expiration_of(alloc, rule.days, rule.lone_markers)?;
-    let noncurrent = noncurrent_of(alloc, rule.noncurrent)?;
-    match (expiration, noncurrent) {
-        (None, None) => json!(in alloc; {"ID": id, "Prefix": prefix, "Status": status}),
-        (Some(expiration), None) => {
-            json!(in alloc; {"Expiration": expiration, "ID": id, "Prefix": prefix, "Status": status})
-        }
-        (None, Some(noncurrent)) => {
-            json!(in alloc; {"ID": id, "NoncurrentVersionExpiration": noncurrent, "Prefix": prefix, "Status": status})
-        }
-        (Some(expiration), Some(noncurrent)) => {
-            json!(in alloc; {"Expiration": expiration, "ID": id, "NoncurrentVersionExpiration": noncurrent, "Prefix": prefix, "Status": status})
-        }
-    }
+    json!(in alloc; {"ID": id, "Prefix": prefix, "Status": status})
+}
+
+fn removing_value(alloc: Global, noncurrent: Value, rule: &Rule) -> Result<Value, AllocError>
+    ensures { IfOk result (λ value. view value ≡ spec.rule_members None (Some (view noncurrent)) rule.now) }
+{
+    let id = rule.id.as_str();
+    let prefix = rule.prefix.as_str();
+    let status = status_name(rule.enabled);
+    json!(in alloc; {"NoncurrentVersionExpiration": noncurrent, "ID": id, "Prefix": prefix, "Status": status})
+}
+
+fn expiring_alone_value(alloc: Global, expiration: Value, rule: &Rule) -> Result<Value, AllocError>
+    ensures { IfOk result (λ value. view value ≡ spec.rule_members (Some (view expiration)) None rule.now) }
+{
+    let id = rule.id.as_str();
+    let prefix = rule.prefix.as_str();
+    let status = status_name(rule.enabled);
+    json!(in alloc; {"Expiration": expiration, "ID": id, "Prefix": prefix, "Status": status})
+}
+
+fn whole_value(
+    alloc: Global,
+    expiration: Value,
+    noncurrent: Value,
+    rule: &Rule,
+) -> Result<Value, AllocError>
+    ensures { IfOk result (λ value. view value ≡ spec.rule_members (Some (view expiration)) (Some (view noncurrent)) rule.now) }
+{
+    let id = rule.id.as_str();
+    let prefix = rule.prefix.as_str();
+    let status = status_name(rule.enabled);
+    json!(in alloc; {"Expiration": expiration, "NoncurrentVersionExpiration": noncurrent, "ID": id, "Prefix": prefix, "Status": status})
 }
 
 fn expiration_of(

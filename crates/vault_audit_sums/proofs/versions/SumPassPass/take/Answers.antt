@@ -1,4 +1,4 @@
-use Rattle.std.proofs.Common.{rules, ◌≡◌, ◌+◌, ◌≤◌, IsTrue, sym, subst}
+use Rattle.std.proofs.Common.{rules, ◌+◌, ◌≤◌, IsTrue, subst}
 use Rattle.vault_tally.specs.Row.{quota}
 use Rattle.vault_core_model.specs.declared.records.Entry.{Entry}
 use Rattle.vault_audit.proofs.EntryLemmas.{one_entry}

@@ -1,0 +1,15 @@
+-- Rows that tell whether a row of another table stands beside one.
+use Rattle.std.specs.Prelude.{◌≡◌, ◌≢◌, Bool, true, false}
+use Rattle.sqlite_value.specs.declared.value.Value.{Value}
+use Rattle.sqlite_value.specs.declared.value.Value.TheVariants.{Null}
+use Rattle.sqlite_value.specs.Order.{Row, column}
+use Rattle.vault_audit_model.specs.Values.{flag}
+
+-- what is absent is NULL
+abbrev pub IsAbsentAs : Bool → Value → Type 0
+IsAbsentAs true v = v ≡ Null
+IsAbsentAs false v = v ≢ Null
+
+-- the first value tells whether the second is absent
+abbrev pub TellsAbsence : Row → Type 0
+TellsAbsence row = (b : Bool) × (column row 0 ≡ flag b) × IsAbsentAs b (column row 1)

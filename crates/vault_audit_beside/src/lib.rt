@@ -1,0 +1,4 @@
+//! Rows of one table beside which rows of another are to stand.
+#![tactic(auto)]
+
+pub mod absence;

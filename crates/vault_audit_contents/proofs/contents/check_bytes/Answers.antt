@@ -1,0 +1,23 @@
+use Rattle.std.proofs.Common.{◌≡◌, true, false, sym, subst, rules, arith}
+use Rattle.sqlite.specs.Held.{state}
+use Rattle.sqlite.specs.State.{HasCleanDisk}
+use Rattle.sqlite.specs.Given.{IsPlain}
+use Rattle.sqlite.specs.Listing.{understood}
+use Rattle.vault_audit_contents.proofs.ContentLemmas.{contents_yes, contents_no}
+use Rattle.vault_audit_contents.proofs.TextLemmas.{contents_walk, contents_walk_plain}
+use Rattle.vault_audit_contents.proofs.contents.check_bytes.Goals as goal
+
+pub walk-requires : goal.walk-requires
+walk-requires g c clean = subst (λ s. IsPlain (understood s contents_walk)) (sym (c.requires clean)) contents_walk_plain
+
+pub returns-then-not-whole-clause-told : goal.returns-then-not-whole-clause-told
+returns-then-not-whole-clause-told g c clean es are =
+    let early : HasCleanDisk (state g.S.Store c.args.conn.now) = omega (arith, c.in_ok-whole.ensures.crash.clean) in
+    let no : c.in_ok-whole.whole ≡ false = search rules in
+    contents_no (state g.S.Store c.args.conn.now) (state g.S.Store c.walk.new.conn) (c.requires early) (c.in_ok-whole.ensures.same clean) c.walk.new.pass es are (rw no at (c.in_ok-whole.ensures.walked clean))
+
+pub returns-clause-told : goal.returns-clause-told
+returns-clause-told g c clean es are =
+    let early : HasCleanDisk (state g.S.Store c.args.conn.now) = omega (arith, c.in_ok-whole.ensures.crash.clean) in
+    let yes : c.in_ok-whole.whole ≡ true = search rules in
+    contents_yes (state g.S.Store c.args.conn.now) (state g.S.Store c.walk.new.conn) (c.requires early) (c.in_ok-whole.ensures.same clean) c.walk.new.pass es are (rw yes at (c.in_ok-whole.ensures.walked clean))

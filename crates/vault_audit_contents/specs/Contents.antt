@@ -1,0 +1,50 @@
+-- The bytes of the held versions, beside their entries.
+use Rattle.std.specs.Prelude.{◌≡◌, ℕ, ◌+◌, ◌≤◌, ◌==◌, ◌&&◌, Bool, not, is_none, List, [], ◌∷◌, length, map, filter, find, Option, None, Some, IsPermutation}
+use Rattle.std.specs.List.{AllByRecursion}
+use Rattle.sha2.specs.Sha256.{sha256}
+use Rattle.sqlite_value.specs.declared.value.Value.TheVariants.{Null, Blob}
+use Rattle.sqlite_value.specs.Order.{Row}
+use Rattle.sqlite.specs.Effect.{Database}
+use Rattle.vault_core_model.specs.declared.records.Entry.{Entry}
+use Rattle.vault_core_model.specs.declared.records.History.{History}
+use Rattle.vault_audit_model.specs.declared.rows.ContentRow.{ContentRow}
+use Rattle.vault_audit_model.specs.Relations.{AreContents}
+use Rattle.vault_audit_model.specs.Rows.{content_row, content_columns}
+use Rattle.vault_audit_model.specs.Tables.{contents_tree}
+use Rattle.vault_audit_model.specs.Values.{number}
+
+-- a version that is held: no marker, and not removed
+abbrev pub is_held : Entry → Bool
+is_held e = not e.marker && is_none e.removal
+
+-- how many versions are held
+abbrev pub held_count : List Entry → ℕ
+held_count es = length (filter is_held es)
+
+-- the bytes are those of this entry: it is held, and of their size and digest
+abbrev pub IsContentOf : Option Entry → ContentRow → Type 0
+IsContentOf None c = ⊥
+IsContentOf (Some e) c = (e.removal ≡ None) × (length c.content ≡ e.size) × (e.digest ≡ Some (sha256 c.content))
+
+-- the bytes are those of one of these entries
+abbrev pub IsContentIn : List Entry → ContentRow → Type 0
+IsContentIn es c = IsContentOf (find (λ e. e.id == c.id) es) c
+
+-- the ids rise, the first being no less than this one
+abbrev pub AreRisingFrom : ℕ → List ContentRow → Type 0
+AreRisingFrom next [] = Unit {0}
+AreRisingFrom next (c ∷ cs) = (next ≤ c.id) × AreRisingFrom (c.id + 1) cs
+
+-- the rows of contents are these, each of a held version
+abbrev pub AreOfHeld : Database → List Entry → List ContentRow → Type 0
+AreOfHeld db es cs =
+    IsPermutation (map content_row cs) (map content_columns (db.trees contents_tree)) × AreRisingFrom 1 cs × AllByRecursion (IsContentIn es) cs
+
+-- how many they are; or they aren't such rows
+abbrev pub TellOfHeld : Database → List Entry → Option ℕ → Type 0
+TellOfHeld db es (Some count) = (cs : List ContentRow) × AreOfHeld db es cs × (count ≡ length cs)
+TellOfHeld db es None = (hs : List History) → ¬ AreContents db es hs
+
+-- what is shown of bytes beside their entry, where that is a held version of their size and digest
+abbrev pub held_row : ContentRow → Row
+held_row c = number c.id ∷ Blob c.content ∷ number (length c.content) ∷ Blob (sha256 c.content) ∷ Null ∷ []

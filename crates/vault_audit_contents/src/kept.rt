@@ -1,0 +1,29 @@
+//! The second look at `contents`: it has the bytes of each held version, and no others.
+ghost use Rattle.std.specs.Prelude.{◌≡◌, false, List, IfOk, OnOk};
+ghost use Rattle.sqlite.specs.State.{HasCleanDisk, IsUnchanged, Survives};
+ghost use Rattle.sqlite.specs.Held.{state};
+ghost use Rattle.vault_core_model.specs.declared.records.Entry.{Entry};
+ghost use Rattle.vault_core_model.specs.Vault.{Vault};
+ghost use Rattle.vault_audit_model.specs.Relations.{AreEntries, TellContents};
+ghost use Rattle.vault_audit_model.specs.Spells.{AreSound};
+ghost use Rattle.vault_audit_model.specs.Tables.{vault_schema};
+
+use crate::contents::check_bytes;
+use crate::held::count_held;
+use sqlite::{Alter, Connection, Error};
+
+/// Whether `contents` has exactly a row for each held version, with its size and digest. It is told of
+/// entries whose ids are 1, 2, 3 and so on.
+pub fn check_held_contents<S: Alter>(conn: &mut Connection<S>) -> Result<bool, Error>
+    requires { HasCleanDisk (state S.Store conn.old) → (state S.Store conn.old).now.schema ≡ vault_schema }
+    ensures told { HasCleanDisk (state S.Store conn.new) → IfOk result (λ found. (es : List Entry) → AreEntries (state S.Store conn.new).now es → TellContents (state S.Store conn.new).now es found) }
+    ensures damaged { HasCleanDisk (state S.Store conn.new) → IfOk result (λ found. found ≡ false → (v : Vault) → ¬ AreSound (state S.Store conn.new).now v) }
+    ensures same { HasCleanDisk (state S.Store conn.new) → OnOk result (IsUnchanged (state S.Store conn.old) (state S.Store conn.new)) }
+    ensures crash { Survives (state S.Store conn.old) (state S.Store conn.new) (λ _. ⊥) }
+{
+    let Some(count) = check_bytes(conn)? else {
+        return Ok(false);
+    };
+    let held = count_held(conn)?;
+    Ok(held == count)
+}

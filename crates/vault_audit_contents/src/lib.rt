@@ -1,0 +1,6 @@
+//! The bytes of the held versions, beside their entries.
+#![tactic(auto)]
+
+pub mod contents;
+pub mod held;
+pub mod kept;

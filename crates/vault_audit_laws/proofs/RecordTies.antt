@@ -1,0 +1,91 @@
+-- What the references between rows say of the records that the rows tell.
+use Rattle.std.proofs.Common.{◌≡◌, ◌⊎◌, inl, inr, ℕ, true, false, cond, List, [], ◌∷◌, map, find, Option, Some, None, option_map, IsSome, IsTrue, IsPermutation, refl, sym, ap, subst, ◌∙◌}
+use Rattle.std.specs.List.{AllByRecursion}
+use Rattle.std.specs.Str.{bytes_eq}
+use Rattle.std.proofs.lemmas.List.Sorted.{IsPermutation-sym}
+use Rattle.std.proofs.lemmas.Slice.Eq.{bytes_eq-Decides}
+use Rattle.sqlite_value.specs.declared.value.Value.{Value}
+use Rattle.sqlite_value.specs.declared.value.Value.TheVariants.{Null, Text}
+use Rattle.sqlite_value.specs.Order.{Row, column}
+use Rattle.sqlite_rules.specs.Lists.{Has}
+use Rattle.sqlite_rules.proofs.ListLemmas.{all_has, all_from, some_from}
+use Rattle.sqlite_rules.proofs.ProbeLemmas.{has_mapped, mapped_has}
+use Rattle.sqlite.specs.Effect.{Database}
+use Rattle.vault_rules.specs.Rules.{passes_if_given}
+use Rattle.vault_core_model.specs.declared.records.Bucket.{Bucket}
+use Rattle.vault_core_model.specs.declared.records.Caller.{Caller}
+use Rattle.vault_core_model.specs.declared.records.Entry.{Entry}
+use Rattle.vault_core_model.specs.Vault.{config_in}
+use Rattle.vault_audit_model.specs.Rows.{caller_row, bucket_row, entry_row, caller_columns, bucket_columns, entry_columns}
+use Rattle.vault_audit_model.specs.Spells.{bucket_of}
+use Rattle.vault_audit_model.specs.Tables.{departments_tree, callers_tree, buckets_tree, entries_tree}
+use Rattle.vault_audit_model.specs.Values.{text_or_null}
+use Rattle.vault_audit_model.proofs.SameRows.{text_same}
+use Rattle.vault_audit_laws.specs.Ties.{AreTied, is_among}
+use Rattle.vault_audit_laws.proofs.Members.{permuted_within}
+
+-- the value that a record's row has in a column stands in that column of its table
+module _ {A : Type 0} (row_of : A → Row) (columns : Row → Row) (at : ℕ) (xs : List A) (rows : List Row) (are : IsPermutation (map row_of xs) (map columns rows)) where
+  in_column : (place : ℕ) → ((r : Row) → column (columns r) at ≡ column r place) → (x : A) → Has xs x → Has (map (λ r. column r place) rows) (column (row_of x) at)
+  in_column place same x there =
+      let found = has_mapped columns rows (row_of x) (permuted_within (map columns rows) (map row_of xs) (IsPermutation-sym (map row_of xs) (map columns rows) are) (row_of x) (mapped_has row_of xs x there)) in
+      subst (Has (map (λ r. column r place) rows)) (sym (ap (λ r. column r at) found.2 ∙ same found.0)) (mapped_has (λ r. column r place) rows found.0 found.1)
+
+-- a text that stands in a column is that of one of these records
+named : {A : Type 0} (name_of : A → List ℕ) (xs : List A) (values : List Value) (name : List ℕ) → IsPermutation (map (λ x. Text (name_of x)) xs) values → Has values (Text name) → (x : A) × Has xs x × (bytes_eq (name_of x) name ≡ true)
+named name_of xs values name are there =
+    let found = has_mapped (λ x. Text (name_of x)) xs (Text name) (permuted_within (map (λ x. Text (name_of x)) xs) values are (Text name) there) in
+    (found.0, found.1, (bytes_eq-Decides (name_of found.0) name).1 (sym (text_same name (name_of found.0) found.2)))
+
+given_text : (values : List Value) (name : List ℕ) → (Text name ≡ Null) ⊎ Has values (Text name) → Has values (Text name)
+given_text values name (inl none) = absurd (cc none)
+given_text values name (inr there) = there
+
+among : (departments : List (List ℕ)) (values : List Value) (name : List ℕ) → IsPermutation (map (λ d. Text d) departments) values → (Text name ≡ Null) ⊎ Has values (Text name) → is_among departments name ≡ true
+among departments values name are tie =
+    let it = named (λ d. d) departments values name are (given_text values name tie) in
+    some_from (λ d. bytes_eq d name) departments it.0 it.1 it.2
+
+among_if_given : (departments : List (List ℕ)) (values : List Value) (name : Option (List ℕ)) → IsPermutation (map (λ d. Text d) departments) values → (text_or_null name ≡ Null) ⊎ Has values (text_or_null name)
+    → passes_if_given (is_among departments) name ≡ true
+among_if_given departments values None are tie = refl
+among_if_given departments values (Some name) are tie = among departments values name are tie
+
+found_in : (buckets : List Bucket) (name : List ℕ) (b : Bucket) → Has buckets b → bytes_eq b.name name ≡ true → IsSome (config_in buckets name)
+found_in [] name b there same = absurd there
+found_in (c ∷ cs) name b (inl e) same = rw (subst (λ (x : Bucket). bytes_eq x.name name ≡ true) e same) refl
+found_in (c ∷ cs) name b (inr there) same =
+    elim (bytes_eq c.name name) as (λ t. IsSome (option_map (λ (x : Bucket). x.config) (cond t (Some c) (find (λ (x : Bucket). bytes_eq x.name name) cs))))
+    [ true ↦ refl | false ↦ found_in cs name b there same ]
+
+placed_by : (buckets : List Bucket) (name : List ℕ) (row : Row) (b : Bucket) → Has buckets b → Text name ≡ column row 1 → bucket_columns row ≡ bucket_row (bucket_of b) → IsSome (config_in buckets name)
+placed_by buckets name row b there is same =
+    found_in buckets name b there ((bytes_eq-Decides b.name name).1 (sym (text_same name b.name (is ∙ ap (λ r. column r 0) same))))
+
+module _ (db : Database) (tied : AreTied db) where
+  pub callers_employed : (departments : List (List ℕ)) (callers : List Caller) → IsPermutation (map (λ d. Text d) departments) (map (λ r. column r 1) (db.trees departments_tree))
+      → IsPermutation (map caller_row callers) (map caller_columns (db.trees callers_tree)) → AllByRecursion (λ (c : Caller). IsTrue (passes_if_given (is_among departments) c.dept)) callers
+  callers_employed departments callers told are =
+      all_from (λ (c : Caller). IsTrue (passes_if_given (is_among departments) c.dept)) callers (λ c there.
+      among_if_given departments (map (λ r. column r 1) (db.trees departments_tree)) c.dept told
+      (all_has (λ v. (v ≡ Null) ⊎ Has (map (λ r. column r 1) (db.trees departments_tree)) v) (map (λ r. column r 2) (db.trees callers_tree)) (text_or_null c.dept) tied.departments_of_callers
+      (in_column caller_row caller_columns 1 callers (db.trees callers_tree) are 2 (λ r. refl) c there)))
+
+  pub buckets_owned : (departments : List (List ℕ)) (buckets : List Bucket) → IsPermutation (map (λ d. Text d) departments) (map (λ r. column r 1) (db.trees departments_tree))
+      → IsPermutation (map (λ b. bucket_row (bucket_of b)) buckets) (map bucket_columns (db.trees buckets_tree)) → AllByRecursion (λ (b : Bucket). IsTrue (is_among departments b.config.dept)) buckets
+  buckets_owned departments buckets told are =
+      all_from (λ (b : Bucket). IsTrue (is_among departments b.config.dept)) buckets (λ b there.
+      among departments (map (λ r. column r 1) (db.trees departments_tree)) b.config.dept told
+      (all_has (λ v. (v ≡ Null) ⊎ Has (map (λ r. column r 1) (db.trees departments_tree)) v) (map (λ r. column r 2) (db.trees buckets_tree)) (Text b.config.dept) tied.departments_of_buckets
+      (in_column (λ x. bucket_row (bucket_of x)) bucket_columns 1 buckets (db.trees buckets_tree) are 2 (λ r. refl) b there)))
+
+  pub entries_placed : (buckets : List Bucket) (entries : List Entry) → IsPermutation (map (λ b. bucket_row (bucket_of b)) buckets) (map bucket_columns (db.trees buckets_tree))
+      → IsPermutation (map entry_row entries) (map entry_columns (db.trees entries_tree)) → AllByRecursion (λ (e : Entry). IsSome (config_in buckets e.bucket)) entries
+  entries_placed buckets entries held are =
+      all_from (λ (e : Entry). IsSome (config_in buckets e.bucket)) entries (λ e there.
+      let names = map (λ r. column r 1) (db.trees buckets_tree) in
+      let tie = all_has (λ v. (v ≡ Null) ⊎ Has names v) (map (λ r. column r 2) (db.trees entries_tree)) (Text e.bucket) tied.buckets_of_entries
+      (in_column entry_row entry_columns 1 entries (db.trees entries_tree) are 2 (λ r. refl) e there) in
+      let row = has_mapped (λ r. column r 1) (db.trees buckets_tree) (Text e.bucket) (given_text names e.bucket tie) in
+      let found = has_mapped (λ b. bucket_row (bucket_of b)) buckets (bucket_columns row.0) (permuted_within (map (λ b. bucket_row (bucket_of b)) buckets) (map bucket_columns (db.trees buckets_tree)) held (bucket_columns row.0) (mapped_has bucket_columns (db.trees buckets_tree) row.0 row.1)) in
+      placed_by buckets e.bucket row.0 found.0 found.1 row.2 found.2)

@@ -1,0 +1,34 @@
+//! The second look at `settings`.
+ghost use Rattle.std.specs.Prelude.{◌≡◌, false, List, IfOk, OnOk};
+ghost use Rattle.sqlite.specs.State.{HasCleanDisk, IsUnchanged, Survives};
+ghost use Rattle.sqlite.specs.Held.{state};
+ghost use Rattle.vault_core_model.specs.declared.records.Entry.{Entry};
+ghost use Rattle.vault_core_model.specs.Vault.{Vault};
+ghost use Rattle.vault_audit_model.specs.Spells.{AreSound};
+ghost use Rattle.vault_audit_model.specs.Tables.{vault_schema};
+ghost use Rattle.vault_audit_model.specs.Relations.{AreEntries, TellSettings};
+
+use crate::placed::are_placed;
+use crate::present::{have_entries, have_settings};
+use sqlite::{Alter, Connection, Error};
+
+/// Whether each version has settings at the places 1, 2, 3 .., at least one and as many as it may
+/// have, and a marker none, and whether no other setting is there. The entries are to have the
+/// ids 1, 2, 3 ..
+pub fn check_history_of_settings<S: Alter>(conn: &mut Connection<S>) -> Result<bool, Error>
+    requires { HasCleanDisk (state S.Store conn.old) → (state S.Store conn.old).now.schema ≡ vault_schema }
+    ensures told { HasCleanDisk (state S.Store conn.new) → IfOk result (λ found. (es : List Entry) → AreEntries (state S.Store conn.new).now es → TellSettings (state S.Store conn.new).now es found) }
+    ensures damaged { HasCleanDisk (state S.Store conn.new) → IfOk result (λ found. found ≡ false → (v : Vault) → ¬ AreSound (state S.Store conn.new).now v) }
+    ensures same { HasCleanDisk (state S.Store conn.new) → OnOk result (IsUnchanged (state S.Store conn.old) (state S.Store conn.new)) }
+    ensures crash { Survives (state S.Store conn.old) (state S.Store conn.new) (λ _. ⊥) }
+{
+    let placed = are_placed(conn)?;
+    if !placed {
+        return Ok(false);
+    }
+    let present = have_settings(conn)?;
+    if !present {
+        return Ok(false);
+    }
+    have_entries(conn)
+}

@@ -1,0 +1,23 @@
+use Rattle.std.proofs.Common.{◌≡◌, true, false, sym, subst, rules, arith}
+use Rattle.sqlite.specs.Held.{state}
+use Rattle.sqlite.specs.State.{HasCleanDisk}
+use Rattle.sqlite.specs.Given.{IsPlain}
+use Rattle.sqlite.specs.Listing.{understood}
+use Rattle.vault_audit.proofs.TextLemmas.{buckets_text, buckets_scan}
+use Rattle.vault_audit_sums.proofs.OwnedLemmas.{owned_yes, owned_no}
+use Rattle.vault_audit_sums.proofs.owned.buckets_of.Goals as goal
+
+pub walk-requires : goal.walk-requires
+walk-requires g c clean = subst (λ s. IsPlain (understood s buckets_text)) (sym (c.requires clean)) buckets_scan.plain
+
+pub returns-then-not-whole-clause-told : goal.returns-then-not-whole-clause-told
+returns-then-not-whole-clause-told g c clean bs are =
+    let early : HasCleanDisk (state g.S.Store c.args.conn.now) = omega (arith, c.in_ok-whole.ensures.crash.clean) in
+    let no : c.in_ok-whole.whole ≡ false = search rules in
+    elim (owned_no (state g.S.Store c.args.conn.now) (state g.S.Store c.walk.new.conn) (c.requires early) (c.in_ok-whole.ensures.same clean) _ c.walk.new.pass c.new.ensures.items bs are (rw no at (c.in_ok-whole.ensures.walked clean))) [ ]
+
+pub returns-clause-told : goal.returns-clause-told
+returns-clause-told g c clean bs are =
+    let early : HasCleanDisk (state g.S.Store c.args.conn.now) = omega (arith, c.in_ok-whole.ensures.crash.clean) in
+    let yes : c.in_ok-whole.whole ≡ true = search rules in
+    owned_yes (state g.S.Store c.args.conn.now) (state g.S.Store c.walk.new.conn) (c.requires early) (c.in_ok-whole.ensures.same clean) _ c.walk.new.pass c.new.ensures.items bs are (rw yes at (c.in_ok-whole.ensures.walked clean))
