@@ -1,5 +1,5 @@
 -- The rows of departments as departments with their sums.
-use Rattle.std.proofs.Common.{◌≡◌, ℕ, List, [], ◌∷◌, map, Bool, true, false, IsPermutation, refl, sym, ap, subst, ◌∙◌}
+use Rattle.std.proofs.Common.{◌≡◌, ℕ, ◌≤◌, List, [], ◌∷◌, map, Bool, true, false, IsPermutation, refl, sym, ap, subst, ◌∙◌}
 use Rattle.std.specs.List.{AllByRecursion}
 use Rattle.std.proofs.lemmas.List.Sorted.{IsPermutation-sym, IsPermutation-trans}
 use Rattle.sqlite_trees.proofs.ListLemmas.{map-map, all-permutation}
@@ -8,11 +8,16 @@ use Rattle.sqlite.specs.Effect.{Database}
 use Rattle.vault_tally.specs.declared.row.Row.{Row}
 use Rattle.vault_core_model.specs.declared.records.Bucket.{Bucket}
 use Rattle.vault_core_model.specs.declared.records.History.{History}
+use Rattle.vault_core_model.specs.Sound.{Sound, IsInTime}
+use Rattle.vault_core_model.specs.Vault.{Vault}
+use Rattle.vault_core_laws.proofs.Soundness.{admitted_by}
 use Rattle.vault_audit_model.specs.declared.rows.DepartmentRow.{DepartmentRow}
 use Rattle.vault_audit_model.specs.Limits.{IsPlainName, IsDepartmentRow}
-use Rattle.vault_audit_model.specs.Relations.{department_with, IsWithin, AreSums, TellSums}
+use Rattle.vault_audit_model.specs.Relations.{department_with, IsPast, IsWithin, AreBuckets, AreEntries, AreSums, TellSums}
 use Rattle.vault_audit_model.specs.Rows.{department_row, department_columns}
+use Rattle.vault_audit_model.specs.Spells.{AreSound}
 use Rattle.vault_audit_model.specs.Tables.{departments_tree}
+use Rattle.vault_audit_contents.proofs.SoundLemmas.{sound_entries}
 use Rattle.vault_audit_model.proofs.SameRows.{number_same, text_same}
 use Rattle.vault_audit_sums.specs.Department.{HasSums, TellEach}
 use Rattle.vault_audit_sums.specs.Listed.{AreListed}
@@ -86,3 +91,23 @@ module _ (bs : List Bucket) (hs : List History) where
     pub table_missed : ((ds : List DepartmentRow) → ¬ AreListed db ds) → TellSums db bs hs false
     table_missed none ns are =
         none (map (department_with bs hs) ns) (subst (λ rows. IsPermutation rows source) (sym (map-map department_row (department_with bs hs) ns)) are.0, in_limits ns are.1)
+
+-- ---- sound tables
+
+past_of : (last : ℕ) (hs : List History) → AllByRecursion (λ (h : History). h.entry.admitted ≤ last) hs → AllByRecursion (IsInTime last) hs → AllByRecursion (IsPast last) (map (λ (h : History). h.entry) hs)
+past_of last [] early in_time = tt
+past_of last (h ∷ hs) early in_time = ((early.0, in_time.0), past_of last hs early.1 in_time.1)
+
+each_within : (v : Vault) (ds : List (List ℕ)) → Sound v → AllByRecursion (IsWithin v.buckets v.histories) ds
+each_within v [] sound = tt
+each_within v (d ∷ ds) sound = (sound.within d, each_within v ds sound)
+
+-- where a department lacks its sums, whatever the buckets and the entries are, no vault has these tables
+pub no_sums : (db : Database)
+    → ((bs : List Bucket) (hs : List History) (last : ℕ) → AreBuckets db bs → AreEntries db (map (λ (h : History). h.entry) hs) → AllByRecursion (IsPast last) (map (λ (h : History). h.entry) hs) → TellSums db bs hs false)
+    → (v : Vault) → ¬ AreSound db v
+no_sums db told v it =
+    let kept = it.spells.kept in
+    told v.buckets v.histories v.last (it.spells.buckets, it.spells.rules, kept.sound.ordered.buckets, kept.limits.buckets) (sound_entries db v it)
+    (past_of v.last v.histories (admitted_by 0 v.last v.histories kept.sound.order) kept.sound.in_time)
+    v.departments (it.numbers, kept.limits.departments, each_within v v.departments kept.sound)

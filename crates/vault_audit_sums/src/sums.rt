@@ -1,11 +1,13 @@
 //! The second look at `departments`: each has the five sums over its versions.
-ghost use Rattle.std.specs.Prelude.{◌≡◌, ℕ, List, map, IsTrue, IfOk, OnOk};
+ghost use Rattle.std.specs.Prelude.{◌≡◌, false, ℕ, List, map, IsTrue, IfOk, OnOk};
 ghost use Rattle.std.specs.List.{AllByRecursion};
 ghost use Rattle.sqlite.specs.State.{HasCleanDisk, IsUnchanged, Survives};
 ghost use Rattle.sqlite.specs.Held.{state};
 ghost use Rattle.vault_core_model.specs.declared.records.Bucket.{Bucket};
 ghost use Rattle.vault_core_model.specs.declared.records.History.{History};
 ghost use Rattle.vault_audit_model.specs.Relations.{AreBuckets, AreEntries, IsPast, TellSums};
+ghost use Rattle.vault_core_model.specs.Vault.{Vault};
+ghost use Rattle.vault_audit_model.specs.Spells.{AreSound};
 ghost use Rattle.vault_audit_model.specs.Tables.{vault_schema};
 ghost use Rattle.vault_audit_sums.specs.Department.{TellEach};
 
@@ -44,6 +46,7 @@ pub fn check_sums<S: Alter>(alloc: Global, conn: &mut Connection<S>) -> Result<b
     ensures told { HasCleanDisk (state S.Store conn.new) → IfOk result (λ hold. (bs : List Bucket) (hs : List History) (last : ℕ) →
         AreBuckets (state S.Store conn.new).now bs → AreEntries (state S.Store conn.new).now (map (λ (h : History). h.entry) hs) →
         AllByRecursion (IsPast last) (map (λ (h : History). h.entry) hs) → TellSums (state S.Store conn.new).now bs hs hold) }
+    ensures damaged { HasCleanDisk (state S.Store conn.new) → IfOk result (λ hold. hold ≡ false → (v : Vault) → ¬ AreSound (state S.Store conn.new).now v) }
     ensures same { HasCleanDisk (state S.Store conn.new) → OnOk result (IsUnchanged (state S.Store conn.old) (state S.Store conn.new)) }
     ensures crash { Survives (state S.Store conn.old) (state S.Store conn.new) (λ _. ⊥) }
 {

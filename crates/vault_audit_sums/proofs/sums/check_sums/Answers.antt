@@ -6,9 +6,12 @@ use Rattle.vault_core_model.specs.declared.records.Bucket.{Bucket}
 use Rattle.vault_core_model.specs.declared.records.History.{History}
 use Rattle.vault_audit_model.specs.declared.rows.DepartmentRow.{DepartmentRow}
 use Rattle.vault_audit_model.specs.Relations.{AreBuckets, AreEntries, IsPast, TellSums}
+use Rattle.vault_core_model.specs.Vault.{Vault}
+use Rattle.vault_audit_model.specs.Spells.{AreSound}
+use Rattle.vault_audit.proofs.DamageLemmas.{refused_if_ok}
 use Rattle.vault_audit_sums.specs.Department.{TellEach}
 use Rattle.vault_audit_sums.specs.Listed.{AreListed}
-use Rattle.vault_audit_sums.proofs.TableLemmas.{table_told, table_missed}
+use Rattle.vault_audit_sums.proofs.TableLemmas.{table_told, table_missed, no_sums}
 use Rattle.vault_audit_sums.proofs.sums.check_sums.Goals as goal
 
 -- what is told of each row is told of the table
@@ -30,3 +33,12 @@ returns-clause-told g c clean =
     let listed = rw c.in-Some.is at (c.in_ok-departments.ensures.told early) in
     let told = rw c.deref.ensures.value at (c.check_each.ensures.told clean) in
     of_table c.check_each.result (state g.S.Store c.list_departments.new.conn) (state g.S.Store c.check_each.new.conn) c.in-Some.departments.items listed (c.check_each.ensures.same clean) told
+
+pub returns-in_default-clause-damaged : goal.returns-in_default-clause-damaged
+returns-in_default-clause-damaged g c clean same = no_sums (state g.S.Store c.list_departments.new.conn).now (returns-in_default-clause-told g c clean)
+
+pub returns-clause-damaged : goal.returns-clause-damaged
+returns-clause-damaged g c clean =
+    let db = (state g.S.Store c.check_each.new.conn).now in
+    refused_if_ok (λ hold. (bs : List Bucket) (hs : List History) (last : ℕ) → AreBuckets db bs → AreEntries db (map (λ (h : History). h.entry) hs) → AllByRecursion (IsPast last) (map (λ (h : History). h.entry) hs) → TellSums db bs hs hold)
+    ((v : Vault) → ¬ AreSound db v) (no_sums db) c.check_each.result (returns-clause-told g c clean)
