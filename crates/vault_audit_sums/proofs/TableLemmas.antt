@@ -18,23 +18,9 @@ use Rattle.vault_audit_model.specs.Rows.{department_row, department_columns}
 use Rattle.vault_audit_model.specs.Spells.{AreSound}
 use Rattle.vault_audit_model.specs.Tables.{departments_tree}
 use Rattle.vault_audit_contents.proofs.SoundLemmas.{sound_entries}
-use Rattle.vault_audit_model.proofs.SameRows.{number_same, text_same}
+use Rattle.vault_audit_names.proofs.RowLemmas.{same_department}
 use Rattle.vault_audit_sums.specs.Department.{HasSums, TellEach}
 use Rattle.vault_audit_sums.specs.Listed.{AreListed}
-
--- ---- one row tells one department
-
-abbrev department_as : List ℕ → ℕ → ℕ → ℕ → ℕ → ℕ → DepartmentRow
-department_as n a b c d e = record { name = n; sums = record { admitted = a; held = b; removed = c; weighted = d; closed = e } }
-
-alike : (n1 n2 : List ℕ) (a1 a2 b1 b2 c1 c2 d1 d2 e1 e2 : ℕ) → n1 ≡ n2 → a1 ≡ a2 → b1 ≡ b2 → c1 ≡ c2 → d1 ≡ d2 → e1 ≡ e2 → department_as n1 a1 b1 c1 d1 e1 ≡ department_as n2 a2 b2 c2 d2 e2
-alike n1 n2 a1 a2 b1 b2 c1 c2 d1 d2 e1 e2 o p q r s t = rw (o, p, q, r, s, t) refl
-
-same_department : (x y : DepartmentRow) → department_row x ≡ department_row y → x ≡ y
-same_department x y e =
-    let one = λ (at : ℕ). ap (λ (r : Values). column r at) e in
-    alike x.name y.name x.sums.admitted y.sums.admitted x.sums.held y.sums.held x.sums.removed y.sums.removed x.sums.weighted y.sums.weighted x.sums.closed y.sums.closed
-    (text_same _ _ (one 0)) (number_same _ _ (one 1)) (number_same _ _ (one 2)) (number_same _ _ (one 3)) (number_same _ _ (one 4)) (number_same _ _ (one 5))
 
 module _ (bs : List Bucket) (hs : List History) where
   abbrev names : List DepartmentRow → List (List ℕ)

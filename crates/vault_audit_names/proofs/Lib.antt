@@ -1,0 +1,4 @@
+pub mod TextLemmas
+pub mod RowLemmas
+pub mod RiseLemmas
+pub mod TellLemmas

@@ -1,0 +1,56 @@
+-- Departments and callers in the order of their names.
+use Rattle.std.specs.Prelude.{◌≡◌, ℕ, Bool, true, false, List, map, Option, Some, IfSome, IsPermutation}
+use Rattle.std.specs.List.{AllByRecursion}
+use Rattle.std.specs.declared.cmp.Ordering.{Ordering}
+use Rattle.std.specs.declared.cmp.Ordering.TheVariants.{Less}
+use Rattle.sqlite.specs.Effect.{Database}
+use Rattle.vault_core_model.specs.declared.records.Caller.{Caller}
+use Rattle.vault_core_model.specs.Order.{IsAscending, name_cmp, caller_cmp}
+use Rattle.vault_audit_model.specs.declared.rows.DepartmentRow.{DepartmentRow}
+use Rattle.vault_audit_model.specs.Limits.{IsCaller, IsDepartmentRow}
+use Rattle.vault_audit_model.specs.Rows.{caller_row, department_row, caller_columns, department_columns}
+use Rattle.vault_audit_model.specs.Tables.{callers_tree, departments_tree}
+
+-- there is no name before it, or one that it comes after
+abbrev pub IsAfter : Option (List ℕ) → List ℕ → Type 0
+IsAfter before name = IfSome before (λ n. name_cmp n name ≡ Less)
+
+-- ---- callers
+
+-- it is a caller in its limits, of a later name
+abbrev pub IsNextCaller : Option (List ℕ) → Caller → Type 0
+IsNextCaller before c = IsCaller c × IsAfter before c.name
+
+abbrev pub with_caller : Option (List ℕ) → Caller → Option (List ℕ)
+with_caller before c = Some c.name
+
+-- the rows of callers are these, in their limits and by rising name
+abbrev pub AreCallersByName : Database → List Caller → Type 0
+AreCallersByName db cs =
+    IsPermutation (map caller_row cs) (map caller_columns (db.trees callers_tree)) × IsAscending caller_cmp cs × AllByRecursion IsCaller cs
+
+abbrev pub TellCallers : Database → Bool → Type 0
+TellCallers db true = (cs : List Caller) × AreCallersByName db cs
+TellCallers db false = (cs : List Caller) → ¬ AreCallersByName db cs
+
+-- ---- departments
+
+abbrev pub department_cmp : DepartmentRow → DepartmentRow → Ordering
+department_cmp a b = name_cmp a.name b.name
+
+-- it is a department in its limits, of a later name
+abbrev pub IsNextDepartment : Option (List ℕ) → DepartmentRow → Type 0
+IsNextDepartment before d = IsDepartmentRow d × IsAfter before d.name
+
+abbrev pub with_department : Option (List ℕ) → DepartmentRow → Option (List ℕ)
+with_department before d = Some d.name
+
+-- the rows of departments are these, in their limits and by rising name
+abbrev pub AreDepartmentsByName : Database → List DepartmentRow → Type 0
+AreDepartmentsByName db ds =
+    IsPermutation (map department_row ds) (map department_columns (db.trees departments_tree)) × IsAscending department_cmp ds
+    × AllByRecursion IsDepartmentRow ds
+
+abbrev pub TellDepartments : Database → Bool → Type 0
+TellDepartments db true = (ds : List DepartmentRow) × AreDepartmentsByName db ds
+TellDepartments db false = (ds : List DepartmentRow) → ¬ AreDepartmentsByName db ds
