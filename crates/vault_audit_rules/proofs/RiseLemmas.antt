@@ -58,19 +58,22 @@ grown p r (inl (same, place)) = by (r.place == 1) refl
 grown p r (inr (up, place)) = rw place refl
 
 -- the state behind a rule that goes on, and behind one that begins a bucket
-pub joined : (p : Run) (r : RuleRow) → r.place ≡ length p.rules + 1 → record { bucket = Some r.bucket; rules = p.rules ++ r.rule ∷ [] } ≡ with_rule p r
+abbrev run_of : RuleRow → List Rule → Run
+run_of r rules = record { bucket = Some r.bucket; rules = rules }
+
+pub joined : (p : Run) (r : RuleRow) → r.place ≡ length p.rules + 1 → run_of r (p.rules ++ r.rule ∷ []) ≡ with_rule p r
 joined p r place = by (r.place == 1) refl
   where
     none : (rs : List Rule) → 1 ≡ length rs + 1 → rs ++ r.rule ∷ [] ≡ r.rule ∷ []
     none [] e = refl
     none (x ∷ rs) e = absurd (omega (arith, e))
-    by : (b : Bool) → (r.place == 1) ≡ b → record { bucket = Some r.bucket; rules = p.rules ++ r.rule ∷ [] } ≡ record { bucket = Some r.bucket; rules = cond b (r.rule ∷ []) (p.rules ++ r.rule ∷ []) }
+    by : (b : Bool) → (r.place == 1) ≡ b → run_of r (p.rules ++ r.rule ∷ []) ≡ run_of r (cond b (r.rule ∷ []) (p.rules ++ r.rule ∷ []))
     by true is =
         let one : r.place ≡ 1 = grind (arith, nat_tests) in
-        ap (λ (rs : List Rule). record { bucket = Some r.bucket; rules = rs }) (none p.rules (sym one ∙ place))
+        ap (run_of r) (none p.rules (sym one ∙ place))
     by false is = refl
 
-pub begun : (p : Run) (r : RuleRow) → r.place ≡ 1 → record { bucket = Some r.bucket; rules = r.rule ∷ [] } ≡ with_rule p r
+pub begun : (p : Run) (r : RuleRow) → r.place ≡ 1 → run_of r (r.rule ∷ []) ≡ with_rule p r
 begun p r place = rw place refl
 
 -- one that is below the last place of a bucket
