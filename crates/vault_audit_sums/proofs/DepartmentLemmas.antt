@@ -1,5 +1,8 @@
 -- The versions of a department, and their sums.
-use Rattle.std.proofs.Common.{◌≡◌, ℕ, List, [], ◌∷◌, ◌++◌, map, filter, cond, not, ◌&&◌, sum_by, Bool, true, false, ◌≤◌, Some, None, refl, sym, ap, subst, ◌∙◌}
+use Rattle.std.proofs.Common.{◌≡◌, ℕ, ◌+◌, ◌<◌, List, [], ◌∷◌, ◌++◌, map, filter, take, length, get_or, cond, not, ◌&&◌, sum_by, Bool, true, false, ◌≤◌, Some, None, refl, sym, ap, subst, ◌∙◌}
+use Rattle.std.specs.List.{AllByRecursion}
+use Rattle.std.proofs.lemmas.List.{take_all, take_more}
+use Rattle.sqlite_trees.proofs.ListLemmas.{all-get_or}
 use Rattle.vault_tally.specs.Row.{Item, IsRowOf, size_of, quota}
 use Rattle.vault_tally.specs.declared.row.Row.{Row}
 use Rattle.vault_core_model.specs.declared.records.Bucket.{Bucket}
@@ -7,6 +10,7 @@ use Rattle.vault_core_model.specs.declared.records.History.{History}
 use Rattle.vault_core_model.specs.Totals.{item_of, items_in, is_version_of}
 use Rattle.vault_audit_model.specs.declared.rows.DepartmentRow.{DepartmentRow}
 use Rattle.vault_audit_model.specs.Spells.{sums_over}
+use Rattle.vault_audit_walk.proofs.RecordLemmas.{all_and_one}
 use Rattle.vault_audit_sums.specs.Department.{HasSums, TellDepartment}
 use Rattle.vault_audit_sums.specs.Owned.{AreOwnedBy}
 use Rattle.vault_audit_sums.specs.Versions.{counts, items_where, items_told, IsSumOf}
@@ -54,3 +58,15 @@ module _ (bs : List Bucket) (hs : List History) (name : List ℕ) (names : List 
 
   pub above : (sums : Row) → IsSumOf names (map (λ (h : History). h.entry) hs) None → ¬ HasSums bs hs (record { name = name; sums = sums })
   above sums beyond (_, within) = beyond (subst (λ xs. sum_by size_of xs ≤ quota) (sym same) within)
+
+-- ---- one department after another
+
+pub one_more_sum : (bs : List Bucket) (hs : List History) (ds : List DepartmentRow) (i : ℕ) (d : DepartmentRow) → i < length ds → d ≡ get_or ds i d → AllByRecursion (HasSums bs hs) (take i ds) → HasSums bs hs d → AllByRecursion (HasSums bs hs) (take (i + 1) ds)
+one_more_sum bs hs ds i d low is all one =
+    subst (AllByRecursion (HasSums bs hs)) (sym (take_more ds i d low)) (all_and_one (HasSums bs hs) (take i ds) (get_or ds i d) all (subst (HasSums bs hs) is one))
+
+pub not_each : (bs : List Bucket) (hs : List History) (ds : List DepartmentRow) (i : ℕ) (d : DepartmentRow) → i < length ds → d ≡ get_or ds i d → (¬ HasSums bs hs d) → ¬ AllByRecursion (HasSums bs hs) ds
+not_each bs hs ds i d low is none all = none (subst (HasSums bs hs) (sym is) (all-get_or (HasSums bs hs) ds i d all low))
+
+pub each_sum : (bs : List Bucket) (hs : List History) (ds : List DepartmentRow) (i : ℕ) → length ds ≤ i → AllByRecursion (HasSums bs hs) (take i ds) → AllByRecursion (HasSums bs hs) ds
+each_sum bs hs ds i high all = subst (AllByRecursion (HasSums bs hs)) (take_all i ds high) all

@@ -1,3 +1,4 @@
 pub mod Versions
 pub mod Owned
 pub mod Department
+pub mod Listed

@@ -20,21 +20,20 @@ use vault_audit_model::rows::DepartmentRow;
 pub fn check_department<S: Alter>(
     alloc: Global,
     conn: &mut Connection<S>,
-    department: DepartmentRow,
+    department: &DepartmentRow,
 ) -> Result<bool, Error>
     requires { HasCleanDisk (state S.Store conn.old) → (state S.Store conn.old).now.schema ≡ vault_schema }
     ensures told { HasCleanDisk (state S.Store conn.new) → IfOk result (λ holds. (bs : List Bucket) (hs : List History) (last : ℕ) →
         AreBuckets (state S.Store conn.new).now bs → AreEntries (state S.Store conn.new).now (map (λ (h : History). h.entry) hs) →
-        AllByRecursion (IsPast last) (map (λ (h : History). h.entry) hs) → TellDepartment bs hs department holds) }
+        AllByRecursion (IsPast last) (map (λ (h : History). h.entry) hs) → TellDepartment bs hs department.now holds) }
     ensures same { HasCleanDisk (state S.Store conn.new) → OnOk result (IsUnchanged (state S.Store conn.old) (state S.Store conn.new)) }
     ensures crash { Survives (state S.Store conn.old) (state S.Store conn.new) (λ _. ⊥) }
 {
-    let DepartmentRow { name, sums } = department;
-    let Some(names) = buckets_of(alloc, conn, name)? else {
+    let Some(names) = buckets_of(alloc, conn, department.name.clone()?)? else {
         return Ok(false);
     };
     let Some(found) = sum_versions(conn, names)? else {
         return Ok(false);
     };
-    Ok(found == sums)
+    Ok(found == department.sums)
 }

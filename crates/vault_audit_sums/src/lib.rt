@@ -2,5 +2,7 @@
 #![tactic(auto)]
 
 pub mod department;
+pub mod listed;
 pub mod owned;
+pub mod sums;
 pub mod versions;

@@ -40,15 +40,13 @@ unwritten_begun v v' w asked u =
     ]
 
 -- a step whose reply isn't written
-pub command_unwritten : (v v' : Vault) (asked : Line) (c : Timed) (r : Reply) → asked ≡ Command c → Step v c.at c.who c.command r v' → Unwritten v asked v'
-command_unwritten v v' asked c r is s =
-    let P : Line → Type 0 = λ a. Unwritten v a v' in
-    subst P (sym is) (inr (reply_text r, (r, s, refl)))
+pub command_unwritten : (v v' : Vault) (c : Timed) (r : Reply) → Step v c.at c.who c.command r v' → Unwritten v (Command c) v'
+command_unwritten v v' c r s = inr (reply_text r, (r, s, refl))
 
 -- a step whose reply was made
-pub command_answered : (v v' : Vault) (asked : Line) (c : Timed) (r : Reply) (made : Result (String Global) AllocError) → asked ≡ Command c → Step v c.at c.who c.command r v' → IfOk made (λ text. string_bytes text ≡ reply_text r) → IfOk made (λ text. Answers v asked (string_bytes text) v')
-command_answered v v' asked c r (Ok text) is s told = let P : Line → Type 0 = λ a. Answers v a (string_bytes text) v' in subst P (sym is) (r, s, told)
-command_answered v v' asked c r (Err e) is s told = told
+pub command_answered : (v v' : Vault) (c : Timed) (r : Reply) (made : Result (String Global) AllocError) → Step v c.at c.who c.command r v' → IfOk made (λ text. string_bytes text ≡ reply_text r) → IfOk made (λ text. Answers v (Command c) (string_bytes text) v')
+command_answered v v' c r (Ok text) s told = (r, s, told)
+command_answered v v' c r (Err e) s told = told
 
 -- a run may be joined to one that follows it
 Runs-then : (a b c : Vault) (ls ms : List Line) (x y : List ℕ) → Runs a ls x b → Runs b ms y c → Runs a (ls ++ ms) (x ++ y) c

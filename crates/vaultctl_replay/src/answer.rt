@@ -1,6 +1,8 @@
 //! One line: what it asks for is carried out, and its reply written.
 ghost use Rattle.std.specs.Prelude.{◌≡◌, [], ◌∷◌, IfOk, OnOk, OnErr, string_bytes};
 ghost use Rattle.vault_http_script.specs.ReadLine.{line_of};
+ghost use Rattle.vault_http_script.specs.ReplyLine.{reply_text};
+ghost use Rattle.vault_http_script.specs.declared.read_line.Line.TheVariants.{Command};
 ghost use Rattle.vaultctl_replay.specs.Lines.{unended_of};
 ghost use Rattle.vaultctl_replay.specs.Runs.{Answers, Began, Finished, Unwritten};
 
@@ -10,24 +12,42 @@ use std::alloc::{AllocError, Global};
 use std::io::Write;
 use vault_base::refusal::Refusal;
 use vault_core::step::step;
+use vault_core_model::command::Timed;
 use vault_core_model::keeper::Keeper;
 use vault_core_model::reply::Reply;
 use vault_http_script::read_line::{Line, read_line};
 use vault_http_script::reply_line::reply_line;
 
+/// The line of a reply, which is dropped.
+///
+/// What a line asks for and what it is answered by are handed on by value, each to the one function that
+/// drops it.
+fn told(alloc: Global, reply: Reply) -> Result<String, AllocError>
+    ensures { IfOk result (λ text. string_bytes text ≡ reply_text reply) }
+{
+    reply_line(alloc, &reply)
+}
+
+/// Carries out a command. Its reply is a line.
+fn carried_out<K: Keeper>(alloc: Global, keeper: &mut K, timed: Timed) -> Result<String, AllocError>
+    ensures ok { K.is_honest keeper.new → IfOk result (λ text. Answers (K.vault keeper.old) (Command timed) (string_bytes text) (K.vault keeper.new)) }
+    ensures err { K.is_honest keeper.new → OnErr result (Unwritten (K.vault keeper.old) (Command timed) (K.vault keeper.new)) }
+    ensures honest { K.is_honest keeper.new → K.is_honest keeper.old }
+{
+    let reply = step(alloc, keeper, timed.at, &timed.who, &timed.command);
+    told(alloc, reply)
+}
+
 /// Carries out what a line asks for. Its reply is a line, or nothing where the line is empty.
-fn reply_to<K: Keeper>(alloc: Global, keeper: &mut K, asked: &Line) -> Result<String, AllocError>
-    ensures ok { K.is_honest keeper.new → IfOk result (λ reply. Answers (K.vault keeper.old) asked.now (string_bytes reply) (K.vault keeper.new)) }
-    ensures err { K.is_honest keeper.new → OnErr result (Unwritten (K.vault keeper.old) asked.now (K.vault keeper.new)) }
+fn reply_to<K: Keeper>(alloc: Global, keeper: &mut K, asked: Line) -> Result<String, AllocError>
+    ensures ok { K.is_honest keeper.new → IfOk result (λ reply. Answers (K.vault keeper.old) asked (string_bytes reply) (K.vault keeper.new)) }
+    ensures err { K.is_honest keeper.new → OnErr result (Unwritten (K.vault keeper.old) asked (K.vault keeper.new)) }
     ensures honest { K.is_honest keeper.new → K.is_honest keeper.old }
 {
     match asked {
         Line::Skip => Ok(String::new(alloc)),
-        Line::Refused(refusal) => reply_line(alloc, &Reply::Refused(*refusal)),
-        Line::Command(timed) => {
-            let reply = step(alloc, keeper, timed.at, &timed.who, &timed.command);
-            reply_line(alloc, &reply)
-        }
+        Line::Refused(refusal) => told(alloc, Reply::Refused(refusal)),
+        Line::Command(timed) => carried_out(alloc, keeper, timed),
     }
 }
 
@@ -36,10 +56,10 @@ fn answer<K: Keeper, W: Write>(
     alloc: Global,
     keeper: &mut K,
     writer: &mut W,
-    asked: &Line,
+    asked: Line,
 ) -> Result<(), ReplayFault>
-    ensures ok { K.is_honest keeper.new → OnOk result (Finished (K.vault keeper.old) (W.contents writer.old) (asked.now ∷ []) (K.vault keeper.new) (W.contents writer.new)) }
-    ensures err { K.is_honest keeper.new → OnErr result (Began (K.vault keeper.old) (W.contents writer.old) (asked.now ∷ []) (K.vault keeper.new) (W.contents writer.new)) }
+    ensures ok { K.is_honest keeper.new → OnOk result (Finished (K.vault keeper.old) (W.contents writer.old) (asked ∷ []) (K.vault keeper.new) (W.contents writer.new)) }
+    ensures err { K.is_honest keeper.new → OnErr result (Began (K.vault keeper.old) (W.contents writer.old) (asked ∷ []) (K.vault keeper.new) (W.contents writer.new)) }
     ensures kind { ¬ (result ≡ Err ReplayFault.Read) }
     ensures honest { K.is_honest keeper.new → K.is_honest keeper.old }
 {
@@ -64,7 +84,7 @@ pub fn answer_line<K: Keeper, W: Write>(
     let Ok(asked) = read_line(alloc, line) else {
         return Err(ReplayFault::Memory);
     };
-    answer(alloc, keeper, writer, &asked)
+    answer(alloc, keeper, writer, asked)
 }
 
 /// Carries out a last line that lacks its LF, and writes its reply.
@@ -80,12 +100,7 @@ pub fn answer_unended<K: Keeper, W: Write>(
     ensures honest { K.is_honest keeper.new → K.is_honest keeper.old }
 {
     if line.len() == 1 && line[0] == b'\r' {
-        answer(
-            alloc,
-            keeper,
-            writer,
-            &Line::Refused(Refusal::MalformedBody),
-        )
+        answer(alloc, keeper, writer, Line::Refused(Refusal::MalformedBody))
     } else {
         answer_line(alloc, keeper, writer, line)
     }

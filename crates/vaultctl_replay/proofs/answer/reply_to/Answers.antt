@@ -1,11 +1,9 @@
-use Rattle.vaultctl_replay.proofs.RunLemmas.{command_answered, command_unwritten, on_err}
+use Rattle.std.proofs.Common.{sym, subst, OnErr}
+use Rattle.vault_http_script.specs.declared.read_line.Line.{Line}
+use Rattle.vaultctl_replay.specs.Runs.{Unwritten}
 use Rattle.vaultctl_replay.proofs.answer.reply_to.Goals as goal
 
 pub returns-in-Command-clause-err : goal.returns-in-Command-clause-err
 returns-in-Command-clause-err g c = λ h.
-    on_err c.reply_line-in-Command.result
-    (command_unwritten (g.K.Keeper.vault c.args.keeper.now) (g.K.Keeper.vault c.step-reply.new.keeper) c.args.asked.now c.in-Command.timed c.step-reply.result c.in-Command.is (c.step-reply.ensures.step h))
-
-pub returns-in-Command-clause-ok : goal.returns-in-Command-clause-ok
-returns-in-Command-clause-ok g c = λ h.
-    command_answered (g.K.Keeper.vault c.args.keeper.now) (g.K.Keeper.vault c.step-reply.new.keeper) c.args.asked.now c.in-Command.timed c.step-reply.result c.reply_line-in-Command.result c.in-Command.is (c.step-reply.ensures.step h) c.reply_line-in-Command.ensures
+    let P : Line → Type 0 = λ a. OnErr c.carried_out.result (Unwritten (g.K.Keeper.vault c.args.keeper.now) a (g.K.Keeper.vault c.carried_out.new.keeper)) in
+    subst P (sym c.in-Command.is) (c.carried_out.ensures.err h)

@@ -1,0 +1,88 @@
+-- The rows of departments as departments with their sums.
+use Rattle.std.proofs.Common.{◌≡◌, ℕ, List, [], ◌∷◌, map, Bool, true, false, IsPermutation, refl, sym, ap, subst, ◌∙◌}
+use Rattle.std.specs.List.{AllByRecursion}
+use Rattle.std.proofs.lemmas.List.Sorted.{IsPermutation-sym, IsPermutation-trans}
+use Rattle.sqlite_trees.proofs.ListLemmas.{map-map, all-permutation}
+use Rattle.sqlite_value.specs.Order.{Row as Values, column}
+use Rattle.sqlite.specs.Effect.{Database}
+use Rattle.vault_tally.specs.declared.row.Row.{Row}
+use Rattle.vault_core_model.specs.declared.records.Bucket.{Bucket}
+use Rattle.vault_core_model.specs.declared.records.History.{History}
+use Rattle.vault_audit_model.specs.declared.rows.DepartmentRow.{DepartmentRow}
+use Rattle.vault_audit_model.specs.Limits.{IsPlainName, IsDepartmentRow}
+use Rattle.vault_audit_model.specs.Relations.{department_with, IsWithin, AreSums, TellSums}
+use Rattle.vault_audit_model.specs.Rows.{department_row, department_columns}
+use Rattle.vault_audit_model.specs.Tables.{departments_tree}
+use Rattle.vault_audit_model.proofs.SameRows.{number_same, text_same}
+use Rattle.vault_audit_sums.specs.Department.{HasSums, TellEach}
+use Rattle.vault_audit_sums.specs.Listed.{AreListed}
+
+-- ---- one row tells one department
+
+abbrev department_as : List ℕ → ℕ → ℕ → ℕ → ℕ → ℕ → DepartmentRow
+department_as n a b c d e = record { name = n; sums = record { admitted = a; held = b; removed = c; weighted = d; closed = e } }
+
+alike : (n1 n2 : List ℕ) (a1 a2 b1 b2 c1 c2 d1 d2 e1 e2 : ℕ) → n1 ≡ n2 → a1 ≡ a2 → b1 ≡ b2 → c1 ≡ c2 → d1 ≡ d2 → e1 ≡ e2 → department_as n1 a1 b1 c1 d1 e1 ≡ department_as n2 a2 b2 c2 d2 e2
+alike n1 n2 a1 a2 b1 b2 c1 c2 d1 d2 e1 e2 o p q r s t = rw (o, p, q, r, s, t) refl
+
+same_department : (x y : DepartmentRow) → department_row x ≡ department_row y → x ≡ y
+same_department x y e =
+    let one = λ (at : ℕ). ap (λ (r : Values). column r at) e in
+    alike x.name y.name x.sums.admitted y.sums.admitted x.sums.held y.sums.held x.sums.removed y.sums.removed x.sums.weighted y.sums.weighted x.sums.closed y.sums.closed
+    (text_same _ _ (one 0)) (number_same _ _ (one 1)) (number_same _ _ (one 2)) (number_same _ _ (one 3)) (number_same _ _ (one 4)) (number_same _ _ (one 5))
+
+module _ (bs : List Bucket) (hs : List History) where
+  abbrev names : List DepartmentRow → List (List ℕ)
+  names ds = map (λ (d : DepartmentRow). d.name) ds
+
+  -- ---- from rows that have their sums
+
+  rows_same : (ds : List DepartmentRow) → AllByRecursion (HasSums bs hs) ds → map department_row ds ≡ map (λ n. department_row (department_with bs hs n)) (names ds)
+  rows_same [] all = refl
+  rows_same (d ∷ ds) all =
+      let here : department_row d ≡ department_row (department_with bs hs d.name) = ap department_row all.0.0 in
+      let there = rows_same ds all.1 in cc (here, there)
+
+  named : (ds : List DepartmentRow) → AllByRecursion IsDepartmentRow ds → AllByRecursion IsPlainName (names ds)
+  named [] all = tt
+  named (d ∷ ds) all = (all.0, named ds all.1)
+
+  within : (ds : List DepartmentRow) → AllByRecursion (HasSums bs hs) ds → AllByRecursion (IsWithin bs hs) (names ds)
+  within [] all = tt
+  within (d ∷ ds) all = (all.0.1, within ds all.1)
+
+  -- ---- to rows that have their sums
+
+  abbrev HasThem : Values → Type 0
+  HasThem row = (d : DepartmentRow) → row ≡ department_row d → HasSums bs hs d
+
+  each_has : (ns : List (List ℕ)) → AllByRecursion (IsWithin bs hs) ns → AllByRecursion HasThem (map (λ n. department_row (department_with bs hs n)) ns)
+  each_has [] all = tt
+  each_has (n ∷ ns) all = (
+    λ d is.
+        let same : department_with bs hs n ≡ d = same_department (department_with bs hs n) d is in
+        subst (HasSums bs hs) same (refl, all.0),
+    each_has ns all.1,
+  )
+
+  have : (ds : List DepartmentRow) → AllByRecursion HasThem (map department_row ds) → AllByRecursion (HasSums bs hs) ds
+  have [] all = tt
+  have (d ∷ ds) all = (all.0 d refl, have ds all.1)
+
+  in_limits : (ns : List (List ℕ)) → AllByRecursion IsPlainName ns → AllByRecursion IsDepartmentRow (map (department_with bs hs) ns)
+  in_limits [] all = tt
+  in_limits (n ∷ ns) all = (all.0, in_limits ns all.1)
+
+  module _ (db : Database) where
+    abbrev source : List Values
+    source = map department_columns (db.trees departments_tree)
+
+    pub table_told : (ds : List DepartmentRow) (hold : Bool) → AreListed db ds → TellEach bs hs ds hold → TellSums db bs hs hold
+    table_told ds true listed each =
+        (names ds, (subst (λ rows. IsPermutation rows source) (rows_same ds each) listed.0, named ds listed.1, within ds each))
+    table_told ds false listed each = λ ns are.
+        each (have ds (all-permutation HasThem (map (λ n. department_row (department_with bs hs n)) ns) (map department_row ds) (IsPermutation-trans _ _ _ are.0 (IsPermutation-sym _ _ listed.0)) (each_has ns are.2)))
+
+    pub table_missed : ((ds : List DepartmentRow) → ¬ AreListed db ds) → TellSums db bs hs false
+    table_missed none ns are =
+        none (map (department_with bs hs) ns) (subst (λ rows. IsPermutation rows source) (sym (map-map department_row (department_with bs hs) ns)) are.0, in_limits ns are.1)

@@ -1,0 +1,23 @@
+use Rattle.std.proofs.Common.{◌≡◌, true, false, refl, sym, subst, rules, arith}
+use Rattle.sqlite.specs.Held.{state}
+use Rattle.sqlite.specs.State.{HasCleanDisk}
+use Rattle.sqlite.specs.Given.{IsPlain}
+use Rattle.sqlite.specs.Listing.{understood}
+use Rattle.vault_audit.proofs.TextLemmas.{departments_text, departments_scan}
+use Rattle.vault_audit_sums.proofs.ListedLemmas.{listed_yes, listed_no}
+use Rattle.vault_audit_sums.proofs.listed.list_departments.Goals as goal
+
+pub walk-requires : goal.walk-requires
+walk-requires g c clean = subst (λ s. IsPlain (understood s departments_text)) (sym (c.requires clean)) departments_scan.plain
+
+pub returns-then-not-whole-clause-told : goal.returns-then-not-whole-clause-told
+returns-then-not-whole-clause-told g c clean =
+    let early : HasCleanDisk (state g.S.Store c.args.conn.now) = omega (arith, c.in_ok-whole.ensures.crash.clean) in
+    let no : c.in_ok-whole.whole ≡ false = search rules in
+    listed_no (state g.S.Store c.args.conn.now) (state g.S.Store c.walk.new.conn) (c.requires early) (c.in_ok-whole.ensures.same clean) _ c.walk.new.pass c.new.ensures.items (rw no at (c.in_ok-whole.ensures.walked clean))
+
+pub returns-clause-told : goal.returns-clause-told
+returns-clause-told g c clean =
+    let early : HasCleanDisk (state g.S.Store c.args.conn.now) = omega (arith, c.in_ok-whole.ensures.crash.clean) in
+    let yes : c.in_ok-whole.whole ≡ true = search rules in
+    listed_yes (state g.S.Store c.args.conn.now) (state g.S.Store c.walk.new.conn) (c.requires early) (c.in_ok-whole.ensures.same clean) _ c.walk.new.pass c.new.ensures.items (rw yes at (c.in_ok-whole.ensures.walked clean))

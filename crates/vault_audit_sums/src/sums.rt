@@ -1,0 +1,54 @@
+//! The second look at `departments`: each has the five sums over its versions.
+ghost use Rattle.std.specs.Prelude.{◌≡◌, ℕ, List, map, IsTrue, IfOk, OnOk};
+ghost use Rattle.std.specs.List.{AllByRecursion};
+ghost use Rattle.sqlite.specs.State.{HasCleanDisk, IsUnchanged, Survives};
+ghost use Rattle.sqlite.specs.Held.{state};
+ghost use Rattle.vault_core_model.specs.declared.records.Bucket.{Bucket};
+ghost use Rattle.vault_core_model.specs.declared.records.History.{History};
+ghost use Rattle.vault_audit_model.specs.Relations.{AreBuckets, AreEntries, IsPast, TellSums};
+ghost use Rattle.vault_audit_model.specs.Tables.{vault_schema};
+ghost use Rattle.vault_audit_sums.specs.Department.{TellEach};
+
+use crate::department::check_department;
+use crate::listed::list_departments;
+use sqlite::{Alter, Connection, Error};
+use std::alloc::Global;
+use vault_audit_model::rows::DepartmentRow;
+
+/// Whether each of these departments has the sums over its versions.
+fn check_each<S: Alter>(
+    alloc: Global,
+    conn: &mut Connection<S>,
+    departments: &[DepartmentRow],
+) -> Result<bool, Error>
+    requires { HasCleanDisk (state S.Store conn.old) → ((state S.Store conn.old).now.schema ≡ vault_schema) × IsTrue (state S.Store conn.old).is_open }
+    ensures told { HasCleanDisk (state S.Store conn.new) → IfOk result (λ hold. (bs : List Bucket) (hs : List History) (last : ℕ) →
+        AreBuckets (state S.Store conn.new).now bs → AreEntries (state S.Store conn.new).now (map (λ (h : History). h.entry) hs) →
+        AllByRecursion (IsPast last) (map (λ (h : History). h.entry) hs) → TellEach bs hs departments.now hold) }
+    ensures same { HasCleanDisk (state S.Store conn.new) → OnOk result (IsUnchanged (state S.Store conn.old) (state S.Store conn.new)) }
+    ensures crash { Survives (state S.Store conn.old) (state S.Store conn.new) (λ _. ⊥) }
+{
+    for department in departments {
+        if !check_department(alloc, conn, department)? {
+            return Ok(false);
+        }
+    }
+    Ok(true)
+}
+
+/// Whether the rows of `departments` are departments with the five sums over the versions of their
+/// buckets, removed ones included, each within what a department may admit. It is told of buckets and
+/// entries that other looks found in order.
+pub fn check_sums<S: Alter>(alloc: Global, conn: &mut Connection<S>) -> Result<bool, Error>
+    requires { HasCleanDisk (state S.Store conn.old) → (state S.Store conn.old).now.schema ≡ vault_schema }
+    ensures told { HasCleanDisk (state S.Store conn.new) → IfOk result (λ hold. (bs : List Bucket) (hs : List History) (last : ℕ) →
+        AreBuckets (state S.Store conn.new).now bs → AreEntries (state S.Store conn.new).now (map (λ (h : History). h.entry) hs) →
+        AllByRecursion (IsPast last) (map (λ (h : History). h.entry) hs) → TellSums (state S.Store conn.new).now bs hs hold) }
+    ensures same { HasCleanDisk (state S.Store conn.new) → OnOk result (IsUnchanged (state S.Store conn.old) (state S.Store conn.new)) }
+    ensures crash { Survives (state S.Store conn.old) (state S.Store conn.new) (λ _. ⊥) }
+{
+    let Some(departments) = list_departments(alloc, conn)? else {
+        return Ok(false);
+    };
+    check_each(alloc, conn, &departments)
+}

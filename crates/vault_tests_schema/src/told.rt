@@ -1,0 +1,133 @@
+//! Schemas that differ from the vault's in one place, and the table that is told of each.
+
+use sqlite::{Connection, Error};
+use std::alloc::Global;
+use std::test::Fail;
+use vault_audit_model::schema::creation;
+use vault_audit_schema::{check_schema, first_difference};
+use vault_base::refusal::Table;
+
+const TABLES: [Table; 10] = [
+    Table::Meta,
+    Table::Departments,
+    Table::Callers,
+    Table::Buckets,
+    Table::Rules,
+    Table::Entries,
+    Table::Contents,
+    Table::Settings,
+    Table::Intake,
+    Table::Heads,
+];
+
+/// What is told of the ten tables, where `text` makes `changed`, or leaves it out if it is empty, and `more` follows.
+fn told(alloc: Global, changed: Table, text: &str, more: &[&str]) -> Result<Option<Table>, Error> {
+    let mut conn = Connection::open_in_memory(alloc)?;
+    for table in &TABLES {
+        let text = if *table == changed {
+            text
+        } else {
+            creation(*table)
+        };
+        if !text.is_empty() {
+            conn.execute_batch(text)?;
+        }
+    }
+    for text in more {
+        conn.execute_batch(text)?;
+    }
+    Ok(check_schema(&conn))
+}
+
+/// What is told of the vault's tables with this beside them.
+fn told_beside(alloc: Global, more: &[&str]) -> Result<Option<Table>, Error> {
+    told(alloc, Table::Meta, creation(Table::Meta), more)
+}
+
+#[test]
+fn no_table_is_meta(rt: HostRuntime) -> Result<(), Fail> {
+    let conn = Connection::open_in_memory(rt.alloc())?;
+    assert_eq!(rt; first_difference(conn.schema()), Some(Table::Meta));
+    Ok(())
+}
+
+#[test]
+fn the_ten_tables_are_the_vaults(rt: HostRuntime) -> Result<(), Fail> {
+    assert_eq!(rt; told_beside(rt.alloc(), &[])?, None);
+    Ok(())
+}
+
+#[test]
+fn a_missing_table_is_told(rt: HostRuntime) -> Result<(), Fail> {
+    for table in &TABLES {
+        assert_eq!(rt; told(rt.alloc(), *table, "", &[])?, Some(*table));
+    }
+    Ok(())
+}
+
+#[test]
+fn a_changed_table_is_told(rt: HostRuntime) -> Result<(), Fail> {
+    let changes = [
+        // It isn't STRICT.
+        (
+            Table::Meta,
+            "CREATE TABLE meta (one INTEGER PRIMARY KEY, schema INTEGER NOT NULL, last INTEGER NOT NULL, next INTEGER NOT NULL)",
+        ),
+        // A column has another name.
+        (
+            Table::Callers,
+            "CREATE TABLE callers (name TEXT NOT NULL, department TEXT REFERENCES departments (name), rights INTEGER NOT NULL, closed INTEGER NOT NULL, PRIMARY KEY (name)) STRICT",
+        ),
+        // A column may be NULL.
+        (
+            Table::Buckets,
+            "CREATE TABLE buckets (name TEXT NOT NULL, dept TEXT NOT NULL REFERENCES departments (name), mode INTEGER, days INTEGER, years INTEGER, PRIMARY KEY (name)) STRICT",
+        ),
+        // The key has another column.
+        (
+            Table::Rules,
+            "CREATE TABLE rules (bucket TEXT NOT NULL REFERENCES buckets (name), n INTEGER NOT NULL, id TEXT NOT NULL, prefix TEXT NOT NULL, enabled INTEGER NOT NULL, days INTEGER, lone INTEGER NOT NULL, nc_days INTEGER, nc_keep INTEGER, PRIMARY KEY (bucket, id)) STRICT",
+        ),
+        // It refers to no entry.
+        (
+            Table::Contents,
+            "CREATE TABLE contents (id INTEGER PRIMARY KEY, bytes BLOB NOT NULL) STRICT",
+        ),
+        // A column is of another kind.
+        (
+            Table::Settings,
+            "CREATE TABLE settings (id INTEGER NOT NULL REFERENCES entries (id), n INTEGER NOT NULL, moment INTEGER NOT NULL, caller TEXT NOT NULL, mode INTEGER NOT NULL, until TEXT, hold INTEGER NOT NULL, bypass INTEGER NOT NULL, PRIMARY KEY (id, n)) STRICT",
+        ),
+        // It has a CHECK.
+        (
+            Table::Heads,
+            "CREATE TABLE heads (bucket TEXT NOT NULL REFERENCES buckets (name), key TEXT NOT NULL, newest INTEGER NOT NULL REFERENCES entries (id), count INTEGER NOT NULL CHECK (count > 0), PRIMARY KEY (bucket, key)) STRICT",
+        ),
+    ];
+    for (table, text) in &changes {
+        assert_eq!(rt; told(rt.alloc(), *table, text, &[])?, Some(*table));
+    }
+    Ok(())
+}
+
+#[test]
+fn what_stands_beside_the_tables_is_told(rt: HostRuntime) -> Result<(), Fail> {
+    let other = "CREATE TABLE other (x INTEGER) STRICT";
+    assert_eq!(rt; told_beside(rt.alloc(), &[other])?, Some(Table::Meta));
+    assert_eq!(rt;
+        told_beside(rt.alloc(), &[other, "CREATE INDEX by_x ON other (x)"])?,
+        Some(Table::Meta)
+    );
+    assert_eq!(rt;
+        told_beside(rt.alloc(), &["CREATE INDEX by_size ON entries (size)"])?,
+        Some(Table::Entries)
+    );
+    assert_eq!(rt;
+        told_beside(
+            rt.alloc(),
+            &["CREATE VIEW sizes AS SELECT size FROM entries"]
+        )?,
+        Some(Table::Meta)
+    );
+    Ok(())
+}
