@@ -48,6 +48,11 @@ pub record Cut (name : List ℕ) (gone : List Rule) (xs : List RuleRow) : Type 0
 row_alike : (x : RuleRow) (bucket : List ℕ) (place : ℕ) → bucket ≡ x.bucket → x.place ≡ place → x ≡ record { bucket = bucket; place = place; rule = x.rule }
 row_alike x bucket place p q = ap₂ (λ (b : List ℕ) (n : ℕ). record { bucket = b; place = n; rule = x.rule }) (sym p) q
 
+-- the first rule before those of the next places
+first_row : (x : RuleRow) (bucket : List ℕ) (place : ℕ) (xs : List RuleRow) (rules : List Rule) (rest : List RuleRow) → bucket ≡ x.bucket → x.place ≡ place → xs ≡ rules_from bucket (place + 1) rules ++ rest
+    → x ∷ xs ≡ rules_from bucket place (x.rule ∷ rules) ++ rest
+first_row x bucket place xs rules rest p q more = ap₂ (λ (y : RuleRow) (ys : List RuleRow). y ∷ ys) (row_alike x bucket place p q) more
+
 next_state : (gone : List Rule) (x : RuleRow) (name : List ℕ) → 1 ≤ length gone → name ≡ x.bucket → x.place ≡ length gone + 1 → with_rule (at_rules name gone) x ≡ at_rules name (gone ++ x.rule ∷ [])
 next_state gone x name some same place =
     let no : (x.place == 1) ≡ false = grind (arith, nat_tests) in
@@ -60,10 +65,11 @@ cut name gone (x ∷ xs) some ((is, inl (same, place)), fit) whole =
     let state = next_state gone x name some bucket place in
     let more : length (gone ++ x.rule ∷ []) ≡ length gone + 1 = length-append gone (x.rule ∷ []) in
     let later = cut name (gone ++ x.rule ∷ []) xs (omega (arith, more)) (subst (λ q. FitRules q xs) state fit) (subst (λ q. IsWhole (end_of q xs)) state whole) in
+    let behind : xs ≡ rules_from name (length gone + 1 + 1) later.rules ++ later.rest = subst (λ n. xs ≡ rules_from name (n + 1) later.rules ++ later.rest) more later.whole in
     record {
       rules = x.rule ∷ later.rules;
       rest = later.rest;
-      whole = ap₂ (λ (y : RuleRow) (ys : List RuleRow). y ∷ ys) (row_alike x name (length gone + 1) bucket place) (later.whole ∙ ap (λ n. rules_from name (n + 1) later.rules ++ later.rest) more);
+      whole = first_row x name (length gone + 1) xs later.rules later.rest bucket place behind;
       are = (is.rule, later.are);
       set = subst (λ rs. IsTrue (is_rule_set rs)) (append_assoc gone (x.rule ∷ []) later.rules) later.set;
       begins = later.begins;
@@ -97,7 +103,7 @@ from_bucket before name gone (x ∷ xs) low ((is, inr (up, place)), fit) =
 
 pub all_later : (before : List ℕ) (xs : List RuleRow) → Begins (Some before) xs → AreLater before xs
 all_later before [] it = tt
-all_later before (x ∷ xs) it = (it.0.1, from_bucket before x.bucket (x.rule ∷ []) xs it.0.1 it.1.0)
+all_later before (x ∷ xs) it = (it.0.1, from_bucket before x.bucket (x.rule ∷ []) xs it.0.1 it.1)
 
 -- ---- which rules are of a bucket
 
@@ -108,8 +114,8 @@ named_itself : (a : List ℕ) → is_eq (name_cmp a a) ≡ true
 named_itself a = ap is_eq (tied_itself nat_list_cmp_total a)
 
 not_first : (e l : Bool) → e ≡ false → (e || l) ≡ true → l ≡ true
-not_first true l no h = absurd cc
-not_first false l no h = h
+not_first true l isnt h = absurd cc
+not_first false l isnt h = h
 
 -- of the later buckets, where it isn't of the first
 of_later : (b : BucketRow) (bs : List BucketRow) (xs : List RuleRow) → AreLater b.name xs → AllByRecursion (IsOfOne (b ∷ bs)) xs → AllByRecursion (IsOfOne bs) xs
@@ -161,7 +167,7 @@ with_rules b bs x xs is same row place fit whole all next =
     record {
       buckets = bucket_with b (Some (x.rule ∷ c.rules)) ∷ later.buckets;
       rows = ap (λ (cs : List BucketRow). b ∷ cs) later.rows;
-      rules = ap₂ (λ (y : RuleRow) (ys : List RuleRow). y ∷ ys) (sym (row_alike x b.name 1 same place)) (ap (λ ys. rules_from b.name 2 c.rules ++ ys) later.rules ∙ sym c.whole);
+      rules = ap (λ ys. rules_from b.name 1 (x.rule ∷ c.rules) ++ ys) later.rules ∙ sym (first_row x b.name 1 xs c.rules c.rest same place c.whole);
       have = (record { name = is.name; config = is.config; rules = (c.set, (row.rule, c.are)) }, later.have);
     }
 
@@ -179,8 +185,8 @@ pub make : (before : Option (List ℕ)) (bs : List BucketRow) (xs : List RuleRow
 make before [] [] fit begins all = record { buckets = []; rows = refl; rules = refl; have = tt }
 make before [] (x ∷ xs) fit begins all = absurd cc
 make before (b ∷ bs) [] fit begins all = without b bs [] fit.0.0 (make (Some b.name) bs [] fit.1 tt tt)
-make before (b ∷ bs) (x ∷ xs) fit (first, (runs, whole)) all =
-    first_bucket b bs x xs fit.0.0 fit.1 first.0 first.1.1 runs whole all (λ ys begins owned. make (Some b.name) bs ys fit.1 begins owned) (is_eq (name_cmp b.name x.bucket)) refl
+make before (b ∷ bs) (x ∷ xs) fit (first, runs, whole) all =
+    first_bucket b bs x xs fit.0.0 fit.1 first.0 first.2 runs whole all (λ ys begins owned. make (Some b.name) bs ys fit.1 begins owned) (is_eq (name_cmp b.name x.bucket)) refl
 
 rows_ascend : (name : List ℕ) (cs : List Bucket) (bs : List BucketRow) → map bucket_of cs ≡ bs → AllByRecursion (λ b. name_cmp name b.name ≡ Less) bs → AllByRecursion (λ c. name_cmp name c.name ≡ Less) cs
 rows_ascend name [] bs same all = tt

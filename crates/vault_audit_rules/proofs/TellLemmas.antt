@@ -12,6 +12,7 @@ use Rattle.sqlite.specs.State.{State, Shown, IsUnchanged}
 use Rattle.vault_core_model.specs.declared.records.Bucket.{Bucket}
 use Rattle.vault_core_model.specs.Order.{name_cmp}
 use Rattle.vault_core_model.specs.Vault.{Vault}
+use Rattle.vault_rules.specs.declared.rule.Rule.{Rule}
 use Rattle.vault_audit_model.specs.declared.rows.BucketRow.{BucketRow}
 use Rattle.vault_audit_model.specs.declared.rows.RuleRow.{RuleRow}
 use Rattle.vault_audit_model.specs.Relations.{AreBuckets, TellBuckets}
@@ -56,23 +57,27 @@ module _ (old new : State) (has : old.now.schema ≡ vault_schema) (same : IsUnc
   buckets_told r false h = λ bs are.
       walk_no bucket_row IsNextBucket with_bucket same_bucket vault_schema buckets_walk _ _ buckets_walk_is.0 bucket_source bucket_answers old new has same None r (buckets_rise None) h bs are.0 are.1
 
-  pub rules_whole : (r : Run) → Walked (Takes rule_row ComesNext with_rule) (Refuses rule_row ComesNext with_rule) rules_walk old new no_rule r true → IsWhole r → TellRuns new.now true
+  -- the walk of rules, from before the first bucket, with these rules
+  abbrev LooksFrom : List Rule → Run → Bool → Type 0
+  LooksFrom rs r b = Walked (Takes rule_row ComesNext with_rule) (Refuses rule_row ComesNext with_rule) rules_walk old new (record { bucket = None; rules = rs }) r b
+
+  rules_whole : (r : Run) → LooksFrom [] r true → IsWhole r → TellRuns new.now true
   rules_whole r h whole =
       let it = pass_yes rule_row ComesNext with_rule same_rule pair_cmp pair_cmp_total vault_schema rules_walk _ _ rules_walk_is.0 rule_source rule_answers old new has same no_rule r h in
-      (it.0, (it.1, (it.2, subst IsWhole it.3 whole)))
+      (it.0, it.1, (it.2, subst IsWhole it.3 whole))
 
-  pub rules_open : (r : Run) → Walked (Takes rule_row ComesNext with_rule) (Refuses rule_row ComesNext with_rule) rules_walk old new no_rule r true → ¬ IsWhole r → TellRuns new.now false
+  rules_open : (r : Run) → LooksFrom [] r true → ¬ IsWhole r → TellRuns new.now false
   rules_open r h none xs are runs =
       none (subst IsWhole (sym (pass_only rule_row ComesNext with_rule same_rule pair_cmp pair_cmp_total vault_schema rules_walk rule_source rule_answers old new has same no_rule r (rules_rise no_rule) h xs are runs.0)) runs.1)
 
-  pub rules_stopped : (r : Run) → Walked (Takes rule_row ComesNext with_rule) (Refuses rule_row ComesNext with_rule) rules_walk old new no_rule r false → TellRuns new.now false
-  rules_stopped r h xs are runs =
-      pass_no rule_row ComesNext with_rule same_rule pair_cmp pair_cmp_total vault_schema rules_walk _ _ rules_walk_is.0 rule_source rule_answers old new has same no_rule r (rules_rise no_rule) h xs are runs.0
+  pub rules_stopped : (rs : List Rule) → rs ≡ [] → (r : Run) → LooksFrom rs r false → TellRuns new.now false
+  rules_stopped rs none r h xs are runs =
+      pass_no rule_row ComesNext with_rule same_rule pair_cmp pair_cmp_total vault_schema rules_walk _ _ rules_walk_is.0 rule_source rule_answers old new has same no_rule r (rules_rise no_rule) (subst (λ l. LooksFrom l r false) none h) xs are runs.0
 
   -- by whether the last rules are all of their bucket's
-  pub rules_closed : (r : Run) → Walked (Takes rule_row ComesNext with_rule) (Refuses rule_row ComesNext with_rule) rules_walk old new no_rule r true → (b : Bool) → (IsTrue b ↔ IsWhole r) → TellRuns new.now b
-  rules_closed r h true is = rules_whole r h (is.0 refl)
-  rules_closed r h false is = rules_open r h (λ whole. absurd (let no : false ≡ true = is.1 whole in cc))
+  pub rules_closed : (rs : List Rule) → rs ≡ [] → (r : Run) → LooksFrom rs r true → (b : Bool) → (IsTrue b ↔ IsWhole r) → TellRuns new.now b
+  rules_closed rs none r h true is = rules_whole r (subst (λ l. LooksFrom l r true) none h) (is.0 refl)
+  rules_closed rs none r h false is = rules_open r (subst (λ l. LooksFrom l r true) none h) (λ whole. absurd (let no : false ≡ true = is.1 whole in cc))
 
 -- ---- each rule beside its bucket
 
@@ -103,7 +108,7 @@ module _ (old new : State) (has : old.now.schema ≡ vault_schema) (same : IsUnc
 
 module _ (db : Database) where
   pub all_hold : TellBucketRows db true → TellRuns db true → TellOwners db true → TellBuckets db true
-  all_hold (bs, are) (xs, (rows, runs)) owned =
+  all_hold (bs, are) (xs, rows, runs) owned =
       let it = make None bs xs are.1 (start xs runs) (owned bs are xs rows) in (
         it.buckets,
         (
@@ -128,11 +133,11 @@ module _ (db : Database) where
   not_placed none cs (rows, rules, up, are) = none (flat_map rules_in cs) rules (rules_fit no_rule cs tt (after_none cs) up are)
 
   pub not_owned : TellOwners db false → TellBuckets db false
-  not_owned none cs are = none (map bucket_of cs) (bucket_rows cs are) (flat_map rules_in cs) are.1.0 (rules_owned cs)
+  not_owned none cs are = none (map bucket_of cs) (bucket_rows cs are) (flat_map rules_in cs) are.1 (rules_owned cs)
 
   -- the vault of sound tables has such buckets
   pub unsound : TellBuckets db false → (v : Vault) → ¬ AreSound db v
-  unsound none v it = none v.buckets (it.spells.buckets, it.spells.rules, it.spells.kept.sound.buckets, it.spells.kept.limits.buckets)
+  unsound none v it = none v.buckets (it.spells.buckets, it.spells.rules, it.spells.kept.sound.ordered.buckets, it.spells.kept.limits.buckets)
 
 -- ---- the answers of the looks
 

@@ -20,16 +20,19 @@ use Rattle.vault_audit_walk.specs.Pass.{AllFit, after}
 abbrev pub IsAfter : Option (List ℕ) → List ℕ → Type 0
 IsAfter before name = IfSome before (λ n. name_cmp n name ≡ Less)
 
+-- it is a bucket in its limits, of a later name
 abbrev pub IsNextBucket : Option (List ℕ) → BucketRow → Type 0
 IsNextBucket before b = IsBucketRow b × IsAfter before b.name
 
+-- the name of the last bucket, behind this one
 abbrev pub with_bucket : Option (List ℕ) → BucketRow → Option (List ℕ)
 with_bucket before b = Some b.name
 
+-- the rows of buckets are these, in their limits and by rising name
 abbrev pub AreBucketRows : Database → List BucketRow → Type 0
 AreBucketRows db bs = IsPermutation (map bucket_row bs) (map bucket_columns (db.trees buckets_tree)) × AllFit bucket_row IsNextBucket with_bucket None bs
 
--- whether the rows of buckets are buckets in the order of their names, each at its one place
+-- whether the rows of buckets are buckets in their limits, of which no two have one name
 abbrev pub TellBucketRows : Database → Bool → Type 0
 TellBucketRows db true = (bs : List BucketRow) × AreBucketRows db bs
 TellBucketRows db false = (bs : List BucketRow) → ¬ AreBucketRows db bs
@@ -49,9 +52,11 @@ IsWhole p = IfSome p.bucket (λ _. IsTrue (is_rule_set p.rules))
 abbrev pub IsNext : Run → RuleRow → Type 0
 IsNext p r = ((p.bucket ≡ Some r.bucket) × (r.place ≡ length p.rules + 1)) ⊎ ((IsAfter p.bucket r.bucket × IsWhole p) × (r.place ≡ 1))
 
+-- it is a rule in its limits, and may come now
 abbrev pub ComesNext : Run → RuleRow → Type 0
 ComesNext p r = IsRuleRow r × IsNext p r
 
+-- the rules of the last bucket, behind this rule
 abbrev pub with_rule : Run → RuleRow → Run
 with_rule p r = record { bucket = Some r.bucket; rules = if r.place == 1 then r.rule ∷ [] else p.rules ++ r.rule ∷ [] }
 
@@ -63,6 +68,7 @@ no_rule = record { bucket = None; rules = [] }
 abbrev pub AreRowsOf : Database → List RuleRow → Type 0
 AreRowsOf db xs = IsPermutation (map rule_row xs) (map rule_columns (db.trees rules_tree))
 
+-- each comes next behind those before it, and the last bucket's are whole
 abbrev pub AreRuns : List RuleRow → Type 0
 AreRuns xs = AllFit rule_row ComesNext with_rule no_rule xs × IsWhole (after rule_row ComesNext with_rule no_rule xs)
 
@@ -75,6 +81,7 @@ TellRuns db false = (xs : List RuleRow) → AreRowsOf db xs → ¬ AreRuns xs
 abbrev pub IsOfOne : List BucketRow → RuleRow → Type 0
 IsOfOne bs r = list_any (λ b. is_eq (name_cmp b.name r.bucket)) bs ≡ true
 
+-- an answer to whether that holds
 abbrev pub Tell : Bool → Type 0 → Type 0
 Tell b P = MatchBool b P (¬ P)
 

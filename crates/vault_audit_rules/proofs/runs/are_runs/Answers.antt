@@ -14,10 +14,10 @@ pub returns-then-not-whole-clause-told : goal.returns-then-not-whole-clause-told
 returns-then-not-whole-clause-told g c clean =
     let early : HasCleanDisk (state g.S.Store c.args.conn.now) = omega (arith, c.in_ok-whole.ensures.crash.clean) in
     let no : c.in_ok-whole.whole ≡ false = search rules in
-    rules_stopped (state g.S.Store c.args.conn.now) (state g.S.Store c.walk.new.conn) (c.requires early) (c.in_ok-whole.ensures.same clean) c.walk.new.pass (rw no at (c.in_ok-whole.ensures.walked clean))
+    rules_stopped (state g.S.Store c.args.conn.now) (state g.S.Store c.walk.new.conn) (c.requires early) (c.in_ok-whole.ensures.same clean) _ c.new.ensures.items c.walk.new.pass (rw no at (c.in_ok-whole.ensures.walked clean))
 
 pub returns-clause-told : goal.returns-clause-told
 returns-clause-told g c clean =
     let early : HasCleanDisk (state g.S.Store c.args.conn.now) = omega (arith, c.in_ok-whole.ensures.crash.clean) in
     let yes : c.in_ok-whole.whole ≡ true = search rules in
-    rules_closed (state g.S.Store c.args.conn.now) (state g.S.Store c.walk.new.conn) (c.requires early) (c.in_ok-whole.ensures.same clean) c.walk.new.pass (rw yes at (c.in_ok-whole.ensures.walked clean)) c.close.result c.close.ensures.whole
+    rules_closed (state g.S.Store c.args.conn.now) (state g.S.Store c.walk.new.conn) (c.requires early) (c.in_ok-whole.ensures.same clean) _ c.new.ensures.items c.walk.new.pass (rw yes at (c.in_ok-whole.ensures.walked clean)) c.close.result c.close.ensures.whole
