@@ -157,19 +157,21 @@ without b bs xs is later = record {
 abbrev Next : BucketRow → List BucketRow → Type 0
 Next b bs = (ys : List RuleRow) → Begins (Some b.name) ys → AllByRecursion (IsOfOne bs) ys → Made bs ys
 
--- the first bucket has the first rule, and those that follow it
+-- the first bucket, with the first rule and those that follow it
+with_cut : (b : BucketRow) (bs : List BucketRow) (x : RuleRow) (xs : List RuleRow) → IsBucketRow b → b.name ≡ x.bucket → IsRuleRow x → x.place ≡ 1 → (c : Cut b.name (x.rule ∷ []) xs) → Made bs c.rest → Made (b ∷ bs) (x ∷ xs)
+with_cut b bs x xs is same row place c later = record {
+  buckets = bucket_with b (Some (x.rule ∷ c.rules)) ∷ later.buckets;
+  rows = ap (λ (cs : List BucketRow). b ∷ cs) later.rows;
+  rules = ap (λ ys. rules_from b.name 1 (x.rule ∷ c.rules) ++ ys) later.rules ∙ sym (first_row x b.name 1 xs c.rules c.rest same place c.whole);
+  have = (record { name = is.name; config = is.config; rules = (c.set, (row.rule, c.are)) }, later.have);
+}
+
 with_rules : (b : BucketRow) (bs : List BucketRow) (x : RuleRow) (xs : List RuleRow) → IsBucketRow b → b.name ≡ x.bucket → IsRuleRow x → x.place ≡ 1 → FitRules (at_rules x.bucket (x.rule ∷ [])) xs → IsWhole (end_of (at_rules x.bucket (x.rule ∷ [])) xs)
     → AllByRecursion (IsOfOne (b ∷ bs)) xs → Next b bs → Made (b ∷ bs) (x ∷ xs)
 with_rules b bs x xs is same row place fit whole all next =
     let c = cut b.name (x.rule ∷ []) xs (omega arith) (subst (λ n. FitRules (at_rules n (x.rule ∷ [])) xs) (sym same) fit) (subst (λ n. IsWhole (end_of (at_rules n (x.rule ∷ [])) xs)) (sym same) whole) in
     let owned = behind_rules (IsOfOne (b ∷ bs)) (rules_from b.name 2 c.rules) c.rest (subst (AllByRecursion (IsOfOne (b ∷ bs))) c.whole all) in
-    let later = next c.rest c.begins (of_later b bs c.rest (all_later b.name c.rest c.begins) owned) in
-    record {
-      buckets = bucket_with b (Some (x.rule ∷ c.rules)) ∷ later.buckets;
-      rows = ap (λ (cs : List BucketRow). b ∷ cs) later.rows;
-      rules = ap (λ ys. rules_from b.name 1 (x.rule ∷ c.rules) ++ ys) later.rules ∙ sym (first_row x b.name 1 xs c.rules c.rest same place c.whole);
-      have = (record { name = is.name; config = is.config; rules = (c.set, (row.rule, c.are)) }, later.have);
-    }
+    with_cut b bs x xs is same row place c (next c.rest c.begins (of_later b bs c.rest (all_later b.name c.rest c.begins) owned))
 
 first_bucket : (b : BucketRow) (bs : List BucketRow) (x : RuleRow) (xs : List RuleRow) → IsBucketRow b → FitBuckets (Some b.name) bs → IsRuleRow x → x.place ≡ 1 → FitRules (at_rules x.bucket (x.rule ∷ [])) xs
     → IsWhole (end_of (at_rules x.bucket (x.rule ∷ [])) xs) → AllByRecursion (IsOfOne (b ∷ bs)) (x ∷ xs) → Next b bs → (e : Bool) → is_eq (name_cmp b.name x.bucket) ≡ e → Made (b ∷ bs) (x ∷ xs)
