@@ -1,5 +1,5 @@
 -- Rules at their places are those of buckets, and those of buckets are at their places.
-use Rattle.std.proofs.Common.{◌≡◌, ◌≢◌, ◌≤◌, ◌<◌, ◌+◌, ◌⊎◌, ◌||◌, ◌==◌, inl, inr, ℕ, cond, List, [], ◌∷◌, ◌++◌, length, map, flat_map, Bool, true, false, Option, Some, None, Less, is_none, nat_lt, IsTrue, IfSome, refl, sym, ap, ap₂, subst, ◌∙◌, append_assoc, append-nil, Ordering, arith}
+use Rattle.std.proofs.Common.{◌≡◌, ◌≤◌, ◌+◌, ◌||◌, ◌==◌, inl, inr, ℕ, List, [], ◌∷◌, ◌++◌, length, map, flat_map, Bool, true, false, Option, Some, None, Less, is_none, nat_lt, IsTrue, IfSome, refl, sym, ap, ap₂, subst, ◌∙◌, append_assoc, append-nil, arith}
 use Rattle.std.specs.List.{AllByRecursion, list_any}
 use Rattle.std.specs.Ordering.{is_eq}
 use Rattle.std.proofs.lemmas.Map.Text.{is_eq-slice_cmp}
@@ -16,7 +16,7 @@ use Rattle.vault_audit_model.specs.declared.rows.BucketRow.{BucketRow}
 use Rattle.vault_audit_model.specs.declared.rows.RuleRow.{RuleRow}
 use Rattle.vault_audit_model.specs.Limits.{IsBucket, IsBucketRow, IsRule, IsRuleRow, AreRules, IsBucketName}
 use Rattle.vault_audit_model.specs.Spells.{bucket_of, rules_from, rules_if_given, rules_in}
-use Rattle.vault_audit_rules.specs.Runs.{Run, IsAfter, IsWhole, IsNext, ComesNext, with_rule, no_rule, AreRuns, IsOfOne}
+use Rattle.vault_audit_rules.specs.Runs.{Run, IsAfter, IsWhole, with_rule, no_rule, AreRuns, IsOfOne}
 use Rattle.vault_audit_rules.proofs.RiseLemmas.{FitBuckets, FitRules, end_of, names_rise, later_buckets, begun}
 
 abbrev pub at_rules : List ℕ → List Rule → Run

@@ -1,5 +1,5 @@
 -- The rows of buckets and of rules that come one after the other rise.
-use Rattle.std.proofs.Common.{◌≡◌, ◌<◌, ◌≤◌, ◌+◌, ◌⊎◌, ◌==◌, inl, inr, ℕ, pos, cond, List, [], ◌∷◌, ◌++◌, length, map, Bool, true, false, Option, Some, None, Less, Equal, refl, sym, ap, subst, ◌∙◌, arith}
+use Rattle.std.proofs.Common.{◌≡◌, ◌<◌, ◌≤◌, ◌+◌, ◌⊎◌, ◌==◌, inl, inr, ℕ, pos, cond, List, [], ◌∷◌, ◌++◌, length, map, Bool, true, false, Option, Some, Less, Equal, refl, sym, ap, subst, ◌∙◌, arith}
 use Rattle.std.specs.List.{AllByRecursion}
 use Rattle.std.specs.Ordering.{int_cmp}
 use Rattle.std.proofs.lemmas.Bool.Decides.{nat_tests}
@@ -67,6 +67,7 @@ joined p r place = by (r.place == 1) refl
     none : (rs : List Rule) → 1 ≡ length rs + 1 → rs ++ r.rule ∷ [] ≡ r.rule ∷ []
     none [] e = refl
     none (x ∷ rs) e = absurd (omega (arith, e))
+
     by : (b : Bool) → (r.place == 1) ≡ b → run_of r (p.rules ++ r.rule ∷ []) ≡ run_of r (cond b (r.rule ∷ []) (p.rules ++ r.rule ∷ []))
     by true is =
         let one : r.place ≡ 1 = grind (arith, nat_tests) in
@@ -97,6 +98,7 @@ below_next x name p y is low (inl (same, place)) = go low
   where
     here : name ≡ y.bucket
     here = let e : Some name ≡ Some y.bucket = sym is ∙ same in cc
+
     go : IsBefore x name (length p.rules) → IsBelow x y
     go (inl less) = inl (subst (λ n. name_cmp x.bucket n ≡ Less) here less)
     go (inr (tied, less)) = inr (tied ∙ here, omega (arith, less, place))
@@ -104,6 +106,7 @@ below_next x name p y is low (inr (up, place)) = go low
   where
     here : name_cmp name y.bucket ≡ Less
     here = subst (λ o. IsAfter o y.bucket) is up.0
+
     go : IsBefore x name (length p.rules) → IsBelow x y
     go (inl less) = inl (names_rise x.bucket name y.bucket less here)
     go (inr (tied, less)) = inl (subst (λ n. name_cmp n y.bucket ≡ Less) (sym tied) here)

@@ -1,5 +1,5 @@
 -- What the looks at buckets and rules tell.
-use Rattle.std.proofs.Common.{◌≡◌, ◌↔◌, IsTrue, ◌==◌, ℕ, pos, List, [], ◌∷◌, map, flat_map, Bool, true, false, Option, None, Some, IsPermutation, IsSorted, Result, Ok, Err, OnOk, IfOk, refl, sym, ap, ap₂, subst, ◌∙◌, arith}
+use Rattle.std.proofs.Common.{◌≡◌, ◌↔◌, IsTrue, ℕ, pos, List, [], ◌∷◌, map, flat_map, Bool, true, false, Option, None, IsPermutation, IsSorted, Result, Ok, Err, OnOk, IfOk, refl, sym, subst, ◌∙◌}
 use Rattle.std.specs.List.{AllByRecursion, list_any}
 use Rattle.std.specs.Ordering.{is_eq}
 use Rattle.sqlite_trees.proofs.ListLemmas.{map-map}
@@ -28,7 +28,7 @@ use Rattle.vault_audit_walk.proofs.PairLemmas.{pair_walked, pair_cmp, pair_cmp_t
 use Rattle.vault_audit_walk.proofs.PassLemmas.{walk_yes, walk_no, pass_yes, pass_no}
 use Rattle.vault_audit_beside.specs.Beside.{TellsAbsence}
 use Rattle.vault_audit_beside.proofs.BesideLemmas.{agrees, agree_texts, beside_row, beside_yes, beside_no, met_yes, met_no, met_as, of_records, of_stored, each}
-use Rattle.vault_audit_rules.specs.Runs.{Run, IsNextBucket, with_bucket, AreBucketRows, TellBucketRows, IsWhole, ComesNext, with_rule, no_rule, AreRowsOf, AreRuns, TellRuns, IsOfOne, TellOwners}
+use Rattle.vault_audit_rules.specs.Runs.{Run, IsNextBucket, with_bucket, AreBucketRows, TellBucketRows, IsWhole, ComesNext, with_rule, no_rule, AreRowsOf, TellRuns, IsOfOne, TellOwners}
 use Rattle.vault_audit_rules.proofs.RiseLemmas.{buckets_rise, rules_rise}
 use Rattle.vault_audit_rules.proofs.OnlyLemmas.{pass_only}
 use Rattle.vault_audit_rules.proofs.GroupLemmas.{start, make, ascend, rows_fit, after_none, rules_fit, rules_owned}

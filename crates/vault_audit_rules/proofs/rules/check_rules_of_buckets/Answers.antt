@@ -1,4 +1,4 @@
-use Rattle.std.proofs.Common.{◌≡◌, true, false, refl, subst, rules, arith}
+use Rattle.std.proofs.Common.{◌≡◌, true, false, subst, rules, arith}
 use Rattle.sqlite.specs.Held.{state}
 use Rattle.sqlite.specs.State.{HasCleanDisk}
 use Rattle.vault_audit_rules.specs.Runs.{TellBucketRows, TellRuns}
