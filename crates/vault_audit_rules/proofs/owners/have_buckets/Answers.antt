@@ -1,0 +1,16 @@
+use Rattle.std.proofs.Common.{sym, subst, arith}
+use Rattle.sqlite.specs.Held.{state}
+use Rattle.sqlite.specs.State.{HasCleanDisk}
+use Rattle.sqlite.specs.Given.{IsPlain}
+use Rattle.sqlite.specs.Listing.{understood}
+use Rattle.vault_audit_rules.proofs.TellLemmas.{owners_if_ok}
+use Rattle.vault_audit_rules.proofs.TextLemmas.{buckets_beside, buckets_beside_is}
+use Rattle.vault_audit_rules.proofs.owners.have_buckets.Goals as goal
+
+pub check_rows-requires : goal.check_rows-requires
+check_rows-requires g c clean = subst (λ s. IsPlain (understood s buckets_beside)) (sym (c.requires clean)) buckets_beside_is.plain
+
+pub returns-clause-told : goal.returns-clause-told
+returns-clause-told g c clean =
+    let early : HasCleanDisk (state g.S.Store c.args.conn.now) = omega (arith, c.check_rows.ensures.crash.clean) in
+    owners_if_ok (state g.S.Store c.args.conn.now) (state g.S.Store c.check_rows.new.conn) (c.requires early) c.check_rows.result (c.check_rows.ensures.same clean) (c.check_rows.ensures.checked clean)

@@ -1,0 +1,23 @@
+use Rattle.std.proofs.Common.{◌≡◌, true, false, sym, subst, rules, arith}
+use Rattle.sqlite.specs.Held.{state}
+use Rattle.sqlite.specs.State.{HasCleanDisk}
+use Rattle.sqlite.specs.Given.{IsPlain}
+use Rattle.sqlite.specs.Listing.{understood}
+use Rattle.vault_audit_rules.proofs.TellLemmas.{rules_stopped, rules_closed}
+use Rattle.vault_audit_rules.proofs.TextLemmas.{rules_walk, rules_walk_plain}
+use Rattle.vault_audit_rules.proofs.runs.are_runs.Goals as goal
+
+pub walk-requires : goal.walk-requires
+walk-requires g c clean = subst (λ s. IsPlain (understood s rules_walk)) (sym (c.requires clean)) rules_walk_plain
+
+pub returns-then-not-whole-clause-told : goal.returns-then-not-whole-clause-told
+returns-then-not-whole-clause-told g c clean =
+    let early : HasCleanDisk (state g.S.Store c.args.conn.now) = omega (arith, c.in_ok-whole.ensures.crash.clean) in
+    let no : c.in_ok-whole.whole ≡ false = search rules in
+    rules_stopped (state g.S.Store c.args.conn.now) (state g.S.Store c.walk.new.conn) (c.requires early) (c.in_ok-whole.ensures.same clean) _ c.new.ensures.items c.walk.new.pass (rw no at (c.in_ok-whole.ensures.walked clean))
+
+pub returns-clause-told : goal.returns-clause-told
+returns-clause-told g c clean =
+    let early : HasCleanDisk (state g.S.Store c.args.conn.now) = omega (arith, c.in_ok-whole.ensures.crash.clean) in
+    let yes : c.in_ok-whole.whole ≡ true = search rules in
+    rules_closed (state g.S.Store c.args.conn.now) (state g.S.Store c.walk.new.conn) (c.requires early) (c.in_ok-whole.ensures.same clean) _ c.new.ensures.items c.walk.new.pass (rw yes at (c.in_ok-whole.ensures.walked clean)) c.close.result c.close.ensures.whole
