@@ -1,0 +1,96 @@
+-- What the looks find, put together.
+use Rattle.std.proofs.Common.{◌≡◌, ℕ, List, [], ◌∷◌, map, IsPermutation, IsTrue, refl, sym, ap, subst, ◌∙◌}
+use Rattle.std.specs.List.{AllByRecursion}
+use Rattle.std.proofs.lemmas.List.Sorted.{IsPermutation-map, IsPermutation-trans, list_any-IsPermutation}
+use Rattle.sqlite_trees.proofs.ListLemmas.{map-map}
+use Rattle.sqlite_value.specs.declared.value.Value.TheVariants.{Text}
+use Rattle.sqlite.specs.Effect.{Database}
+use Rattle.std.specs.Str.{bytes_eq}
+use Rattle.vault_tally.specs.Row.{Item}
+use Rattle.vault_core_model.specs.declared.records.Bucket.{Bucket}
+use Rattle.vault_core_model.specs.declared.records.Caller.{Caller}
+use Rattle.vault_core_model.specs.declared.records.Entry.{Entry}
+use Rattle.vault_core_model.specs.declared.records.History.{History}
+use Rattle.vault_core_model.specs.declared.records.Note.{Note}
+use Rattle.vault_core_model.specs.Totals.{items_in}
+use Rattle.vault_audit_model.specs.declared.rows.DepartmentRow.{DepartmentRow}
+use Rattle.vault_audit_model.specs.declared.rows.MetaRow.{MetaRow}
+use Rattle.vault_audit_model.specs.Relations.{department_with}
+use Rattle.vault_audit_model.specs.Rows.{department_row, department_columns}
+use Rattle.vault_audit_model.specs.Spells.{Spells, sums_over, department_in}
+use Rattle.vault_audit_model.specs.Tables.{departments_tree}
+use Rattle.vault_audit_laws.specs.Ties.{is_among}
+use Rattle.vault_audit_laws.proofs.RecordTies.{callers_employed, buckets_owned, entries_placed}
+use Rattle.vault_audit_parts.specs.Parts.{AreParts, joined}
+use Rattle.vault_audit_parts.proofs.JoinLemmas.{items_same, joined_entries}
+use Rattle.vault_audit_parts.proofs.PartLemmas.{spelled}
+use Rattle.vault_audit_found.specs.Found.{AreFound, names_of, found_vault, HaveSums}
+use Rattle.vault_audit_found.proofs.NameLemmas.{name_column, names_are, same_names, by_name}
+use Rattle.vault_audit_found.proofs.WithinLemmas.{each_within}
+
+module _ (db : Database) (m : MetaRow) (departments : List DepartmentRow) (callers : List Caller) (buckets : List Bucket) (notes : List Note) (entries : List Entry) (contents settings : List History) (summed : List (List ℕ)) (are : AreFound db m departments callers buckets notes entries contents settings summed) where
+  abbrev names : List (List ℕ)
+  names = names_of departments
+
+  names_there : IsPermutation (map (λ n. Text n) names) (name_column db)
+  names_there = names_are db departments are.departments_are.0
+
+  -- the departments whose sums were taken, by the names alone
+  summed_there : IsPermutation (map (λ n. Text n) summed) (name_column db)
+  summed_there =
+      let rows = are.sums_are.0 in
+      subst (λ ns. IsPermutation (map (λ n. Text n) ns) (name_column db)) named
+      (names_are db (map (department_with buckets contents) summed) (subst (λ xs. IsPermutation xs (map department_columns (db.trees departments_tree))) (sym (map-map department_row (department_with buckets contents) summed)) rows))
+    where
+      same_each : (ns : List (List ℕ)) → names_of (map (department_with buckets contents) ns) ≡ ns
+      same_each [] = refl
+      same_each (n ∷ ns) = ap (λ xs. n ∷ xs) (same_each ns)
+
+      named : names_of (map (department_with buckets contents) summed) ≡ summed
+      named = same_each summed
+
+  reordered : IsPermutation names summed
+  reordered = same_names names summed (name_column db) names_there summed_there
+
+  owned : AllByRecursion (λ (b : Bucket). IsTrue (is_among names b.config.dept)) buckets
+  owned = buckets_owned db are.tied names buckets names_there are.buckets_are.0
+
+  owned_summed : (bs : List Bucket) → AllByRecursion (λ (b : Bucket). IsTrue (is_among names b.config.dept)) bs → AllByRecursion (λ (b : Bucket). IsTrue (is_among summed b.config.dept)) bs
+  owned_summed [] all = tt
+  owned_summed (b ∷ bs) all = (sym (list_any-IsPermutation (λ n. bytes_eq n b.config.dept) names summed reordered) ∙ all.0, owned_summed bs all.1)
+
+  parts : AreParts db m names callers buckets notes entries contents settings
+  parts = record {
+    schema = are.schema;
+    meta = (are.meta.0, are.meta.1, are.next);
+    departments_are = by_name db departments are.departments_are;
+    callers_are = are.callers_are;
+    buckets_are = are.buckets_are;
+    entries_are = are.entries_are;
+    contents_are = are.contents_are;
+    settings_are = are.settings_are;
+    notes_are = are.notes_are;
+    past = are.past;
+    employed = callers_employed db are.tied names callers names_there are.callers_are.0;
+    owned = owned;
+    placed = entries_placed db are.tied buckets entries are.buckets_are.0 are.entries_are.0;
+    within = each_within buckets contents summed (owned_summed buckets owned) are.sums_are.2;
+  }
+
+  pub found_spelled : Spells db (found_vault m departments callers buckets notes contents settings)
+  found_spelled = spelled db m names callers buckets notes entries contents settings parts
+
+  same_items : (dept : List ℕ) → items_in buckets dept contents ≡ items_in buckets dept (joined contents settings)
+  same_items dept = items_same buckets dept contents (joined contents settings) (sym (joined_entries contents settings (are.contents_are.0 ∙ sym are.settings_are.0)))
+
+  same_rows : (ns : List (List ℕ)) → map (λ n. department_row (department_with buckets contents n)) ns ≡ map (λ n. department_row (department_in (found_vault m departments callers buckets notes contents settings) n)) ns
+  same_rows [] = refl
+  same_rows (n ∷ ns) =
+      let here : department_row (department_with buckets contents n) ≡ department_row (department_in (found_vault m departments callers buckets notes contents settings) n) =
+      ap (λ (items : List Item). department_row (record { name = n; sums = sums_over items })) (same_items n) in
+      let there = same_rows ns in cc (here, there)
+
+  pub found_sums : HaveSums db (found_vault m departments callers buckets notes contents settings)
+  found_sums =
+      let rows = IsPermutation-map (λ n. department_row (department_with buckets contents n)) names summed reordered in
+      subst (λ xs. IsPermutation xs (map department_columns (db.trees departments_tree))) (same_rows names) (IsPermutation-trans _ _ _ rows are.sums_are.0)
