@@ -1,0 +1,5 @@
+//! Looks at the tables, one after the other.
+#![tactic(auto)]
+
+pub mod names;
+pub mod versions;

@@ -1,0 +1,39 @@
+//! Departments, callers, and buckets with their rules.
+ghost use Rattle.std.specs.Prelude.{◌≡◌, IfOk, OnOk};
+ghost use Rattle.sqlite.specs.State.{HasCleanDisk, IsUnchanged, Survives};
+ghost use Rattle.sqlite.specs.Held.{state};
+ghost use Rattle.vault_audit_model.specs.Tables.{vault_schema};
+ghost use Rattle.vault_audit_looks.specs.Looks.{Told, NamesFound};
+
+use sqlite::{Alter, Connection, Error};
+use std::alloc::Global;
+use vault_audit_names::callers::check_callers_by_name;
+use vault_audit_names::departments::check_departments_by_name;
+use vault_audit_rules::rules::check_rules_of_buckets;
+use vault_base::refusal::Table;
+
+/// The first of departments, callers and rules that is damaged: a name stands there twice, or a
+/// bucket's rules aren't a set that it may have.
+pub fn look_at_names<S: Alter>(
+    alloc: Global,
+    conn: &mut Connection<S>,
+) -> Result<Option<Table>, Error>
+    requires { HasCleanDisk (state S.Store conn.old) → (state S.Store conn.old).now.schema ≡ vault_schema }
+    ensures told { HasCleanDisk (state S.Store conn.new) → IfOk result (Told (state S.Store conn.new).now (NamesFound (state S.Store conn.new).now)) }
+    ensures same { HasCleanDisk (state S.Store conn.new) → OnOk result (IsUnchanged (state S.Store conn.old) (state S.Store conn.new)) }
+    ensures crash { Survives (state S.Store conn.old) (state S.Store conn.new) (λ _. ⊥) }
+{
+    let departments = check_departments_by_name(conn)?;
+    if !departments {
+        return Ok(Some(Table::Departments));
+    }
+    let callers = check_callers_by_name(conn)?;
+    if !callers {
+        return Ok(Some(Table::Callers));
+    }
+    let rules = check_rules_of_buckets(alloc, conn)?;
+    if !rules {
+        return Ok(Some(Table::Rules));
+    }
+    Ok(None)
+}

@@ -1,0 +1,38 @@
+//! Contents, settings and notes of the entries.
+ghost use Rattle.std.specs.Prelude.{◌≡◌, List, IfOk, OnOk};
+ghost use Rattle.sqlite.specs.State.{HasCleanDisk, IsUnchanged, Survives};
+ghost use Rattle.sqlite.specs.Held.{state};
+ghost use Rattle.vault_core_model.specs.declared.records.Entry.{Entry};
+ghost use Rattle.vault_audit_model.specs.Relations.{AreEntries};
+ghost use Rattle.vault_audit_model.specs.Tables.{vault_schema};
+ghost use Rattle.vault_audit_looks.specs.Looks.{Told, VersionsFound};
+
+use sqlite::{Alter, Connection, Error};
+use vault_audit_contents::kept::check_held_contents;
+use vault_audit_intake::intake::check_notes;
+use vault_audit_settings::settings::check_history_of_settings;
+use vault_base::refusal::Table;
+
+/// The first of contents, settings and intake that is damaged. It is told of entries whose ids are
+/// 1, 2, 3 and so on.
+pub fn look_at_versions<S: Alter>(conn: &mut Connection<S>) -> Result<Option<Table>, Error>
+    requires { HasCleanDisk (state S.Store conn.old) → (state S.Store conn.old).now.schema ≡ vault_schema }
+    ensures told { HasCleanDisk (state S.Store conn.new) → IfOk result (Told (state S.Store conn.new).now
+        ((es : List Entry) → AreEntries (state S.Store conn.new).now es → VersionsFound (state S.Store conn.new).now es)) }
+    ensures same { HasCleanDisk (state S.Store conn.new) → OnOk result (IsUnchanged (state S.Store conn.old) (state S.Store conn.new)) }
+    ensures crash { Survives (state S.Store conn.old) (state S.Store conn.new) (λ _. ⊥) }
+{
+    let contents = check_held_contents(conn)?;
+    if !contents {
+        return Ok(Some(Table::Contents));
+    }
+    let settings = check_history_of_settings(conn)?;
+    if !settings {
+        return Ok(Some(Table::Settings));
+    }
+    let notes = check_notes(conn)?;
+    if !notes {
+        return Ok(Some(Table::Intake));
+    }
+    Ok(None)
+}
