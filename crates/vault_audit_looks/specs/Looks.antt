@@ -1,5 +1,6 @@
 -- What looks at several tables tell.
-use Rattle.std.specs.Prelude.{List, Option, None, Some}
+use Rattle.std.specs.Prelude.{◌≡◌, ℕ, ◌+◌, true, List, length, map, Option, None, Some}
+use Rattle.std.specs.List.{AllByRecursion}
 use Rattle.sqlite.specs.Effect.{Database}
 use Rattle.vault_base.specs.declared.refusal.Table.{Table}
 use Rattle.vault_core_model.specs.declared.records.Bucket.{Bucket}
@@ -9,8 +10,14 @@ use Rattle.vault_core_model.specs.declared.records.History.{History}
 use Rattle.vault_core_model.specs.declared.records.Note.{Note}
 use Rattle.vault_core_model.specs.Vault.{Vault}
 use Rattle.vault_audit_model.specs.declared.rows.DepartmentRow.{DepartmentRow}
-use Rattle.vault_audit_model.specs.Relations.{AreBuckets, AreContents, AreEntries, AreNotes, AreSettings}
+use Rattle.vault_audit_model.specs.declared.rows.MetaRow.{MetaRow}
+use Rattle.vault_audit_model.specs.Relations.{AreBuckets, AreContents, AreEntries, AreNotes, AreSettings, AreSums, IsPast}
+use Rattle.vault_audit_model.specs.Rows.{entry_row, entry_columns}
 use Rattle.vault_audit_model.specs.Spells.{AreSound}
+use Rattle.vault_audit_model.specs.Tables.{entries_tree}
+use Rattle.vault_audit_walk.specs.Records.{AreRecords}
+use Rattle.vault_audit.specs.Entries.{IsEntryBy}
+use Rattle.vault_audit.specs.Meta.{IsMetaOf}
 use Rattle.vault_audit_names.specs.Names.{AreCallersByName, AreDepartmentsByName}
 
 -- no table is damaged, and this is found; or one is, and the tables are sound for no vault
@@ -18,9 +25,24 @@ abbrev pub Told : Database → Type 0 → Option Table → Type 0
 Told db Found None = Found
 Told db Found (Some table) = (v : Vault) → ¬ AreSound db v
 
--- departments, callers, and buckets with their rules
-pub record NamesFound (db : Database) : Type 0 where
+-- the same, where this is the row of meta
+abbrev pub ToldOf : Database → MetaRow → Type 0 → Option Table → Type 0
+ToldOf db m Found None = Found
+ToldOf db m Found (Some table) = IsMetaOf db (Some m) → (v : Vault) → ¬ AreSound db v
+
+-- the rows of entries are entries in their limits, none after the last moment
+abbrev pub ArePast : Database → ℕ → Type 0
+ArePast db last = AreRecords entry_row (IsEntryBy last) (map entry_columns (db.trees entries_tree)) true
+
+-- the next id, and the departments with their sums
+pub record DepartmentsFound (db : Database) (m : MetaRow) : Type 0 where
+  pub next : m.next ≡ length (db.trees entries_tree) + 1
   pub departments : (ds : List DepartmentRow) × AreDepartmentsByName db ds
+  pub sums : (bs : List Bucket) (hs : List History) (last : ℕ) → AreBuckets db bs → AreEntries db (map (λ (h : History). h.entry) hs) → AllByRecursion (IsPast last) (map (λ (h : History). h.entry) hs)
+      → (summed : List (List ℕ)) × AreSums db bs hs summed
+
+-- callers, and buckets with their rules
+pub record NamesFound (db : Database) : Type 0 where
   pub callers : (cs : List Caller) × AreCallersByName db cs
   pub buckets : (bs : List Bucket) × AreBuckets db bs
 

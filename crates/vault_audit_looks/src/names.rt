@@ -1,4 +1,4 @@
-//! Departments, callers, and buckets with their rules.
+//! Callers, and buckets with their rules.
 ghost use Rattle.std.specs.Prelude.{◌≡◌, IfOk, OnOk};
 ghost use Rattle.sqlite.specs.State.{HasCleanDisk, IsUnchanged, Survives};
 ghost use Rattle.sqlite.specs.Held.{state};
@@ -8,12 +8,11 @@ ghost use Rattle.vault_audit_looks.specs.Looks.{Told, NamesFound};
 use sqlite::{Alter, Connection, Error};
 use std::alloc::Global;
 use vault_audit_names::callers::check_callers_by_name;
-use vault_audit_names::departments::check_departments_by_name;
 use vault_audit_rules::rules::check_rules_of_buckets;
 use vault_base::refusal::Table;
 
-/// The first of departments, callers and rules that is damaged: a name stands there twice, or a
-/// bucket's rules aren't a set that it may have.
+/// The first of callers and rules that is damaged: a caller's name stands there twice, or a bucket's
+/// rules aren't a set that it may have.
 pub fn look_at_names<S: Alter>(
     alloc: Global,
     conn: &mut Connection<S>,
@@ -23,10 +22,6 @@ pub fn look_at_names<S: Alter>(
     ensures same { HasCleanDisk (state S.Store conn.new) → OnOk result (IsUnchanged (state S.Store conn.old) (state S.Store conn.new)) }
     ensures crash { Survives (state S.Store conn.old) (state S.Store conn.new) (λ _. ⊥) }
 {
-    let departments = check_departments_by_name(conn)?;
-    if !departments {
-        return Ok(Some(Table::Departments));
-    }
     let callers = check_callers_by_name(conn)?;
     if !callers {
         return Ok(Some(Table::Callers));

@@ -1,0 +1,41 @@
+//! The next id, and the departments with their sums.
+ghost use Rattle.std.specs.Prelude.{◌≡◌, IfOk, OnOk};
+ghost use Rattle.sqlite.specs.State.{HasCleanDisk, IsUnchanged, Survives};
+ghost use Rattle.sqlite.specs.Held.{state};
+ghost use Rattle.vault_audit_model.specs.Tables.{vault_schema};
+ghost use Rattle.vault_audit_looks.specs.Looks.{ToldOf, DepartmentsFound};
+
+use sqlite::{Alter, Connection, Error};
+use std::alloc::Global;
+use vault_audit_model::rows::MetaRow;
+use vault_audit_names::departments::check_departments_by_name;
+use vault_audit_next::check_next;
+use vault_audit_sums::sums::check_sums;
+use vault_base::refusal::Table;
+
+/// The first of meta and departments that is damaged: the next id isn't one above the entries, a
+/// department's name stands there twice, or one lacks the sums over its versions.
+pub fn look_at_departments<S: Alter>(
+    alloc: Global,
+    conn: &mut Connection<S>,
+    meta: MetaRow,
+) -> Result<Option<Table>, Error>
+    requires { HasCleanDisk (state S.Store conn.old) → (state S.Store conn.old).now.schema ≡ vault_schema }
+    ensures told { HasCleanDisk (state S.Store conn.new) → IfOk result (ToldOf (state S.Store conn.new).now meta (DepartmentsFound (state S.Store conn.new).now meta)) }
+    ensures same { HasCleanDisk (state S.Store conn.new) → OnOk result (IsUnchanged (state S.Store conn.old) (state S.Store conn.new)) }
+    ensures crash { Survives (state S.Store conn.old) (state S.Store conn.new) (λ _. ⊥) }
+{
+    let next = check_next(conn, meta.next)?;
+    if !next {
+        return Ok(Some(Table::Meta));
+    }
+    let departments = check_departments_by_name(conn)?;
+    if !departments {
+        return Ok(Some(Table::Departments));
+    }
+    let sums = check_sums(alloc, conn)?;
+    if !sums {
+        return Ok(Some(Table::Departments));
+    }
+    Ok(None)
+}

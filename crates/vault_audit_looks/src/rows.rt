@@ -1,0 +1,65 @@
+//! The first look at each table but meta.
+ghost use Rattle.std.specs.Prelude.{◌≡◌, IfOk, OnOk};
+ghost use Rattle.sqlite.specs.State.{HasCleanDisk, IsUnchanged, Survives};
+ghost use Rattle.sqlite.specs.Held.{state};
+ghost use Rattle.vault_audit_model.specs.Tables.{vault_schema};
+ghost use Rattle.vault_audit_looks.specs.Looks.{Told};
+
+use sqlite::{Alter, Connection, Error};
+use vault_audit::table_rows::{
+    check_buckets, check_callers, check_contents, check_departments, check_heads, check_intake,
+    check_rules, check_settings,
+};
+use vault_base::refusal::Table;
+
+/// The first of departments, callers, buckets and rules with a row that tells no record in its limits.
+pub fn look_at_configuration<S: Alter>(conn: &mut Connection<S>) -> Result<Option<Table>, Error>
+    requires { HasCleanDisk (state S.Store conn.old) → (state S.Store conn.old).now.schema ≡ vault_schema }
+    ensures told { HasCleanDisk (state S.Store conn.new) → IfOk result (Told (state S.Store conn.new).now (Unit {0})) }
+    ensures same { HasCleanDisk (state S.Store conn.new) → OnOk result (IsUnchanged (state S.Store conn.old) (state S.Store conn.new)) }
+    ensures crash { Survives (state S.Store conn.old) (state S.Store conn.new) (λ _. ⊥) }
+{
+    let departments = check_departments(conn)?;
+    if !departments {
+        return Ok(Some(Table::Departments));
+    }
+    let callers = check_callers(conn)?;
+    if !callers {
+        return Ok(Some(Table::Callers));
+    }
+    let buckets = check_buckets(conn)?;
+    if !buckets {
+        return Ok(Some(Table::Buckets));
+    }
+    let rules = check_rules(conn)?;
+    if !rules {
+        return Ok(Some(Table::Rules));
+    }
+    Ok(None)
+}
+
+/// The first of contents, settings, intake and heads with a row that tells no record in its limits.
+pub fn look_at_versions_rows<S: Alter>(conn: &mut Connection<S>) -> Result<Option<Table>, Error>
+    requires { HasCleanDisk (state S.Store conn.old) → (state S.Store conn.old).now.schema ≡ vault_schema }
+    ensures told { HasCleanDisk (state S.Store conn.new) → IfOk result (Told (state S.Store conn.new).now (Unit {0})) }
+    ensures same { HasCleanDisk (state S.Store conn.new) → OnOk result (IsUnchanged (state S.Store conn.old) (state S.Store conn.new)) }
+    ensures crash { Survives (state S.Store conn.old) (state S.Store conn.new) (λ _. ⊥) }
+{
+    let contents = check_contents(conn)?;
+    if !contents {
+        return Ok(Some(Table::Contents));
+    }
+    let settings = check_settings(conn)?;
+    if !settings {
+        return Ok(Some(Table::Settings));
+    }
+    let intake = check_intake(conn)?;
+    if !intake {
+        return Ok(Some(Table::Intake));
+    }
+    let heads = check_heads(conn)?;
+    if !heads {
+        return Ok(Some(Table::Heads));
+    }
+    Ok(None)
+}
