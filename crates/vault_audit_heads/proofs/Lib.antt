@@ -1,0 +1,6 @@
+pub mod TextLemmas
+pub mod RowLemmas
+pub mod RiseLemmas
+pub mod TellLemmas
+pub mod SortLemmas
+pub mod CurrentLemmas
