@@ -1,8 +1,8 @@
 -- The heads of a vault: one for each key, each naming a held entry.
-use Rattle.std.specs.Ordering.{nat_cmp, ordering_then}
-use Rattle.std.specs.Cmp.Lexicographic.{slice_cmp, on_texts}
+use Rattle.std.specs.Ordering.{ordering_then}
+use Rattle.std.specs.Cmp.Lexicographic.{on_texts}
 use Rattle.std.specs.Str.{bytes_eq}
-use Rattle.std.proofs.Common.{◌≡◌, ◌<◌, ◌≤◌, ℕ, ◌+◌, ◌==◌, ◌&&◌, List, [], ◌∷◌, length, map, filter, find, cond, Bool, true, false, Some, None, Option, Ordering, Less, Equal, Greater, is_eq, IsPermutation, refl, sym, ap, subst, ◌∙◌, arith}
+use Rattle.std.proofs.Common.{◌≡◌, ◌<◌, ◌≤◌, ℕ, ◌+◌, ◌==◌, ◌&&◌, List, [], ◌∷◌, length, map, filter, find, cond, Bool, true, false, Some, None, Option, Ordering, Less, Equal, Greater, is_eq, refl, sym, ap, subst, ◌∙◌, arith}
 use Rattle.std.specs.Prelude.{is_none, if◌then◌else◌, nat_lt}
 use Rattle.std.specs.List.{AllByRecursion}
 use Rattle.std.specs.Cmp.{IsTotalOrder}
@@ -14,8 +14,8 @@ use Rattle.sqlite.specs.Effect.{Database}
 use Rattle.vault_core_model.specs.declared.records.Entry.{Entry}
 use Rattle.vault_core_model.specs.declared.records.History.{History}
 use Rattle.vault_core_model.specs.declared.records.Removal.{Removal}
-use Rattle.vault_core_model.specs.Order.{IsAscending, name_cmp}
-use Rattle.vault_core_model.specs.Places.{held_at, is_held_at, is_current, newer}
+use Rattle.vault_core_model.specs.Order.{name_cmp}
+use Rattle.vault_core_model.specs.Places.{held_at, is_held_at, is_current}
 use Rattle.vault_core_model.specs.Sound.{AreIdsFrom}
 use Rattle.vault_core_model.specs.Vault.{Vault}
 use Rattle.vault_core_laws.proofs.Lists.{All-weaker}
@@ -80,8 +80,8 @@ each_found next (h ∷ hs) ids =
     let id = ids.0 in (
       ap (λ b. cond b (Some h.entry) (rest h)) (itself h.entry.id),
       All-weaker (λ y. (next + 1 ≤ y.entry.id) × (rest y ≡ Some y.entry)) (λ y. find (λ e. e.id == y.entry.id) (entries_in (h ∷ hs)) ≡ Some y.entry)
-      (λ y its. let low = its.0 in ap (λ b. cond b (Some h.entry) (rest y)) (others h.entry.id y.entry.id (omega (arith, id, low))) ∙ its.1) hs
-      (all_both _ _ hs (ids_above (next + 1) (next + 1) hs (omega arith) ids.1) (each_found (next + 1) hs ids.1)),
+          (λ y its. let low = its.0 in ap (λ b. cond b (Some h.entry) (rest y)) (others h.entry.id y.entry.id (omega (arith, id, low))) ∙ its.1) hs
+          (all_both _ _ hs (ids_above (next + 1) (next + 1) hs (omega arith) ids.1) (each_found (next + 1) hs ids.1)),
     )
 
 -- ---- the entry that is current

@@ -4,3 +4,4 @@ pub mod RiseLemmas
 pub mod TellLemmas
 pub mod SortLemmas
 pub mod CurrentLemmas
+pub mod NewestLemmas
