@@ -8,6 +8,7 @@ use Rattle.vault_base.specs.Moment.{moment_text}
 use Rattle.vault_base.specs.Refusal.{name_of, number_of, reason_name}
 use Rattle.vault_base.specs.declared.refusal.Refusal.{Refusal}
 use Rattle.vault_base.specs.declared.refusal.Refusal.TheVariants.{AccessDenied, NoSuchKey}
+use Rattle.vault_core_model.specs.declared.records.Entry.{Entry}
 use Rattle.vault_core_model.specs.declared.reply.Answer.{Answer}
 use Rattle.vault_core_model.specs.declared.reply.Answer.TheVariants as answer
 use Rattle.vault_core_model.specs.declared.reply.Counts.{Counts}
@@ -28,6 +29,7 @@ use Rattle.vault_lock.specs.declared.retention.Retention.{Retention}
 use Rattle.vault_lock.specs.declared.retention.Default.{Default}
 use Rattle.vault_lock.specs.declared.retention.Period.{Period}
 use Rattle.vault_lock.specs.declared.retention.Period.TheVariants.{Days, Years}
+use Rattle.vault_files_certificate.specs.Certificate.{certificate_text}
 use Rattle.vault_http_values.specs.Words.{mode_name, hold_name, status_name}
 use Rattle.vault_rules.specs.declared.rule.Noncurrent.{Noncurrent}
 use Rattle.vault_rules.specs.declared.rule.Rule.{Rule}
@@ -122,6 +124,10 @@ removed_value r = object (member (codes "cause") (text (cause_name r.permit)) (m
 abbrev pub report_value : Report → Data
 report_value r = object (member (codes "admitted") (whole r.admitted) (member (codes "at") (text (moment_text r.at)) (member (codes "byte_days") (whole r.byte_days) (member (codes "dept") (text r.dept) (member (codes "held") (whole r.held) (member (codes "removed") (whole r.removed) no_members))))))
 
+-- a certificate of destruction, as text
+abbrev pub certificate_value : Entry → Data
+certificate_value e = object (member (codes "text") (text (certificate_text e)) no_members)
+
 abbrev pub answer_value : Answer → Data
 answer_value answer.Nothing = object no_members
 answer_value (answer.Default default) = object (member (codes "default") (default_value default) no_members)
@@ -136,8 +142,7 @@ answer_value (answer.Retention retention) = object (member (codes "retention") (
 answer_value (answer.Hold hold) = object (member (codes "hold") (text (hold_name hold)) no_members)
 answer_value (answer.Ran counts) = counts_value counts
 answer_value (answer.Report report) = report_value report
--- no line asks for a certificate
-answer_value (answer.Certificate entry) = object (member (codes "version_id") (whole entry.id) no_members)
+answer_value (answer.Certificate entry) = certificate_value entry
 answer_value (answer.TakenIn taken) = taken_in_value taken
 
 -- a refusal's name and number

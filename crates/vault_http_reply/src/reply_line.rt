@@ -9,9 +9,11 @@ use serde_json::{Value, json};
 use std::alloc::{AllocError, Global};
 use vault_base::content::{Content, Digest};
 use vault_base::refusal::{Reason, Refusal};
+use vault_core_model::records::Entry;
 use vault_core_model::reply::{
     Answer, Counts, Listed, Page, Removed, Reply, Report, Stop, TakenIn, Version,
 };
+use vault_files_certificate::certificate::certificate;
 use vault_http_values::words::{hold_name, mode_name};
 use vault_lock::lock::Permit;
 use vault_lock::retention::{Default, Period, Retention};
@@ -203,6 +205,13 @@ fn taken_in_value(alloc: Global, taken: TakenIn) -> Result<Value, AllocError>
     json!(in alloc; {"again": taken.again, "version_id": taken.id.number()})
 }
 
+fn certificate_value(alloc: Global, entry: &Entry) -> Result<Value, AllocError>
+    ensures { IfOk result (λ value. view value ≡ spec.certificate_value entry.now) }
+{
+    let text = certificate(alloc, entry)?;
+    json!(in alloc; {"text": text.as_str()})
+}
+
 fn answer_value(alloc: Global, answer: &Answer) -> Result<Value, AllocError>
     ensures { IfOk result (λ value. view value ≡ spec.answer_value answer.now) }
 {
@@ -228,7 +237,7 @@ fn answer_value(alloc: Global, answer: &Answer) -> Result<Value, AllocError>
         Answer::Hold(hold) => json!(in alloc; {"hold": hold_name(*hold)}),
         Answer::Ran(counts) => counts_value(alloc, *counts),
         Answer::Report(report) => report_value(alloc, report),
-        Answer::Certificate(entry) => json!(in alloc; {"version_id": entry.id.number()}),
+        Answer::Certificate(entry) => certificate_value(alloc, entry),
         Answer::TakenIn(taken) => taken_in_value(alloc, *taken),
     }
 }

@@ -25,7 +25,7 @@ use Rattle.vault_http_script.specs.Grammar.{IsDo, IsPut, IsAfterId, IsMost, Spel
 use Rattle.vault_http_script.specs.ListLine.{with_key, after_id_of, or_thousand, most_of, list_versions_of}
 use Rattle.vault_http_script.specs.LockLines.{set_retention_of, get_retention_of, set_hold_of, get_hold_of}
 use Rattle.vault_http_script.specs.ReadLine.{values_of}
-use Rattle.vault_http_script.specs.RecordLines.{add_dept_of, add_caller_of, close_caller_of, add_bucket_of, report_of}
+use Rattle.vault_http_script.specs.RecordLines.{add_dept_of, add_caller_of, close_caller_of, add_bucket_of, report_of, certificate_of}
 use Rattle.vault_http_script.specs.Verb.{members_of, is_shaped}
 use Rattle.vault_http_script.specs.declared.verb.Verb.{Verb}
 use Rattle.vault_http_script.specs.declared.verb.Verb.TheVariants as verb
@@ -221,6 +221,13 @@ reads-run d do_is fit =
     reads-then _ _ (bucket_of d) _ (reads-bucket d fit.1.1.1.0) (λ bucket bucket_is.
     (do_is, bucket_is))
 
+reads-certificate : (d : Data) → IsDo d verb.Certificate → Fit (members_of verb.Certificate) d → Reads (SpellsCommand d) (certificate_of d)
+unfolding certificate_of
+reads-certificate d do_is fit =
+    reads-then _ _ (bucket_of d) _ (reads-bucket d fit.1.1.1.0) (λ bucket bucket_is.
+    reads-then _ _ (id_of d) _ (reads-id d fit.1.1.1.1.0) (λ id id_is.
+    (do_is, bucket_is, id_is)))
+
 reads-report : (d : Data) → IsDo d verb.Report → Fit (members_of verb.Report) d → Reads (SpellsCommand d) (report_of d)
 unfolding report_of
 reads-report d do_is fit =
@@ -266,6 +273,7 @@ reads-values verb.SetHold d do_is shaped = reads-set-hold d do_is (all-fit (memb
 reads-values verb.GetHold d do_is shaped = reads-get-hold d do_is (all-fit (members_of verb.GetHold) d shaped)
 reads-values verb.Run d do_is shaped = reads-run d do_is (all-fit (members_of verb.Run) d shaped)
 reads-values verb.Report d do_is shaped = reads-report d do_is (all-fit (members_of verb.Report) d shaped)
+reads-values verb.Certificate d do_is shaped = reads-certificate d do_is (all-fit (members_of verb.Certificate) d shaped)
 reads-values verb.Intake d do_is shaped = reads-intake d do_is (all-fit (members_of verb.Intake) d (left-of (has_members (members_of verb.Intake) d) _ shaped)) (right-of (has_members (members_of verb.Intake) d) _ shaped)
 
 -- the reading and the caller are texts in every line that has its shape
@@ -291,4 +299,5 @@ heading-fits verb.SetHold d shaped = let fit = all-fit (members_of verb.SetHold)
 heading-fits verb.GetHold d shaped = let fit = all-fit (members_of verb.GetHold) d shaped in (fit.0, fit.1.0)
 heading-fits verb.Run d shaped = let fit = all-fit (members_of verb.Run) d shaped in (fit.0, fit.1.0)
 heading-fits verb.Report d shaped = let fit = all-fit (members_of verb.Report) d shaped in (fit.0, fit.1.0)
+heading-fits verb.Certificate d shaped = let fit = all-fit (members_of verb.Certificate) d shaped in (fit.0, fit.1.0)
 heading-fits verb.Intake d shaped = let fit = all-fit (members_of verb.Intake) d (left-of (has_members (members_of verb.Intake) d) _ shaped) in (fit.0, fit.1.0)

@@ -11,6 +11,7 @@ use Rattle.vault_core_model.specs.declared.command.Command.TheVariants as comman
 use Rattle.vault_core_model.specs.declared.command.AddBucket.{AddBucket}
 use Rattle.vault_core_model.specs.declared.command.AddCaller.{AddCaller}
 use Rattle.vault_core_model.specs.declared.command.AddDept.{AddDept}
+use Rattle.vault_core_model.specs.declared.command.Certificate.{Certificate}
 use Rattle.vault_core_model.specs.declared.command.CloseCaller.{CloseCaller}
 use Rattle.vault_core_model.specs.declared.command.Delete.{Delete}
 use Rattle.vault_core_model.specs.declared.command.DeleteVersion.{DeleteVersion}
@@ -42,7 +43,7 @@ use Rattle.vault_http_script.specs.Grammar.{IsDo, IsPut, IsAfterId, IsMost, has_
 use Rattle.vault_http_script.specs.ListLine.{after_id_of, most_of, list_versions_of}
 use Rattle.vault_http_script.specs.LockLines.{set_retention_of, get_retention_of, set_hold_of, get_hold_of}
 use Rattle.vault_http_script.specs.ReadLine.{if_shaped, verb_of, values_of, timed_of}
-use Rattle.vault_http_script.specs.RecordLines.{add_dept_of, add_caller_of, close_caller_of, add_bucket_of, report_of}
+use Rattle.vault_http_script.specs.RecordLines.{add_dept_of, add_caller_of, close_caller_of, add_bucket_of, report_of, certificate_of}
 use Rattle.vault_http_script.specs.Verb.{verb_name, verb_named, is_shaped}
 use Rattle.vault_http_script.specs.declared.verb.Verb.{Verb}
 use Rattle.vault_http_script.specs.declared.verb.Verb.TheVariants as verb
@@ -149,6 +150,10 @@ reads-report : (d : Data) (c : Report) → SpellsCommand d (command.Report c) �
 unfolding report_of
 reads-report d c s = rw (dept-ok d c.dept s.1) refl
 
+reads-certificate : (d : Data) (c : Certificate) → SpellsCommand d (command.Certificate c) → certificate_of d ≡ Ok (command.Certificate c)
+unfolding certificate_of
+reads-certificate d c s = rw (bucket-ok d c.bucket s.1, id-ok d c.id s.2) refl
+
 reads-intake : (d : Data) (c : Intake) → SpellsCommand d (command.Intake c) → intake_of d ≡ Ok (command.Intake c)
 unfolding intake_of
 reads-intake d c s = rw (bucket-ok d c.put.bucket s.3.0, batch-ok d c.batch s.1, number-ok (codes "line") d c.line s.2, put-in-ok d c.put s.3) refl
@@ -178,6 +183,7 @@ named verb.SetHold = refl
 named verb.GetHold = refl
 named verb.Run = refl
 named verb.Report = refl
+named verb.Certificate = refl
 named verb.Intake = refl
 
 do-ok : (d : Data) (verb : Verb) → IsDo d verb → text_of (codes "do") d ≡ Ok (verb_name verb)
@@ -228,4 +234,4 @@ reads-timed d at who (command.GetHold c) shape m n s = reads-as-verb verb.GetHol
 reads-timed d at who (command.Run c) shape m n s = reads-as-verb verb.Run d at who _ s.0 shape m n (reads-run d c s)
 reads-timed d at who (command.Report c) shape m n s = reads-as-verb verb.Report d at who _ s.0 shape m n (reads-report d c s)
 reads-timed d at who (command.Intake c) shape m n s = reads-as-verb verb.Intake d at who _ s.0 shape m n (reads-intake d c s)
-reads-timed d at who (command.Certificate c) shape m n s = absurd s
+reads-timed d at who (command.Certificate c) shape m n s = reads-as-verb verb.Certificate d at who _ s.0 shape m n (reads-certificate d c s)

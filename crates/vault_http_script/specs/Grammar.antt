@@ -74,8 +74,7 @@ SpellsCommand d (command.GetHold c) = IsDo d verb.GetHold × IsPlace d c.bucket 
 SpellsCommand d (command.Run c) = IsDo d verb.Run × IsBucket d c.bucket
 SpellsCommand d (command.Report c) = IsDo d verb.Report × IsName d (codes "dept") c.dept
 SpellsCommand d (command.Intake c) = IsDo d verb.Intake × IsName d (codes "batch") c.batch × IsSmall d (codes "line") c.line × IsPut d c.put
--- no line asks for a certificate
-SpellsCommand d (command.Certificate c) = ⊥
+SpellsCommand d (command.Certificate c) = IsDo d verb.Certificate × IsBucket d c.bucket × IsId d (codes "id") c.id
 
 -- the members spell that command, with its reading and the caller who asks
 abbrev pub Spells : Data → Timed → Type 0

@@ -13,7 +13,7 @@ use Rattle.vault_http_script.specs.ConfigLines.{set_default_of, get_default_of, 
 use Rattle.vault_http_script.specs.EntryLines.{put_of, get_of, head_of, delete_of, delete_version_of, intake_of}
 use Rattle.vault_http_script.specs.ListLine.{list_versions_of}
 use Rattle.vault_http_script.specs.LockLines.{set_retention_of, get_retention_of, set_hold_of, get_hold_of}
-use Rattle.vault_http_script.specs.RecordLines.{add_dept_of, add_caller_of, close_caller_of, add_bucket_of, report_of}
+use Rattle.vault_http_script.specs.RecordLines.{add_dept_of, add_caller_of, close_caller_of, add_bucket_of, report_of, certificate_of}
 use Rattle.vault_http_script.specs.Verb.{verb_named, is_shaped}
 use Rattle.vault_http_script.specs.declared.verb.Verb.{Verb}
 use Rattle.vault_http_script.specs.declared.verb.Verb.TheVariants as verb
@@ -53,6 +53,7 @@ values_of verb.SetHold d = set_hold_of d
 values_of verb.GetHold d = get_hold_of d
 values_of verb.Run d = run_of d
 values_of verb.Report d = report_of d
+values_of verb.Certificate d = certificate_of d
 values_of verb.Intake d = intake_of d
 
 -- the shape, then the reading, the caller who asks, and the values of the command

@@ -1,11 +1,11 @@
--- Lines on departments, callers and buckets: the values of their members, in their order.
+-- Lines on departments, callers and buckets, and on certificates: the values of their members, in their order.
 use Rattle.std.specs.Prelude.{Result, Ok}
 use Rattle.serde_json.specs.Data.{Data}
 use Rattle.vault_base.specs.declared.refusal.Refusal.{Refusal}
 use Rattle.vault_core_model.specs.declared.command.Command.{Command}
-use Rattle.vault_core_model.specs.declared.command.Command.TheVariants.{AddDept, AddCaller, CloseCaller, AddBucket, Report}
+use Rattle.vault_core_model.specs.declared.command.Command.TheVariants.{AddDept, AddCaller, CloseCaller, AddBucket, Report, Certificate}
 use Rattle.vault_http_values.specs.Fault.{◌>>=◌}
-use Rattle.vault_http_values.specs.Values.{caller_of, dept_of, optional_dept_of, bucket_of, rights_of}
+use Rattle.vault_http_values.specs.Values.{caller_of, dept_of, optional_dept_of, bucket_of, id_of, rights_of}
 
 unfoldable pub add_dept_of : Data → Result Command Refusal
 add_dept_of d = do
@@ -34,3 +34,9 @@ unfoldable pub report_of : Data → Result Command Refusal
 report_of d = do
   dept ← dept_of d
   Ok (Report (record { dept = dept }))
+
+unfoldable pub certificate_of : Data → Result Command Refusal
+certificate_of d = do
+  bucket ← bucket_of d
+  id ← id_of d
+  Ok (Certificate (record { bucket = bucket; id = id }))

@@ -32,6 +32,7 @@ verb_name verb.SetHold = codes "set-hold"
 verb_name verb.GetHold = codes "get-hold"
 verb_name verb.Run = codes "run"
 verb_name verb.Report = codes "report"
+verb_name verb.Certificate = codes "certificate"
 verb_name verb.Intake = codes "intake"
 
 abbrev pub verbs : List Verb
@@ -39,7 +40,7 @@ verbs =
     verb.AddDept ∷ verb.AddCaller ∷ verb.CloseCaller ∷ verb.AddBucket ∷ verb.SetDefault ∷ verb.GetDefault
     ∷ verb.SetRules ∷ verb.GetRules ∷ verb.DropRules ∷ verb.Put ∷ verb.Get ∷ verb.Head ∷ verb.ListVersions
     ∷ verb.Delete ∷ verb.DeleteVersion ∷ verb.SetRetention ∷ verb.GetRetention ∷ verb.SetHold ∷ verb.GetHold
-    ∷ verb.Run ∷ verb.Report ∷ verb.Intake ∷ []
+    ∷ verb.Run ∷ verb.Report ∷ verb.Certificate ∷ verb.Intake ∷ []
 
 -- the verb of that name
 abbrev pub verb_named : List ℕ → Option Verb
@@ -79,6 +80,7 @@ members_of verb.SetHold = with_common ((codes "bucket", Text) ∷ (codes "key", 
 members_of verb.GetHold = of_entry
 members_of verb.Run = of_bucket
 members_of verb.Report = with_common ((codes "dept", Text) ∷ [])
+members_of verb.Certificate = with_common ((codes "bucket", Text) ∷ (codes "id", Number) ∷ [])
 members_of verb.Intake = with_common ((codes "bucket", Text) ∷ (codes "batch", Text) ∷ (codes "line", Number) ∷ (codes "key", Text) ∷ (codes "text", OptionalText) ∷ (codes "hex", OptionalText) ∷ (codes "mode", OptionalText) ∷ (codes "until", OptionalText) ∷ (codes "hold", OptionalText) ∷ [])
 
 -- the value is an object of just the members of that line; a content is written by exactly one of text and hex

@@ -69,6 +69,7 @@ fn values(alloc: Global, verb: Verb, value: &Value) -> Result<Command, LineFault
         Verb::GetHold => lock_lines::get_hold(alloc, value),
         Verb::Run => config_lines::run(alloc, value),
         Verb::Report => record_lines::report(alloc, value),
+        Verb::Certificate => record_lines::certificate(alloc, value),
         Verb::Intake => entry_lines::intake(alloc, value),
     }
 }

@@ -1,11 +1,13 @@
-//! Lines on departments, callers and buckets.
+//! Lines on departments, callers and buckets, and on certificates.
 ghost use Rattle.serde_json.specs.View.{view};
 ghost use Rattle.vault_http_values.specs.Fault.{Gives};
 ghost use Rattle.vault_http_script.specs.RecordLines as spec;
 
 use serde_json::Value;
 use std::alloc::Global;
-use vault_core_model::command::{AddBucket, AddCaller, AddDept, CloseCaller, Command, Report};
+use vault_core_model::command::{
+    AddBucket, AddCaller, AddDept, Certificate, CloseCaller, Command, Report,
+};
 use vault_http_values::fault::LineFault;
 use vault_http_values::values;
 
@@ -54,4 +56,13 @@ pub fn report(alloc: Global, value: &Value) -> Result<Command, LineFault>
 {
     let dept = values::dept(alloc, value)?;
     Ok(Command::Report(Report { dept }))
+}
+
+#[tactic(auto, unfolding(crate::specs::RecordLines::certificate_of))]
+pub fn certificate(alloc: Global, value: &Value) -> Result<Command, LineFault>
+    ensures { Gives (λ x. x) result (spec.certificate_of (view value.now)) }
+{
+    let bucket = values::bucket(alloc, value)?;
+    let id = values::id(value)?;
+    Ok(Command::Certificate(Certificate { bucket, id }))
 }

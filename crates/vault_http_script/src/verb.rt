@@ -31,6 +31,7 @@ pub enum Verb {
     GetHold,
     Run,
     Report,
+    Certificate,
     Intake,
 }
 
@@ -67,6 +68,7 @@ impl Verb {
             "get-hold" => Some(Verb::GetHold),
             "run" => Some(Verb::Run),
             "report" => Some(Verb::Report),
+            "certificate" => Some(Verb::Certificate),
             "intake" => Some(Verb::Intake),
             _ => None,
         }
@@ -205,6 +207,10 @@ impl Verb {
             Verb::GetHold => has_entry(value),
             Verb::Run => has_bucket(value),
             Verb::Report => has_members(value, &[AT, WHO, VERB, ("dept", Kind::Text)]),
+            Verb::Certificate => has_members(
+                value,
+                &[AT, WHO, VERB, ("bucket", Kind::Text), ("id", Kind::Number)],
+            ),
             Verb::Intake => has_members(
                 value,
                 &[

@@ -1,4 +1,4 @@
-//! Tests of certificates of destruction. No script line asks for one, so the tests ask by calls.
+//! Tests of certificates of destruction, asked for by calls.
 #![tactic(auto)]
 
 #[cfg(test)]

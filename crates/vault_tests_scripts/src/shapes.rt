@@ -212,13 +212,27 @@ fn a_late_end_is_out_of_range(rt: HostRuntime) -> Result<(), Fail> {
     )
 }
 
-/// No text of it is printed.
+/// The seal is what `sha256sum` tells of the lines above it.
 #[test]
-fn a_certificate_is_no_line_yet(rt: HostRuntime) -> Result<(), Fail> {
+fn a_certificate_is_told_with_its_seal(rt: HostRuntime) -> Result<(), Fail> {
     play_opened(
         rt.alloc(),
         r#"
+{"at":"2024-01-15T10:30:00Z","as":"ann","do":"put","bucket":"docs","key":"a","text":"hello"}
+  {"ok":{"version_id":1}}
 {"at":"2024-01-15T10:30:00Z","as":"ann","do":"certificate","bucket":"docs","id":1}
+  {"error":{"code":"MethodNotAllowed","n":7}}
+{"at":"2024-01-16T00:00:00Z","as":"ann","do":"delete-version","bucket":"docs","key":"a","id":1}
+  {"ok":{"cause":"request","delete_marker":false,"version_id":1}}
+{"at":"2024-01-16T00:00:00Z","as":"ann","do":"certificate","bucket":"docs","id":1}
+  {"ok":{"text":"CERTIFICATE OF DESTRUCTION\nversion: 1\nbucket: docs\nkey: a\nsize: 5\nsha256: 2cf24dba5fb0a30e26e83b2ac5b9e29e1b161e5c1fa7425e73043362938b9824\nadmitted: 2024-01-15T10:30:00Z by ann\nremoved: 2024-01-16T00:00:00Z\ncause: request ann\ndays held: 1\nseal: babe1fbf67fe33f09a389d035a2f9f8d338e2a540880ba7c25bf8434d06237cb\n"}}
+{"at":"2024-01-16T00:00:00Z","as":"ann","do":"certificate","bucket":"docs","id":2}
+  {"error":{"code":"NoSuchVersion","n":6}}
+{"at":"2024-01-16T00:00:00Z","as":"ann","do":"certificate","bucket":"docs","id":0}
+  {"error":{"code":"InvalidArgument","n":10}}
+{"at":"2024-01-16T00:00:00Z","as":"ann","do":"certificate","bucket":"docs"}
+  {"error":{"code":"MalformedBody","n":12}}
+{"at":"2024-01-16T00:00:00Z","as":"ann","do":"certificate","bucket":"docs","key":"a","id":1}
   {"error":{"code":"MalformedBody","n":12}}
 "#,
     )

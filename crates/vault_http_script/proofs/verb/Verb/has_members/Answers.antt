@@ -39,3 +39,6 @@ returns-in-SetHold c = c.has_members-in-SetHold.ensures ∙ ap (λ verb. has_mem
 
 pub returns-in-Intake : goal.returns-in-Intake
 returns-in-Intake c = c.has_members-in-Intake.ensures ∙ ap (λ verb. has_members (members_of verb) (view c.args.value.now)) (sym c.in-Intake.is)
+
+pub returns-in-Certificate : goal.returns-in-Certificate
+returns-in-Certificate c = c.has_members-in-Certificate.ensures ∙ ap (λ verb. has_members (members_of verb) (view c.args.value.now)) (sym c.in-Certificate.is)

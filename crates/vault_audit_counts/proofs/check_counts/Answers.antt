@@ -1,0 +1,15 @@
+use Rattle.std.proofs.Common.{sym, subst, arith}
+use Rattle.sqlite.specs.Held.{state}
+use Rattle.sqlite.specs.State.{HasCleanDisk}
+use Rattle.sqlite.specs.Given.{IsPlain}
+use Rattle.sqlite.specs.Listing.{understood}
+use Rattle.vault_audit_counts.proofs.CountLemmas.{counts_text, counts_plain, counts_told}
+use Rattle.vault_audit_counts.proofs.check_counts.Goals as goal
+
+pub check_rows-requires : goal.check_rows-requires
+check_rows-requires g c clean = subst (λ s. IsPlain (understood s counts_text)) (sym (c.requires clean)) counts_plain
+
+pub returns-clause-told : goal.returns-clause-told
+returns-clause-told g c clean es hs are tell =
+    let early : HasCleanDisk (state g.S.Store c.args.conn.now) = omega (arith, c.in_ok-found.ensures.crash.clean) in
+    counts_told (state g.S.Store c.args.conn.now) (state g.S.Store c.check_rows.new.conn) (c.requires early) (c.in_ok-found.ensures.same clean) es hs are tell c.in_ok-found.found (c.in_ok-found.ensures.checked clean)

@@ -1,0 +1,52 @@
+-- What the passes over all tables tell.
+use Rattle.std.specs.Prelude.{◌≡◌, ◌⊎◌, ⊤, ℕ, List, Option, None, Some, Result, Ok, Err}
+use Rattle.sqlite.specs.Effect.{Database}
+use Rattle.sqlite.specs.declared.error.Error.{Error}
+use Rattle.sqlite.specs.declared.error.Error.TheVariants.{SqliteFailure}
+use Rattle.sqlite.specs.declared.error.ErrorCode.TheVariants as code
+use Rattle.vault_base.specs.declared.refusal.Table.{Table}
+use Rattle.vault_base.specs.declared.refusal.Refusal.{Refusal}
+use Rattle.vault_base.specs.declared.refusal.Refusal.TheVariants.{Memory, Device, Damaged}
+use Rattle.vault_core_model.specs.declared.records.Entry.{Entry}
+use Rattle.vault_core_model.specs.Vault.{Vault}
+use Rattle.vault_audit_model.specs.declared.rows.MetaRow.{MetaRow}
+use Rattle.vault_audit_model.specs.Relations.{AreEntries, AreHeads}
+use Rattle.vault_audit_model.specs.Spells.{AreSound}
+use Rattle.vault_audit_keys.specs.Keys.{entries_of}
+use Rattle.vault_audit_looks.specs.Looks.{ArePast, DepartmentsFound, NamesFound, VersionsFound}
+
+-- no table behind meta is damaged, and no entry is after the last moment; or one is, and the tables are sound for no vault of that moment
+abbrev pub ToldBy : Database → ℕ → Option Table → Type 0
+ToldBy db last None = ArePast db last
+ToldBy db last (Some table) = (v : Vault) → v.last ≡ last → ¬ AreSound db v
+
+-- the entries, what stands beside them, and the heads of their keys
+pub record VersionsAndHeads (db : Database) : Type 0 where
+  pub entries : (es : List Entry) × AreEntries db es
+  pub versions : (es : List Entry) → AreEntries db es → VersionsFound db es
+  pub heads : (v : Vault) → AreEntries db (entries_of v) → AreHeads db v
+
+-- what the second pass finds
+pub record AllFound (db : Database) (m : MetaRow) : Type 0 where
+  pub departments : DepartmentsFound db m
+  pub names : NamesFound db
+  pub held : VersionsAndHeads db
+
+-- the tables are sound for a vault; or one is damaged, and they are sound for none
+abbrev pub IsAudited : Database → Option Table → Type 0
+IsAudited db None = (v : Vault) × AreSound db v
+IsAudited db (Some table) = (v : Vault) → ¬ AreSound db v
+
+-- what an error of the store is told as
+abbrev pub refusal_of : Error → Refusal
+refusal_of (SqliteFailure code.OutOfMemory) = Memory
+refusal_of _ = Device
+
+-- the refusals of an audit
+abbrev pub IsTold : Refusal → Type 0
+IsTold r = (r ≡ Memory) ⊎ (r ≡ Device) ⊎ ((t : Table) × (r ≡ Damaged t))
+
+-- the tables were judged, whatever they are
+abbrev pub IsJudged : Result (Unit {0}) Refusal → Type 0
+IsJudged (Ok done) = ⊤
+IsJudged (Err r) = (t : Table) × (r ≡ Damaged t)

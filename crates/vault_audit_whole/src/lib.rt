@@ -1,0 +1,8 @@
+//! The audit of a vault's tables.
+#![tactic(auto)]
+
+mod first_pass;
+mod second_pass;
+mod whole;
+
+pub use whole::audit;

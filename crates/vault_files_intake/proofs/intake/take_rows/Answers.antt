@@ -1,0 +1,29 @@
+use Rattle.std.proofs.Common.{◌≡◌, ◌+◌, ◌<◌, arith, rules}
+use Rattle.vault_files_intake.proofs.Taken.{row-taken, row-stops, lines-end}
+use Rattle.vault_files_intake.proofs.intake.take_rows.Goals as goal
+
+pub loop-cells-preserved : goal.loop-cells-preserved
+loop-cells-preserved g c = record {
+  honest = λ h. c.loop-cells.invariant.honest (c.take_next.ensures.honest h);
+  reached = λ h before. c.take_next.ensures.reached h (c.loop-cells.invariant.reached (c.take_next.ensures.honest h) before);
+  files = search rules;
+  counted = search rules;
+  counted_there = search rules;
+  above = search rules;
+  so_far = λ h.
+      let one = rw c.loop-cells.invariant.files at (c.in_default.ensures.ok h) in
+      let number : c.loop-cells.above + 1 ≡ c.loop-cells.cells-index + 1 = search rules in
+      row-taken _ _ _ _ _ c.args.below.now c.loop-cells.cells-index c.cells-item.result _ _ _ _ _ _ c.loop-cells-test.true c.cells-item.is number (c.loop-cells.invariant.so_far (c.take_next.ensures.honest h)) one;
+}
+
+pub returns-in-Err-clause-taken : goal.returns-in-Err-clause-taken
+returns-in-Err-clause-taken g c = λ h.
+    let told = c.in-Err.ensures.err h in
+    row-stops _ _ _ _ _ c.args.below.now c.loop-cells.cells-index c.cells-item.result _ _ _ _ _ _ c.loop-cells-test.true c.cells-item.is (c.loop-cells.invariant.so_far (c.take_next.ensures.honest h)) told.0 told.1 told.2
+
+pub returns-then-above-clause-taken : goal.returns-then-above-clause-taken
+returns-then-above-clause-taken g c = λ h.
+    let full : c.loop-cells.above ≡ 4294967295 = search rules in
+    let place = c.loop-cells.invariant.above in
+    let many : 4294967295 < c.loop-cells.cells-index + 1 = omega (arith, full, place) in
+    lines-end _ _ _ _ _ c.args.below.now c.loop-cells.cells-index c.cells-item.result _ _ _ c.loop-cells-test.true c.cells-item.is many (c.loop-cells.invariant.so_far h)

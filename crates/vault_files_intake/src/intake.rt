@@ -1,0 +1,197 @@
+//! Intake of a list.
+ghost use Rattle.std.specs.Prelude.{◌≡◌, ◌≤◌, ◌⊎◌, ◌+◌, ◌<◌, ◌∷◌, ◌++◌, [], ℕ, List, true, map, IfOk, IfErr, OnOk, OnErr, Some};
+ghost use Rattle.csv.specs.Records.{fields_of};
+ghost use Rattle.vault_core_model.specs.Halts.{Rose};
+ghost use Rattle.vault_core_model.specs.Step.{Reached};
+ghost use Rattle.vault_files_intake.specs.TakenIn as spec;
+ghost use Rattle.vault_files_rows.specs.List.{below_header, is_of_five};
+
+use crate::folder::Folder;
+use crate::report::{IntakeReport, RowReply};
+use crate::take_row::take_row;
+use csv::ByteRecord;
+use std::alloc::Global;
+use vault_base::moment::Moment;
+use vault_base::name::{BatchName, BucketName, CallerName};
+use vault_base::refusal::Refusal;
+use vault_core_model::halt::Fault;
+use vault_core_model::keeper::Keeper;
+use vault_files_rows::list::{MOST_LIST, is_header, records};
+
+fn refusal_of(fault: Fault) -> Refusal
+    ensures { result ≡ spec.refusal_of fault }
+{
+    match fault {
+        Fault::Memory => Refusal::Memory,
+        Fault::Device => Refusal::Device,
+    }
+}
+
+/// Takes in the file of a row, and adds its reply to those of the rows above; or answers what stops the intake.
+///
+/// The room for the reply is taken before anything is done.
+fn take_next<K: Keeper, F: Folder>(
+    alloc: Global,
+    keeper: &mut K,
+    at: Moment,
+    who: &CallerName,
+    bucket: &BucketName,
+    batch: &BatchName,
+    line: u32,
+    cells: &ByteRecord,
+    folder: &mut F,
+    rows: &mut Vec<RowReply>,
+) -> Result<(), Refusal>
+    ensures ok { K.is_honest keeper.new → OnOk result (spec.TakesOne (F.files folder.old) at who.now bucket.now batch.now line (fields_of cells.now) (K.vault keeper.old) rows.old.items rows.new.items (K.vault keeper.new)) }
+    ensures err { K.is_honest keeper.new → IfErr result (λ r. spec.StopsBefore (fields_of cells.now) r × (rows.new.items ≡ rows.old.items) × (K.vault keeper.new ≡ K.vault keeper.old)) }
+    ensures reached { K.is_honest keeper.new → Reached (K.vault keeper.old) → Reached (K.vault keeper.new) }
+    ensures honest { K.is_honest keeper.new → K.is_honest keeper.old }
+    ensures files { F.files folder.new ≡ F.files folder.old }
+    ensures counted { K.count keeper.old ≤ K.count keeper.new }
+    ensures counted_there { F.count folder.old ≤ F.count folder.new }
+    ensures device { result ≡ Err Refusal.Device → Rose (K.count keeper.old) (K.count keeper.new) ⊎ Rose (F.count folder.old) (F.count folder.new) }
+{
+    if cells.len() != 5 {
+        return Err(Refusal::MalformedBody);
+    }
+    if rows.reserve(1).is_err() {
+        return Err(Refusal::Memory);
+    }
+    match take_row(alloc, keeper, at, who, bucket, batch, line, cells, folder) {
+        Ok(reply) => {
+            rows.push(RowReply { line, reply }).unwrap();
+            Ok(())
+        }
+        Err(fault) => Err(refusal_of(fault)),
+    }
+}
+
+/// Takes in the files of rows, in order, up to what stops the intake.
+fn take_rows<K: Keeper, F: Folder>(
+    alloc: Global,
+    keeper: &mut K,
+    at: Moment,
+    who: &CallerName,
+    bucket: &BucketName,
+    batch: &BatchName,
+    below: &[ByteRecord],
+    folder: &mut F,
+) -> IntakeReport
+    ensures taken { K.is_honest keeper.new → spec.TakesRows (F.files folder.old) at who.now bucket.now batch.now 0 (map fields_of below.now) (K.vault keeper.old) result.rows.items result.stopped (K.vault keeper.new) }
+    ensures reached { K.is_honest keeper.new → Reached (K.vault keeper.old) → Reached (K.vault keeper.new) }
+    ensures honest { K.is_honest keeper.new → K.is_honest keeper.old }
+    ensures files { F.files folder.new ≡ F.files folder.old }
+    ensures counted { K.count keeper.old ≤ K.count keeper.new }
+    ensures counted_there { F.count folder.old ≤ F.count folder.new }
+    ensures device { result.stopped ≡ Some Refusal.Device → Rose (K.count keeper.old) (K.count keeper.new) ⊎ Rose (F.count folder.old) (F.count folder.new) }
+{
+    let mut rows = Vec::new(alloc);
+    let mut above: u32 = 0;
+    for cells in below {
+        if above == u32::MAX {
+            return IntakeReport {
+                rows,
+                stopped: Some(Refusal::EntityTooLarge),
+            };
+        }
+        let line = above + 1;
+        if let Err(refusal) = take_next(
+            alloc, keeper, at, who, bucket, batch, line, cells, folder, &mut rows,
+        ) {
+            return IntakeReport {
+                rows,
+                stopped: Some(refusal),
+            };
+        }
+        above = line;
+    }
+    IntakeReport {
+        rows,
+        stopped: None,
+    }
+}
+
+/// An intake that stops before its first row.
+fn stopped_at_once(alloc: Global, refusal: Refusal) -> IntakeReport
+    ensures rows { result.rows.items ≡ [] }
+    ensures stopped { result.stopped ≡ Some refusal }
+{
+    IntakeReport {
+        rows: Vec::new(alloc),
+        stopped: Some(refusal),
+    }
+}
+
+/// Takes in the files of the rows below a list's header.
+fn take_below<K: Keeper, F: Folder>(
+    alloc: Global,
+    keeper: &mut K,
+    at: Moment,
+    who: &CallerName,
+    bucket: &BucketName,
+    batch: &BatchName,
+    records: &[ByteRecord],
+    folder: &mut F,
+) -> IntakeReport
+    ensures taken { K.is_honest keeper.new → spec.TakesBelow (F.files folder.old) at who.now bucket.now batch.now (below_header (map fields_of records.now)) (K.vault keeper.old) result.rows.items result.stopped (K.vault keeper.new) }
+    ensures reached { K.is_honest keeper.new → Reached (K.vault keeper.old) → Reached (K.vault keeper.new) }
+    ensures honest { K.is_honest keeper.new → K.is_honest keeper.old }
+    ensures files { F.files folder.new ≡ F.files folder.old }
+    ensures counted { K.count keeper.old ≤ K.count keeper.new }
+    ensures counted_there { F.count folder.old ≤ F.count folder.new }
+    ensures device { result.stopped ≡ Some Refusal.Device → Rose (K.count keeper.old) (K.count keeper.new) ⊎ Rose (F.count folder.old) (F.count folder.new) }
+{
+    let Some((first, below)) = records.split_first() else {
+        return stopped_at_once(alloc, Refusal::MalformedBody);
+    };
+    if !is_header(first) {
+        return stopped_at_once(alloc, Refusal::MalformedBody);
+    }
+    take_rows(alloc, keeper, at, who, bucket, batch, below, folder)
+}
+
+/// Takes in files of a folder by a list, each row as a line of an intake batch of that bucket.
+///
+/// The list is CSV behind a byte order mark or none, at most 16,777,216 bytes long, and its first record is
+/// `file,key,mode,until,hold`. A row's number counts the records below it, from 1; blank lines are none. A row
+/// is refused by the first fault of its cells, in their order, then for a file that isn't there
+/// (`InvalidArgument`) or is too large (`EntityTooLarge`), and then by its command; the intake goes on behind
+/// it. It stops at a wrong or missing first record or a record of another length (`MalformedBody`), at a list
+/// that is too long (`EntityTooLarge`, no row), where room for a row was refused (`Memory`), and where the
+/// vault or the folder failed (`Device`); the rows above stand.
+pub fn take_in<K: Keeper, F: Folder>(
+    alloc: Global,
+    keeper: &mut K,
+    at: Moment,
+    who: &CallerName,
+    bucket: &BucketName,
+    batch: &BatchName,
+    list: &[u8],
+    folder: &mut F,
+) -> IntakeReport
+    ensures taken { K.is_honest keeper.new → spec.TakesIn (F.files folder.old) at who.now bucket.now batch.now list.now (K.vault keeper.old) result.rows.items result.stopped (K.vault keeper.new) }
+    ensures reached { K.is_honest keeper.new → Reached (K.vault keeper.old) → Reached (K.vault keeper.new) }
+    ensures honest { K.is_honest keeper.new → K.is_honest keeper.old }
+    ensures files { F.files folder.new ≡ F.files folder.old }
+    ensures counted { K.count keeper.old ≤ K.count keeper.new }
+    ensures counted_there { F.count folder.old ≤ F.count folder.new }
+    // `Device` comes only where the vault's device or the folder's failed.
+    ensures device { result.stopped ≡ Some Refusal.Device → Rose (K.count keeper.old) (K.count keeper.new) ⊎ Rose (F.count folder.old) (F.count folder.new) }
+{
+    if list.len() > MOST_LIST {
+        return stopped_at_once(alloc, Refusal::EntityTooLarge);
+    }
+    match records(alloc, list) {
+        Ok(records) => take_below(
+            alloc,
+            keeper,
+            at,
+            who,
+            bucket,
+            batch,
+            records.as_slice(),
+            folder,
+        ),
+        Err(_) => stopped_at_once(alloc, Refusal::Memory),
+    }
+}

@@ -1,0 +1,6 @@
+//! The records of an intake list, and what each asks for.
+#![tactic(auto)]
+
+pub mod file_name;
+pub mod list;
+pub mod row;

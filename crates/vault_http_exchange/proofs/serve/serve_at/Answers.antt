@@ -1,0 +1,13 @@
+use Rattle.std.proofs.lemmas.Result.{on_ok_weaker}
+use Rattle.vault_http_exchange.proofs.Taken.{head_taken, end_taken}
+use Rattle.vault_http_exchange.proofs.serve.serve_at.Goals as goal
+
+pub returns-in-Nothing-clause-taken : goal.returns-in-Nothing-clause-taken
+returns-in-Nothing-clause-taken g c =
+    end_taken c.args.moment _ _ _ c.in_ok-read_head.ensures.taken (rw c.in-Nothing.is at c.in_ok-read_head.ensures.front) (rw c.in-Nothing.is at c.in_ok-read_head.ensures.some)
+
+pub returns-clause-taken : goal.returns-clause-taken
+returns-clause-taken g c =
+    on_ok_weaker c.serve_head.result
+    (λ d. head_taken c.args.moment _ _ _ _ d.0 _ c.in-Head.spans c.in_ok-read_head.ensures.taken (rw c.in-Head.is at c.in_ok-read_head.ensures.front) d.1 d.2)
+    (rw c.as_slice.ensures.value at c.serve_head.ensures.taken)

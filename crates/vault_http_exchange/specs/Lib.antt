@@ -1,0 +1,3 @@
+pub mod Body
+pub mod Exchange
+pub mod Left

@@ -1,0 +1,5 @@
+pub mod Command
+pub mod Order
+pub mod Plan
+pub mod Supported
+pub mod Terms

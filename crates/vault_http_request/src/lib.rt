@@ -1,0 +1,8 @@
+//! What a request asks for: its head judged point by point, and the command that it makes with its body.
+#![tactic(auto)]
+
+pub mod command;
+pub mod order;
+pub mod plan;
+pub mod supported;
+pub mod terms;

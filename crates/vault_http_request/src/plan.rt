@@ -1,0 +1,103 @@
+//! What a head asks for, judged point by point.
+ghost use Rattle.std.specs.Prelude.{◌≡◌, ◌≤◌, All, IfOk, Some, length, map};
+ghost use Rattle.httparse.specs.Spans.{header_bytes, IsHeaderWithin};
+ghost use Rattle.vault_http_values.specs.Fault.{Gives};
+ghost use Rattle.vault_http_request.specs.Plan as spec;
+
+use crate::order::{Order, Resource, order_of};
+use crate::supported::check_supported;
+use crate::terms::{Terms, takes_of, terms_of};
+use httparse::spans::HeaderSpan;
+use std::alloc::Global;
+use vault_base::moment::Moment;
+use vault_base::refusal::Refusal;
+use vault_http_target::target::target_of;
+use vault_http_values::fault::LineFault;
+
+/// What is to be done once the body is there.
+#[derive(Drop)]
+pub struct Plan {
+    pub at: Moment,
+    pub order: Order,
+    pub terms: Terms,
+}
+
+/// What a head asks for.
+#[derive(Drop)]
+pub enum Asked {
+    Plan(Plan),
+    /// The target hasn't the method.
+    NotAllowed(Resource),
+}
+
+fn clock(moment: Option<Moment>) -> Result<Moment, LineFault>
+    ensures value { Gives (λ x. x) result (spec.clock moment) }
+    ensures at { IfOk result (λ at. moment ≡ Some at) }
+{
+    match moment {
+        Some(at) => Ok(at),
+        None => Err(LineFault::Refused(Refusal::ClockOutOfRange)),
+    }
+}
+
+#[tactic(auto, unfolding(crate::specs::Plan::planned))]
+fn planned(
+    alloc: Global,
+    at: Moment,
+    order: Order,
+    minor: u8,
+    buf: &[u8],
+    headers: &[HeaderSpan],
+) -> Result<Asked, LineFault>
+    requires within { All (IsHeaderWithin (length buf.now)) headers.now }
+    requires few { length headers.now ≤ 64 }
+    ensures value { Gives (λ x. x) result (spec.planned at order minor (map (header_bytes buf.now) headers.now)) }
+    ensures at { IfOk result (spec.IsAt (Some at)) }
+{
+    let terms = terms_of(alloc, takes_of(&order), minor, buf, headers)?;
+    Ok(Asked::Plan(Plan { at, order, terms }))
+}
+
+fn allowed(
+    alloc: Global,
+    at: Moment,
+    order: Result<Order, Resource>,
+    minor: u8,
+    buf: &[u8],
+    headers: &[HeaderSpan],
+) -> Result<Asked, LineFault>
+    requires within { All (IsHeaderWithin (length buf.now)) headers.now }
+    requires few { length headers.now ≤ 64 }
+    ensures value { Gives (λ x. x) result (spec.allowed at order minor (map (header_bytes buf.now) headers.now)) }
+    ensures at { IfOk result (spec.IsAt (Some at)) }
+{
+    match order {
+        Ok(order) => planned(alloc, at, order, minor, buf, headers),
+        Err(resource) => Ok(Asked::NotAllowed(resource)),
+    }
+}
+
+/// What a head asks for at a moment, where the reading is one.
+///
+/// The first fault is the answer, in this order: the reading; a header that asks for what the vault
+/// doesn't do; the path; the query; the method; the length of a body; headers twice; the caller; locks.
+#[tactic(auto, unfolding(crate::specs::Plan::asked_of))]
+pub fn asked_of(
+    alloc: Global,
+    moment: Option<Moment>,
+    method: &[u8],
+    target: &[u8],
+    minor: u8,
+    buf: &[u8],
+    headers: &[HeaderSpan],
+) -> Result<Asked, LineFault>
+    requires within { All (IsHeaderWithin (length buf.now)) headers.now }
+    requires few { length headers.now ≤ 64 }
+    ensures value { Gives (λ x. x) result (spec.asked_of moment method.now target.now minor (map (header_bytes buf.now) headers.now)) }
+    ensures at { IfOk result (spec.IsAt moment) }
+{
+    let at = clock(moment)?;
+    check_supported(buf, headers)?;
+    let target = target_of(alloc, method, target)?;
+    allowed(alloc, at, order_of(method, target), minor, buf, headers)
+}

@@ -1,0 +1,7 @@
+pub mod Fields
+pub mod Number
+pub mod Path
+pub mod Place
+pub mod Query
+pub mod Routes
+pub mod Target

@@ -1,0 +1,73 @@
+//! The bucket that a path names, and its key.
+ghost use Rattle.vault_http_values.specs.Fault.{Gives};
+ghost use Rattle.vault_http_target.specs.Place as spec;
+
+use crate::path::{before, behind, behind_first, decoded};
+use crate::routes::is_routed;
+use std::alloc::Global;
+use vault_base::name::{BucketName, NameFault, ObjectKey};
+use vault_base::refusal::Refusal;
+use vault_http_values::fault::LineFault;
+
+/// What a path names: a bucket, or a key in it.
+#[derive(Drop)]
+pub enum Place {
+    Bucket(BucketName),
+    Key(BucketName, ObjectKey),
+}
+
+fn check_route(alloc: Global, path: &[u8]) -> Result<(), LineFault>
+    ensures { Gives (λ x. x) result (spec.routed path.now) }
+{
+    if !is_routed(alloc, path)? {
+        return Err(LineFault::Refused(Refusal::InvalidArgument));
+    }
+    Ok(())
+}
+
+#[tactic(auto, unfolding(crate::specs::Place::bucket_in))]
+fn bucket_in(alloc: Global, part: &[u8]) -> Result<BucketName, LineFault>
+    ensures { Gives (λ x. x) result (spec.bucket_in part.now) }
+{
+    let text = decoded(alloc, part, Refusal::InvalidBucketName)?;
+    match BucketName::read(alloc, text.as_str())? {
+        Ok(name) => Ok(name),
+        Err(_) => Err(LineFault::Refused(Refusal::InvalidBucketName)),
+    }
+}
+
+#[tactic(auto, unfolding(crate::specs::Place::key_in))]
+fn key_in(alloc: Global, part: &[u8]) -> Result<ObjectKey, LineFault>
+    ensures { Gives (λ x. x) result (spec.key_in part.now) }
+{
+    let text = decoded(alloc, part, Refusal::InvalidArgument)?;
+    match ObjectKey::read(alloc, text.as_str())? {
+        Ok(key) => Ok(key),
+        Err(NameFault::TooLong) => Err(LineFault::Refused(Refusal::KeyTooLongError)),
+        Err(_) => Err(LineFault::Refused(Refusal::InvalidArgument)),
+    }
+}
+
+#[tactic(auto, unfolding(crate::specs::Place::place_within))]
+fn place_within(alloc: Global, bucket: BucketName, part: &[u8]) -> Result<Place, LineFault>
+    ensures { Gives (λ x. x) result (spec.place_within bucket part.now) }
+{
+    if part.is_empty() {
+        return Ok(Place::Bucket(bucket));
+    }
+    Ok(Place::Key(bucket, key_in(alloc, part)?))
+}
+
+/// The place that a path names: it has a route, and the bucket is one, and then the key.
+///
+/// `InvalidArgument` tells that there is no route, or that the key isn't UTF-8 or no key;
+/// `KeyTooLongError` that it is too long; `InvalidBucketName` is the bucket's only refusal.
+#[tactic(auto, unfolding(crate::specs::Place::place_of))]
+pub fn place_of(alloc: Global, path: &[u8]) -> Result<Place, LineFault>
+    ensures { Gives (λ x. x) result (spec.place_of path.now) }
+{
+    check_route(alloc, path)?;
+    let parts = behind_first(path);
+    let bucket = bucket_in(alloc, before(parts, b'/'))?;
+    place_within(alloc, bucket, behind(parts, b'/'))
+}

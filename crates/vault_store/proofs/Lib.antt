@@ -1,0 +1,2 @@
+pub mod SoundProp
+pub mod KeptLemmas

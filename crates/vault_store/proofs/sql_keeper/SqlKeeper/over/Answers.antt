@@ -1,0 +1,16 @@
+use Rattle.std.proofs.Common.{sym, ap, subst, ◌∙◌}
+use Rattle.sqlite.specs.Held.{state}
+use Rattle.vault_audit_model.specs.Spells.{AreSound}
+use Rattle.vault_store.specs.Kept.{after}
+use Rattle.vault_store_opening.specs.Opening.{noted_vault}
+use Rattle.vault_store.proofs.sql_keeper.SqlKeeper.over.Goals as goal
+
+pub invariant_of-result : goal.invariant_of-result
+invariant_of-result g c = record {
+  settled = c.requires.settled;
+  stands = ∣ (λ clean.
+      let it = c.requires.sound clean in
+      let same = ap (after (noted_vault g.S.Store c.remember-opening.result.at.items c.remember-opening.result.known)) c.new.ensures ∙ c.remember-opening.ensures clean it.sound.0 it.sound.1 in
+      let is = subst (AreSound (state g.S.Store c.args.conn).now) (sym same) it.sound.1 in
+      record { sound = is.spells.kept.sound; keeps = λ is_open. (is, it.committed) }) ∣₁;
+}

@@ -1,0 +1,21 @@
+//! What a refusal of the store is to a keeper.
+ghost use Rattle.std.specs.Prelude.{◌≡◌, ◌≤◌};
+ghost use Rattle.vault_core_model.specs.Halts.{Rose};
+
+use sqlite::{Error, ErrorCode};
+use vault_core_model::halt::Fault;
+
+/// Want of memory is told as such; any other cause is the device's, and is counted.
+pub fn blame(faults: &mut u64, error: Error) -> Fault
+    ensures counted { faults.old ≤ faults.new }
+    ensures device { result ≡ Fault.Device → Rose faults.old faults.new }
+    ensures memory { result ≡ Fault.Memory → faults.new ≡ faults.old }
+{
+    match error {
+        Error::SqliteFailure(ErrorCode::OutOfMemory) => Fault::Memory,
+        _ => {
+            *faults = faults.saturating_add(1);
+            Fault::Device
+        }
+    }
+}

@@ -1,0 +1,36 @@
+-- What it is for a transaction to make a change of the vault.
+use Rattle.std.specs.Prelude.{◌≡◌, ℕ, ◌≤◌, IsTrue}
+use Rattle.sqlite_trees.specs.Tree.{Trees}
+use Rattle.sqlite.specs.State.{State}
+use Rattle.vault_base.specs.declared.refusal.Table.{Table}
+use Rattle.vault_core_model.specs.declared.change.Change.{Change}
+use Rattle.vault_core_model.specs.Allowed.{Allows}
+use Rattle.vault_core_model.specs.Change.{changed}
+use Rattle.vault_core_model.specs.Vault.{Vault}
+use Rattle.vault_store_model.specs.Rows.{Rows}
+use Rattle.vault_store_model.specs.Keeping.{Keeps, AreTreesOf}
+use Rattle.vault_store_changes.specs.Edits.{edit_of}
+use Rattle.vault_store_changes.specs.Limits.{IsChangeInLimits}
+
+-- the edit is that of a change of this vault at t
+abbrev pub IsEditOf : (Rows → Rows) → Vault → ℕ → Change → Type 0
+IsEditOf edit v t c = (xs : Rows) (u : Table) → edit xs u ≡ edit_of v t c xs u
+
+-- each vault that was kept is kept with this change
+abbrev pub Changes : State → State → ℕ → Change → Type 0
+Changes old new t c = (v : Vault) → Keeps old v → v.last ≤ t → Allows v t c → Keeps new (changed v t c)
+
+-- trees of each vault that was kept, with this change
+abbrev pub AreChanged : State → ℕ → Change → Trees → Type 0
+AreChanged old t c trees = (v : Vault) → Keeps old v → v.last ≤ t → Allows v t c → AreTreesOf (changed v t c) trees
+
+-- the same of every change that the edit is, where it is in its limits
+abbrev pub ChangesBy : State → State → ℕ → (Rows → Rows) → Type 0
+ChangesBy old new t edit = (v : Vault) (c : Change) → IsChangeInLimits c → Keeps old v → v.last ≤ t → Allows v t c → (IsTrue old.is_open → IsEditOf edit v t c) → Keeps new (changed v t c)
+
+abbrev pub AreChangedBy : State → ℕ → (Rows → Rows) → Trees → Type 0
+AreChangedBy old t edit trees = (v : Vault) (c : Change) → IsChangeInLimits c → Keeps old v → v.last ≤ t → Allows v t c → (IsTrue old.is_open → IsEditOf edit v t c) → AreTreesOf (changed v t c) trees
+
+-- where the connection was open, trees of this vault with the change
+abbrev pub IsChanged : State → Vault → ℕ → Change → Trees → Type 0
+IsChanged old v t c trees = IsTrue old.is_open → v.last ≤ t → Allows v t c → AreTreesOf (changed v t c) trees

@@ -1,0 +1,31 @@
+//! A transaction that makes a change.
+ghost use Rattle.std.specs.Prelude.{◌≡◌, false, IsTrue, OnOk, OnErr};
+ghost use Rattle.sqlite_trees.specs.Tree.{Trees};
+ghost use Rattle.sqlite.specs.Held.{state};
+ghost use Rattle.sqlite.specs.State.{HasCleanDisk, Survives};
+ghost use Rattle.vault_core_model.specs.Vault.{Vault};
+ghost use Rattle.vault_store_model.specs.Keeping.{Keeps};
+ghost use Rattle.vault_store_apply.specs.Applies.{ChangesBy, AreChangedBy};
+
+use sqlite::{Alter, Connection, Error};
+use vault_base::moment::Moment;
+use vault_store_transaction::transaction::{Part, transact};
+
+/// Makes each change at a moment whose edit of the tables the part makes, if what it brings is in its
+/// limits; where that fails, nothing.
+pub fn commit_part<S: Alter, P: Part<S>>(
+    conn: &mut Connection<S>,
+    at: Moment,
+    part: &P,
+) -> Result<(), Error>
+    requires { conn.old.in_transaction ≡ false }
+    ensures mode { conn.new.in_transaction ≡ false }
+    ensures open { HasCleanDisk (state S.Store conn.new) → OnOk result (IsTrue (state S.Store conn.new).is_open) }
+    ensures done { HasCleanDisk (state S.Store conn.new) → OnOk result (ChangesBy (state S.Store conn.old) (state S.Store conn.new) at (P.edit part.now)) }
+    ensures nothing { HasCleanDisk (state S.Store conn.new) → OnErr result ((v : Vault) → Keeps (state S.Store conn.old) v → Keeps (state S.Store conn.new) v) }
+    ensures alone { HasCleanDisk (state S.Store conn.new) → OnOk result ((trees : Trees) → (state S.Store conn.new).may_leave trees → trees ≡ (state S.Store conn.new).now.trees) }
+    ensures crash { Survives (state S.Store conn.old) (state S.Store conn.new) (AreChangedBy (state S.Store conn.old) at (P.edit part.now)) }
+{
+    let _in_range = at.secs();
+    transact(conn, part)
+}

@@ -1,0 +1,142 @@
+//! Changes of records and of configurations.
+//!
+//! Each is made in a transaction of its own: where it fails, nothing is changed. What it brings has to be
+//! in its limits, as `vault_store_limits` tells.
+ghost use Rattle.std.specs.Prelude.{◌≡◌, ℕ, List, false, IsTrue, OnOk, OnErr};
+ghost use Rattle.sqlite_trees.specs.Tree.{Trees};
+ghost use Rattle.sqlite.specs.Held.{state};
+ghost use Rattle.sqlite.specs.State.{HasCleanDisk, Survives};
+ghost use Rattle.vault_core_model.specs.declared.change.Change.TheVariants as change;
+ghost use Rattle.vault_core_model.specs.Vault.{Vault};
+ghost use Rattle.vault_audit_model.specs.Spells.{rules_from, rules_if_given};
+ghost use Rattle.vault_store_model.specs.Keeping.{Keeps};
+ghost use Rattle.vault_store_changes.specs.Limits.{IsChangeInLimits};
+ghost use Rattle.vault_store_apply.specs.Applies.{Changes, AreChanged};
+
+use crate::commit::commit_part;
+use sqlite::{Alter, Connection, Error};
+use vault_base::moment::Moment;
+use vault_base::name::{BucketName, CallerName, DeptName};
+use vault_core_model::records::Caller;
+use vault_lock::retention::Default;
+use vault_rules::rule::Rule;
+use vault_rules::rule_set::RuleSet;
+use vault_store_parts::bucket::{NewBucket, NewDefault, NewRules};
+use vault_store_parts::caller::{ClosedCaller, NewCaller};
+use vault_store_parts::department::NewDepartment;
+
+/// Adds a department.
+pub fn add_department<S: Alter>(
+    conn: &mut Connection<S>,
+    at: Moment,
+    name: &DeptName,
+) -> Result<(), Error>
+    requires { conn.old.in_transaction ≡ false }
+    ensures mode { conn.new.in_transaction ≡ false }
+    ensures open { HasCleanDisk (state S.Store conn.new) → OnOk result (IsTrue (state S.Store conn.new).is_open) }
+    ensures done { HasCleanDisk (state S.Store conn.new) → IsChangeInLimits (change.AddDept name.now) → OnOk result (Changes (state S.Store conn.old) (state S.Store conn.new) at (change.AddDept name.now)) }
+    ensures nothing { HasCleanDisk (state S.Store conn.new) → OnErr result ((v : Vault) → Keeps (state S.Store conn.old) v → Keeps (state S.Store conn.new) v) }
+    ensures alone { HasCleanDisk (state S.Store conn.new) → OnOk result ((trees : Trees) → (state S.Store conn.new).may_leave trees → trees ≡ (state S.Store conn.new).now.trees) }
+    ensures crash { IsChangeInLimits (change.AddDept name.now) → Survives (state S.Store conn.old) (state S.Store conn.new) (AreChanged (state S.Store conn.old) at (change.AddDept name.now)) }
+{
+    commit_part(conn, at, &NewDepartment { at, name })
+}
+
+/// Adds a caller.
+pub fn add_caller<S: Alter>(
+    conn: &mut Connection<S>,
+    at: Moment,
+    caller: &Caller,
+) -> Result<(), Error>
+    requires { conn.old.in_transaction ≡ false }
+    ensures mode { conn.new.in_transaction ≡ false }
+    ensures open { HasCleanDisk (state S.Store conn.new) → OnOk result (IsTrue (state S.Store conn.new).is_open) }
+    ensures done { HasCleanDisk (state S.Store conn.new) → IsChangeInLimits (change.AddCaller caller.now) → OnOk result (Changes (state S.Store conn.old) (state S.Store conn.new) at (change.AddCaller caller.now)) }
+    ensures nothing { HasCleanDisk (state S.Store conn.new) → OnErr result ((v : Vault) → Keeps (state S.Store conn.old) v → Keeps (state S.Store conn.new) v) }
+    ensures alone { HasCleanDisk (state S.Store conn.new) → OnOk result ((trees : Trees) → (state S.Store conn.new).may_leave trees → trees ≡ (state S.Store conn.new).now.trees) }
+    ensures crash { IsChangeInLimits (change.AddCaller caller.now) → Survives (state S.Store conn.old) (state S.Store conn.new) (AreChanged (state S.Store conn.old) at (change.AddCaller caller.now)) }
+{
+    commit_part(conn, at, &NewCaller { at, caller })
+}
+
+/// Closes a caller.
+pub fn close_caller<S: Alter>(
+    conn: &mut Connection<S>,
+    at: Moment,
+    name: &CallerName,
+) -> Result<(), Error>
+    requires { conn.old.in_transaction ≡ false }
+    ensures mode { conn.new.in_transaction ≡ false }
+    ensures open { HasCleanDisk (state S.Store conn.new) → OnOk result (IsTrue (state S.Store conn.new).is_open) }
+    ensures done { HasCleanDisk (state S.Store conn.new) → IsChangeInLimits (change.CloseCaller name.now) → OnOk result (Changes (state S.Store conn.old) (state S.Store conn.new) at (change.CloseCaller name.now)) }
+    ensures nothing { HasCleanDisk (state S.Store conn.new) → OnErr result ((v : Vault) → Keeps (state S.Store conn.old) v → Keeps (state S.Store conn.new) v) }
+    ensures alone { HasCleanDisk (state S.Store conn.new) → OnOk result ((trees : Trees) → (state S.Store conn.new).may_leave trees → trees ≡ (state S.Store conn.new).now.trees) }
+    ensures crash { IsChangeInLimits (change.CloseCaller name.now) → Survives (state S.Store conn.old) (state S.Store conn.new) (AreChanged (state S.Store conn.old) at (change.CloseCaller name.now)) }
+{
+    commit_part(conn, at, &ClosedCaller { at, name })
+}
+
+/// Adds a bucket of a department.
+pub fn add_bucket<S: Alter>(
+    conn: &mut Connection<S>,
+    at: Moment,
+    name: &BucketName,
+    dept: &DeptName,
+) -> Result<(), Error>
+    requires { conn.old.in_transaction ≡ false }
+    ensures mode { conn.new.in_transaction ≡ false }
+    ensures open { HasCleanDisk (state S.Store conn.new) → OnOk result (IsTrue (state S.Store conn.new).is_open) }
+    ensures done { HasCleanDisk (state S.Store conn.new) → IsChangeInLimits (change.AddBucket name.now dept.now) → OnOk result (Changes (state S.Store conn.old) (state S.Store conn.new) at (change.AddBucket name.now dept.now)) }
+    ensures nothing { HasCleanDisk (state S.Store conn.new) → OnErr result ((v : Vault) → Keeps (state S.Store conn.old) v → Keeps (state S.Store conn.new) v) }
+    ensures alone { HasCleanDisk (state S.Store conn.new) → OnOk result ((trees : Trees) → (state S.Store conn.new).may_leave trees → trees ≡ (state S.Store conn.new).now.trees) }
+    ensures crash { IsChangeInLimits (change.AddBucket name.now dept.now) → Survives (state S.Store conn.old) (state S.Store conn.new) (AreChanged (state S.Store conn.old) at (change.AddBucket name.now dept.now)) }
+{
+    commit_part(conn, at, &NewBucket { at, name, dept })
+}
+
+/// Sets the default retention of a bucket, or none.
+pub fn set_default<S: Alter>(
+    conn: &mut Connection<S>,
+    at: Moment,
+    name: &BucketName,
+    default: Option<Default>,
+) -> Result<(), Error>
+    requires { conn.old.in_transaction ≡ false }
+    ensures mode { conn.new.in_transaction ≡ false }
+    ensures open { HasCleanDisk (state S.Store conn.new) → OnOk result (IsTrue (state S.Store conn.new).is_open) }
+    ensures done { HasCleanDisk (state S.Store conn.new) → IsChangeInLimits (change.SetDefault name.now default) → OnOk result (Changes (state S.Store conn.old) (state S.Store conn.new) at (change.SetDefault name.now default)) }
+    ensures nothing { HasCleanDisk (state S.Store conn.new) → OnErr result ((v : Vault) → Keeps (state S.Store conn.old) v → Keeps (state S.Store conn.new) v) }
+    ensures alone { HasCleanDisk (state S.Store conn.new) → OnOk result ((trees : Trees) → (state S.Store conn.new).may_leave trees → trees ≡ (state S.Store conn.new).now.trees) }
+    ensures crash { IsChangeInLimits (change.SetDefault name.now default) → Survives (state S.Store conn.old) (state S.Store conn.new) (AreChanged (state S.Store conn.old) at (change.SetDefault name.now default)) }
+{
+    commit_part(conn, at, &NewDefault { at, name, default })
+}
+
+/// Sets the rules of a bucket in place of all that it had, or none.
+pub fn set_rules<S: Alter>(
+    conn: &mut Connection<S>,
+    at: Moment,
+    name: &BucketName,
+    rules: &Option<RuleSet>,
+) -> Result<(), Error>
+    requires { conn.old.in_transaction ≡ false }
+    ensures mode { conn.new.in_transaction ≡ false }
+    ensures open { HasCleanDisk (state S.Store conn.new) → OnOk result (IsTrue (state S.Store conn.new).is_open) }
+    ensures done { HasCleanDisk (state S.Store conn.new) → IsChangeInLimits (change.SetRules name.now rules.now) → OnOk result (Changes (state S.Store conn.old) (state S.Store conn.new) at (change.SetRules name.now rules.now)) }
+    ensures nothing { HasCleanDisk (state S.Store conn.new) → OnErr result ((v : Vault) → Keeps (state S.Store conn.old) v → Keeps (state S.Store conn.new) v) }
+    ensures alone { HasCleanDisk (state S.Store conn.new) → OnOk result ((trees : Trees) → (state S.Store conn.new).may_leave trees → trees ≡ (state S.Store conn.new).now.trees) }
+    ensures crash { IsChangeInLimits (change.SetRules name.now rules.now) → Survives (state S.Store conn.old) (state S.Store conn.new) (AreChanged (state S.Store conn.old) at (change.SetRules name.now rules.now)) }
+{
+    let rules = rules_given(rules);
+    commit_part(conn, at, &NewRules { at, name, rules })
+}
+
+/// The rules of a set; none where there is no set.
+fn rules_given(rules: &Option<RuleSet>) -> &[Rule]
+    ensures { (name : List ℕ) → rules_from name 1 result.now ≡ rules_if_given name rules.now }
+{
+    match rules {
+        Some(rules) => rules.as_slice(),
+        None => &[],
+    }
+}

@@ -1,0 +1,114 @@
+//! An entry that is admitted, and one that is removed.
+ghost use Rattle.std.specs.Prelude.{◌≡◌, false, Some, IsTrue, IfOk, OnOk, OnErr};
+ghost use Rattle.sqlite_trees.specs.Tree.{Trees};
+ghost use Rattle.sqlite.specs.Held.{state};
+ghost use Rattle.sqlite.specs.State.{HasCleanDisk, Survives};
+ghost use Rattle.vault_core_model.specs.declared.change.Change.TheVariants as change;
+ghost use Rattle.vault_base.specs.Days.{day};
+ghost use Rattle.vault_core_model.specs.Reads.{head_of};
+ghost use Rattle.vault_core_model.specs.Totals.{IsRowFor};
+ghost use Rattle.vault_core_model.specs.Vault.{Vault, config_of};
+ghost use Rattle.vault_store_model.specs.Keeping.{Keeps};
+ghost use Rattle.vault_store_changes.specs.Edits.{head_with};
+ghost use Rattle.vault_store_changes.specs.Limits.{IsChangeInLimits};
+ghost use Rattle.vault_store_changes.specs.Sums.{CountsIn};
+ghost use Rattle.vault_store_apply.specs.Applies.{Changes};
+
+use sqlite::{Alter, Connection, Error, ErrorCode};
+use vault_base::moment::Moment;
+use vault_base::name::{BucketName, ObjectKey, VersionId};
+use vault_core_model::change::Admission;
+use vault_core_model::records::{BucketConfig, Head};
+use vault_store_apply::commit::commit_part;
+use vault_store_entry_parts::entry::NewEntry;
+use vault_store_reads::heads::read_head;
+use vault_store_reads::names::{read_bucket, read_totals};
+use vault_tally::row::Row;
+
+/// The head of a key with one entry more. `TooBig` beyond 64 bits.
+fn next_head(id: VersionId, head: Option<Head>) -> Result<Head, Error>
+    ensures { IfOk result (λ next. next ≡ head_with id head) }
+{
+    let Some(head) = head else {
+        return Ok(Head {
+            newest: id,
+            count: 1,
+        });
+    };
+    if head.count == u64::MAX {
+        return Err(Error::SqliteFailure(ErrorCode::TooBig));
+    }
+    Ok(Head {
+        newest: id,
+        count: head.count + 1,
+    })
+}
+
+/// What an admission or a removal reads of the vault beside its entry: the configuration of the bucket,
+/// the sums of its department, and the head of the key.
+#[derive(Drop)]
+struct Place {
+    config: BucketConfig,
+    sums: Row,
+    head: Option<Head>,
+}
+
+/// Reads that; an error where there is no such bucket.
+fn read_place<S: Alter>(
+    conn: &mut Connection<S>,
+    bucket: &BucketName,
+    key: &ObjectKey,
+) -> Result<Place, Error>
+    ensures value { HasCleanDisk (state S.Store conn.new) → IfOk result (λ place. (v : Vault) → Keeps (state S.Store conn.old) v
+        → (Some place.config ≡ config_of v bucket.now) × IsRowFor v place.config.dept place.sums × (place.head ≡ head_of v bucket.now key.now)) }
+    ensures same { HasCleanDisk (state S.Store conn.new) → (v : Vault) → Keeps (state S.Store conn.old) v → Keeps (state S.Store conn.new) v }
+    ensures honest { HasCleanDisk (state S.Store conn.new) → HasCleanDisk (state S.Store conn.old) }
+    ensures mode { conn.old.in_transaction ≡ false → conn.new.in_transaction ≡ false }
+{
+    let found = read_bucket(conn, bucket)?;
+    let config = found.ok_or(Error::QueryReturnedNoRows)?;
+    let sums = read_totals(conn, &config.dept)?;
+    let head = read_head(conn, bucket, key)?;
+    Ok(Place { config, sums, head })
+}
+
+/// The sums with a version counted in that is admitted at a moment.
+fn with_version(sums: Row, size: u64, at: Moment) -> Row
+    ensures { CountsIn sums size (day at) result }
+{
+    let mut sums = sums;
+    sums.admit(size, at.day());
+    sums
+}
+
+/// Admits an entry, with its note if it came by an intake list.
+pub fn admit<S: Alter>(
+    conn: &mut Connection<S>,
+    at: Moment,
+    admission: &Admission,
+) -> Result<(), Error>
+    requires { conn.old.in_transaction ≡ false }
+    ensures mode { conn.new.in_transaction ≡ false }
+    ensures open { HasCleanDisk (state S.Store conn.new) → OnOk result (IsTrue (state S.Store conn.new).is_open) }
+    ensures done { HasCleanDisk (state S.Store conn.new) → IsChangeInLimits (change.Admit admission.now) → OnOk result (Changes (state S.Store conn.old) (state S.Store conn.new) at (change.Admit admission.now)) }
+    ensures nothing { HasCleanDisk (state S.Store conn.new) → OnErr result ((v : Vault) → Keeps (state S.Store conn.old) v → Keeps (state S.Store conn.new) v) }
+    ensures honest { HasCleanDisk (state S.Store conn.new) → HasCleanDisk (state S.Store conn.old) }
+    ensures alone { HasCleanDisk (state S.Store conn.new) → OnOk result ((trees : Trees) → (state S.Store conn.new).may_leave trees → trees ≡ (state S.Store conn.new).now.trees) }
+{
+    let entry = &admission.history.entry;
+    let place = read_place(conn, &entry.bucket, &entry.key)?;
+    let newest = next_head(entry.id, place.head)?;
+    let sums = with_version(place.sums, entry.size, at);
+    let next = u64::from(entry.id.number()) + 1;
+    let _in_range = at.secs();
+    let part = NewEntry {
+        at,
+        admission,
+        head: place.head,
+        newest,
+        dept: &place.config.dept,
+        sums,
+        next,
+    };
+    commit_part(conn, at, &part)
+}

@@ -1,0 +1,11 @@
+pub mod ListLemmas
+pub mod OrderLemmas
+pub mod KeptLemmas
+pub mod RecordLemmas
+pub mod ConfigLemmas
+pub mod EntryLemmas
+pub mod SettingLemmas
+pub mod AdmissionLemmas
+pub mod RemovalLemmas
+pub mod BesideLemmas
+pub mod SumLemmas

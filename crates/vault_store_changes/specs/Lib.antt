@@ -1,0 +1,4 @@
+pub mod Edits
+pub mod Beside
+pub mod Limits
+pub mod Sums

@@ -1,0 +1,62 @@
+//! The changes of a vault as edits of its tables: which rows are added, changed and dropped, and that
+//! what comes of it are the rows of the changed vault. Each law is the contract of a public function
+//! that does nothing.
+#![tactic(auto)]
+
+ghost use Rattle.std.specs.Prelude.{◌≡◌, ℕ, ◌≤◌, false, Some};
+ghost use Rattle.vault_base.specs.Days.{day, last_moment};
+ghost use Rattle.vault_tally.specs.Row.{IsRowOf};
+ghost use Rattle.vault_tally.specs.declared.row.Row.{Row};
+ghost use Rattle.vault_core_model.specs.declared.records.BucketConfig.{BucketConfig};
+ghost use Rattle.vault_core_model.specs.declared.records.Entry.{Entry};
+ghost use Rattle.vault_core_model.specs.declared.records.Removal.{Removal};
+ghost use Rattle.vault_core_model.specs.declared.change.Admission.{Admission};
+ghost use Rattle.vault_core_model.specs.declared.change.Change.TheVariants.{Admit, Remove};
+ghost use Rattle.vault_core_model.specs.declared.change.Change.{Change};
+ghost use Rattle.vault_core_model.specs.Allowed.{Allows, IsAdmission, IsRemoval};
+ghost use Rattle.vault_core_model.specs.Change.{changed};
+ghost use Rattle.vault_core_model.specs.Reads.{entry_of};
+ghost use Rattle.vault_core_model.specs.Sound.{Sound};
+ghost use Rattle.vault_core_model.specs.Totals.{items_of};
+ghost use Rattle.vault_core_model.specs.Vault.{Vault, config_of};
+ghost use Rattle.vault_audit_model.specs.Spells.{IsKept, department_in};
+ghost use Rattle.vault_store_model.specs.Edits.{IgnoresOrder};
+ghost use Rattle.vault_store_model.specs.Rows.{rows_of};
+ghost use Rattle.vault_store_changes.specs.Beside.{AreSameBesideHeads};
+ghost use Rattle.vault_store_changes.specs.Edits.{edit_of};
+ghost use Rattle.vault_store_changes.specs.Limits.{IsChangeInLimits};
+ghost use Rattle.vault_store_changes.specs.Sums.{CountsIn, CountsOut};
+
+/// The order in which rows stand makes no difference to the edits of a change.
+pub fn edits_ignore_order()
+    ensures { (v : Vault) (t : ℕ) (c : Change) → IgnoresOrder (edit_of v t c) }
+{}
+
+/// A vault that may be kept may be kept after each change that it allows, if what the change brings is in
+/// its limits.
+pub fn changed_vaults_are_kept()
+    ensures { (v : Vault) (t : ℕ) (c : Change) → IsKept v → v.last ≤ t → t ≤ last_moment → Allows v t c →
+        IsChangeInLimits c → IsKept (changed v t c) }
+{}
+
+/// In every table but that of the heads, the edits of a change turn the rows of a vault into those of the
+/// changed vault.
+pub fn edits_make_all_rows_but_heads()
+    ensures { (v : Vault) (t : ℕ) (c : Change) → Sound v → Allows v t c →
+        AreSameBesideHeads (rows_of (changed v t c)) (edit_of v t c (rows_of v)) }
+{}
+
+/// The sums of a department after the admission or the removal of a version are those that its row comes
+/// to by counting the version in, or its removal: what `Row::admit` and `Row::remove` promise.
+pub fn sums_come_of_the_row()
+    ensures admitted { (v : Vault) (t : ℕ) (a : Admission) (config : BucketConfig) (row new : Row) → Sound v → v.last ≤ t →
+        t ≤ last_moment → IsAdmission v t a → a.history.entry.marker ≡ false →
+        config_of v a.history.entry.bucket ≡ Some config → IsRowOf row (items_of v config.dept) →
+        CountsIn row a.history.entry.size (day t) new →
+        new ≡ (department_in (changed v t (Admit a)) config.dept).sums }
+    ensures removed { (v : Vault) (t id : ℕ) (r : Removal) (e : Entry) (config : BucketConfig) (row new : Row) → Sound v →
+        v.last ≤ t → t ≤ last_moment → IsRemoval v t id r → entry_of v id ≡ Some e → e.marker ≡ false →
+        config_of v e.bucket ≡ Some config → IsRowOf row (items_of v config.dept) →
+        CountsOut row e.size (day e.admitted) (day t) new →
+        new ≡ (department_in (changed v t (Remove id r)) config.dept).sums }
+{}

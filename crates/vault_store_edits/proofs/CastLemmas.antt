@@ -1,0 +1,58 @@
+-- Values that a column takes as they are.
+use Rattle.std.proofs.Common.{◌≡◌, ℕ, ℤ, pos, List, Bool, true, false, cond, if◌then◌else◌, option_map, Option, Some, None, refl}
+use Rattle.sqlite_value.specs.declared.value.Value.{Value}
+use Rattle.sqlite_value.specs.declared.value.Value.TheVariants.{Null, Int}
+use Rattle.sqlite_sql.specs.Ops.{unary}
+use Rattle.sqlite_schema.specs.declared.schema.Kind.TheVariants as kind
+use Rattle.sqlite_rules.specs.Cast.{cast}
+use Rattle.sqlite.specs.Values.{bound_value, or_null}
+use Rattle.vault_audit_model.specs.Values.{number, number_or_null, text_or_null, flag, flag_or_null}
+
+either : (b : Bool) (x : Value) → cond b x x ≡ x
+either true x = refl
+either false x = refl
+
+pub cast_null : cast kind.Integer Null ≡ Null
+unfolding unary
+cast_null = either _ Null
+
+pub cast_int : (n : ℤ) → cast kind.Integer (Int n) ≡ Int n
+unfolding unary
+cast_int n = either _ (Int n)
+
+pub cast_number : (n : ℕ) → cast kind.Integer (number n) ≡ number n
+cast_number n = cast_int (pos n)
+
+pub cast_number_or_null : (o : Option ℕ) → cast kind.Integer (number_or_null o) ≡ number_or_null o
+cast_number_or_null None = cast_null
+cast_number_or_null (Some n) = cast_number n
+
+pub cast_flag : (b : Bool) → cast kind.Integer (flag b) ≡ flag b
+cast_flag false = cast_number 0
+cast_flag true = cast_number 1
+
+pub cast_flag_or_null : (o : Option Bool) → cast kind.Integer (flag_or_null o) ≡ flag_or_null o
+cast_flag_or_null None = cast_null
+cast_flag_or_null (Some b) = cast_flag b
+
+pub cast_text_or_null : (o : Option (List ℕ)) → cast kind.Text (text_or_null o) ≡ text_or_null o
+cast_text_or_null None = refl
+cast_text_or_null (Some t) = refl
+
+-- ---- parameters
+
+pub bound_number : (o : Option ℕ) → bound_value (or_null (λ n. Int (pos n)) o) ≡ number_or_null o
+bound_number None = refl
+bound_number (Some n) = refl
+
+pub bound_whole : (o : Option ℕ) → bound_value (or_null Int (option_map pos o)) ≡ number_or_null o
+bound_whole None = refl
+bound_whole (Some n) = refl
+
+pub bound_text : (o : Option (List ℕ)) → bound_value (text_or_null o) ≡ text_or_null o
+bound_text None = refl
+bound_text (Some t) = refl
+
+pub bound_flag : (b : Bool) → Int (if b then pos 1 else pos 0) ≡ flag b
+bound_flag false = refl
+bound_flag true = refl

@@ -1,0 +1,11 @@
+pub mod TableLemmas
+pub mod TestLemmas
+pub mod ListLemmas
+pub mod CastLemmas
+pub mod TypeLemmas
+pub mod ScanLemmas
+pub mod QueryLemmas
+pub mod StatementLemmas
+mod TextLemmas
+mod RowLemmas
+mod RulesLemmas

@@ -1,0 +1,73 @@
+-- A query inside a transaction, and the texts of those for rowids.
+use Rattle.std.proofs.Common.{◌≡◌, ◌⊎◌, inl, inr, ℕ, List, [], ◌∷◌, codes, if◌then◌else◌, Option, Some, None, IsTrue, refl, ◌∙◌, arith}
+use Rattle.sqlite_value.specs.Order.{Row}
+use Rattle.sqlite_tied.specs.Compute.{everything}
+use Rattle.sqlite_schema.specs.declared.command.Returning.{Returning}
+use Rattle.sqlite_resolve.specs.declared.compiled.Compiled.{Compiled}
+use Rattle.sqlite.specs.declared.error.Error.{Error}
+use Rattle.sqlite.specs.Listing.{understood}
+use Rattle.sqlite.specs.State.{State, IsUnchanged, IsRolledBack, IsNotRun, KeepsCommit, Shown, ShowsRows, FailsToShow, FailsToQuery, IsTooLate, Survives}
+use Rattle.vault_base.specs.declared.refusal.Table.{Table}
+use Rattle.vault_base.specs.declared.refusal.Table.TheVariants as table
+use Rattle.vault_store_edits.specs.Trees.{tree_of}
+use Rattle.vault_store_edits.specs.Queries.{by_rowid, Finds, rowid_text}
+
+pub kept_unchanged : (old new : State) → IsUnchanged old new → KeepsCommit old new
+kept_unchanged old new same = record { was_open = λ _. same.0.was_open; committed = λ _. same.0.committed_is }
+
+kept_undone : (old new : State) → IsRolledBack old new → KeepsCommit old new
+kept_undone old new undone = record { was_open = undone.was_open; committed = λ is_open. (undone.undone is_open).1 }
+
+pub kept_itself : (s : State) → KeepsCommit s s
+kept_itself s = record { was_open = λ h. h; committed = λ _. refl }
+
+-- what a query shows leaves the last commit, and the transaction goes on
+shows_kept : (old new : State) (sql : List ℕ) (c : Compiled) (params : Row) (rows : List Row) (returning : Option Returning) → IsTrue old.in_transaction → ShowsRows old new sql c params rows returning
+    → KeepsCommit old new × IsTrue new.in_transaction
+shows_kept old new sql c params rows None inside h = (kept_unchanged old new h.3, h.3.0.mode ∙ inside)
+shows_kept old new sql c params rows (Some what) inside h =
+    let shown = h.1.shown in
+    let same : (if old.in_transaction then old.committed else new.now) ≡ old.committed = rw inside refl in
+    (record { was_open = λ _. shown.was_open; committed = λ _. shown.committed_is ∙ same }, shown.mode ∙ inside)
+
+pub shown_kept : (sql : List ℕ) (params : Row) (old new : State) (rows : List Row) → IsTrue old.in_transaction → Shown sql params old new rows → KeepsCommit old new × IsTrue new.in_transaction
+unfolding Shown
+shown_kept sql params old new rows inside h = shows_kept old new sql h.0 _ rows h.0.returning inside h.2
+
+not_run_kept : (sql : List ℕ) (params : Row) (old new : State) (e : Error) → IsNotRun old new sql params e → KeepsCommit old new
+unfolding IsNotRun
+not_run_kept sql params old new e (inl h) = kept_unchanged old new h.1
+not_run_kept sql params old new e (inr h) = kept_undone old new h.3
+
+fails_kept : (old new : State) (sql : List ℕ) (c : Compiled) (params : Row) (e : Error) (returning : Option Returning) → FailsToShow old new sql c params e returning → KeepsCommit old new
+fails_kept old new sql c params e None h = kept_unchanged old new h.3
+fails_kept old new sql c params e (Some what) (inl h) = kept_unchanged old new h.1
+fails_kept old new sql c params e (Some what) (inr h) = kept_undone old new h.3
+
+pub failed_kept : (sql : List ℕ) (params : Row) (old new : State) (e : Error) → FailsToQuery sql params old new e ⊎ IsTooLate sql params old new e → KeepsCommit old new
+unfolding FailsToQuery
+failed_kept sql params old new e (inl (inl h)) = not_run_kept sql params old new e h
+failed_kept sql params old new e (inl (inr h)) = fails_kept old new sql h.0 _ e h.0.returning h.2
+failed_kept sql params old new e (inr h) = kept_unchanged old new h.5
+
+-- the texts ask for the rowids of the rows with a rowid
+pub finds_by_rowid : (t : Table) → Finds (rowid_text t) (tree_of t) by_rowid
+unfolding understood everything
+finds_by_rowid table.Meta = record { names = codes "one" ∷ []; command = refl; unlisted = refl; plain = (refl, refl) }
+finds_by_rowid table.Departments = record { names = codes "rowid" ∷ []; command = refl; unlisted = refl; plain = (refl, refl) }
+finds_by_rowid table.Callers = record { names = codes "rowid" ∷ []; command = refl; unlisted = refl; plain = (refl, refl) }
+finds_by_rowid table.Buckets = record { names = codes "rowid" ∷ []; command = refl; unlisted = refl; plain = (refl, refl) }
+finds_by_rowid table.Rules = record { names = codes "rowid" ∷ []; command = refl; unlisted = refl; plain = (refl, refl) }
+finds_by_rowid table.Entries = record { names = codes "id" ∷ []; command = refl; unlisted = refl; plain = (refl, refl) }
+finds_by_rowid table.Contents = record { names = codes "id" ∷ []; command = refl; unlisted = refl; plain = (refl, refl) }
+finds_by_rowid table.Settings = record { names = codes "rowid" ∷ []; command = refl; unlisted = refl; plain = (refl, refl) }
+finds_by_rowid table.Intake = record { names = codes "rowid" ∷ []; command = refl; unlisted = refl; plain = (refl, refl) }
+finds_by_rowid table.Heads = record { names = codes "rowid" ∷ []; command = refl; unlisted = refl; plain = (refl, refl) }
+
+pub unchanged_itself : (s : State) → IsTrue s.is_open → IsUnchanged s s
+unchanged_itself s is_open =
+    (record { was_open = is_open; is_open = is_open; now_is = refl; committed_is = refl; mode = refl }, record { changes = refl; last_rowid = refl }, refl)
+
+pub survives_itself : (s : State) → Survives s s (λ _. ⊥)
+survives_itself s =
+    record { clean = omega arith; shield = λ h. h; counts = omega arith; limit = refl; closes = λ _ is_open. inl is_open; crash = λ _ db left. inl left }

@@ -1,0 +1,4 @@
+pub mod Trees
+pub mod Apart
+pub mod Queries
+pub mod Several

@@ -1,0 +1,31 @@
+-- Where the rows of each table are kept, and how a row as it is kept tells its columns.
+use Rattle.std.specs.Prelude.{ℕ}
+use Rattle.sqlite_value.specs.Order.{Row}
+use Rattle.vault_base.specs.declared.refusal.Table.{Table}
+use Rattle.vault_base.specs.declared.refusal.Table.TheVariants as table
+use Rattle.vault_audit_model.specs.Tables.{meta_tree, departments_tree, callers_tree, buckets_tree, rules_tree, entries_tree, contents_tree, settings_tree, intake_tree, heads_tree}
+use Rattle.vault_audit_model.specs.Rows.{meta_columns, department_columns, caller_columns, bucket_columns, rule_columns, entry_columns, content_columns, setting_columns, note_columns, head_columns}
+
+abbrev pub tree_of : Table → ℕ
+tree_of table.Meta = meta_tree
+tree_of table.Departments = departments_tree
+tree_of table.Callers = callers_tree
+tree_of table.Buckets = buckets_tree
+tree_of table.Rules = rules_tree
+tree_of table.Entries = entries_tree
+tree_of table.Contents = contents_tree
+tree_of table.Settings = settings_tree
+tree_of table.Intake = intake_tree
+tree_of table.Heads = heads_tree
+
+abbrev pub columns_of : Table → Row → Row
+columns_of table.Meta = meta_columns
+columns_of table.Departments = department_columns
+columns_of table.Callers = caller_columns
+columns_of table.Buckets = bucket_columns
+columns_of table.Rules = rule_columns
+columns_of table.Entries = entry_columns
+columns_of table.Contents = content_columns
+columns_of table.Settings = setting_columns
+columns_of table.Intake = note_columns
+columns_of table.Heads = head_columns

@@ -1,0 +1,105 @@
+//! Rows of `rules`.
+ghost use Rattle.std.specs.Prelude.{◌≡◌, map, IsTrue, OnOk, OnErr};
+ghost use Rattle.sqlite.specs.Effect.{IsDatabase};
+ghost use Rattle.sqlite.specs.State.{HasCleanDisk, KeepsCommit, Survives};
+ghost use Rattle.sqlite.specs.Held.{state};
+ghost use Rattle.vault_base.specs.declared.refusal.Table.TheVariants as table;
+ghost use Rattle.vault_audit_model.specs.Rows.{rule_row};
+ghost use Rattle.vault_audit_model.specs.Spells.{rules_from};
+ghost use Rattle.vault_audit_model.specs.Tables.{vault_schema};
+ghost use Rattle.vault_store_model.specs.Edits.{with_row, without, Edits};
+ghost use Rattle.vault_store_edits.specs.Several.{with_each};
+ghost use Rattle.vault_store_model.specs.Tests.{is_named};
+
+use crate::apart::check_apart;
+use crate::value::{noncurrent_days, noncurrent_newer};
+use sqlite::{Alter, Error, ErrorCode, Transaction, params};
+use vault_base::name::BucketName;
+use vault_base::refusal::Table;
+use vault_rules::rule::Rule;
+
+/// Deletes the rules of a bucket.
+pub fn delete_rules<S: Alter>(
+    tx: &mut Transaction<'_, S>,
+    bucket: &BucketName,
+) -> Result<usize, Error>
+    ensures same_reference { tx.new.conn.ghost_name ≡ tx.old.conn.ghost_name }
+    ensures edits { HasCleanDisk (state S.Store tx.new.conn.now) → IsTrue tx.old.conn.now.in_transaction
+        → OnOk result (Edits (state S.Store tx.old.conn.now) (state S.Store tx.new.conn.now) (without table.Rules (is_named bucket.now))) }
+    ensures sound { HasCleanDisk (state S.Store tx.new.conn.now) → IsTrue tx.old.conn.now.in_transaction
+        → (state S.Store tx.old.conn.now).now.schema ≡ vault_schema → OnOk result (IsDatabase (state S.Store tx.new.conn.now).now) }
+    ensures kept { HasCleanDisk (state S.Store tx.new.conn.now) → IsTrue tx.old.conn.now.in_transaction
+        → OnErr result (KeepsCommit (state S.Store tx.old.conn.now) (state S.Store tx.new.conn.now)) }
+    ensures survives { Survives (state S.Store tx.old.conn.now) (state S.Store tx.new.conn.now) (λ _. ⊥) }
+{
+    check_apart(
+        tx,
+        Table::Rules,
+        "SELECT rowid FROM rules WHERE bucket = ?1",
+        params![bucket.as_str()],
+    )?;
+    tx.execute(
+        "DELETE FROM rules WHERE bucket = ?1",
+        params![bucket.as_str()],
+    )
+}
+
+/// Puts in a rule of a bucket at its place, counted from 1.
+pub fn put_rule<S: Alter>(
+    tx: &mut Transaction<'_, S>,
+    bucket: &BucketName,
+    place: u32,
+    rule: &Rule,
+) -> Result<usize, Error>
+    ensures same_reference { tx.new.conn.ghost_name ≡ tx.old.conn.ghost_name }
+    ensures edits { HasCleanDisk (state S.Store tx.new.conn.now) → IsTrue tx.old.conn.now.in_transaction
+        → OnOk result (Edits (state S.Store tx.old.conn.now) (state S.Store tx.new.conn.now) (with_row table.Rules (rule_row (record { bucket = bucket.now; place = place; rule = rule.now })))) }
+    ensures sound { HasCleanDisk (state S.Store tx.new.conn.now) → IsTrue tx.old.conn.now.in_transaction
+        → (state S.Store tx.old.conn.now).now.schema ≡ vault_schema → OnOk result (IsDatabase (state S.Store tx.new.conn.now).now) }
+    ensures kept { HasCleanDisk (state S.Store tx.new.conn.now) → IsTrue tx.old.conn.now.in_transaction
+        → OnErr result (KeepsCommit (state S.Store tx.old.conn.now) (state S.Store tx.new.conn.now)) }
+    ensures survives { Survives (state S.Store tx.old.conn.now) (state S.Store tx.new.conn.now) (λ _. ⊥) }
+{
+    tx.execute(
+        "INSERT INTO rules (bucket, n, id, prefix, enabled, days, lone, nc_days, nc_keep) VALUES (?1, ?2, ?3, ?4, ?5, ?6, ?7, ?8, ?9)",
+        params![
+            bucket.as_str(),
+            place,
+            rule.id.as_str(),
+            rule.prefix.as_str(),
+            rule.enabled,
+            rule.days,
+            rule.lone_markers,
+            noncurrent_days(rule.noncurrent),
+            noncurrent_newer(rule.noncurrent),
+        ],
+    )
+}
+
+/// Puts in the rules of a bucket, at the places 1, 2, 3 and so on.
+///
+/// Without a rule there is no statement, so the store has to be open.
+pub fn put_rules<S: Alter>(
+    tx: &mut Transaction<'_, S>,
+    bucket: &BucketName,
+    rules: &[Rule],
+) -> Result<(), Error>
+    ensures same_reference { tx.new.conn.ghost_name ≡ tx.old.conn.ghost_name }
+    ensures edits { HasCleanDisk (state S.Store tx.new.conn.now) → IsTrue tx.old.conn.now.in_transaction → IsTrue (state S.Store tx.old.conn.now).is_open
+        → OnOk result (Edits (state S.Store tx.old.conn.now) (state S.Store tx.new.conn.now) (with_each table.Rules (map rule_row (rules_from bucket.now 1 rules.now)))) }
+    ensures sound { HasCleanDisk (state S.Store tx.new.conn.now) → IsTrue tx.old.conn.now.in_transaction
+        → (state S.Store tx.old.conn.now).now.schema ≡ vault_schema → IsDatabase (state S.Store tx.old.conn.now).now → OnOk result (IsDatabase (state S.Store tx.new.conn.now).now) }
+    ensures kept { HasCleanDisk (state S.Store tx.new.conn.now) → IsTrue tx.old.conn.now.in_transaction
+        → OnErr result (KeepsCommit (state S.Store tx.old.conn.now) (state S.Store tx.new.conn.now)) }
+    ensures survives { Survives (state S.Store tx.old.conn.now) (state S.Store tx.new.conn.now) (λ _. ⊥) }
+{
+    let mut place = 0u32;
+    for rule in rules {
+        if place == u32::MAX {
+            return Err(Error::SqliteFailure(ErrorCode::TooBig));
+        }
+        place = place + 1;
+        put_rule(tx, bucket, place, rule)?;
+    }
+    Ok(())
+}

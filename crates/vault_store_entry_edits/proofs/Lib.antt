@@ -1,0 +1,3 @@
+mod BoundLemmas
+mod TextLemmas
+mod RowLemmas

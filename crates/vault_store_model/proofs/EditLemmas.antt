@@ -1,0 +1,46 @@
+-- Edits ignore the order of rows, and one after the other makes one edit.
+use Rattle.std.proofs.Common.{◌==◌, Bool, true, false, not, cond, List, ◌∷◌, map, filter, ◌∙◌}
+use Rattle.std.specs.Prelude.{IsPermutation}
+use Rattle.std.proofs.lemmas.List.Sorted.{IsPermutation-map, IsPermutation-cons, IsPermutation-trans}
+use Rattle.sqlite_keyed.proofs.ListLemmas.{IsPermutation-filter}
+use Rattle.sqlite_value.specs.Order.{Row}
+use Rattle.sqlite.specs.State.{State}
+use Rattle.vault_base.specs.declared.refusal.Table.{Table}
+use Rattle.vault_store_model.specs.Rows.{Rows, AreSameRows, rows_in}
+use Rattle.vault_store_model.specs.Edits.{number_of, with_rows, with_row, with_changed, changed_if, without, and_then, IgnoresOrder, Edits}
+
+-- an edit of one table's list of rows ignores the order, where it is so on lists
+by_table : (b : Bool) (edit : List Row → List Row) → ((xs ys : List Row) → IsPermutation xs ys → IsPermutation (edit xs) (edit ys)) → (xs ys : List Row) → IsPermutation xs ys
+    → IsPermutation (cond b (edit xs) xs) (cond b (edit ys) ys)
+by_table true edit keeps xs ys same = keeps xs ys same
+by_table false edit keeps xs ys same = same
+
+with_rows_ignores : (t : Table) (edit : List Row → List Row) → ((xs ys : List Row) → IsPermutation xs ys → IsPermutation (edit xs) (edit ys)) → IgnoresOrder (with_rows t edit)
+with_rows_ignores t edit keeps xs ys same s = by_table (number_of t == number_of s) edit keeps (xs s) (ys s) (same s)
+
+pub with_row_ignores : (t : Table) (row : Row) → IgnoresOrder (with_row t row)
+with_row_ignores t row = with_rows_ignores t (λ rows. row ∷ rows) (λ xs ys same. IsPermutation-cons row xs ys same)
+
+pub with_changed_ignores : (t : Table) (test : Row → Bool) (change : Row → Row) → IgnoresOrder (with_changed t test change)
+with_changed_ignores t test change = with_rows_ignores t (map (changed_if test change)) (λ xs ys same. IsPermutation-map (changed_if test change) xs ys same)
+
+pub without_ignores : (t : Table) (test : Row → Bool) → IgnoresOrder (without t test)
+without_ignores t test = with_rows_ignores t (filter (λ row. not (test row))) (λ xs ys same. IsPermutation-filter (λ row. not (test row)) xs ys same)
+
+pub and_then_ignores : (first second : Rows → Rows) → IgnoresOrder first → IgnoresOrder second → IgnoresOrder (and_then first second)
+and_then_ignores first second a b xs ys same = b (first xs) (first ys) (a xs ys same)
+
+pub same_rows_then : (xs ys zs : Rows) → AreSameRows xs ys → AreSameRows ys zs → AreSameRows xs zs
+same_rows_then xs ys zs a b t = IsPermutation-trans (xs t) (ys t) (zs t) (a t) (b t)
+
+-- one part of a transaction after the other
+pub edits_then : (old mid new : State) (first second : Rows → Rows) → Edits old mid first → Edits mid new second → Edits old new (and_then first second)
+edits_then old mid new first second a b = record {
+  was_open = a.was_open;
+  is_open = b.is_open;
+  inside = b.inside;
+  committed = b.committed ∙ a.committed;
+  schema = λ has. b.schema (a.schema has);
+  rows = λ has. same_rows_then (second (first (rows_in old.now))) (second (rows_in mid.now)) (rows_in new.now) (b.ignores (first (rows_in old.now)) (rows_in mid.now) (a.rows has)) (b.rows (a.schema has));
+  ignores = and_then_ignores first second a.ignores b.ignores;
+}

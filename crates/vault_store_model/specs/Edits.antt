@@ -1,0 +1,57 @@
+-- What a statement makes of the rows of the tables: rows are added to one table, changed in it, or dropped from it.
+use Rattle.std.specs.Prelude.{◌≡◌, ◌==◌, ℕ, Bool, not, cond, List, ◌∷◌, map, filter, IsTrue}
+use Rattle.sqlite_value.specs.Order.{Row}
+use Rattle.sqlite.specs.State.{State}
+use Rattle.vault_base.specs.declared.refusal.Table.{Table}
+use Rattle.vault_base.specs.declared.refusal.Table.TheVariants as table
+use Rattle.vault_audit_model.specs.Tables.{vault_schema}
+use Rattle.vault_store_model.specs.Rows.{Rows, AreSameRows, rows_in}
+
+abbrev pub number_of : Table → ℕ
+number_of table.Meta = 0
+number_of table.Departments = 1
+number_of table.Callers = 2
+number_of table.Buckets = 3
+number_of table.Rules = 4
+number_of table.Entries = 5
+number_of table.Contents = 6
+number_of table.Settings = 7
+number_of table.Intake = 8
+number_of table.Heads = 9
+
+-- the rows of one table become these, those of all others stay
+abbrev pub with_rows : Table → (List Row → List Row) → Rows → Rows
+with_rows t edit xs s = cond (number_of t == number_of s) (edit (xs s)) (xs s)
+
+-- a row more
+abbrev pub with_row : Table → Row → Rows → Rows
+with_row t row = with_rows t (λ rows. row ∷ rows)
+
+-- the row, changed where it passes the test
+abbrev pub changed_if : (Row → Bool) → (Row → Row) → Row → Row
+changed_if test change row = cond (test row) (change row) row
+
+abbrev pub with_changed : Table → (Row → Bool) → (Row → Row) → Rows → Rows
+with_changed t test change = with_rows t (map (changed_if test change))
+
+-- without the rows that pass the test
+abbrev pub without : Table → (Row → Bool) → Rows → Rows
+without t test = with_rows t (filter (λ row. not (test row)))
+
+-- one edit after the other
+abbrev pub and_then : (Rows → Rows) → (Rows → Rows) → Rows → Rows
+and_then first second xs = second (first xs)
+
+-- the order in which rows stand makes no difference to the edit
+abbrev pub IgnoresOrder : (Rows → Rows) → Type 0
+IgnoresOrder edit = (xs ys : Rows) → AreSameRows xs ys → AreSameRows (edit xs) (edit ys)
+
+-- A part of a transaction makes this edit of the tables of a vault, and leaves the last commit alone.
+pub record Edits (old new : State) (edit : Rows → Rows) : Type 0 where
+  pub was_open : IsTrue old.is_open
+  pub is_open : IsTrue new.is_open
+  pub inside : IsTrue new.in_transaction
+  pub committed : new.committed ≡ old.committed
+  pub schema : old.now.schema ≡ vault_schema → new.now.schema ≡ vault_schema
+  pub rows : old.now.schema ≡ vault_schema → AreSameRows (edit (rows_in old.now)) (rows_in new.now)
+  pub ignores : IgnoresOrder edit

@@ -1,0 +1,11 @@
+pub mod EntryLemmas
+pub mod KeyLemmas
+pub mod KeySetLemmas
+pub mod ListLemmas
+pub mod OpenLemmas
+pub mod RuleLemmas
+pub mod SelectLemmas
+pub mod SettingLemmas
+pub mod TextLemmas
+pub mod ToldLemmas
+pub mod ValueLemmas

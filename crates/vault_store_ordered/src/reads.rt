@@ -1,0 +1,104 @@
+//! The ordered reads.
+ghost use Rattle.std.specs.Prelude.{◌≡◌, false, IsTrue, IfOk};
+ghost use Rattle.sqlite.specs.Held.{state};
+ghost use Rattle.sqlite.specs.State.{HasCleanDisk, Survives};
+ghost use Rattle.vault_core_model.specs.Reads.{entries_of, keys_after, setting_of};
+ghost use Rattle.vault_core_model.specs.Vault.{Vault, rules_of};
+ghost use Rattle.vault_store_model.specs.Keeping.{Keeps};
+ghost use Rattle.vault_store_ordered.specs.Shown.{newest_but};
+
+use crate::decode::{decode_keys, decode_rules};
+use crate::find::{find_entries, find_setting};
+use crate::rows::{key_rows, newest_rows, rule_rows};
+use crate::shown::{UNREADABLE, read_id};
+use sqlite::{Alter, Connection, Error};
+use std::alloc::Global;
+use vault_base::name::{BucketName, KeyPrefix, ObjectKey, VersionId};
+use vault_core_model::records::LastSetting;
+use vault_rules::plan::Held;
+use vault_rules::rule_set::RuleSet;
+
+/// The last setting of a version, and how many it has; a marker has none.
+pub fn read_setting<S: Alter>(
+    conn: &mut Connection<S>,
+    id: VersionId,
+) -> Result<Option<LastSetting>, Error>
+    ensures value { HasCleanDisk (state S.Store conn.new) → IfOk result (λ found. (v : Vault) → Keeps (state S.Store conn.old) v → found ≡ setting_of v id) }
+    ensures same { HasCleanDisk (state S.Store conn.new) → (v : Vault) → Keeps (state S.Store conn.old) v → Keeps (state S.Store conn.new) v }
+    ensures honest { HasCleanDisk (state S.Store conn.new) → HasCleanDisk (state S.Store conn.old) }
+    ensures mode { conn.old.in_transaction ≡ false → conn.new.in_transaction ≡ false }
+    ensures crash { (v : Vault) → Keeps (state S.Store conn.old) v → Survives (state S.Store conn.old) (state S.Store conn.new) (λ _. ¬ IsTrue (state S.Store conn.old).is_open) }
+{
+    find_setting(conn, id)
+}
+
+/// The newest held entry of a key besides one.
+pub fn read_newest_but<S: Alter>(
+    conn: &mut Connection<S>,
+    bucket: &BucketName,
+    key: &ObjectKey,
+    id: VersionId,
+) -> Result<Option<VersionId>, Error>
+    ensures value { HasCleanDisk (state S.Store conn.new) → IfOk result (λ found. (v : Vault) → Keeps (state S.Store conn.old) v → found ≡ newest_but v bucket.now key.now id) }
+    ensures same { HasCleanDisk (state S.Store conn.new) → (v : Vault) → Keeps (state S.Store conn.old) v → Keeps (state S.Store conn.new) v }
+    ensures honest { HasCleanDisk (state S.Store conn.new) → HasCleanDisk (state S.Store conn.old) }
+    ensures mode { conn.old.in_transaction ≡ false → conn.new.in_transaction ≡ false }
+    ensures crash { (v : Vault) → Keeps (state S.Store conn.old) v → Survives (state S.Store conn.old) (state S.Store conn.new) (λ _. ¬ IsTrue (state S.Store conn.old).is_open) }
+{
+    let rows = newest_rows(conn, bucket, key, id)?;
+    let Some(row) = rows.first() else {
+        return Ok(None);
+    };
+    let newest = read_id(row).ok_or(UNREADABLE)?;
+    Ok(Some(newest))
+}
+
+/// The lifecycle rules of a bucket, in configuration order; none where it has none.
+pub fn read_rules<S: Alter>(
+    conn: &mut Connection<S>,
+    alloc: Global,
+    bucket: &BucketName,
+) -> Result<Option<RuleSet>, Error>
+    ensures value { HasCleanDisk (state S.Store conn.new) → IfOk result (λ found. (v : Vault) → Keeps (state S.Store conn.old) v → found ≡ rules_of v bucket.now) }
+    ensures same { HasCleanDisk (state S.Store conn.new) → (v : Vault) → Keeps (state S.Store conn.old) v → Keeps (state S.Store conn.new) v }
+    ensures honest { HasCleanDisk (state S.Store conn.new) → HasCleanDisk (state S.Store conn.old) }
+    ensures mode { conn.old.in_transaction ≡ false → conn.new.in_transaction ≡ false }
+    ensures crash { (v : Vault) → Keeps (state S.Store conn.old) v → Survives (state S.Store conn.old) (state S.Store conn.new) (λ _. ¬ IsTrue (state S.Store conn.old).is_open) }
+{
+    let rows = rule_rows(conn, bucket)?;
+    decode_rules(alloc, &rows)
+}
+
+/// The first of a bucket's keys behind `after` that have a held entry, by their bytes: at most `most`.
+pub fn read_keys<S: Alter>(
+    conn: &mut Connection<S>,
+    alloc: Global,
+    bucket: &BucketName,
+    after: &KeyPrefix,
+    most: u32,
+) -> Result<Vec<ObjectKey>, Error>
+    ensures value { HasCleanDisk (state S.Store conn.new) → IfOk result (λ keys. (v : Vault) → Keeps (state S.Store conn.old) v → keys.items ≡ keys_after v bucket.now after.now most) }
+    ensures same { HasCleanDisk (state S.Store conn.new) → (v : Vault) → Keeps (state S.Store conn.old) v → Keeps (state S.Store conn.new) v }
+    ensures honest { HasCleanDisk (state S.Store conn.new) → HasCleanDisk (state S.Store conn.old) }
+    ensures mode { conn.old.in_transaction ≡ false → conn.new.in_transaction ≡ false }
+    ensures crash { (v : Vault) → Keeps (state S.Store conn.old) v → Survives (state S.Store conn.old) (state S.Store conn.new) (λ _. ¬ IsTrue (state S.Store conn.old).is_open) }
+{
+    let rows = key_rows(conn, bucket, after, most)?;
+    decode_keys(alloc, &rows)
+}
+
+/// The held entries of a key, oldest first.
+pub fn read_entries<S: Alter>(
+    conn: &mut Connection<S>,
+    alloc: Global,
+    bucket: &BucketName,
+    key: &ObjectKey,
+) -> Result<Vec<Held>, Error>
+    ensures value { HasCleanDisk (state S.Store conn.new) → IfOk result (λ held. (v : Vault) → Keeps (state S.Store conn.old) v → held.items ≡ entries_of v bucket.now key.now) }
+    ensures same { HasCleanDisk (state S.Store conn.new) → (v : Vault) → Keeps (state S.Store conn.old) v → Keeps (state S.Store conn.new) v }
+    ensures honest { HasCleanDisk (state S.Store conn.new) → HasCleanDisk (state S.Store conn.old) }
+    ensures mode { conn.old.in_transaction ≡ false → conn.new.in_transaction ≡ false }
+    ensures crash { (v : Vault) → Keeps (state S.Store conn.old) v → Survives (state S.Store conn.old) (state S.Store conn.new) (λ _. ¬ IsTrue (state S.Store conn.old).is_open) }
+{
+    find_entries(conn, alloc, bucket, key)
+}

@@ -1,0 +1,3 @@
+pub mod QueryLemmas
+pub mod ScanLemmas
+pub mod FindLemmas

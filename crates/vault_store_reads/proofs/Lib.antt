@@ -1,0 +1,7 @@
+pub mod TextLemmas
+pub mod ValueLemmas
+pub mod ListLemmas
+pub mod MetaLemmas
+pub mod NameLemmas
+pub mod EntryLemmas
+pub mod HeadLemmas

@@ -1,0 +1,27 @@
+-- The row of meta.
+use Rattle.std.proofs.Common.{◌≡◌, List, [], ◌∷◌, map, true, Some, slice_get, IsPermutation, refl}
+use Rattle.sqlite_value.specs.Order.{Row}
+use Rattle.vault_core_model.specs.Sound.{Sound}
+use Rattle.vault_core_model.specs.Vault.{Vault}
+use Rattle.vault_audit_model.specs.declared.rows.MetaRow.{MetaRow}
+use Rattle.vault_audit_model.specs.Rows.{meta_row, meta_columns}
+use Rattle.vault_audit_model.specs.Spells.{meta_of}
+use Rattle.vault_audit_model.specs.Tables.{meta_tree}
+use Rattle.vault_audit_model.proofs.SameRows.{same_meta}
+use Rattle.vault_store_query.specs.Queries.{Finds}
+use Rattle.vault_store_query.proofs.FindLemmas.{records_found, read_found}
+use Rattle.vault_store_reads.proofs.TextLemmas.{meta_text, meta_shown, meta_selects}
+
+module _ (v : Vault) (rows : List Row) (finds : Finds v meta_text [] rows) where
+  meta_found : IsPermutation (map meta_row (meta_of v ∷ [])) rows
+  meta_found =
+      records_found meta_row meta_columns meta_tree [] meta_shown [] (λ r. true) (λ m. true) (λ r. refl) (λ r. refl) (λ m. refl) finds.0 (meta_of v ∷ []) rows finds.1.spells.meta
+      (finds.2 _ meta_selects)
+
+  pub meta_read : (row : Row) (m : MetaRow) → slice_get rows 0 ≡ Some row → row ≡ meta_row m → m ≡ meta_of v
+  meta_read row m first reads =
+      let same : Some m ≡ Some (meta_of v) = read_found meta_row same_meta (Some (meta_of v)) rows row m meta_found first reads in
+      cc same
+
+  pub kept_sound : Sound v
+  kept_sound = finds.1.spells.kept.sound

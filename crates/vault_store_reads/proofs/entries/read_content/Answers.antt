@@ -1,0 +1,16 @@
+use Rattle.std.proofs.Common.{sym}
+use Rattle.vault_store_reads.proofs.EntryLemmas.{content_read, no_content}
+use Rattle.vault_store_reads.proofs.TextLemmas.{content_selects}
+use Rattle.vault_store_reads.proofs.entries.read_content.Goals as goal
+
+pub query_rows-requires : goal.query_rows-requires
+query_rows-requires g c = (_, content_selects)
+
+pub returns-in-Ok-clause-value : goal.returns-in-Ok-clause-value
+returns-in-Ok-clause-value g c clean v was =
+    content_read v c.args.id c.in_ok-rows.rows.items (rw (c.params-to_sql.ensures, c.number.ensures.value) at (c.in_ok-rows.ensures.rows clean v was)) c.in-Some.row.now c.in-Ok.version (sym (rw c.deref.ensures.value at c.in-Some.ensures.value))
+    c.in-Ok.ensures.ok.0
+
+pub returns-clause-value : goal.returns-clause-value
+returns-clause-value g c clean v was =
+    no_content v c.args.id c.in_ok-rows.rows.items (rw (c.params-to_sql.ensures, c.number.ensures.value) at (c.in_ok-rows.ensures.rows clean v was)) (rw c.deref.ensures.value at c.in-None.ensures.value)

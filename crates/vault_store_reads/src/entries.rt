@@ -1,0 +1,61 @@
+//! Entries and their bytes, by their ids.
+ghost use Rattle.std.specs.Prelude.{◌≡◌, false, IsTrue, IfOk};
+ghost use Rattle.sqlite.specs.Held.{state};
+ghost use Rattle.sqlite.specs.State.{HasCleanDisk, Survives};
+ghost use Rattle.vault_core_model.specs.Reads.{content_of, entry_of};
+ghost use Rattle.vault_core_model.specs.Vault.{Vault};
+ghost use Rattle.vault_store_model.specs.Keeping.{Keeps};
+
+use sqlite::{Alter, Connection, Error, params};
+use vault_audit_rows::records;
+use vault_base::content::Content;
+use vault_base::name::VersionId;
+use vault_core_model::records::Entry;
+use vault_store_query::{query_rows, unread};
+
+/// The entry of an id, held or removed.
+pub fn read_entry<S: Alter>(conn: &mut Connection<S>, id: VersionId) -> Result<Option<Entry>, Error>
+    ensures value { HasCleanDisk (state S.Store conn.new) → IfOk result (λ found. (v : Vault) → Keeps (state S.Store conn.old) v → found ≡ entry_of v id) }
+    ensures same { HasCleanDisk (state S.Store conn.new) → (v : Vault) → Keeps (state S.Store conn.old) v → Keeps (state S.Store conn.new) v }
+    ensures honest { HasCleanDisk (state S.Store conn.new) → HasCleanDisk (state S.Store conn.old) }
+    ensures mode { conn.old.in_transaction ≡ false → conn.new.in_transaction ≡ false }
+    ensures crash { (v : Vault) → Keeps (state S.Store conn.old) v → Survives (state S.Store conn.old) (state S.Store conn.new) (λ _. ¬ IsTrue (state S.Store conn.old).is_open) }
+{
+    let rows = query_rows(
+        conn,
+        "SELECT id, bucket, key, marker, size, digest, admitted, by_rule, admitted_by, removed, cause, cause_by FROM entries WHERE id = ?1",
+        params![id.number()],
+    )?;
+    match rows.first() {
+        Some(row) => match records::read_entry(row) {
+            Ok(entry) => Ok(Some(entry)),
+            Err(misread) => Err(unread(misread)),
+        },
+        None => Ok(None),
+    }
+}
+
+/// The bytes of a held version.
+pub fn read_content<S: Alter>(
+    conn: &mut Connection<S>,
+    id: VersionId,
+) -> Result<Option<Content>, Error>
+    ensures value { HasCleanDisk (state S.Store conn.new) → IfOk result (λ found. (v : Vault) → Keeps (state S.Store conn.old) v → found ≡ content_of v id) }
+    ensures same { HasCleanDisk (state S.Store conn.new) → (v : Vault) → Keeps (state S.Store conn.old) v → Keeps (state S.Store conn.new) v }
+    ensures honest { HasCleanDisk (state S.Store conn.new) → HasCleanDisk (state S.Store conn.old) }
+    ensures mode { conn.old.in_transaction ≡ false → conn.new.in_transaction ≡ false }
+    ensures crash { (v : Vault) → Keeps (state S.Store conn.old) v → Survives (state S.Store conn.old) (state S.Store conn.new) (λ _. ¬ IsTrue (state S.Store conn.old).is_open) }
+{
+    let rows = query_rows(
+        conn,
+        "SELECT id, bytes FROM contents WHERE id = ?1",
+        params![id.number()],
+    )?;
+    match rows.first() {
+        Some(row) => match records::read_content(row) {
+            Ok(version) => Ok(Some(version.content)),
+            Err(misread) => Err(unread(misread)),
+        },
+        None => Ok(None),
+    }
+}

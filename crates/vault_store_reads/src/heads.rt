@@ -1,0 +1,39 @@
+//! Heads of keys.
+ghost use Rattle.std.specs.Prelude.{◌≡◌, false, IsTrue, IfOk};
+ghost use Rattle.sqlite.specs.Held.{state};
+ghost use Rattle.sqlite.specs.State.{HasCleanDisk, Survives};
+ghost use Rattle.vault_core_model.specs.Reads.{head_of};
+ghost use Rattle.vault_core_model.specs.Vault.{Vault};
+ghost use Rattle.vault_store_model.specs.Keeping.{Keeps};
+
+use sqlite::{Alter, Connection, Error, params};
+use vault_audit_rows::records;
+use vault_base::name::{BucketName, ObjectKey};
+use vault_core_model::records::Head;
+use vault_store_query::{query_rows, unread};
+
+/// The newest held entry of a key and how many are held; none where none is.
+pub fn read_head<S: Alter>(
+    conn: &mut Connection<S>,
+    bucket: &BucketName,
+    key: &ObjectKey,
+) -> Result<Option<Head>, Error>
+    ensures value { HasCleanDisk (state S.Store conn.new) → IfOk result (λ found. (v : Vault) → Keeps (state S.Store conn.old) v → found ≡ head_of v bucket.now key.now) }
+    ensures same { HasCleanDisk (state S.Store conn.new) → (v : Vault) → Keeps (state S.Store conn.old) v → Keeps (state S.Store conn.new) v }
+    ensures honest { HasCleanDisk (state S.Store conn.new) → HasCleanDisk (state S.Store conn.old) }
+    ensures mode { conn.old.in_transaction ≡ false → conn.new.in_transaction ≡ false }
+    ensures crash { (v : Vault) → Keeps (state S.Store conn.old) v → Survives (state S.Store conn.old) (state S.Store conn.new) (λ _. ¬ IsTrue (state S.Store conn.old).is_open) }
+{
+    let rows = query_rows(
+        conn,
+        "SELECT bucket, key, newest, count FROM heads WHERE bucket = ?1 AND key = ?2",
+        params![bucket.as_str(), key.as_str()],
+    )?;
+    match rows.first() {
+        Some(row) => match records::read_head(row) {
+            Ok(head) => Ok(Some(head.head)),
+            Err(misread) => Err(unread(misread)),
+        },
+        None => Ok(None),
+    }
+}

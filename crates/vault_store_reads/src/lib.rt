@@ -1,0 +1,11 @@
+//! Reads of a vault's tables by key.
+//!
+//! Each answers what its name says of the vault that the connection keeps, and changes nothing. An error
+//! is want of memory, told as `ErrorCode::OutOfMemory`, or a failure of the store.
+#![tactic(auto)]
+
+pub mod entries;
+pub mod heads;
+pub mod meta;
+pub mod names;
+pub mod notes;

@@ -1,0 +1,59 @@
+//! The row of `meta`.
+ghost use Rattle.std.specs.Prelude.{◌≡◌, false, IsTrue, IfOk, OnOk};
+ghost use Rattle.sqlite.specs.Held.{state};
+ghost use Rattle.sqlite.specs.State.{HasCleanDisk, Survives};
+ghost use Rattle.vault_core_model.specs.Sound.{Sound};
+ghost use Rattle.vault_core_model.specs.Vault.{Vault, next_id};
+ghost use Rattle.vault_audit_model.specs.Spells.{meta_of};
+ghost use Rattle.vault_store_model.specs.Keeping.{Keeps};
+
+use sqlite::{Alter, Connection, Error};
+use vault_audit_model::rows::MetaRow;
+use vault_audit_rows::records;
+use vault_base::moment::Moment;
+use vault_store_query::{query_rows, unread};
+
+/// The last moment and the next id.
+fn read_meta<S: Alter>(conn: &mut Connection<S>) -> Result<MetaRow, Error>
+    ensures value { HasCleanDisk (state S.Store conn.new) → IfOk result (λ meta. (v : Vault) → Keeps (state S.Store conn.old) v → meta ≡ meta_of v) }
+    ensures sound { HasCleanDisk (state S.Store conn.new) → OnOk result ((v : Vault) → Keeps (state S.Store conn.old) v → Sound v) }
+    ensures same { HasCleanDisk (state S.Store conn.new) → (v : Vault) → Keeps (state S.Store conn.old) v → Keeps (state S.Store conn.new) v }
+    ensures honest { HasCleanDisk (state S.Store conn.new) → HasCleanDisk (state S.Store conn.old) }
+    ensures mode { conn.old.in_transaction ≡ false → conn.new.in_transaction ≡ false }
+    ensures crash { (v : Vault) → Keeps (state S.Store conn.old) v → Survives (state S.Store conn.old) (state S.Store conn.new) (λ _. ¬ IsTrue (state S.Store conn.old).is_open) }
+{
+    let rows = query_rows(conn, "SELECT one, schema, last, next FROM meta", &[])?;
+    match rows.first() {
+        Some(row) => match records::read_meta(row) {
+            Ok(meta) => Ok(meta),
+            Err(misread) => Err(unread(misread)),
+        },
+        None => Err(Error::QueryReturnedNoRows),
+    }
+}
+
+/// The moment of the last change.
+pub fn read_last<S: Alter>(conn: &mut Connection<S>) -> Result<Moment, Error>
+    ensures value { HasCleanDisk (state S.Store conn.new) → IfOk result (λ at. (v : Vault) → Keeps (state S.Store conn.old) v → at ≡ v.last) }
+    // Every vault that is kept is sound.
+    ensures sound { HasCleanDisk (state S.Store conn.new) → OnOk result ((v : Vault) → Keeps (state S.Store conn.old) v → Sound v) }
+    ensures same { HasCleanDisk (state S.Store conn.new) → (v : Vault) → Keeps (state S.Store conn.old) v → Keeps (state S.Store conn.new) v }
+    ensures honest { HasCleanDisk (state S.Store conn.new) → HasCleanDisk (state S.Store conn.old) }
+    ensures mode { conn.old.in_transaction ≡ false → conn.new.in_transaction ≡ false }
+    ensures crash { (v : Vault) → Keeps (state S.Store conn.old) v → Survives (state S.Store conn.old) (state S.Store conn.new) (λ _. ¬ IsTrue (state S.Store conn.old).is_open) }
+{
+    let meta = read_meta(conn)?;
+    Ok(meta.last)
+}
+
+/// The id that the next entry gets.
+pub fn read_next_id<S: Alter>(conn: &mut Connection<S>) -> Result<u64, Error>
+    ensures value { HasCleanDisk (state S.Store conn.new) → IfOk result (λ id. (v : Vault) → Keeps (state S.Store conn.old) v → id ≡ next_id v) }
+    ensures same { HasCleanDisk (state S.Store conn.new) → (v : Vault) → Keeps (state S.Store conn.old) v → Keeps (state S.Store conn.new) v }
+    ensures honest { HasCleanDisk (state S.Store conn.new) → HasCleanDisk (state S.Store conn.old) }
+    ensures mode { conn.old.in_transaction ≡ false → conn.new.in_transaction ≡ false }
+    ensures crash { (v : Vault) → Keeps (state S.Store conn.old) v → Survives (state S.Store conn.old) (state S.Store conn.new) (λ _. ¬ IsTrue (state S.Store conn.old).is_open) }
+{
+    let meta = read_meta(conn)?;
+    Ok(meta.next)
+}

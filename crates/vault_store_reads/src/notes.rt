@@ -1,0 +1,39 @@
+//! Notes of intake batches.
+ghost use Rattle.std.specs.Prelude.{◌≡◌, false, IsTrue, IfOk};
+ghost use Rattle.sqlite.specs.Held.{state};
+ghost use Rattle.sqlite.specs.State.{HasCleanDisk, Survives};
+ghost use Rattle.vault_core_model.specs.Vault.{Vault, note_of};
+ghost use Rattle.vault_store_model.specs.Keeping.{Keeps};
+
+use sqlite::{Alter, Connection, Error, params};
+use vault_audit_rows::records;
+use vault_base::name::{BatchName, BucketName};
+use vault_core_model::records::Note;
+use vault_store_query::{query_rows, unread};
+
+/// The note of an accepted line of an intake batch.
+pub fn read_note<S: Alter>(
+    conn: &mut Connection<S>,
+    bucket: &BucketName,
+    batch: &BatchName,
+    line: u32,
+) -> Result<Option<Note>, Error>
+    ensures value { HasCleanDisk (state S.Store conn.new) → IfOk result (λ found. (v : Vault) → Keeps (state S.Store conn.old) v → found ≡ note_of v bucket.now batch.now line) }
+    ensures same { HasCleanDisk (state S.Store conn.new) → (v : Vault) → Keeps (state S.Store conn.old) v → Keeps (state S.Store conn.new) v }
+    ensures honest { HasCleanDisk (state S.Store conn.new) → HasCleanDisk (state S.Store conn.old) }
+    ensures mode { conn.old.in_transaction ≡ false → conn.new.in_transaction ≡ false }
+    ensures crash { (v : Vault) → Keeps (state S.Store conn.old) v → Survives (state S.Store conn.old) (state S.Store conn.new) (λ _. ¬ IsTrue (state S.Store conn.old).is_open) }
+{
+    let rows = query_rows(
+        conn,
+        "SELECT bucket, batch, line, key, size, digest, mode, until, hold, id FROM intake WHERE bucket = ?1 AND batch = ?2 AND line = ?3",
+        params![bucket.as_str(), batch.as_str(), line],
+    )?;
+    match rows.first() {
+        Some(row) => match records::read_note(row) {
+            Ok(note) => Ok(Some(note)),
+            Err(misread) => Err(unread(misread)),
+        },
+        None => Ok(None),
+    }
+}

@@ -1,0 +1,289 @@
+//! A sound vault, and the same with one thing changed in its file.
+use sqlite::{Alter, Connection, Error};
+use std::alloc::Global;
+use std::test::Fail;
+use vault_audit_whole::audit;
+use vault_base::refusal::{Refusal, Table};
+use vault_store_create::create::fill;
+
+// A department with a bucket of four entries: two held versions of one key, a removed one, and a marker. Its
+// sums are of days 10, 20 and 30.
+const ROWS: &str = "
+INSERT INTO departments VALUES ('records', 12, 8, 4, 110, 40);
+INSERT INTO callers VALUES ('clerk', 'records', 60, 0);
+INSERT INTO buckets VALUES ('papers', 'records', 1, 30, NULL);
+INSERT INTO rules VALUES ('papers', 1, 'old', 'tmp/', 1, 30, 0, NULL, NULL);
+INSERT INTO rules VALUES ('papers', 2, 'keep', '', 1, NULL, 0, 7, NULL);
+INSERT INTO entries VALUES (1, 'papers', 'a', 0, 5, x'2cf24dba5fb0a30e26e83b2ac5b9e29e1b161e5c1fa7425e73043362938b9824', 864000, 0, 'clerk', NULL, NULL, NULL);
+INSERT INTO entries VALUES (2, 'papers', 'a', 0, 3, x'3fc4ccfe745870e2c0d99f71f30ff0656c8dedd41cc1d7d3d376b0dbe685e2f3', 1728000, 0, 'clerk', NULL, NULL, NULL);
+INSERT INTO entries VALUES (3, 'papers', 'b', 0, 4, x'283bb9deef02e6843abfb538efa1eca70801bd8a701c3f98191e123496339247', 1728005, 0, 'clerk', 2592000, 0, 'clerk');
+INSERT INTO entries VALUES (4, 'papers', 'c', 1, 0, NULL, 1814400, 0, 'clerk', NULL, NULL, NULL);
+INSERT INTO contents VALUES (1, x'68656c6c6f');
+INSERT INTO contents VALUES (2, x'74776f');
+INSERT INTO settings VALUES (1, 1, 864000, 'clerk', 0, NULL, 0, 0);
+INSERT INTO settings VALUES (2, 1, 1728000, 'clerk', 1, 9999999, 0, 0);
+INSERT INTO settings VALUES (2, 2, 1728000, 'clerk', 1, 9999999, 1, 0);
+INSERT INTO settings VALUES (3, 1, 1728005, 'clerk', 0, NULL, 0, 0);
+INSERT INTO intake VALUES ('papers', 'batch', 1, 'a', 5, x'2cf24dba5fb0a30e26e83b2ac5b9e29e1b161e5c1fa7425e73043362938b9824', 0, NULL, NULL, 1);
+INSERT INTO heads VALUES ('papers', 'a', 2, 2);
+INSERT INTO heads VALUES ('papers', 'c', 4, 1);
+UPDATE meta SET last = 2592000, next = 5";
+
+// These have no clause, so that the proof of a test does not carry the state of each call.
+fn batch<S: Alter>(conn: &mut Connection<S>, sql: &str) -> Result<(), Error> {
+    conn.execute_batch(sql)
+}
+
+fn made<S: Alter>(conn: &mut Connection<S>) -> Result<(), Refusal> {
+    fill(conn)
+}
+
+fn judged<S: Alter>(alloc: Global, conn: &mut Connection<S>) -> Result<(), Refusal> {
+    audit(alloc, conn)
+}
+
+/// What is told of the vault with this change in its file.
+fn told(alloc: Global, change: &str) -> Result<Result<(), Refusal>, Fail> {
+    let mut conn = Connection::open_in_memory(alloc)?;
+    if made(&mut conn).is_err() {
+        Err("made")?;
+    }
+    batch(&mut conn, ROWS)?;
+    batch(&mut conn, change)?;
+    Ok(judged(alloc, &mut conn))
+}
+
+#[test]
+fn a_store_without_tables_is_no_vault(rt: HostRuntime) -> Result<(), Fail> {
+    let mut conn = Connection::open_in_memory(rt.alloc())?;
+    assert_eq!(rt;
+        judged(rt.alloc(), &mut conn),
+        Err(Refusal::Damaged(Table::Meta))
+    );
+    Ok(())
+}
+
+#[test]
+fn a_new_vault_is_sound(rt: HostRuntime) -> Result<(), Fail> {
+    let mut conn = Connection::open_in_memory(rt.alloc())?;
+    assert_eq!(rt; made(&mut conn), Ok(()));
+    assert_eq!(rt; judged(rt.alloc(), &mut conn), Ok(()));
+    Ok(())
+}
+
+#[test]
+fn a_vault_with_entries_is_sound(rt: HostRuntime) -> Result<(), Fail> {
+    assert_eq!(rt; told(rt.alloc(), "")?, Ok(()));
+    Ok(())
+}
+
+#[test]
+fn a_table_that_is_missing_is_told(rt: HostRuntime) -> Result<(), Fail> {
+    assert_eq!(rt;
+        told(rt.alloc(), "DROP TABLE heads")?,
+        Err(Refusal::Damaged(Table::Heads))
+    );
+    Ok(())
+}
+
+#[test]
+fn faults_of_meta_are_told(rt: HostRuntime) -> Result<(), Fail> {
+    let changes = [
+        "INSERT INTO meta VALUES (2, 1, 2592000, 5)",
+        "DELETE FROM meta",
+        "UPDATE meta SET schema = 2",
+        "UPDATE meta SET last = -1",
+        "UPDATE meta SET next = 6",
+        "UPDATE meta SET next = 0",
+    ];
+    for change in &changes {
+        assert_eq!(rt;
+            told(rt.alloc(), change)?,
+            Err(Refusal::Damaged(Table::Meta))
+        );
+    }
+    Ok(())
+}
+
+#[test]
+fn faults_of_departments_are_told(rt: HostRuntime) -> Result<(), Fail> {
+    let changes = [
+        "INSERT INTO departments VALUES ('A b', 0, 0, 0, 0, 0)",
+        "INSERT INTO departments VALUES ('other', 1, 0, 0, 0, 0)",
+        "UPDATE departments SET admitted = 13",
+        "UPDATE departments SET held = 9",
+        "UPDATE departments SET removed = 5",
+        "UPDATE departments SET weighted = 109",
+        "UPDATE departments SET closed = 41",
+    ];
+    for change in &changes {
+        assert_eq!(rt;
+            told(rt.alloc(), change)?,
+            Err(Refusal::Damaged(Table::Departments))
+        );
+    }
+    Ok(())
+}
+
+#[test]
+fn faults_of_callers_and_buckets_are_told(rt: HostRuntime) -> Result<(), Fail> {
+    let changes = [
+        (
+            Table::Callers,
+            "UPDATE callers SET rights = 4096 WHERE name = 'clerk'",
+        ),
+        (Table::Callers, "UPDATE callers SET closed = 2"),
+        (Table::Buckets, "UPDATE buckets SET mode = 3"),
+        (Table::Buckets, "UPDATE buckets SET mode = 0"),
+        (Table::Buckets, "UPDATE buckets SET days = NULL"),
+    ];
+    for (table, change) in &changes {
+        assert_eq!(rt; told(rt.alloc(), change)?, Err(Refusal::Damaged(*table)));
+    }
+    Ok(())
+}
+
+#[test]
+fn faults_of_rules_are_told(rt: HostRuntime) -> Result<(), Fail> {
+    let changes = [
+        "UPDATE rules SET enabled = 2 WHERE n = 1",
+        "UPDATE rules SET n = 3 WHERE n = 2",
+        "DELETE FROM rules WHERE n = 1",
+        "UPDATE rules SET id = 'old' WHERE n = 2",
+        "UPDATE rules SET days = NULL WHERE n = 1",
+    ];
+    for change in &changes {
+        assert_eq!(rt;
+            told(rt.alloc(), change)?,
+            Err(Refusal::Damaged(Table::Rules))
+        );
+    }
+    Ok(())
+}
+
+#[test]
+fn faults_of_entries_are_told(rt: HostRuntime) -> Result<(), Fail> {
+    let changes = [
+        // A removal after the last moment, and one before the admission.
+        "UPDATE meta SET last = 2591999",
+        "UPDATE entries SET removed = 1728004 WHERE id = 3",
+        "UPDATE entries SET cause = 3 WHERE id = 3",
+        // A marker with a size.
+        "UPDATE entries SET size = 1 WHERE id = 4",
+        // An admission that goes back.
+        "UPDATE entries SET admitted = 1728004 WHERE id = 4",
+        // A gap in the ids.
+        "DELETE FROM heads WHERE newest = 4; UPDATE entries SET id = 7 WHERE id = 4; INSERT INTO heads VALUES ('papers', 'c', 7, 1)",
+    ];
+    for change in &changes {
+        assert_eq!(rt;
+            told(rt.alloc(), change)?,
+            Err(Refusal::Damaged(Table::Entries))
+        );
+    }
+    Ok(())
+}
+
+#[test]
+fn faults_of_contents_are_told(rt: HostRuntime) -> Result<(), Fail> {
+    let changes = [
+        // Of another digest, and of another size.
+        "UPDATE contents SET bytes = x'68656c6c70' WHERE id = 1",
+        "UPDATE contents SET bytes = x'68656c6c' WHERE id = 1",
+        // None of a held version, one of a removed version, and one of a marker.
+        "DELETE FROM contents WHERE id = 2",
+        "INSERT INTO contents VALUES (3, x'676f6e65')",
+        "INSERT INTO contents VALUES (4, x'')",
+    ];
+    for change in &changes {
+        assert_eq!(rt;
+            told(rt.alloc(), change)?,
+            Err(Refusal::Damaged(Table::Contents))
+        );
+    }
+    Ok(())
+}
+
+#[test]
+fn faults_of_settings_are_told(rt: HostRuntime) -> Result<(), Fail> {
+    let changes = [
+        "UPDATE settings SET mode = 3 WHERE id = 1",
+        "UPDATE settings SET until = NULL WHERE id = 2 AND n = 1",
+        // They begin with 2, have a gap, or there are none.
+        "UPDATE settings SET n = 2 WHERE id = 1",
+        "UPDATE settings SET n = 3 WHERE id = 2 AND n = 2",
+        "DELETE FROM settings WHERE id = 3",
+        // A marker has one.
+        "INSERT INTO settings VALUES (4, 1, 1814400, 'clerk', 0, NULL, 0, 0)",
+    ];
+    for change in &changes {
+        assert_eq!(rt;
+            told(rt.alloc(), change)?,
+            Err(Refusal::Damaged(Table::Settings))
+        );
+    }
+    Ok(())
+}
+
+#[test]
+fn faults_of_intake_are_told(rt: HostRuntime) -> Result<(), Fail> {
+    let changes = [
+        "UPDATE intake SET line = 0",
+        "UPDATE intake SET hold = 2",
+        "UPDATE intake SET key = 'b'",
+        "UPDATE intake SET size = 6",
+        "UPDATE intake SET id = 2",
+        "UPDATE intake SET id = 4",
+    ];
+    for change in &changes {
+        assert_eq!(rt;
+            told(rt.alloc(), change)?,
+            Err(Refusal::Damaged(Table::Intake))
+        );
+    }
+    Ok(())
+}
+
+#[test]
+fn faults_of_heads_are_told(rt: HostRuntime) -> Result<(), Fail> {
+    let changes = [
+        "UPDATE heads SET key = '' WHERE key = 'c'",
+        "UPDATE heads SET count = 3 WHERE key = 'a'",
+        "UPDATE heads SET count = 1 WHERE key = 'a'",
+        "UPDATE heads SET newest = 1 WHERE key = 'a'",
+        "UPDATE heads SET newest = 2 WHERE key = 'c'",
+        "DELETE FROM heads WHERE key = 'c'",
+        "INSERT INTO heads VALUES ('papers', 'b', 3, 0)",
+    ];
+    for change in &changes {
+        assert_eq!(rt;
+            told(rt.alloc(), change)?,
+            Err(Refusal::Damaged(Table::Heads))
+        );
+    }
+    Ok(())
+}
+
+#[test]
+fn the_first_table_is_told(rt: HostRuntime) -> Result<(), Fail> {
+    let changes = [
+        // Both in the first look, and both in the second.
+        (
+            Table::Settings,
+            "UPDATE heads SET key = ''  WHERE key = 'c'; UPDATE settings SET mode = 3 WHERE id = 1",
+        ),
+        (
+            Table::Departments,
+            "UPDATE heads SET count = 3 WHERE key = 'a'; UPDATE departments SET held = 9",
+        ),
+        // A later table in the first look, and an earlier one in the second.
+        (
+            Table::Heads,
+            "UPDATE heads SET key = '' WHERE key = 'c'; UPDATE meta SET next = 6",
+        ),
+    ];
+    for (table, change) in &changes {
+        assert_eq!(rt; told(rt.alloc(), change)?, Err(Refusal::Damaged(*table)));
+    }
+    Ok(())
+}

@@ -1,0 +1,217 @@
+//! Each read once where it finds its row, and once where there is none.
+use sqlite::{Alter, Connection, Error};
+use std::alloc::Global;
+use std::test::Fail;
+use vault_base::content::Content;
+use vault_base::moment::Moment;
+use vault_base::name::{BatchName, BucketName, CallerName, DeptName, ObjectKey, VersionId};
+use vault_base::refusal::Refusal;
+use vault_core_model::records::{BucketConfig, Caller, Entry, Head, Note};
+use vault_store_create::create::fill;
+use vault_store_reads::entries::{read_content, read_entry};
+use vault_store_reads::heads::read_head;
+use vault_store_reads::meta::{read_last, read_next_id};
+use vault_store_reads::names::{has_department, read_bucket, read_caller, read_totals};
+use vault_store_reads::notes::read_note;
+use vault_tally::row::Row;
+
+// These have no clause, so that the proof of a test does not carry the state of each call.
+fn made<S: Alter>(conn: &mut Connection<S>) -> Result<(), Refusal> {
+    fill(conn)
+}
+
+fn batch<S: Alter>(conn: &mut Connection<S>, sql: &str) -> Result<(), Error> {
+    conn.execute_batch(sql)
+}
+
+fn last<S: Alter>(conn: &mut Connection<S>) -> Result<Moment, Error> {
+    read_last(conn)
+}
+
+fn next_id<S: Alter>(conn: &mut Connection<S>) -> Result<u64, Error> {
+    read_next_id(conn)
+}
+
+fn department<S: Alter>(conn: &mut Connection<S>, name: &DeptName) -> Result<bool, Error> {
+    has_department(conn, name)
+}
+
+fn totals<S: Alter>(conn: &mut Connection<S>, name: &DeptName) -> Result<Row, Error> {
+    read_totals(conn, name)
+}
+
+fn caller<S: Alter>(conn: &mut Connection<S>, name: &CallerName) -> Result<Option<Caller>, Error> {
+    read_caller(conn, name)
+}
+
+fn bucket<S: Alter>(
+    conn: &mut Connection<S>,
+    name: &BucketName,
+) -> Result<Option<BucketConfig>, Error> {
+    read_bucket(conn, name)
+}
+
+fn entry<S: Alter>(conn: &mut Connection<S>, id: VersionId) -> Result<Option<Entry>, Error> {
+    read_entry(conn, id)
+}
+
+fn content<S: Alter>(conn: &mut Connection<S>, id: VersionId) -> Result<Option<Content>, Error> {
+    read_content(conn, id)
+}
+
+fn note<S: Alter>(
+    conn: &mut Connection<S>,
+    bucket: &BucketName,
+    batch: &BatchName,
+    line: u32,
+) -> Result<Option<Note>, Error> {
+    read_note(conn, bucket, batch, line)
+}
+
+fn head<S: Alter>(
+    conn: &mut Connection<S>,
+    bucket: &BucketName,
+    key: &ObjectKey,
+) -> Result<Option<Head>, Error> {
+    read_head(conn, bucket, key)
+}
+
+fn dept_name(alloc: Global, text: &str) -> Result<DeptName, Fail> {
+    Ok(DeptName::read(alloc, text)?.ok().ok_or("a name")?)
+}
+
+fn caller_name(alloc: Global, text: &str) -> Result<CallerName, Fail> {
+    Ok(CallerName::read(alloc, text)?.ok().ok_or("a name")?)
+}
+
+fn bucket_name(alloc: Global, text: &str) -> Result<BucketName, Fail> {
+    Ok(BucketName::read(alloc, text)?.ok().ok_or("a name")?)
+}
+
+fn batch_name(alloc: Global, text: &str) -> Result<BatchName, Fail> {
+    Ok(BatchName::read(alloc, text)?.ok().ok_or("a name")?)
+}
+
+fn key(alloc: Global, text: &str) -> Result<ObjectKey, Fail> {
+    Ok(ObjectKey::read(alloc, text)?.ok().ok_or("a key")?)
+}
+
+fn id(number: u32) -> Result<VersionId, Fail> {
+    Ok(VersionId::new(number).ok_or("an id")?)
+}
+
+/// The tables of a vault with one version, which an intake batch admitted.
+fn put_rows<S: Alter>(conn: &mut Connection<S>) -> Result<(), Error> {
+    batch(
+        conn,
+        "UPDATE meta SET last = 1700000000, next = 2; INSERT INTO departments VALUES ('records', 3, 2, 1, 59028, 19676); INSERT INTO callers VALUES ('ada', 'records', 4, 1); INSERT INTO buckets VALUES ('records-2024', 'records', 1, 30, NULL)",
+    )?;
+    batch(
+        conn,
+        "INSERT INTO entries VALUES (1, 'records-2024', 'a.txt', 0, 3, x'0000000000000000000000000000000000000000000000000000000000000000', 1600000000, 0, 'ada', NULL, NULL, NULL); INSERT INTO contents VALUES (1, x'010203'); INSERT INTO heads VALUES ('records-2024', 'a.txt', 1, 1)",
+    )?;
+    batch(
+        conn,
+        "INSERT INTO intake VALUES ('records-2024', 'first', 7, 'a.txt', 3, x'0000000000000000000000000000000000000000000000000000000000000000', 0, NULL, NULL, 1)",
+    )
+}
+
+#[test]
+fn meta_is_read(rt: HostRuntime) -> Result<(), Fail> {
+    let mut conn = Connection::open_in_memory(rt.alloc())?;
+    assert_eq!(rt; made(&mut conn), Ok(()));
+    assert_eq!(rt; last(&mut conn)?.secs(), 0);
+    assert_eq!(rt; next_id(&mut conn)?, 1);
+    put_rows(&mut conn)?;
+    assert_eq!(rt; last(&mut conn)?.secs(), 1_700_000_000);
+    assert_eq!(rt; next_id(&mut conn)?, 2);
+    Ok(())
+}
+
+#[test]
+fn departments_and_their_sums_are_read(rt: HostRuntime) -> Result<(), Fail> {
+    let mut conn = Connection::open_in_memory(rt.alloc())?;
+    assert_eq!(rt; made(&mut conn), Ok(()));
+    put_rows(&mut conn)?;
+    let records = dept_name(rt.alloc(), "records")?;
+    let other = dept_name(rt.alloc(), "other")?;
+    assert!(rt; department(&mut conn, &records)?);
+    assert!(rt; !department(&mut conn, &other)?);
+    let sums = totals(&mut conn, &records)?;
+    assert_eq!(rt; (sums.admitted, sums.held, sums.removed), (3, 2, 1));
+    assert_eq!(rt; (sums.weighted, sums.closed), (59_028, 19_676));
+    assert_eq!(rt; totals(&mut conn, &other)?.admitted, 0);
+    Ok(())
+}
+
+#[test]
+fn callers_are_read(rt: HostRuntime) -> Result<(), Fail> {
+    let mut conn = Connection::open_in_memory(rt.alloc())?;
+    assert_eq!(rt; made(&mut conn), Ok(()));
+    put_rows(&mut conn)?;
+    let found = caller(&mut conn, &caller_name(rt.alloc(), "ada")?)?;
+    let ada = found.as_ref().ok_or("a caller")?;
+    assert_eq!(rt; ada.name.as_str(), "ada");
+    assert!(rt; ada.closed && ada.rights.put && !ada.rights.admin);
+    let none = caller(&mut conn, &caller_name(rt.alloc(), "bob")?)?;
+    assert!(rt; none.is_none());
+    Ok(())
+}
+
+#[test]
+fn buckets_and_heads_are_read(rt: HostRuntime) -> Result<(), Fail> {
+    let mut conn = Connection::open_in_memory(rt.alloc())?;
+    assert_eq!(rt; made(&mut conn), Ok(()));
+    put_rows(&mut conn)?;
+    let name = bucket_name(rt.alloc(), "records-2024")?;
+    let found = bucket(&mut conn, &name)?;
+    let config = found.as_ref().ok_or("a bucket")?;
+    assert_eq!(rt; config.dept.as_str(), "records");
+    assert!(rt; config.default.is_some());
+    let none = bucket(&mut conn, &bucket_name(rt.alloc(), "records-2025")?)?;
+    assert!(rt; none.is_none());
+    let newest = head(&mut conn, &name, &key(rt.alloc(), "a.txt")?)?;
+    assert!(rt;
+        newest
+            == Some(Head {
+                newest: id(1)?,
+                count: 1
+            })
+    );
+    let no_head = head(&mut conn, &name, &key(rt.alloc(), "b.txt")?)?;
+    assert!(rt; no_head.is_none());
+    Ok(())
+}
+
+#[test]
+fn entries_and_their_bytes_are_read(rt: HostRuntime) -> Result<(), Fail> {
+    let mut conn = Connection::open_in_memory(rt.alloc())?;
+    assert_eq!(rt; made(&mut conn), Ok(()));
+    put_rows(&mut conn)?;
+    let found = entry(&mut conn, id(1)?)?;
+    let version = found.as_ref().ok_or("an entry")?;
+    assert_eq!(rt; version.key.as_str(), "a.txt");
+    assert_eq!(rt; (version.size, version.admitted.secs()), (3, 1_600_000_000));
+    assert!(rt; version.removal.is_none() && !version.marker);
+    let bytes = content(&mut conn, id(1)?)?;
+    let held = bytes.as_ref().ok_or("bytes")?;
+    assert!(rt; held.as_slice() == b"\x01\x02\x03".as_slice());
+    assert!(rt; entry(&mut conn, id(2)?)?.is_none());
+    assert!(rt; content(&mut conn, id(2)?)?.is_none());
+    Ok(())
+}
+
+#[test]
+fn notes_are_read(rt: HostRuntime) -> Result<(), Fail> {
+    let mut conn = Connection::open_in_memory(rt.alloc())?;
+    assert_eq!(rt; made(&mut conn), Ok(()));
+    put_rows(&mut conn)?;
+    let name = bucket_name(rt.alloc(), "records-2024")?;
+    let first = batch_name(rt.alloc(), "first")?;
+    let found = note(&mut conn, &name, &first, 7)?;
+    let told = found.as_ref().ok_or("a note")?;
+    assert_eq!(rt; told.key.as_str(), "a.txt");
+    assert!(rt; told.id == id(1)? && told.retention.is_none() && told.hold.is_none());
+    assert!(rt; note(&mut conn, &name, &first, 8)?.is_none());
+    Ok(())
+}
