@@ -92,10 +92,12 @@ same_rows xs ys = Coded-set (coded_list row.the_row.coded) xs ys
 -- how the rows of the removed entries go on behind these
 pub on_removed : (s : State) (v : Vault) → ∥ Keeps s v ∥₁ → IsTrue s.is_open → (rows : List Row) → Begins removed_text [] s rows → (tail : List Row) × (rows ++ tail ≡ map entry_row (removed_entries v))
 on_removed s v kept is_open rows begins =
-    let all = map entry_row (removed_entries v) in
-    (drop (length rows) all, ∥∥₁_elim kept (same_rows _ _) (λ keeps.
-    let it = begin_removed s v keeps is_open rows begins in
-    ap (λ l. rows ++ drop (length rows) l) (sym it.1) ∙ ap (λ l. rows ++ l) (drop-append_seam rows it.0) ∙ it.1))
+    let all = map entry_row (removed_entries v) in (
+      drop (length rows) all,
+      ∥∥₁_elim kept (same_rows _ _) (λ keeps.
+          let it = begin_removed s v keeps is_open rows begins in
+          ap (λ l. rows ++ drop (length rows) l) (sym it.1) ∙ ap (λ l. rows ++ l) (drop-append_seam rows it.0) ∙ it.1),
+    )
 
 pub all_removed : (old new : State) (v : Vault) → ∥ Keeps old v ∥₁ → (rows : List Row) → Shown removed_text [] old new rows → rows ≡ map entry_row (removed_entries v)
 all_removed old new v kept rows shown = ∥∥₁_elim kept (same_rows _ _) (λ keeps. found_removed v rows (finds removed_text [] old new v keeps rows shown))
