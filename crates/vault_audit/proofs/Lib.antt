@@ -1,5 +1,1 @@
-pub mod DamageLemmas
-pub mod EntryLemmas
-pub mod MetaLemmas
-pub mod NumberLemmas
-pub mod TextLemmas
+pub mod SoundLemmas

@@ -1,3 +1,1 @@
-pub mod Entries
-pub mod Meta
-pub mod Numbers
+pub mod Whole

@@ -1,8 +1,8 @@
 //! The audit of a vault's tables.
 #![tactic(auto)]
 
-pub mod entries;
-pub mod meta;
-pub mod numbers;
-pub mod row_check;
-pub mod table_rows;
+mod first_pass;
+mod second_pass;
+mod whole;
+
+pub use whole::audit;

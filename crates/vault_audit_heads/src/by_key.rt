@@ -16,11 +16,11 @@ ghost use Rattle.vault_audit_heads.specs.Heads.{headed_row, head_cmp, IsAfter, T
 
 use sqlite::{Alter, Connection, Error, Row};
 use std::cmp::Ordering;
-use vault_audit::row_check::refused;
 use vault_audit_model::rows::HeadRow;
 use vault_audit_rows::cell::{is_null, number, text, version_id};
 use vault_audit_rows::misread::Misread;
 use vault_audit_rows::name::{bucket_name, object_key};
+use vault_audit_tables::row_check::refused;
 use vault_audit_walk::walk::{Pass, walk};
 use vault_core_model::records::Head;
 

@@ -16,8 +16,8 @@ use Rattle.vault_audit_model.specs.Rows.{entry_row, entry_columns}
 use Rattle.vault_audit_model.specs.Spells.{AreSound}
 use Rattle.vault_audit_model.specs.Tables.{entries_tree}
 use Rattle.vault_audit_walk.specs.Records.{AreRecords}
-use Rattle.vault_audit.specs.Entries.{IsEntryBy}
-use Rattle.vault_audit.specs.Meta.{IsMetaOf}
+use Rattle.vault_audit_tables.specs.Entries.{IsEntryBy}
+use Rattle.vault_audit_tables.specs.Meta.{IsMetaOf}
 use Rattle.vault_audit_names.specs.Names.{AreCallersByName, AreDepartmentsByName}
 
 -- no table is damaged, and this is found; or one is, and the tables are sound for no vault

@@ -6,7 +6,7 @@ ghost use Rattle.vault_audit_model.specs.Tables.{vault_schema};
 ghost use Rattle.vault_audit_looks.specs.Looks.{Told};
 
 use sqlite::{Alter, Connection, Error};
-use vault_audit::table_rows::{
+use vault_audit_tables::table_rows::{
     check_buckets, check_callers, check_contents, check_departments, check_heads, check_intake,
     check_rules, check_settings,
 };

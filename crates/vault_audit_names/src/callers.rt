@@ -9,8 +9,8 @@ ghost use Rattle.vault_audit_names.specs.Names.{IsAfter, TellCallers};
 
 use sqlite::{Alter, Connection, Error, Row};
 use std::marker::Model;
-use vault_audit::row_check::refused;
 use vault_audit_rows::records::read_caller;
+use vault_audit_tables::row_check::refused;
 use vault_audit_walk::walk::{Pass, walk};
 use vault_base::name::CallerName;
 

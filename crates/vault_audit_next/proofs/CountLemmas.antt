@@ -20,7 +20,7 @@ use Rattle.vault_audit_model.proofs.SameRows.{same_meta}
 use Rattle.vault_audit_walk.specs.Walk.{Goes, Walked}
 use Rattle.vault_audit_walk.proofs.RecordLemmas.{Scans, scanned}
 use Rattle.vault_audit_walk.proofs.ScanLemmas.{shows}
-use Rattle.vault_audit.specs.Meta.{IsMetaOf}
+use Rattle.vault_audit_tables.specs.Meta.{IsMetaOf}
 use Rattle.vault_audit_next.specs.declared.RowCount.{RowCount}
 use Rattle.vault_audit_next.specs.Count.{CountsOne, TellNext}
 

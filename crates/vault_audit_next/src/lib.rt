@@ -8,7 +8,7 @@ ghost use Rattle.vault_core_model.specs.Vault.{Vault};
 ghost use Rattle.vault_audit_model.specs.declared.rows.MetaRow.{MetaRow};
 ghost use Rattle.vault_audit_model.specs.Spells.{AreSound};
 ghost use Rattle.vault_audit_model.specs.Tables.{vault_schema};
-ghost use Rattle.vault_audit.specs.Meta.{IsMetaOf};
+ghost use Rattle.vault_audit_tables.specs.Meta.{IsMetaOf};
 ghost use Rattle.vault_audit_next.specs.Count.{TellNext};
 
 use sqlite::{Alter, Connection, Error, ErrorCode, Row};

@@ -12,7 +12,7 @@ use Rattle.vault_audit_model.specs.Tables.{vault_schema, departments_tree}
 use Rattle.vault_audit_walk.specs.Records.{TellsOne}
 use Rattle.vault_audit_walk.specs.Walk.{Goes, Walked}
 use Rattle.vault_audit_walk.proofs.RecordLemmas.{scanned, records_of}
-use Rattle.vault_audit.proofs.TextLemmas.{departments_text, departments_scan}
+use Rattle.vault_audit_tables.proofs.TextLemmas.{departments_text, departments_scan}
 use Rattle.vault_audit_sums.specs.declared.listed.ListPass.{ListPass}
 use Rattle.vault_audit_sums.specs.Listed.{GoesBehind, TellsNoDepartment, AreListed}
 

@@ -25,7 +25,7 @@ use Rattle.vault_audit_model.specs.Tables.{vault_schema, buckets_tree}
 use Rattle.vault_audit_walk.specs.Records.{TellsOne}
 use Rattle.vault_audit_walk.specs.Walk.{Goes, Walked}
 use Rattle.vault_audit_walk.proofs.RecordLemmas.{scanned, records_of}
-use Rattle.vault_audit.proofs.TextLemmas.{buckets_text, buckets_scan}
+use Rattle.vault_audit_tables.proofs.TextLemmas.{buckets_text, buckets_scan}
 use Rattle.vault_audit_sums.specs.declared.owned.OwnedPass.{OwnedPass}
 use Rattle.vault_audit_sums.specs.Owned.{name_where, GoesWith, TellsNone, AreOwnedBy}
 

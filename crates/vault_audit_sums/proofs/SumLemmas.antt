@@ -21,8 +21,8 @@ use Rattle.vault_audit_model.specs.Tables.{vault_schema}
 use Rattle.vault_audit_model.proofs.SameRows.{same_entry}
 use Rattle.vault_audit_walk.specs.Walk.{Goes, Walked}
 use Rattle.vault_audit_walk.proofs.ScanLemmas.{first_cmp, first_cmp_total, goes_on_to}
-use Rattle.vault_audit.proofs.NumberLemmas.{answers, rising, source}
-use Rattle.vault_audit.proofs.TextLemmas.{numbers_walk, numbers_walk_is}
+use Rattle.vault_audit_tables.proofs.NumberLemmas.{answers, rising, source}
+use Rattle.vault_audit_tables.proofs.TextLemmas.{numbers_walk, numbers_walk_is}
 use Rattle.vault_audit_sums.specs.declared.versions.SumPass.{SumPass}
 use Rattle.vault_audit_sums.specs.Versions.{item_told, counts, items_where, items_told, IsCounted, GoesIn, GoesBeyond, IsSumOf}
 use Rattle.vault_audit_sums.proofs.ItemLemmas.{bounded_with}

@@ -8,9 +8,9 @@ ghost use Rattle.vault_audit_sums.specs.Listed.{AreListed};
 
 use sqlite::{Alter, Connection, Error, Row};
 use std::alloc::Global;
-use vault_audit::row_check::refused;
 use vault_audit_model::rows::DepartmentRow;
 use vault_audit_rows::records::read_department;
+use vault_audit_tables::row_check::refused;
 use vault_audit_walk::walk::{Pass, walk};
 
 /// The rows of departments that were met.

@@ -9,8 +9,8 @@ ghost use Rattle.vault_audit_sums.specs.Owned.{AreOwnedBy};
 
 use sqlite::{Alter, Connection, Error, Row};
 use std::alloc::Global;
-use vault_audit::row_check::refused;
 use vault_audit_rows::records::read_bucket;
+use vault_audit_tables::row_check::refused;
 use vault_audit_walk::walk::{Pass, walk};
 use vault_base::name::{BucketName, DeptName};
 

@@ -11,8 +11,8 @@ ghost use Rattle.vault_audit_model.specs.Tables.{vault_schema};
 ghost use Rattle.vault_audit_sums.specs.Versions.{counts, IsSumWith, IsSumOf};
 
 use sqlite::{Alter, Connection, Error, Row};
-use vault_audit::row_check::refused;
 use vault_audit_rows::records::read_entry;
+use vault_audit_tables::row_check::refused;
 use vault_audit_walk::walk::{Pass, walk};
 use vault_base::name::BucketName;
 use vault_core_model::records::Entry;

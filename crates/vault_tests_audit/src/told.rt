@@ -2,7 +2,7 @@
 use sqlite::{Alter, Connection, Error};
 use std::alloc::Global;
 use std::test::Fail;
-use vault_audit_whole::audit;
+use vault_audit::audit;
 use vault_base::refusal::{Refusal, Table};
 use vault_store_create::create::fill;
 

@@ -5,7 +5,7 @@ use Rattle.sqlite.specs.Given.{IsPlain}
 use Rattle.sqlite.specs.Listing.{understood}
 use Rattle.vault_core_model.specs.Vault.{Vault}
 use Rattle.vault_audit_model.specs.Spells.{AreSound}
-use Rattle.vault_audit.proofs.DamageLemmas.{refused_if_ok}
+use Rattle.vault_audit_tables.proofs.DamageLemmas.{refused_if_ok}
 use Rattle.vault_audit_names.specs.Names.{TellCallers}
 use Rattle.vault_audit_names.proofs.TellLemmas.{callers_if_ok, no_callers}
 use Rattle.vault_audit_names.proofs.TextLemmas.{callers_walk, callers_walk_plain}

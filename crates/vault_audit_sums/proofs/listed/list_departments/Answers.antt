@@ -3,7 +3,7 @@ use Rattle.sqlite.specs.Held.{state}
 use Rattle.sqlite.specs.State.{HasCleanDisk}
 use Rattle.sqlite.specs.Given.{IsPlain}
 use Rattle.sqlite.specs.Listing.{understood}
-use Rattle.vault_audit.proofs.TextLemmas.{departments_text, departments_scan}
+use Rattle.vault_audit_tables.proofs.TextLemmas.{departments_text, departments_scan}
 use Rattle.vault_audit_sums.proofs.ListedLemmas.{listed_yes, listed_no}
 use Rattle.vault_audit_sums.proofs.listed.list_departments.Goals as goal
 

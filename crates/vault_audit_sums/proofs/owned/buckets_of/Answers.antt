@@ -3,7 +3,7 @@ use Rattle.sqlite.specs.Held.{state}
 use Rattle.sqlite.specs.State.{HasCleanDisk}
 use Rattle.sqlite.specs.Given.{IsPlain}
 use Rattle.sqlite.specs.Listing.{understood}
-use Rattle.vault_audit.proofs.TextLemmas.{buckets_text, buckets_scan}
+use Rattle.vault_audit_tables.proofs.TextLemmas.{buckets_text, buckets_scan}
 use Rattle.vault_audit_sums.proofs.OwnedLemmas.{owned_yes, owned_no}
 use Rattle.vault_audit_sums.proofs.owned.buckets_of.Goals as goal
 

@@ -8,7 +8,7 @@ use Rattle.vault_audit_model.specs.declared.rows.DepartmentRow.{DepartmentRow}
 use Rattle.vault_audit_model.specs.Relations.{AreBuckets, AreEntries, IsPast, TellSums}
 use Rattle.vault_core_model.specs.Vault.{Vault}
 use Rattle.vault_audit_model.specs.Spells.{AreSound}
-use Rattle.vault_audit.proofs.DamageLemmas.{refused_if_ok}
+use Rattle.vault_audit_tables.proofs.DamageLemmas.{refused_if_ok}
 use Rattle.vault_audit_sums.specs.Department.{TellEach}
 use Rattle.vault_audit_sums.specs.Listed.{AreListed}
 use Rattle.vault_audit_sums.proofs.TableLemmas.{table_told, table_missed, no_sums}

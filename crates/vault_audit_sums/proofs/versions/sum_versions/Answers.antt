@@ -3,7 +3,7 @@ use Rattle.sqlite.specs.Held.{state}
 use Rattle.sqlite.specs.State.{HasCleanDisk}
 use Rattle.sqlite.specs.Given.{IsPlain}
 use Rattle.sqlite.specs.Listing.{understood}
-use Rattle.vault_audit.proofs.TextLemmas.{numbers_walk, numbers_walk_plain}
+use Rattle.vault_audit_tables.proofs.TextLemmas.{numbers_walk, numbers_walk_plain}
 use Rattle.vault_audit_sums.proofs.SumLemmas.{sums_yes, sums_no}
 use Rattle.vault_audit_sums.proofs.versions.sum_versions.Goals as goal
 

@@ -1,7 +1,7 @@
 use Rattle.std.proofs.Common.{rules, ◌+◌, ◌≤◌, IsTrue, subst}
 use Rattle.vault_tally.specs.Row.{quota}
 use Rattle.vault_core_model.specs.declared.records.Entry.{Entry}
-use Rattle.vault_audit.proofs.EntryLemmas.{one_entry}
+use Rattle.vault_audit_tables.proofs.EntryLemmas.{one_entry}
 use Rattle.vault_audit_sums.specs.Versions.{counts}
 use Rattle.vault_audit_sums.proofs.versions.SumPassPass.take.Goals as goal
 

@@ -1,0 +1,99 @@
+-- The vault that the passes find.
+use Rattle.std.proofs.Common.{◌≡◌, ℕ, List, [], ◌∷◌, length, map, Some, refl, sym, ap, subst, ◌∙◌, arith}
+use Rattle.std.specs.List.{AllByRecursion}
+use Rattle.std.proofs.lemmas.List.{length-map}
+use Rattle.std.proofs.lemmas.List.Sorted.{IsPermutation-sym, IsPermutation-trans, length_permutation}
+use Rattle.sqlite_trees.proofs.ListLemmas.{all-permutation, all-map, all_from_map}
+use Rattle.sqlite_value.specs.Order.{Row}
+use Rattle.sqlite.specs.Effect.{Database}
+use Rattle.sqlite.proofs.Callers.{one_permutation}
+use Rattle.vault_core_model.specs.declared.records.Entry.{Entry}
+use Rattle.vault_core_model.specs.declared.records.History.{History}
+use Rattle.vault_core_model.specs.Vault.{Vault}
+use Rattle.vault_audit_model.specs.declared.rows.MetaRow.{MetaRow}
+use Rattle.vault_audit_model.specs.Relations.{AreEntries, IsPast}
+use Rattle.vault_audit_model.specs.Rows.{meta_row, entry_row, entry_columns}
+use Rattle.vault_audit_model.specs.Spells.{AreSound, meta_of}
+use Rattle.vault_audit_model.specs.Tables.{vault_schema, entries_tree}
+use Rattle.vault_audit_model.proofs.SameRows.{same_meta, same_entry}
+use Rattle.vault_audit_tables.specs.Entries.{IsEntryBy}
+use Rattle.vault_audit_tables.specs.Meta.{IsMetaOf}
+use Rattle.vault_audit_laws.specs.Ties.{AreTied}
+use Rattle.vault_audit_parts.proofs.JoinLemmas.{joined_entries}
+use Rattle.vault_audit_found.specs.Found.{AreFound, found_vault}
+use Rattle.vault_audit_found.proofs.FoundLemmas.{found_spelled, found_sums}
+use Rattle.vault_audit_looks.specs.Looks.{ArePast}
+use Rattle.vault_audit.specs.Whole.{AllFound}
+
+-- the last moment of a vault that the tables are sound for is that of the row of meta
+pub last_of : (db : Database) (v : Vault) (m : MetaRow) → IsMetaOf db (Some m) → AreSound db v → v.last ≡ m.last
+last_of db v m is it =
+    let rows = one_permutation (meta_row m) _ (IsPermutation-trans _ _ _ is.0 (IsPermutation-sym _ _ it.spells.meta)) in
+    let first : meta_row (meta_of v) ≡ meta_row m = cc in
+    let same : meta_of v ≡ m = same_meta (meta_of v) m first in
+    ap (λ (x : MetaRow). x.last) same
+
+-- the row tells an entry that is past
+abbrev TellsPast : ℕ → Row → Type 0
+TellsPast last row = (e : Entry) × (row ≡ entry_row e) × IsPast last e
+
+each : {A : Type 0} (P Q : A → Type 0) → ((x : A) → P x → Q x) → (xs : List A) → AllByRecursion P xs → AllByRecursion Q xs
+each P Q f [] all = tt
+each P Q f (x ∷ xs) all = (f x all.0, each P Q f xs all.1)
+
+-- other entries of the same rows are past, too
+past_too : (db : Database) (last : ℕ) (es : List Entry) → ArePast db last → AreEntries db es → AllByRecursion (IsPast last) es
+past_too db last es past are =
+    let xs = past.0 in
+    let told = all-map (TellsPast last) entry_row xs (each (IsEntryBy last) (λ e. TellsPast last (entry_row e)) (λ e its. (e, refl, its.1)) xs past.2) in
+    let rows = all-permutation (TellsPast last) _ _ (IsPermutation-trans _ _ _ past.1 (IsPermutation-sym _ _ are.0)) told in
+    each (λ e. TellsPast last (entry_row e)) (IsPast last) (λ e its. subst (IsPast last) (sym (same_entry e its.0 its.1)) its.2) es (all_from_map (TellsPast last) entry_row es rows)
+
+module _ (db : Database) (m : MetaRow) (schema : db.schema ≡ vault_schema) (tied : AreTied db) (meta : IsMetaOf db (Some m)) (past : ArePast db m.last) (found : AllFound db m) where
+  -- they are sound for the vault that was found
+  pub sound_vault : (v : Vault) × AreSound db v
+  sound_vault =
+      let es = found.held.entries.0 in
+      let are = found.held.entries.1 in
+      let versions = found.held.versions es are in
+      let contents = versions.contents.0 in
+      let contents_are = versions.contents.1 in
+      let settings = versions.settings.0 in
+      let settings_are = versions.settings.1 in
+      let notes = versions.notes in
+      let departments = found.departments.departments in
+      let callers = found.names.callers in
+      let buckets = found.names.buckets in
+      let since = past_too db m.last es past are in
+      let rows = length_permutation _ _ are.0 in
+      let a : length (map entry_row es) ≡ length es = simp length-map in
+      let b : length (map entry_columns (db.trees entries_tree)) ≡ length (db.trees entries_tree) = simp length-map in
+      let next = found.departments.next in
+      let summed = found.departments.sums buckets.0 contents m.last buckets.1 (subst (AreEntries db) (sym contents_are.0) are) (subst (AllByRecursion (IsPast m.last)) (sym contents_are.0) since) in
+      let all : AreFound db m departments.0 callers.0 buckets.0 notes.0 es contents settings summed.0 = record {
+        schema = schema;
+        tied = tied;
+        meta = meta;
+        next = omega (arith, next, rows, a, b);
+        departments_are = departments.1;
+        callers_are = callers.1;
+        buckets_are = buckets.1;
+        entries_are = are;
+        past = since;
+        contents_are = contents_are;
+        settings_are = settings_are;
+        notes_are = notes.1;
+        sums_are = summed.1;
+      } in
+      let v = found_vault m departments.0 callers.0 buckets.0 notes.0 contents settings in
+      let same : map (λ (h : History). h.entry) v.histories ≡ es = joined_entries contents settings (contents_are.0 ∙ sym settings_are.0) ∙ contents_are.0 in
+      let sound : AreSound db v = record {
+        spells = found_spelled db m departments.0 callers.0 buckets.0 notes.0 es contents settings summed.0 all;
+        numbers = found_sums db m departments.0 callers.0 buckets.0 notes.0 es contents settings summed.0 all;
+        heads = found.held.heads v (subst (AreEntries db) (sym same) are);
+      } in
+      (v, sound)
+
+-- no vault of another moment
+pub none_of_meta : (db : Database) (m : MetaRow) → IsMetaOf db (Some m) → ((v : Vault) → v.last ≡ m.last → ¬ AreSound db v) → (v : Vault) → ¬ AreSound db v
+none_of_meta db m meta none v it = none v (last_of db v m meta it) it

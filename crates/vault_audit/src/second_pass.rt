@@ -1,0 +1,60 @@
+//! The second pass over the tables: what their rows are to each other.
+ghost use Rattle.std.specs.Prelude.{◌≡◌, IfOk, OnOk};
+ghost use Rattle.sqlite.specs.State.{HasCleanDisk, IsUnchanged, Survives};
+ghost use Rattle.sqlite.specs.Held.{state};
+ghost use Rattle.vault_audit_model.specs.Tables.{vault_schema};
+ghost use Rattle.vault_audit_looks.specs.Looks.{Told, ToldOf};
+ghost use Rattle.vault_audit.specs.Whole.{VersionsAndHeads, AllFound};
+
+use sqlite::{Alter, Connection, Error};
+use std::alloc::Global;
+use vault_audit_keys::check_heads;
+use vault_audit_looks::departments::look_at_departments;
+use vault_audit_looks::names::look_at_names;
+use vault_audit_looks::versions::look_at_versions;
+use vault_audit_model::rows::MetaRow;
+use vault_audit_tables::numbers::check_numbers;
+use vault_base::refusal::Table;
+
+/// The first of entries, contents, settings, intake and heads that is damaged.
+pub(crate) fn look_at_entries<S: Alter>(conn: &mut Connection<S>) -> Result<Option<Table>, Error>
+    requires { HasCleanDisk (state S.Store conn.old) → (state S.Store conn.old).now.schema ≡ vault_schema }
+    ensures told { HasCleanDisk (state S.Store conn.new) → IfOk result (Told (state S.Store conn.new).now (VersionsAndHeads (state S.Store conn.new).now)) }
+    ensures same { HasCleanDisk (state S.Store conn.new) → OnOk result (IsUnchanged (state S.Store conn.old) (state S.Store conn.new)) }
+    ensures crash { Survives (state S.Store conn.old) (state S.Store conn.new) (λ _. ⊥) }
+{
+    let Some(_next) = check_numbers(conn)? else {
+        return Ok(Some(Table::Entries));
+    };
+    if let Some(table) = look_at_versions(conn)? {
+        return Ok(Some(table));
+    }
+    let heads = check_heads(conn)?;
+    if !heads {
+        return Ok(Some(Table::Heads));
+    }
+    Ok(None)
+}
+
+/// The first table whose rows aren't what they have to be to each other, where this is the row of `meta`.
+pub(crate) fn look_again<S: Alter>(
+    alloc: Global,
+    conn: &mut Connection<S>,
+    meta: MetaRow,
+) -> Result<Option<Table>, Error>
+    requires { HasCleanDisk (state S.Store conn.old) → (state S.Store conn.old).now.schema ≡ vault_schema }
+    ensures told { HasCleanDisk (state S.Store conn.new) → IfOk result (ToldOf (state S.Store conn.new).now meta (AllFound (state S.Store conn.new).now meta)) }
+    ensures same { HasCleanDisk (state S.Store conn.new) → OnOk result (IsUnchanged (state S.Store conn.old) (state S.Store conn.new)) }
+    ensures crash { Survives (state S.Store conn.old) (state S.Store conn.new) (λ _. ⊥) }
+{
+    if let Some(table) = look_at_departments(alloc, conn, meta)? {
+        return Ok(Some(table));
+    }
+    if let Some(table) = look_at_names(alloc, conn)? {
+        return Ok(Some(table));
+    }
+    if let Some(table) = look_at_entries(conn)? {
+        return Ok(Some(table));
+    }
+    Ok(None)
+}

@@ -1,0 +1,74 @@
+//! Both passes, and what they tell.
+ghost use Rattle.std.specs.Prelude.{◌≡◌, IfOk, OnOk, IfErr};
+ghost use Rattle.sqlite.specs.State.{HasCleanDisk, IsUnchanged, Survives};
+ghost use Rattle.sqlite.specs.Held.{state};
+ghost use Rattle.vault_base.specs.declared.refusal.Table.{Table};
+ghost use Rattle.vault_core_model.specs.Vault.{Vault};
+ghost use Rattle.vault_audit_model.specs.Spells.{AreSound};
+ghost use Rattle.vault_audit_model.specs.Tables.{vault_schema};
+ghost use Rattle.vault_audit.specs.Whole.{IsAudited, IsJudged, IsTold, refusal_of};
+
+use crate::first_pass::look_at_rows;
+use crate::second_pass::look_again;
+use sqlite::{Alter, Connection, Error, ErrorCode};
+use std::alloc::Global;
+use vault_audit_schema::check_schema;
+use vault_audit_tables::meta::check_meta;
+use vault_audit_ties::check_ties;
+use vault_base::refusal::{Refusal, Table};
+
+/// What an error of the store is told as.
+fn refusal_of(error: Error) -> Refusal
+    ensures { result ≡ refusal_of error }
+{
+    match error {
+        Error::SqliteFailure(ErrorCode::OutOfMemory) => Refusal::Memory,
+        _ => Refusal::Device,
+    }
+}
+
+/// The first table of a file with a vault's schema that is damaged.
+fn find_damage<S: Alter>(alloc: Global, conn: &mut Connection<S>) -> Result<Option<Table>, Error>
+    requires { HasCleanDisk (state S.Store conn.old) → (state S.Store conn.old).now.schema ≡ vault_schema }
+    ensures told { HasCleanDisk (state S.Store conn.new) → IfOk result (IsAudited (state S.Store conn.new).now) }
+    ensures same { HasCleanDisk (state S.Store conn.new) → OnOk result (IsUnchanged (state S.Store conn.old) (state S.Store conn.new)) }
+    ensures crash { Survives (state S.Store conn.old) (state S.Store conn.new) (λ _. ⊥) }
+{
+    let Some(meta) = check_meta(conn)? else {
+        return Ok(Some(Table::Meta));
+    };
+    if let Some(table) = look_at_rows(conn, meta.last)? {
+        return Ok(Some(table));
+    }
+    if let Some(table) = look_again(alloc, conn, meta)? {
+        return Ok(Some(table));
+    }
+    check_ties(conn);
+    Ok(None)
+}
+
+/// Looks at every table of a file, and changes nothing: they are to be those of a sound vault, with its
+/// running numbers and heads.
+///
+/// `Damaged` with the first table that isn't, in their order: first each is looked at by itself, for its
+/// columns and for the values of its rows, and then beside the others. `Memory` where the store wanted
+/// memory. `Device` where it refused for another cause.
+pub fn audit<S: Alter>(alloc: Global, conn: &mut Connection<S>) -> Result<(), Refusal>
+    // There is a vault that the tables are those of,
+    ensures sound { HasCleanDisk (state S.Store conn.new) → OnOk result ((v : Vault) × AreSound (state S.Store conn.new).now v) }
+    // or they are those of none.
+    ensures damaged { HasCleanDisk (state S.Store conn.new) → IfErr result (λ r. (t : Table) → r ≡ Refusal.Damaged t → (v : Vault) → ¬ AreSound (state S.Store conn.new).now v) }
+    ensures faults { IfErr result IsTold }
+    ensures same { HasCleanDisk (state S.Store conn.new) → OnOk result (IsUnchanged (state S.Store conn.old) (state S.Store conn.new)) }
+    ensures kept { HasCleanDisk (state S.Store conn.new) → IsJudged result → (state S.Store conn.new).now ≡ (state S.Store conn.old).now }
+    ensures crash { Survives (state S.Store conn.old) (state S.Store conn.new) (λ _. ⊥) }
+{
+    if let Some(table) = check_schema(conn) {
+        return Err(Refusal::Damaged(table));
+    }
+    match find_damage(alloc, conn) {
+        Ok(None) => Ok(()),
+        Ok(Some(table)) => Err(Refusal::Damaged(table)),
+        Err(error) => Err(refusal_of(error)),
+    }
+}

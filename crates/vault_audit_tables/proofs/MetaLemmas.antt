@@ -1,0 +1,64 @@
+-- The walk over meta.
+use Rattle.std.proofs.Common.{◌≡◌, List, [], ◌∷◌, map, true, false, Some, None, Option, Less, IsPermutation, IsSorted, refl, ap, subst}
+use Rattle.std.proofs.Common.{arith}
+use Rattle.std.proofs.lemmas.List.Sorted.{length_permutation}
+use Rattle.sqlite_value.specs.Order.{Row}
+use Rattle.sqlite_trees.specs.Tree.{IsAscending}
+use Rattle.sqlite_sql.specs.Term.{col}
+use Rattle.sqlite.specs.Effect.{Database}
+use Rattle.sqlite.specs.State.{State, Shown, IsUnchanged}
+use Rattle.vault_audit_model.specs.declared.rows.MetaRow.{MetaRow}
+use Rattle.vault_audit_tables.specs.declared.meta.MetaPass.{MetaPass}
+use Rattle.vault_audit_model.specs.Tables.{vault_schema}
+use Rattle.vault_audit_model.specs.Rows.{meta_row, meta_columns}
+use Rattle.vault_audit_model.proofs.SameRows.{same_meta}
+use Rattle.vault_audit_tables.specs.Meta.{IsFirstMeta, with_meta, IsMetaOf}
+use Rattle.vault_audit_walk.specs.Pass.{Takes, Refuses, AllFit, after}
+use Rattle.vault_audit_walk.specs.Walk.{Walked}
+use Rattle.vault_audit_walk.proofs.ScanLemmas.{walked, first_cmp}
+use Rattle.vault_audit_walk.proofs.PassLemmas.{walk_yes, walk_no}
+use Rattle.vault_audit_tables.proofs.TextLemmas.{meta_walk, meta_walk_is, meta_walk_plain}
+
+abbrev source : Database → List Row
+source db = map meta_columns (db.trees 0)
+
+answers : (a b : State) → a.now.schema ≡ vault_schema → (rows : List Row) → Shown meta_walk [] a b rows → IsPermutation (source a.now) rows × IsSorted first_cmp rows
+answers a b schema rows shown = walked meta_walk a b vault_schema schema meta_walk_plain meta_walk_is.1 0 0 (col 1 2 ∷ col 1 3 ∷ col 1 4 ∷ []) _ meta_walk_is.0 refl rows shown
+
+abbrev start : MetaPass
+start = record { found = None }
+
+rise : (xs : List MetaRow) → AllFit meta_row IsFirstMeta with_meta start xs → IsAscending (λ a b. first_cmp a b ≡ Less) (map meta_row xs)
+rise [] fit = tt
+rise (x ∷ []) fit = (tt, tt)
+rise (x ∷ y ∷ xs) fit = absurd (let never = fit.1.0.0 in cc)
+
+module _ (old new : State) (has : old.now.schema ≡ vault_schema) (same : IsUnchanged old new) (r : MetaPass) where
+  pub meta_yes : Walked (Takes meta_row IsFirstMeta with_meta) (Refuses meta_row IsFirstMeta with_meta) meta_walk old new start r true → (x : MetaRow) → r.found ≡ Some x → IsMetaOf new.now (Some x)
+  meta_yes h = one (walk_yes meta_row IsFirstMeta with_meta same_meta vault_schema meta_walk _ _ meta_walk_is.0 source answers old new has same start r h)
+    where
+      one : (xs : List MetaRow) × IsPermutation (map meta_row xs) (source new.now) × AllFit meta_row IsFirstMeta with_meta start xs × (r ≡ after meta_row IsFirstMeta with_meta start xs) → (x : MetaRow) → r.found ≡ Some x → IsMetaOf new.now (Some x)
+      one ([], are, fit, is) x found = absurd (let e = ap (λ (p : MetaPass). p.found) is in cc)
+      one (y ∷ [], are, fit, is) x found =
+          let same : y ≡ x = (let e = ap (λ (p : MetaPass). p.found) is in cc) in
+          subst (λ z. IsMetaOf new.now (Some z)) same (are, fit.0.1)
+      one (y ∷ z ∷ more, are, fit, is) x found = absurd (let never = fit.1.0.0 in cc)
+
+  -- no row at all
+  pub meta_none : Walked (Takes meta_row IsFirstMeta with_meta) (Refuses meta_row IsFirstMeta with_meta) meta_walk old new start r true → r.found ≡ None → IsMetaOf new.now None
+  meta_none h = one (walk_yes meta_row IsFirstMeta with_meta same_meta vault_schema meta_walk _ _ meta_walk_is.0 source answers old new has same start r h)
+    where
+      one : (xs : List MetaRow) × IsPermutation (map meta_row xs) (source new.now) × AllFit meta_row IsFirstMeta with_meta start xs × (r ≡ after meta_row IsFirstMeta with_meta start xs) → r.found ≡ None → IsMetaOf new.now None
+      one ([], are, fit, is) none x one_row head = absurd (let a = length_permutation _ _ are in let b = length_permutation _ _ one_row in omega arith)
+      one (y ∷ [], are, fit, is) none x one_row head = absurd (let e = ap (λ (p : MetaPass). p.found) is in cc)
+      one (y ∷ z ∷ more, are, fit, is) none x one_row head = absurd (let never = fit.1.0.0 in cc)
+
+  pub meta_no : Walked (Takes meta_row IsFirstMeta with_meta) (Refuses meta_row IsFirstMeta with_meta) meta_walk old new start r false → IsMetaOf new.now None
+  meta_no h x are head = walk_no meta_row IsFirstMeta with_meta same_meta vault_schema meta_walk _ _ meta_walk_is.0 source answers old new has same start r rise h (x ∷ []) are ((refl, head), tt)
+
+  pub meta_all : Walked (Takes meta_row IsFirstMeta with_meta) (Refuses meta_row IsFirstMeta with_meta) meta_walk old new start r true → IsMetaOf new.now r.found
+  meta_all h = of r.found refl
+    where
+      of : (o : Option MetaRow) → r.found ≡ o → IsMetaOf new.now o
+      of (Some x) found = meta_yes h x found
+      of None found = meta_none h found

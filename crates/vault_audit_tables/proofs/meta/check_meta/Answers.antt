@@ -1,0 +1,31 @@
+use Rattle.std.proofs.Common.{◌≡◌, true, false, refl, sym, subst, rules, arith}
+use Rattle.sqlite.specs.Held.{state}
+use Rattle.sqlite.specs.State.{HasCleanDisk}
+use Rattle.sqlite.specs.Given.{IsPlain}
+use Rattle.sqlite.specs.Listing.{understood}
+use Rattle.vault_audit_tables.specs.Meta.{IsMetaOf}
+use Rattle.vault_audit_tables.proofs.DamageLemmas.{no_meta}
+use Rattle.vault_audit_tables.proofs.MetaLemmas.{meta_all, meta_no}
+use Rattle.vault_audit_tables.proofs.TextLemmas.{meta_walk, meta_walk_plain}
+use Rattle.vault_audit_tables.proofs.meta.check_meta.Goals as goal
+
+pub walk-requires : goal.walk-requires
+walk-requires g c clean = subst (λ s. IsPlain (understood s meta_walk)) (sym (c.requires clean)) meta_walk_plain
+
+pub returns-then-not-one-clause-told : goal.returns-then-not-one-clause-told
+returns-then-not-one-clause-told g c clean =
+    let early : HasCleanDisk (state g.S.Store c.args.conn.now) = omega (arith, c.in_ok-one.ensures.crash.clean) in
+    let no : c.in_ok-one.one ≡ false = search rules in
+    meta_no (state g.S.Store c.args.conn.now) (state g.S.Store c.walk.new.conn) (c.requires early) (c.in_ok-one.ensures.same clean) c.walk.new.pass (rw no at (c.in_ok-one.ensures.walked clean))
+
+pub returns-clause-told : goal.returns-clause-told
+returns-clause-told g c clean =
+    let early : HasCleanDisk (state g.S.Store c.args.conn.now) = omega (arith, c.in_ok-one.ensures.crash.clean) in
+    let yes : c.in_ok-one.one ≡ true = search rules in
+    meta_all (state g.S.Store c.args.conn.now) (state g.S.Store c.walk.new.conn) (c.requires early) (c.in_ok-one.ensures.same clean) c.walk.new.pass (rw yes at (c.in_ok-one.ensures.walked clean))
+
+pub returns-then-not-one-clause-damaged : goal.returns-then-not-one-clause-damaged
+returns-then-not-one-clause-damaged g c clean same v = no_meta (state g.S.Store c.walk.new.conn).now v (returns-then-not-one-clause-told g c clean)
+
+pub returns-clause-damaged : goal.returns-clause-damaged
+returns-clause-damaged g c clean same v = no_meta (state g.S.Store c.walk.new.conn).now v (subst (IsMetaOf (state g.S.Store c.walk.new.conn).now) same (returns-clause-told g c clean))

@@ -1,0 +1,30 @@
+use Rattle.std.proofs.Common.{◌≡◌, true, false, refl, sym, subst, rules, arith}
+use Rattle.sqlite.specs.Held.{state}
+use Rattle.sqlite.specs.State.{HasCleanDisk}
+use Rattle.sqlite.specs.Given.{IsPlain}
+use Rattle.sqlite.specs.Listing.{understood}
+use Rattle.vault_audit_tables.proofs.DamageLemmas.{no_numbers, next_of}
+use Rattle.vault_audit_tables.proofs.NumberLemmas.{numbers_yes, numbers_no}
+use Rattle.vault_audit_tables.proofs.TextLemmas.{numbers_walk, numbers_walk_plain}
+use Rattle.vault_audit_tables.proofs.numbers.check_numbers.Goals as goal
+
+pub walk-requires : goal.walk-requires
+walk-requires g c clean = subst (λ s. IsPlain (understood s numbers_walk)) (sym (c.requires clean)) numbers_walk_plain
+
+pub returns-then-not-whole-clause-told : goal.returns-then-not-whole-clause-told
+returns-then-not-whole-clause-told g c clean =
+    let early : HasCleanDisk (state g.S.Store c.args.conn.now) = omega (arith, c.in_ok-whole.ensures.crash.clean) in
+    let no : c.in_ok-whole.whole ≡ false = search rules in
+    numbers_no (state g.S.Store c.args.conn.now) (state g.S.Store c.walk.new.conn) (c.requires early) (c.in_ok-whole.ensures.same clean) c.walk.new.pass (rw no at (c.in_ok-whole.ensures.walked clean))
+
+pub returns-clause-told : goal.returns-clause-told
+returns-clause-told g c clean =
+    let early : HasCleanDisk (state g.S.Store c.args.conn.now) = omega (arith, c.in_ok-whole.ensures.crash.clean) in
+    let yes : c.in_ok-whole.whole ≡ true = search rules in
+    numbers_yes (state g.S.Store c.args.conn.now) (state g.S.Store c.walk.new.conn) (c.requires early) (c.in_ok-whole.ensures.same clean) c.walk.new.pass (rw yes at (c.in_ok-whole.ensures.walked clean))
+
+pub returns-then-not-whole-clause-damaged : goal.returns-then-not-whole-clause-damaged
+returns-then-not-whole-clause-damaged g c clean same v = no_numbers (state g.S.Store c.walk.new.conn).now v (returns-then-not-whole-clause-told g c clean)
+
+pub returns-clause-next : goal.returns-clause-next
+returns-clause-next g c clean v it = next_of (state g.S.Store c.walk.new.conn).now v _ (returns-clause-told g c clean) it

@@ -1,0 +1,28 @@
+use Rattle.std.proofs.Common.{◌≡◌, map, false, refl, sym, subst, arith}
+use Rattle.sqlite.specs.Held.{state}
+use Rattle.sqlite.specs.State.{HasCleanDisk}
+use Rattle.sqlite.specs.Given.{IsPlain}
+use Rattle.sqlite.specs.Listing.{understood}
+use Rattle.vault_audit_model.specs.Rows.{rule_row, rule_columns}
+use Rattle.vault_audit_model.specs.Limits.{IsRuleRow}
+use Rattle.vault_core_model.specs.Vault.{Vault}
+use Rattle.vault_audit_model.specs.Spells.{AreSound}
+use Rattle.vault_audit_model.specs.Tables.{rules_tree}
+use Rattle.vault_audit_walk.specs.Records.{AreRecords}
+use Rattle.vault_audit_tables.proofs.DamageLemmas.{refused_if_ok, no_rules}
+use Rattle.vault_audit_walk.proofs.RecordLemmas.{records_if_ok}
+use Rattle.vault_audit_tables.proofs.TextLemmas.{rules_text, rules_scan}
+use Rattle.vault_audit_tables.proofs.table_rows.check_rules.Goals as goal
+
+pub check_rows-requires : goal.check_rows-requires
+check_rows-requires g c clean = subst (λ s. IsPlain (understood s rules_text)) (sym (c.requires clean)) rules_scan.plain
+
+pub returns-clause-told : goal.returns-clause-told
+returns-clause-told g c clean =
+    let early : HasCleanDisk (state g.S.Store c.args.conn.now) = omega (arith, c.check_rows.ensures.crash.clean) in
+    records_if_ok rule_row IsRuleRow rules_scan (state g.S.Store c.args.conn.now) (state g.S.Store c.check_rows.new.conn) (c.requires early) (λ trees. refl) (c.check_rows.result) (c.check_rows.ensures.same clean) (c.check_rows.ensures.checked clean)
+
+pub returns-clause-damaged : goal.returns-clause-damaged
+returns-clause-damaged g c clean =
+    let db = (state g.S.Store c.check_rows.new.conn).now in
+    refused_if_ok (AreRecords rule_row IsRuleRow (map rule_columns (db.trees rules_tree))) ((v : Vault) → ¬ AreSound db v) (λ none v. no_rules db v none) c.check_rows.result (returns-clause-told g c clean)

@@ -1,0 +1,3 @@
+pub mod Entries
+pub mod Meta
+pub mod Numbers

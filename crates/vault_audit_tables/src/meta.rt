@@ -1,0 +1,63 @@
+//! The first look at `meta`: it is one row, of the schema's number.
+ghost use Rattle.std.specs.Prelude.{◌≡◌, None, IfOk, OnOk};
+ghost use Rattle.sqlite.specs.State.{HasCleanDisk, IsUnchanged, Survives};
+ghost use Rattle.sqlite.specs.Held.{state};
+ghost use Rattle.vault_core_model.specs.Vault.{Vault};
+ghost use Rattle.vault_audit_model.specs.Spells.{AreSound};
+ghost use Rattle.vault_audit_model.specs.Tables.{vault_schema};
+ghost use Rattle.vault_audit_tables.specs.Meta.{IsMetaOf};
+
+use crate::row_check::refused;
+use sqlite::{Alter, Connection, Error, Row};
+use vault_audit_model::rows::MetaRow;
+use vault_audit_rows::records::read_meta;
+use vault_audit_walk::walk::{Pass, walk};
+
+/// The check of `meta`, and the row that it met.
+#[derive(Drop)]
+pub struct MetaPass {
+    pub found: Option<MetaRow>,
+}
+
+impl Pass for MetaPass {
+    ghost use Rattle.vault_audit_walk.specs.Pass.{Takes, Refuses};
+    ghost use Rattle.vault_audit_model.specs.Rows.{meta_row};
+    ghost use Rattle.vault_audit_tables.specs.Meta.{IsFirstMeta, with_meta};
+
+    ghost goes = { λ p row q. Takes meta_row IsFirstMeta with_meta p row q };
+
+    ghost stops = { λ p row. Refuses meta_row IsFirstMeta with_meta p row };
+
+    fn take(&mut self, row: &Row) -> Result<bool, Error> {
+        if self.found.is_some() {
+            return Ok(false);
+        }
+        match read_meta(row) {
+            Ok(meta) => {
+                self.found = Some(meta);
+                Ok(true)
+            }
+            Err(misread) => refused(misread),
+        }
+    }
+}
+
+/// The one row of `meta`, or none where it isn't one row that tells a moment and an id.
+pub fn check_meta<S: Alter>(conn: &mut Connection<S>) -> Result<Option<MetaRow>, Error>
+    requires { HasCleanDisk (state S.Store conn.old) → (state S.Store conn.old).now.schema ≡ vault_schema }
+    ensures told { HasCleanDisk (state S.Store conn.new) → IfOk result (IsMetaOf (state S.Store conn.new).now) }
+    ensures damaged { HasCleanDisk (state S.Store conn.new) → IfOk result (λ found. found ≡ None → (v : Vault) → ¬ AreSound (state S.Store conn.new).now v) }
+    ensures same { HasCleanDisk (state S.Store conn.new) → OnOk result (IsUnchanged (state S.Store conn.old) (state S.Store conn.new)) }
+    ensures crash { Survives (state S.Store conn.old) (state S.Store conn.new) (λ _. ⊥) }
+{
+    let mut pass = MetaPass { found: None };
+    let one = walk(
+        conn,
+        "SELECT one, schema, last, next FROM meta ORDER BY one",
+        &mut pass,
+    )?;
+    if !one {
+        return Ok(None);
+    }
+    Ok(pass.found)
+}

@@ -1,8 +1,0 @@
-//! The audit of a vault's tables.
-#![tactic(auto)]
-
-mod first_pass;
-mod second_pass;
-mod whole;
-
-pub use whole::audit;
