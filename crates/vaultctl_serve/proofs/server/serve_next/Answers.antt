@@ -1,0 +1,7 @@
+use Rattle.std.proofs.Common.{refl}
+use Rattle.vaultctl_serve.proofs.ServingLemmas.{Stepped-none}
+use Rattle.vaultctl_serve.proofs.server.serve_next.Goals as goal
+
+-- no connection was taken
+pub returns-in_default-clause-stepped : goal.returns-in_default-clause-stepped
+returns-in_default-clause-stepped g c = λ h. Stepped-none 1 (g.K.Keeper.vault c.args.keeper.now) (g.K.Keeper.vault c.args.keeper.now) refl

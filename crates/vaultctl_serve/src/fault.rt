@@ -1,0 +1,10 @@
+//! Why nothing was served.
+use thiserror::Error;
+
+/// Why nothing was served.
+#[derive(Clone, Copy, Debug, PartialEq, Eq, Error)]
+pub enum PortFault {
+    /// The port can't be had.
+    #[error("Device")]
+    Device,
+}

@@ -1,0 +1,74 @@
+//! Connections to a port of this machine, one after another.
+ghost use Rattle.std.specs.Prelude.{◌≡◌, OnErr};
+ghost use Rattle.vault_core_model.specs.Step.{Reached};
+ghost use Rattle.vaultctl_serve.specs.Serving.{Stepped};
+
+use crate::clock::reading;
+use crate::connection::serve_connection;
+use crate::fault::PortFault;
+use std::alloc::Global;
+use std::net::{Ipv4Addr, Net, OpenListener, TcpListener, TcpStream};
+use std::time::Clock;
+use vault_core_model::keeper::Keeper;
+
+/// Takes the next connection and serves its request, at the clock's reading then.
+fn serve_next<C: Clock, L: OpenListener<Stream = TcpStream>, K: Keeper>(
+    clock: &C,
+    alloc: Global,
+    listener: &L,
+    keeper: &mut K,
+)
+    ensures stepped { K.is_honest keeper.new → Stepped 1 (K.vault keeper.old) (K.vault keeper.new) }
+    ensures honest { K.is_honest keeper.new → K.is_honest keeper.old }
+{
+    let Ok((stream, _)) = listener.accept() else {
+        return;
+    };
+    // A fault of the connection is its own.
+    let _ = serve_connection(alloc, &stream, keeper, reading(clock));
+}
+
+/// Takes so many connections, one after another, and serves one request on each, at the clock's reading
+/// when it was taken.
+///
+/// A connection that can't be taken, or whose request isn't served to its end, counts as any other, and
+/// the next one is taken.
+pub fn serve_connections<C: Clock, L: OpenListener<Stream = TcpStream>, K: Keeper>(
+    clock: &C,
+    alloc: Global,
+    listener: &L,
+    keeper: &mut K,
+    count: u32,
+)
+    // At most one command was carried out for each connection.
+    ensures stepped { K.is_honest keeper.new → Stepped count (K.vault keeper.old) (K.vault keeper.new) }
+    // A vault that runs lead to from a new one is left as such a vault.
+    ensures reached { K.is_honest keeper.new → Reached (K.vault keeper.old) → Reached (K.vault keeper.new) }
+    ensures honest { K.is_honest keeper.new → K.is_honest keeper.old }
+{
+    for _ in 0..count {
+        serve_next(clock, alloc, listener, keeper);
+    }
+}
+
+/// Serves so many requests at that port of 127.0.0.1, each on a connection of its own, and ends.
+///
+/// `Device` comes where the port can't be had. No fault of a connection ends it.
+pub fn serve<R: Net<Stream = TcpStream> + Clock, K: Keeper>(
+    rt: &R,
+    alloc: Global,
+    keeper: &mut K,
+    port: u16,
+    count: u32,
+) -> Result<(), PortFault>
+    ensures stepped { K.is_honest keeper.new → Stepped count (K.vault keeper.old) (K.vault keeper.new) }
+    ensures reached { K.is_honest keeper.new → Reached (K.vault keeper.old) → Reached (K.vault keeper.new) }
+    ensures err { OnErr result (K.vault keeper.new ≡ K.vault keeper.old) }
+    ensures honest { K.is_honest keeper.new → K.is_honest keeper.old }
+{
+    let Ok(listener) = TcpListener::bind(rt, (Ipv4Addr::LOCALHOST, port)) else {
+        return Err(PortFault::Device);
+    };
+    serve_connections(rt, alloc, &listener, keeper, count);
+    Ok(())
+}
