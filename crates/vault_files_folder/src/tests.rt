@@ -1,0 +1,94 @@
+//! A folder that is made for the test.
+use crate::disk_folder::DiskFolder;
+use crate::list::read_list;
+use std::alloc::{AllocError, Global};
+use std::rt::Files;
+use std::test::Fail;
+use std::{fs, io};
+use vault_core_model::halt::Fault;
+use vault_files_intake::folder::Folder;
+use vault_files_rows::file_name::FileName;
+
+const FOLDER: &str = "intake_of_a_test";
+
+/// A small file, one a byte larger than what is read of it, a folder, and a link that names itself.
+fn make(rt: &HostRuntime) -> io::Result<()> {
+    fs::create_dir(rt, FOLDER)?;
+    fs::write(rt, "intake_of_a_test/small", "hello")?;
+    fs::write(
+        rt,
+        "intake_of_a_test/large",
+        vec![in rt.alloc(); b'a'; 1_048_578]?,
+    )?;
+    fs::create_dir(rt, "intake_of_a_test/inner")?;
+    rt.symlink("loop", "intake_of_a_test/loop")
+}
+
+/// How many bytes were read, and how the first of them begin.
+fn told(alloc: Global, read: Result<Option<Vec<u8>>, Fault>) -> Result<String, AllocError> {
+    match read {
+        Ok(None) => String::from_str(alloc, "none"),
+        Ok(Some(bytes)) => {
+            let length = bytes.len();
+            let first = bytes.first().copied().unwrap_or(0);
+            format!(in alloc; "{length} of {first}")
+        }
+        Err(Fault::Memory) => String::from_str(alloc, "memory"),
+        Err(Fault::Device) => String::from_str(alloc, "device"),
+    }
+}
+
+/// What is told of each of these files in turn.
+fn told_of(alloc: Global, folder: &mut impl Folder, names: &[&str]) -> Result<String, Fail> {
+    let mut all = String::new(alloc);
+    for name in names {
+        let name = FileName::read(alloc, name)?.ok_or("a name of a file")?;
+        let read = told(alloc, folder.read(&name))?;
+        all.push_str(read.as_str())?;
+        all.push_str("; ")?;
+    }
+    Ok(all)
+}
+
+fn compare(given: &str, wanted: &str) -> Result<(), Fail> {
+    if given == wanted {
+        return Ok(());
+    }
+    Err(Fail::new(format_args!("wanted {wanted}, got {given}")))
+}
+
+fn read_all(rt: &HostRuntime) -> Result<(), Fail> {
+    let alloc = rt.alloc();
+    let mut folder = DiskFolder::new(alloc, rt, FOLDER);
+    let names = ["small", "large", "absent", "inner", "loop", "small"];
+    let all = told_of(alloc, &mut folder, &names)?;
+    compare(
+        all.as_str(),
+        "5 of 104; 1048577 of 97; none; none; device; 5 of 104; ",
+    )?;
+    if folder.faults() != 1 {
+        return Err(Fail::new("one failure is counted"));
+    }
+    Ok(())
+}
+
+#[test]
+fn files_are_read_by_name(rt: HostRuntime) -> Result<(), Fail> {
+    make(&rt)?;
+    let read = read_all(&rt);
+    let removed = fs::remove_dir_all(&rt, FOLDER);
+    read?;
+    removed?;
+    Ok(())
+}
+
+#[test]
+fn a_list_is_read_or_fails(rt: HostRuntime) -> Result<(), Fail> {
+    let alloc = rt.alloc();
+    fs::write(&rt, "list_of_a_test", "file,key,mode,until,hold\n")?;
+    let there = told(alloc, read_list(alloc, &rt, "list_of_a_test").map(Some))?;
+    fs::remove_file(&rt, "list_of_a_test")?;
+    compare(there.as_str(), "25 of 102")?;
+    let absent = told(alloc, read_list(alloc, &rt, "no_list_of_a_test").map(Some))?;
+    compare(absent.as_str(), "device")
+}
