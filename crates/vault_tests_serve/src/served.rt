@@ -1,0 +1,93 @@
+//! Requests over loopback, with their answers byte for byte.
+use crate::loopback::{Failing, Loopback, READING, answered, send};
+use std::cell::Cell;
+use std::io;
+use std::net::{Ipv4Addr, TcpListener};
+use std::test::Fail;
+use vault_transcript::transcript::opened;
+use vaultctl_serve::{PortFault, serve, serve_connections};
+
+const PUT: &str =
+    "PUT /docs/a HTTP/1.1\r\nhost: x\r\nx-vault-caller: ann\r\ncontent-length: 5\r\nexpect: 100-continue\r\n\r\nhello";
+
+const STORED: &str =
+    "HTTP/1.1 100 Continue\r\n\r\nHTTP/1.1 200 OK\r\ndate: Mon, 15 Jan 2024 10:30:00 GMT\r\nconnection: close\r\ncontent-length: 0\r\nx-amz-version-id: 1\r\n\r\n";
+
+const GET: &str = "GET /docs/a HTTP/1.1\r\nx-vault-caller: ann\r\n\r\n";
+
+const GOT: &str =
+    "HTTP/1.1 200 OK\r\ndate: Mon, 15 Jan 2024 10:30:00 GMT\r\nconnection: close\r\ncontent-type: application/octet-stream\r\ncontent-length: 5\r\nx-amz-version-id: 1\r\nx-amz-object-lock-legal-hold: OFF\r\n\r\nhello";
+
+const NO_TIME: &str =
+    "HTTP/1.1 503 Service Unavailable\r\nconnection: close\r\ncontent-type: application/json\r\ncontent-length: 32\r\n\r\n{\"code\":\"ClockOutOfRange\",\"n\":2}";
+
+/// One request a connection, one connection after another. One that sends nothing counts, and gets no
+/// answer; behind the last none is served.
+#[test]
+fn serves_as_many_as_it_should(rt: HostRuntime) -> Result<(), Fail> {
+    let alloc = rt.alloc();
+    let mut keeper = opened(alloc)?;
+    let network = Loopback {
+        net: &rt,
+        alloc,
+        requests: &[PUT, "", GET, GET],
+        clients: Cell::new(Vec::new(alloc)),
+        since_1970: Some(READING),
+    };
+    assert!(rt; serve(&network, alloc, &mut keeper, 0, 3).is_ok());
+    let mut clients = network.clients.replace(Vec::new(alloc));
+    if let Some(unserved) = clients.pop() {
+        assert!(rt; io::read_to_string(alloc, unserved).is_err());
+    }
+    answered(alloc, clients, &[STORED, "", GOT])
+}
+
+/// A request whose time isn't known is refused.
+#[test]
+fn a_clock_that_cannot_be_read(rt: HostRuntime) -> Result<(), Fail> {
+    let alloc = rt.alloc();
+    let mut keeper = opened(alloc)?;
+    let network = Loopback {
+        net: &rt,
+        alloc,
+        requests: &[GET],
+        clients: Cell::new(Vec::new(alloc)),
+        since_1970: None,
+    };
+    assert!(rt; serve(&network, alloc, &mut keeper, 0, 1).is_ok());
+    answered(alloc, network.clients.replace(Vec::new(alloc)), &[NO_TIME])
+}
+
+/// A connection that can't be taken counts, and the next one is served.
+#[test]
+fn a_listener_that_fails(rt: HostRuntime) -> Result<(), Fail> {
+    let alloc = rt.alloc();
+    let mut keeper = opened(alloc)?;
+    let clock = Loopback {
+        net: &rt,
+        alloc,
+        requests: &[],
+        clients: Cell::new(Vec::new(alloc)),
+        since_1970: Some(READING),
+    };
+    let failing = Failing {
+        listener: TcpListener::bind(&rt, (Ipv4Addr::LOCALHOST, 0))?,
+        failures: Cell::new(2),
+    };
+    let address = failing.listener.local_addr()?;
+    let clients = vec![in alloc; send(&rt, address, PUT)?, send(&rt, address, GET)?]?;
+    serve_connections(&clock, alloc, &failing, &mut keeper, 4);
+    assert_eq!(rt; failing.failures.get(), 0);
+    answered(alloc, clients, &[STORED, GOT])
+}
+
+/// A port that another listener has can't be had.
+#[test]
+fn a_port_that_is_taken(rt: HostRuntime) -> Result<(), Fail> {
+    let alloc = rt.alloc();
+    let mut keeper = opened(alloc)?;
+    let listener = TcpListener::bind(&rt, (Ipv4Addr::LOCALHOST, 0))?;
+    let port = listener.local_addr()?.port();
+    assert!(rt; serve(&rt, alloc, &mut keeper, port, 1) == Err(PortFault::Device));
+    Ok(())
+}
