@@ -1,5 +1,5 @@
 -- The part of an admission makes the edit of that change, by what was read of the vault before.
-use Rattle.std.proofs.Common.{◌≡◌, ℕ, ◌+◌, ◌≤◌, List, [], ◌∷◌, map, Bool, true, false, Option, Some, None, refl, sym, ap, subst, ◌∙◌}
+use Rattle.std.proofs.Common.{◌≡◌, ℕ, ◌+◌, ◌≤◌, List, [], ◌∷◌, map, Bool, true, false, Option, Some, refl, sym, ap, ◌∙◌}
 use Rattle.sqlite_value.specs.Order.{Row}
 use Rattle.vault_base.specs.Days.{day, last_moment}
 use Rattle.vault_base.specs.declared.refusal.Table.TheVariants as table
@@ -15,7 +15,7 @@ use Rattle.vault_core_model.specs.Change.{changed}
 use Rattle.vault_core_model.specs.Reads.{head_of}
 use Rattle.vault_core_model.specs.Sound.{Sound}
 use Rattle.vault_core_model.specs.Totals.{items_of}
-use Rattle.vault_core_model.specs.Vault.{Vault, config_of, next_id}
+use Rattle.vault_core_model.specs.Vault.{Vault, config_of}
 use Rattle.vault_audit_model.specs.Rows.{setting_row}
 use Rattle.vault_audit_model.specs.Spells.{settings_from, department_in}
 use Rattle.vault_store_model.specs.Edits.{changed_if}

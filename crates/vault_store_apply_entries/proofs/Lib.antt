@@ -1,1 +1,3 @@
 pub mod AdmissionLemmas
+pub mod ReadLemmas
+pub mod RemovalLemmas

@@ -1,28 +1,25 @@
-//! An entry that is admitted, and one that is removed.
-ghost use Rattle.std.specs.Prelude.{◌≡◌, false, Some, IsTrue, IfOk, OnOk, OnErr};
+//! An entry that is admitted.
+ghost use Rattle.std.specs.Prelude.{◌≡◌, false, IsTrue, IfOk, OnOk, OnErr};
 ghost use Rattle.sqlite_trees.specs.Tree.{Trees};
 ghost use Rattle.sqlite.specs.Held.{state};
 ghost use Rattle.sqlite.specs.State.{HasCleanDisk, Survives};
 ghost use Rattle.vault_core_model.specs.declared.change.Change.TheVariants as change;
 ghost use Rattle.vault_base.specs.Days.{day};
-ghost use Rattle.vault_core_model.specs.Reads.{head_of};
-ghost use Rattle.vault_core_model.specs.Totals.{IsRowFor};
-ghost use Rattle.vault_core_model.specs.Vault.{Vault, config_of};
+ghost use Rattle.vault_core_model.specs.Vault.{Vault};
 ghost use Rattle.vault_store_model.specs.Keeping.{Keeps};
 ghost use Rattle.vault_store_changes.specs.Edits.{head_with};
 ghost use Rattle.vault_store_changes.specs.Limits.{IsChangeInLimits};
 ghost use Rattle.vault_store_changes.specs.Sums.{CountsIn};
-ghost use Rattle.vault_store_apply.specs.Applies.{Changes};
+ghost use Rattle.vault_store_apply.specs.Applies.{Changes, IsChanged};
 
+use crate::place::read_place;
 use sqlite::{Alter, Connection, Error, ErrorCode};
 use vault_base::moment::Moment;
-use vault_base::name::{BucketName, ObjectKey, VersionId};
+use vault_base::name::VersionId;
 use vault_core_model::change::Admission;
-use vault_core_model::records::{BucketConfig, Head};
+use vault_core_model::records::Head;
 use vault_store_apply::commit::commit_part;
 use vault_store_entry_parts::entry::NewEntry;
-use vault_store_reads::heads::read_head;
-use vault_store_reads::names::{read_bucket, read_totals};
 use vault_tally::row::Row;
 
 /// The head of a key with one entry more. `TooBig` beyond 64 bits.
@@ -42,34 +39,6 @@ fn next_head(id: VersionId, head: Option<Head>) -> Result<Head, Error>
         newest: id,
         count: head.count + 1,
     })
-}
-
-/// What an admission or a removal reads of the vault beside its entry: the configuration of the bucket,
-/// the sums of its department, and the head of the key.
-#[derive(Drop)]
-struct Place {
-    config: BucketConfig,
-    sums: Row,
-    head: Option<Head>,
-}
-
-/// Reads that; an error where there is no such bucket.
-fn read_place<S: Alter>(
-    conn: &mut Connection<S>,
-    bucket: &BucketName,
-    key: &ObjectKey,
-) -> Result<Place, Error>
-    ensures value { HasCleanDisk (state S.Store conn.new) → IfOk result (λ place. (v : Vault) → Keeps (state S.Store conn.old) v
-        → (Some place.config ≡ config_of v bucket.now) × IsRowFor v place.config.dept place.sums × (place.head ≡ head_of v bucket.now key.now)) }
-    ensures same { HasCleanDisk (state S.Store conn.new) → (v : Vault) → Keeps (state S.Store conn.old) v → Keeps (state S.Store conn.new) v }
-    ensures honest { HasCleanDisk (state S.Store conn.new) → HasCleanDisk (state S.Store conn.old) }
-    ensures mode { conn.old.in_transaction ≡ false → conn.new.in_transaction ≡ false }
-{
-    let found = read_bucket(conn, bucket)?;
-    let config = found.ok_or(Error::QueryReturnedNoRows)?;
-    let sums = read_totals(conn, &config.dept)?;
-    let head = read_head(conn, bucket, key)?;
-    Ok(Place { config, sums, head })
 }
 
 /// The sums with a version counted in that is admitted at a moment.
@@ -94,6 +63,7 @@ pub fn admit<S: Alter>(
     ensures nothing { HasCleanDisk (state S.Store conn.new) → OnErr result ((v : Vault) → Keeps (state S.Store conn.old) v → Keeps (state S.Store conn.new) v) }
     ensures honest { HasCleanDisk (state S.Store conn.new) → HasCleanDisk (state S.Store conn.old) }
     ensures alone { HasCleanDisk (state S.Store conn.new) → OnOk result ((trees : Trees) → (state S.Store conn.new).may_leave trees → trees ≡ (state S.Store conn.new).now.trees) }
+    ensures crash { IsChangeInLimits (change.Admit admission.now) → (v : Vault) → Keeps (state S.Store conn.old) v → Survives (state S.Store conn.old) (state S.Store conn.new) (IsChanged (state S.Store conn.old) v at (change.Admit admission.now)) }
 {
     let entry = &admission.history.entry;
     let place = read_place(conn, &entry.bucket, &entry.key)?;

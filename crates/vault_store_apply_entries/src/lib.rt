@@ -2,4 +2,6 @@
 #![tactic(auto)]
 
 pub mod entries;
+mod place;
+pub mod removal;
 pub mod settings;

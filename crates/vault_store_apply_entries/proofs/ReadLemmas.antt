@@ -1,0 +1,52 @@
+-- Reads one after the other, each of which is known to have left the connection open.
+use Rattle.std.proofs.Common.{◌≡◌, inl, inr, ℕ, List, Option, Some, Result, Ok, Err, false, IsTrue, IfOk, OnOk, sym, subst, ◌∙◌, arith}
+use Rattle.std.specs.Result.{result_ok}
+use Rattle.sqlite_value.specs.Order.{Row}
+use Rattle.sqlite.specs.declared.error.Error.{Error}
+use Rattle.sqlite_trees.specs.declared.store.Store.{Ghosts}
+use Rattle.sqlite.specs.Held.{Held, state}
+use Rattle.sqlite.specs.State.{State, HasCleanDisk, IsUnchanged, IsRolledBack, IsNotRun, Survives}
+use Rattle.sqlite.proofs.StateLemmas.{survives_then, clean_if_open}
+use Rattle.vault_core_model.specs.Vault.{Vault}
+use Rattle.vault_audit_model.specs.Spells.{AreSound}
+use Rattle.vault_store_model.specs.Keeping.{Keeps}
+
+pub unchanged_keeps : (old new : State) (v : Vault) → IsUnchanged old new → Keeps old v → Keeps new v
+unchanged_keeps old new v same was is_open =
+    let keeps = was same.0.was_open in
+    (subst (λ db. AreSound db v) (sym same.0.now_is) keeps.0, same.0.committed_is ∙ keeps.1 ∙ sym same.0.now_is)
+
+undone_keeps : (old new : State) (v : Vault) → IsRolledBack old new → Keeps old v → Keeps new v
+undone_keeps old new v undone was is_open =
+    let keeps = was (undone.was_open is_open) in
+    let both = undone.undone is_open in
+    (subst (λ db. AreSound db v) (sym (both.0 ∙ keeps.1)) keeps.0, both.1 ∙ sym both.0)
+
+-- a statement that isn't understood, or a failure, changes nothing of what was committed
+pub refused_keeps : (old new : State) (sql : List ℕ) (params : Row) (e : Error) (v : Vault) → IsNotRun old new sql params e → Keeps old v → Keeps new v
+unfolding IsNotRun
+refused_keeps old new sql params e v (inl it) = unchanged_keeps old new v it.1
+refused_keeps old new sql params e v (inr it) = undone_keeps old new v it.3
+
+-- a crash in a look whether the connection is open leaves what a crash before it left
+pub looked : (a b c : State) → Survives a b (λ _. ¬ IsTrue a.is_open) → Survives b c (λ _. ⊥) → Survives a c (λ _. ¬ IsTrue a.is_open)
+looked a b c one two = survives_then a b c _ _ _ (λ _ db shut. shut) (λ _ db none. absurd none) one two
+
+-- so does one in a read of a connection that is open
+pub read_then : (a b c : State) → (HasCleanDisk b → IsTrue b.is_open) → Survives a b (λ _. ¬ IsTrue a.is_open) → Survives b c (λ _. ¬ IsTrue b.is_open) → Survives a c (λ _. ¬ IsTrue a.is_open)
+read_then a b c stays one two =
+    survives_then a b c _ _ _ (λ _ db shut. shut)
+    (λ clean db shut. let mid : HasCleanDisk b = omega (arith, clean, two.clean) in absurd (shut (stays mid))) one two
+
+-- a connection that is not clean is shut, and so keeps what one that is clean keeps
+pub keeps_now : {S : Type 0} (g : Ghosts S) (h : Held S) (v : Vault) → ((g.view h.store).is_clean ≡ false → (g.view h.store).is_open ≡ false) → (HasCleanDisk (state g h) → Keeps (state g h) v) → Keeps (state g h) v
+keeps_now g h v shut keeps is_open = keeps (clean_if_open (g.view h.store) shut is_open) is_open
+
+-- what was said of a record that may be there, of the one that is
+pub if_there : {A E : Type 0} (P : Option A → Type 0) (o : Option A) (r : Result A E) → o ≡ result_ok r → P o → IfOk r (λ x. P (Some x))
+if_there P o (Ok x) same p = subst P same p
+if_there P o (Err e) same p = tt
+
+pub on_ok_here : {A E : Type 0} {P : Type 0} (r : Result A E) → P → OnOk r P
+on_ok_here (Ok x) p = p
+on_ok_here (Err e) p = tt

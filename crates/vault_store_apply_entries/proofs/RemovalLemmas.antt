@@ -1,0 +1,123 @@
+-- The part of a removal makes the edit of that change, by what was read of the vault before.
+use Rattle.std.proofs.Common.{◌≡◌, ℕ, ◌+◌, ◌-◌, ◌≤◌, ◌==◌, List, [], ◌∷◌, length, filter, cond, Bool, true, false, Option, Some, None, refl, sym, ap, subst, ◌∙◌, arith, eqb}
+use Rattle.std.specs.Prelude.{find, option_map, if◌then◌else◌}
+use Rattle.sqlite_value.specs.Order.{Row}
+use Rattle.vault_base.specs.Days.{day, last_moment}
+use Rattle.vault_base.specs.declared.refusal.Table.{Table}
+use Rattle.vault_base.specs.declared.refusal.Table.TheVariants as table
+use Rattle.vault_tally.specs.Row.{IsRowOf}
+use Rattle.vault_tally.specs.declared.row.Row.{Row as Sums}
+use Rattle.vault_core_model.specs.declared.records.BucketConfig.{BucketConfig}
+use Rattle.vault_core_model.specs.declared.records.Entry.{Entry}
+use Rattle.vault_core_model.specs.declared.records.Head.{Head}
+use Rattle.vault_core_model.specs.declared.records.History.{History}
+use Rattle.vault_core_model.specs.declared.records.Removal.{Removal}
+use Rattle.vault_core_model.specs.declared.change.Change.TheVariants as change
+use Rattle.vault_core_model.specs.Allowed.{IsRemoval}
+use Rattle.vault_core_model.specs.Change.{changed}
+use Rattle.vault_core_model.specs.Places.{is_held_at}
+use Rattle.vault_core_model.specs.Reads.{entry_of, head_of, head_over}
+use Rattle.vault_core_model.specs.Sound.{Sound}
+use Rattle.vault_core_model.specs.Totals.{items_of}
+use Rattle.vault_core_model.specs.Vault.{Vault, config_of, history_of}
+use Rattle.vault_audit_model.specs.Spells.{department_in}
+use Rattle.vault_store_model.specs.Rows.{Rows}
+use Rattle.vault_store_model.specs.Edits.{and_then}
+use Rattle.vault_store_changes.specs.Edits.{summed, headed, others_at, without_entry, at_moment}
+use Rattle.vault_store_changes.specs.Sums.{CountsOut}
+use Rattle.vault_store_changes.proofs.EntryLemmas.{found_history}
+use Rattle.vault_store_changes.proofs.SumLemmas.{sums_removed}
+use Rattle.vault_store_head_changes.proofs.ChangeLemmas.{is_held_there}
+use Rattle.vault_store_head_changes.proofs.AfterLemmas.{count_removed}
+use Rattle.vault_store_ordered.specs.Shown.{newest_but}
+use Rattle.vault_store_entry_parts.specs.Parts.{entry_removed, left_rows}
+use Rattle.vault_store_apply.specs.Applies.{IsEditOf}
+use Rattle.vault_store_apply_entries.specs.Heads.{head_without}
+use Rattle.vault_store_apply_entries.proofs.AdmissionLemmas.{summed_same}
+
+-- ---- a held entry's key has a head
+
+abbrev HasHead : List History → Type 0
+HasHead hs = (head : Head) × (head_over hs ≡ Some head)
+
+head_of_some : (h : History) (hs : List History) → HasHead (h ∷ hs)
+head_of_some h [] = (record { newest = h.entry.id; count = 1 }, refl)
+head_of_some h (g ∷ gs) =
+    let rest = head_of_some g gs in
+    let more : Head → Head = λ x. record { newest = x.newest; count = length (h ∷ g ∷ gs) } in
+    (more rest.0, ap (option_map more) rest.1)
+
+head_among : (p : History → Bool) (id : ℕ) (hs : List History) (g : History) → find (λ h. h.entry.id == id) hs ≡ Some g → p g ≡ true → HasHead (filter p hs)
+head_among p id [] g found passes = absurd (cc found)
+head_among p id (h ∷ hs) g found passes =
+    elim (eqb h.entry.id id) as (λ b. (if b then Some h else find (λ x. x.entry.id == id) hs) ≡ Some g → HasHead (cond (p h) (h ∷ filter p hs) (filter p hs))) [
+      | true ↦ λ it. let same : g ≡ h = cc (sym it) in first (p h) (subst (λ x. p x ≡ true) same passes)
+      | false ↦ λ it. behind (p h) (head_among p id hs g it passes)
+    ] found
+  where
+    first : (b : Bool) → b ≡ true → HasHead (cond b (h ∷ filter p hs) (filter p hs))
+    first true is = head_of_some h (filter p hs)
+    first false is = absurd (cc is)
+
+    behind : (b : Bool) → HasHead (filter p hs) → HasHead (cond b (h ∷ filter p hs) (filter p hs))
+    behind true rest = head_of_some h (filter p hs)
+    behind false rest = rest
+
+head_there : (v : Vault) (id : ℕ) (e : Entry) → entry_of v id ≡ Some e → e.removal ≡ None → (head : Head) × (head_of v e.bucket e.key ≡ Some head)
+head_there v id e there held =
+    let found = found_history (history_of v id) e there in
+    head_among (λ h. is_held_at e.bucket e.key h.entry) id v.histories found.0 found.1 (ap (is_held_at e.bucket e.key) found.2 ∙ is_held_there e held)
+
+-- ---- the head that is left
+
+left_of : (o : Option Head) (old : Head) → ((new : Head) → o ≡ Some new → new.count + 1 ≡ old.count) → head_without (option_map (λ h. h.newest) o) (Some old) ≡ o
+left_of None old fewer = refl
+left_of (Some new) old fewer = let less : old.count - 1 ≡ new.count = omega (arith, fewer new refl) in ap (λ c. Some (record { newest = new.newest; count = c })) less
+
+rows_left : (bucket key : List ℕ) (old : Head) (left : Option Head) (rows : List Row) → left_rows bucket key left rows ≡ headed bucket key (Some old) left rows
+rows_left bucket key old None rows = refl
+rows_left bucket key old (Some new) rows = refl
+
+entry_same : (x y : Entry) → Some x ≡ Some y → x ≡ y
+entry_same x y e = cc e
+
+-- ---- the edit
+
+module _ (v : Vault) (t id : ℕ) (r : Removal) (e : Entry) (config : BucketConfig) (row sums : Sums) (head left : Option Head) (newest : Option ℕ) (sound : Sound v) (later : v.last ≤ t) (low : t ≤ last_moment)
+    (is : IsRemoval v t id r) (there : entry_of v id ≡ Some e) (placed : Some config ≡ config_of v e.bucket) (told : IsRowOf row (items_of v config.dept))
+    (counted : CountsOut row e.size (day e.admitted) (day t) sums) (headed_is : head ≡ head_of v e.bucket e.key) (newest_is : newest ≡ newest_but v e.bucket e.key id)
+    (left_is : left ≡ head_without newest head) where
+  abbrev after : Vault
+  after = changed v t (change.Remove id r)
+
+  held : e.removal ≡ None
+  held = subst (λ (x : Entry). x.removal ≡ None) (entry_same is.held.0 e (sym is.held.1 ∙ there)) is.held.2
+
+  removed_sums : e.marker ≡ false → sums ≡ (department_in after config.dept).sums
+  removed_sums version = sums_removed v t id r e config row sums sound later low is there version (sym placed) told counted
+
+  heads_left : (rows : List Row) → left_rows e.bucket e.key left rows ≡ headed e.bucket e.key (head_of v e.bucket e.key) (head_over (others_at v id e.bucket e.key)) rows
+  heads_left rows =
+      let old = head_there v id e there held in
+      let others = head_over (others_at v id e.bucket e.key) in
+      let same : left ≡ others =
+      left_is ∙ ap (λ n. head_without n head) newest_is ∙ ap (head_without (newest_but v e.bucket e.key id)) (headed_is ∙ old.1)
+      ∙ left_of others old.0 (λ new after_is. count_removed v id e old.0 sound there held old.1 new after_is) in
+      ap (λ (o : Option Head). left_rows e.bucket e.key o rows) same ∙ rows_left e.bucket e.key old.0 others rows
+      ∙ ap (λ (o : Option Head). headed e.bucket e.key o others rows) (sym old.1)
+
+  edits_of_entry : (xs : Rows) (u : Table) → entry_removed e id r left config.dept sums t xs u ≡ and_then (without_entry v after id r (Some e)) (at_moment t) xs u
+  edits_of_entry xs table.Meta = refl
+  edits_of_entry xs table.Departments =
+      summed_same after e.marker config sums removed_sums (xs table.Departments) ∙ ap (λ (o : Option BucketConfig). summed after e.marker o (xs table.Departments)) placed
+  edits_of_entry xs table.Callers = refl
+  edits_of_entry xs table.Buckets = refl
+  edits_of_entry xs table.Rules = refl
+  edits_of_entry xs table.Entries = refl
+  edits_of_entry xs table.Contents = refl
+  edits_of_entry xs table.Settings = refl
+  edits_of_entry xs table.Intake = refl
+  edits_of_entry xs table.Heads = heads_left (xs table.Heads)
+
+  pub edits_removal : IsEditOf (entry_removed e id r left config.dept sums t) v t (change.Remove id r)
+  edits_removal xs u = edits_of_entry xs u ∙ ap (λ (o : Option Entry). and_then (without_entry v after id r o) (at_moment t) xs u) (sym there)

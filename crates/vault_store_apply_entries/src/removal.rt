@@ -1,0 +1,113 @@
+//! An entry that is removed.
+ghost use Rattle.std.specs.Prelude.{◌≡◌, false, Some, IsTrue, IfOk, OnOk, OnErr};
+ghost use Rattle.sqlite_trees.specs.Tree.{Trees};
+ghost use Rattle.sqlite.specs.Held.{state};
+ghost use Rattle.sqlite.specs.State.{HasCleanDisk, Survives};
+ghost use Rattle.vault_base.specs.Days.{day};
+ghost use Rattle.vault_core_model.specs.declared.change.Change.TheVariants as change;
+ghost use Rattle.vault_core_model.specs.Reads.{entry_of};
+ghost use Rattle.vault_core_model.specs.Vault.{Vault};
+ghost use Rattle.vault_store_model.specs.Keeping.{Keeps};
+ghost use Rattle.vault_store_changes.specs.Limits.{IsChangeInLimits};
+ghost use Rattle.vault_store_changes.specs.Sums.{CountsOut};
+ghost use Rattle.vault_store_ordered.specs.Shown.{newest_but};
+ghost use Rattle.vault_store_apply.specs.Applies.{Changes, IsChanged};
+ghost use Rattle.vault_store_apply_entries.specs.Heads.{head_without};
+
+use crate::place::{check_open, read_place};
+use sqlite::{Alter, Connection, Error};
+use vault_base::moment::Moment;
+use vault_base::name::VersionId;
+use vault_core_model::records::{Entry, Head, Removal};
+use vault_store_apply::commit::commit_part;
+use vault_store_entry_parts::entry::RemovedEntry;
+use vault_store_ordered::reads::read_newest_but;
+use vault_store_reads::entries::read_entry;
+use vault_tally::row::Row;
+
+/// The entry of an id; an error where there is none.
+fn find_entry<S: Alter>(conn: &mut Connection<S>, id: VersionId) -> Result<Entry, Error>
+    ensures value { HasCleanDisk (state S.Store conn.new) → IfOk result (λ entry. (v : Vault) → Keeps (state S.Store conn.old) v → Some entry ≡ entry_of v id) }
+    ensures open { HasCleanDisk (state S.Store conn.new) → OnOk result (IsTrue (state S.Store conn.new).is_open) }
+    ensures same { HasCleanDisk (state S.Store conn.new) → (v : Vault) → Keeps (state S.Store conn.old) v → Keeps (state S.Store conn.new) v }
+    ensures honest { HasCleanDisk (state S.Store conn.new) → HasCleanDisk (state S.Store conn.old) }
+    ensures mode { conn.old.in_transaction ≡ false → conn.new.in_transaction ≡ false }
+    ensures crash { (v : Vault) → Keeps (state S.Store conn.old) v → Survives (state S.Store conn.old) (state S.Store conn.new) (λ _. ¬ IsTrue (state S.Store conn.old).is_open) }
+{
+    let found = read_entry(conn, id)?;
+    check_open(conn)?;
+    found.ok_or(Error::QueryReturnedNoRows)
+}
+
+/// The newest held entry of a key besides the one of that id.
+fn find_newest_but<S: Alter>(
+    conn: &mut Connection<S>,
+    entry: &Entry,
+    id: VersionId,
+) -> Result<Option<VersionId>, Error>
+    ensures value { HasCleanDisk (state S.Store conn.new) → IfOk result (λ newest. (v : Vault) → Keeps (state S.Store conn.old) v → newest ≡ newest_but v entry.now.bucket entry.now.key id) }
+    ensures open { HasCleanDisk (state S.Store conn.new) → OnOk result (IsTrue (state S.Store conn.new).is_open) }
+    ensures same { HasCleanDisk (state S.Store conn.new) → (v : Vault) → Keeps (state S.Store conn.old) v → Keeps (state S.Store conn.new) v }
+    ensures honest { HasCleanDisk (state S.Store conn.new) → HasCleanDisk (state S.Store conn.old) }
+    ensures mode { conn.old.in_transaction ≡ false → conn.new.in_transaction ≡ false }
+    ensures crash { (v : Vault) → Keeps (state S.Store conn.old) v → Survives (state S.Store conn.old) (state S.Store conn.new) (λ _. ¬ IsTrue (state S.Store conn.old).is_open) }
+{
+    let newest = read_newest_but(conn, &entry.bucket, &entry.key, id)?;
+    check_open(conn)?;
+    Ok(newest)
+}
+
+/// The head of a key with one entry fewer, the newest of which is that one.
+fn left_head(newest: Option<VersionId>, head: Option<Head>) -> Option<Head>
+    ensures { result ≡ head_without newest head }
+{
+    let newest = newest?;
+    let head = head?;
+    Some(Head {
+        newest,
+        count: head.count.saturating_sub(1),
+    })
+}
+
+/// The sums with a version's removal at a moment counted in.
+fn without_version(sums: Row, entry: &Entry, at: Moment) -> Row
+    ensures { CountsOut sums entry.now.size (day entry.now.admitted) (day at) result }
+{
+    let mut sums = sums;
+    sums.remove(entry.size, entry.admitted.day(), at.day());
+    sums
+}
+
+/// Removes a held entry: its bytes go, and the entry keeps the removal.
+pub fn remove<S: Alter>(
+    conn: &mut Connection<S>,
+    at: Moment,
+    id: VersionId,
+    removal: &Removal,
+) -> Result<(), Error>
+    requires { conn.old.in_transaction ≡ false }
+    ensures mode { conn.new.in_transaction ≡ false }
+    ensures open { HasCleanDisk (state S.Store conn.new) → OnOk result (IsTrue (state S.Store conn.new).is_open) }
+    ensures done { HasCleanDisk (state S.Store conn.new) → IsChangeInLimits (change.Remove id removal.now) → OnOk result (Changes (state S.Store conn.old) (state S.Store conn.new) at (change.Remove id removal.now)) }
+    ensures nothing { HasCleanDisk (state S.Store conn.new) → OnErr result ((v : Vault) → Keeps (state S.Store conn.old) v → Keeps (state S.Store conn.new) v) }
+    ensures honest { HasCleanDisk (state S.Store conn.new) → HasCleanDisk (state S.Store conn.old) }
+    ensures alone { HasCleanDisk (state S.Store conn.new) → OnOk result ((trees : Trees) → (state S.Store conn.new).may_leave trees → trees ≡ (state S.Store conn.new).now.trees) }
+    ensures crash { IsChangeInLimits (change.Remove id removal.now) → (v : Vault) → Keeps (state S.Store conn.old) v → Survives (state S.Store conn.old) (state S.Store conn.new) (IsChanged (state S.Store conn.old) v at (change.Remove id removal.now)) }
+{
+    let entry = find_entry(conn, id)?;
+    let newest = find_newest_but(conn, &entry, id)?;
+    let place = read_place(conn, &entry.bucket, &entry.key)?;
+    let left = left_head(newest, place.head);
+    let sums = without_version(place.sums, &entry, at);
+    let _in_range = at.secs();
+    let part = RemovedEntry {
+        at,
+        id,
+        entry: &entry,
+        removal,
+        left,
+        dept: &place.config.dept,
+        sums,
+    };
+    commit_part(conn, at, &part)
+}
