@@ -1,5 +1,5 @@
 //! A keeper over the tables of a connection.
-ghost use Rattle.std.specs.Prelude.{◌≡◌, ◌≢◌, false, IfOk, IfErr};
+ghost use Rattle.std.specs.Prelude.{◌≡◌, ◌≢◌, ◌≤◌, false, Err, IfOk, IfErr, OnOk, OnErr};
 ghost use Rattle.sqlite.specs.Held.{state};
 ghost use Rattle.sqlite.specs.State.{HasCleanDisk, IsUnchanged, Survives};
 ghost use Rattle.sqlite_trees.specs.Tree.{Trees};
@@ -7,6 +7,11 @@ ghost use Rattle.vault_base.specs.declared.refusal.Table.{Table};
 ghost use Rattle.vault_audit_model.specs.Tables.{no_schema};
 ghost use Rattle.vault_store_create.specs.Create.{AreOpening};
 ghost use Rattle.vault_core_model.specs.Vault.{Vault, opening};
+ghost use Rattle.vault_core_model.specs.Allowed.{Allows};
+ghost use Rattle.vault_core_model.specs.Change.{changed};
+ghost use Rattle.vault_core_model.specs.Halts.{Rose};
+ghost use Rattle.vault_store_model.specs.Keeping.{Keeps};
+ghost use Rattle.vault_store_apply.specs.Applies.{IsChanged};
 ghost use Rattle.vault_audit_model.specs.Spells.{AreSound};
 ghost use Rattle.vault_store.specs.Kept.{kept_vault, IsSettled, StandsFor};
 
@@ -14,12 +19,30 @@ use crate::blame::blame;
 use http_server::Log;
 use sqlite::{Alter, Connection};
 use std::alloc::Global;
-use vault_audit_whole::audit;
+use vault_audit::audit;
+use vault_base::content::Content;
 use vault_base::moment::Moment;
+use vault_base::name::{
+    BatchName, BucketName, CallerName, DeptName, KeyPrefix, ObjectKey, VersionId,
+};
 use vault_base::refusal::Refusal;
 use vault_core_model::change::Change;
+use vault_core_model::halt::Fault;
+use vault_core_model::keeper::{Keeper, Sink};
+use vault_core_model::records::{BucketConfig, Caller, Entry, Head, LastSetting, Note};
+use vault_rules::plan::Held;
+use vault_rules::rule_set::RuleSet;
+use vault_store_apply_change::apply::apply_change;
 use vault_store_create::create::fill;
 use vault_store_opening::{Opening, remember};
+use vault_store_ordered::reads::{read_entries, read_keys, read_rules, read_setting};
+use vault_store_reads::entries::{read_content, read_entry};
+use vault_store_reads::heads::read_head;
+use vault_store_reads::meta::{read_last, read_next_id};
+use vault_store_reads::names::{has_department, read_bucket, read_caller, read_totals};
+use vault_store_reads::notes::read_note;
+use vault_store_removed::removed::walk_removed;
+use vault_tally::row::Row;
 
 /// A vault in tables.
 ///
@@ -119,5 +142,160 @@ impl<S: Alter + Drop> SqlKeeper<S> {
             Ok(()) => Ok(SqlKeeper::over(alloc, conn)),
             Err(refusal) => Err((refusal, conn)),
         }
+    }
+
+    /// Makes a change at a moment, which becomes the last one, in one transaction; or changes nothing.
+    ///
+    /// `Memory` where the store wanted memory. `Device` where it refused for another cause.
+    pub fn make(&mut self, at: Moment, change: &Change) -> Result<(), Fault>
+        requires in_time { HasCleanDisk (state S.Store self.old.conn) → (kept_vault S.Store self.old.opening.at.items self.old.opening.known self.old.made.items).last ≤ at }
+        requires allowed { HasCleanDisk (state S.Store self.old.conn) → Allows (kept_vault S.Store self.old.opening.at.items self.old.opening.known self.old.made.items) at change.now }
+        ensures ok { OnOk result (kept_vault S.Store self.new.opening.at.items self.new.opening.known self.new.made.items ≡ changed (kept_vault S.Store self.old.opening.at.items self.old.opening.known self.old.made.items) at change.now) }
+        ensures err { OnErr result (kept_vault S.Store self.new.opening.at.items self.new.opening.known self.new.made.items ≡ kept_vault S.Store self.old.opening.at.items self.old.opening.known self.old.made.items) }
+        // A crash leaves what it could leave before, or the vault with the change; once that is acknowledged, the change alone.
+        ensures crash { (v : Vault) → Keeps (state S.Store self.old.conn) v → Survives (state S.Store self.old.conn) (state S.Store self.new.conn) (IsChanged (state S.Store self.old.conn) v at change.now) }
+        ensures alone { HasCleanDisk (state S.Store self.new.conn) → OnOk result ((trees : Trees) → (state S.Store self.new.conn).may_leave trees → trees ≡ (state S.Store self.new.conn).now.trees) }
+        ensures honest { HasCleanDisk (state S.Store self.new.conn) → HasCleanDisk (state S.Store self.old.conn) }
+        ensures counted { self.old.faults ≤ self.new.faults }
+        ensures device { result ≡ Err Fault.Device → Rose self.old.faults self.new.faults }
+    {
+        match apply_change(&mut self.conn, self.alloc, at, change) {
+            Ok(()) => {
+                self.made = self.made.and(&at, change);
+                Ok(())
+            }
+            Err(error) => Err(blame(&mut self.faults, error)),
+        }
+    }
+}
+
+impl<S: Alter + Drop> Keeper for SqlKeeper<S> {
+    ghost is_honest = { λ k. HasCleanDisk (state S.Store k.conn) };
+
+    ghost vault = { λ k. kept_vault S.Store k.opening.at.items k.opening.known k.made.items };
+
+    ghost count = { λ k. k.faults };
+
+    fn faults(&self) -> u64 {
+        self.faults
+    }
+
+    fn last(&mut self) -> Result<Moment, Fault> {
+        match read_last(&mut self.conn) {
+            Ok(found) => Ok(found),
+            Err(error) => Err(blame(&mut self.faults, error)),
+        }
+    }
+
+    fn next_id(&mut self) -> Result<u64, Fault> {
+        match read_next_id(&mut self.conn) {
+            Ok(found) => Ok(found),
+            Err(error) => Err(blame(&mut self.faults, error)),
+        }
+    }
+
+    fn caller(&mut self, name: &CallerName) -> Result<Option<Caller>, Fault> {
+        match read_caller(&mut self.conn, name) {
+            Ok(found) => Ok(found),
+            Err(error) => Err(blame(&mut self.faults, error)),
+        }
+    }
+
+    fn dept(&mut self, name: &DeptName) -> Result<bool, Fault> {
+        match has_department(&mut self.conn, name) {
+            Ok(found) => Ok(found),
+            Err(error) => Err(blame(&mut self.faults, error)),
+        }
+    }
+
+    fn bucket(&mut self, name: &BucketName) -> Result<Option<BucketConfig>, Fault> {
+        match read_bucket(&mut self.conn, name) {
+            Ok(found) => Ok(found),
+            Err(error) => Err(blame(&mut self.faults, error)),
+        }
+    }
+
+    fn rules(&mut self, bucket: &BucketName) -> Result<Option<RuleSet>, Fault> {
+        match read_rules(&mut self.conn, self.alloc, bucket) {
+            Ok(found) => Ok(found),
+            Err(error) => Err(blame(&mut self.faults, error)),
+        }
+    }
+
+    fn head(&mut self, bucket: &BucketName, key: &ObjectKey) -> Result<Option<Head>, Fault> {
+        match read_head(&mut self.conn, bucket, key) {
+            Ok(found) => Ok(found),
+            Err(error) => Err(blame(&mut self.faults, error)),
+        }
+    }
+
+    fn entries(&mut self, bucket: &BucketName, key: &ObjectKey) -> Result<Vec<Held>, Fault> {
+        match read_entries(&mut self.conn, self.alloc, bucket, key) {
+            Ok(found) => Ok(found),
+            Err(error) => Err(blame(&mut self.faults, error)),
+        }
+    }
+
+    fn entry(&mut self, id: VersionId) -> Result<Option<Entry>, Fault> {
+        match read_entry(&mut self.conn, id) {
+            Ok(found) => Ok(found),
+            Err(error) => Err(blame(&mut self.faults, error)),
+        }
+    }
+
+    fn setting(&mut self, id: VersionId) -> Result<Option<LastSetting>, Fault> {
+        match read_setting(&mut self.conn, id) {
+            Ok(found) => Ok(found),
+            Err(error) => Err(blame(&mut self.faults, error)),
+        }
+    }
+
+    fn content(&mut self, id: VersionId) -> Result<Option<Content>, Fault> {
+        match read_content(&mut self.conn, id) {
+            Ok(found) => Ok(found),
+            Err(error) => Err(blame(&mut self.faults, error)),
+        }
+    }
+
+    fn keys(
+        &mut self,
+        bucket: &BucketName,
+        after: &KeyPrefix,
+        most: u32,
+    ) -> Result<Vec<ObjectKey>, Fault> {
+        match read_keys(&mut self.conn, self.alloc, bucket, after, most) {
+            Ok(found) => Ok(found),
+            Err(error) => Err(blame(&mut self.faults, error)),
+        }
+    }
+
+    fn note(
+        &mut self,
+        bucket: &BucketName,
+        batch: &BatchName,
+        line: u32,
+    ) -> Result<Option<Note>, Fault> {
+        match read_note(&mut self.conn, bucket, batch, line) {
+            Ok(found) => Ok(found),
+            Err(error) => Err(blame(&mut self.faults, error)),
+        }
+    }
+
+    fn walk_removed<T: Sink>(&mut self, sink: &mut T) -> Result<bool, Fault> {
+        match walk_removed(&mut self.conn, sink) {
+            Ok(found) => Ok(found),
+            Err(error) => Err(blame(&mut self.faults, error)),
+        }
+    }
+
+    fn totals(&mut self, dept: &DeptName) -> Result<Row, Fault> {
+        match read_totals(&mut self.conn, dept) {
+            Ok(found) => Ok(found),
+            Err(error) => Err(blame(&mut self.faults, error)),
+        }
+    }
+
+    fn apply(&mut self, at: Moment, change: &Change) -> Result<(), Fault> {
+        self.make(at, change)
     }
 }
