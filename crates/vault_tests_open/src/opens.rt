@@ -102,3 +102,20 @@ fn a_vault_is_not_opened_inside_a_transaction(rt: HostRuntime) -> Result<(), Fai
     assert!(rt; !conn.is_autocommit());
     Ok(())
 }
+
+#[test]
+fn a_vault_with_another_table_is_damaged(rt: HostRuntime) -> Result<(), Fail> {
+    let Ok(mut conn) = made(rt.alloc(), Connection::open_in_memory(rt.alloc())?) else {
+        return Err(Fail::new(format_args!("not the answer that was wanted")));
+    };
+    batch(
+        &mut conn,
+        "CREATE TABLE shelf (id INTEGER PRIMARY KEY) STRICT; INSERT INTO shelf VALUES (7)",
+    )?;
+    let Err((refusal, mut conn)) = opened(rt.alloc(), conn) else {
+        return Err(Fail::new(format_args!("not the answer that was wanted")));
+    };
+    assert_eq!(rt; refusal, Refusal::Damaged(Table::Meta));
+    assert_eq!(rt; number(&mut conn, "SELECT id FROM shelf")?, 7);
+    Ok(())
+}

@@ -3,3 +3,5 @@
 
 #[cfg(test)]
 mod reads;
+#[cfg(test)]
+mod steps;

@@ -2,4 +2,5 @@
 //! over a keeper.
 #![tactic(auto)]
 
+pub mod keepers;
 pub mod transcript;

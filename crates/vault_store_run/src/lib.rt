@@ -1,0 +1,4 @@
+//! Commands carried out over a vault in tables, from tables to tables.
+#![tactic(auto)]
+
+pub mod run;

@@ -1,0 +1,37 @@
+//! Commands over the tables of a connection.
+ghost use Rattle.std.specs.Prelude.{◌≡◌, IfOk, IfErr};
+ghost use Rattle.sqlite.specs.Held.{state};
+ghost use Rattle.sqlite.specs.State.{HasCleanDisk};
+ghost use Rattle.vault_core_model.specs.Step.{Run};
+ghost use Rattle.vault_core_model.specs.Vault.{Vault};
+ghost use Rattle.vault_audit_model.specs.Spells.{AreSound};
+ghost use Rattle.vault_store.specs.Kept.{StandsFor};
+
+use sqlite::{Alter, Connection};
+use std::alloc::Global;
+use vault_base::refusal::Refusal;
+use vault_core::run::run;
+use vault_core_model::command::Timed;
+use vault_core_model::reply::Reply;
+use vault_store::sql_keeper::SqlKeeper;
+
+/// Opens the vault in a connection's tables, carries commands out one after another, and hands the
+/// connection back with a reply for each.
+///
+/// The errors are those of `SqlKeeper::open`, and `Memory` where there was none for the replies: then no
+/// command was carried out.
+pub fn run_in_tables<S: Alter + Drop>(
+    alloc: Global,
+    conn: Connection<S>,
+    commands: &[Timed],
+) -> Result<(Vec<Reply>, Connection<S>), (Refusal, Connection<S>)>
+    // The replies are those of the machine from the vault that the tables spelled, and while the connection is open they spell the vault that it comes to.
+    ensures run { IfOk result (λ done. HasCleanDisk (state S.Store done.1) → (v : Vault) → AreSound (state S.Store conn).now v →
+        ∥ ((w : Vault) × Run v commands.now done.0.items w × StandsFor (state S.Store done.1) w) ∥₁) }
+{
+    let mut keeper = SqlKeeper::open(alloc, conn)?;
+    match run(alloc, &mut keeper, commands) {
+        Ok(replies) => Ok((replies, keeper.into_connection())),
+        Err(_) => Err((Refusal::Memory, keeper.into_connection())),
+    }
+}
