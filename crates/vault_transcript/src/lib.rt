@@ -2,5 +2,4 @@
 //! over a keeper.
 #![tactic(auto)]
 
-pub mod keepers;
 pub mod transcript;

@@ -1,7 +1,6 @@
 //! Transcripts: scripts over a vault, with the replies that they are to get.
 ghost use Rattle.std.specs.Prelude.{◌≡◌, ◌++◌, ◌∷◌, [], OnOk, string_bytes};
 
-use crate::keepers::{replies_of_files, replies_of_list, replies_of_memory};
 use std::alloc::Global;
 use std::test::Fail;
 use vault_core_list::list_keeper::ListKeeper;
@@ -28,34 +27,18 @@ pub fn replies<K: Keeper>(alloc: Global, keeper: &mut K, script: &[u8]) -> Resul
     Ok(String::from_utf8(written)?)
 }
 
-/// The script of a transcript: its lines but the replies.
-fn script_of(alloc: Global, transcript: &str) -> Result<String, Fail> {
+/// Carries a transcript out over a vault. A line that begins with two spaces is the reply that the line
+/// above it is to get.
+pub fn play<K: Keeper>(alloc: Global, keeper: &mut K, transcript: &str) -> Result<(), Fail> {
     let mut script = String::new(alloc);
-    for line in transcript.lines() {
-        if !line.starts_with("  ") {
-            push_line(&mut script, line)?;
-        }
-    }
-    Ok(script)
-}
-
-/// The replies of a transcript. A line that begins with two spaces is the reply that the line above it is
-/// to get.
-fn wanted_of(alloc: Global, transcript: &str) -> Result<String, Fail> {
     let mut wanted = String::new(alloc);
     for line in transcript.lines() {
-        if let Some(reply) = line.strip_prefix("  ") {
-            push_line(&mut wanted, reply)?;
+        match line.strip_prefix("  ") {
+            Some(reply) => push_line(&mut wanted, reply)?,
+            None => push_line(&mut script, line)?,
         }
     }
-    Ok(wanted)
-}
-
-/// Carries a transcript out over a vault.
-pub fn play<K: Keeper>(alloc: Global, keeper: &mut K, transcript: &str) -> Result<(), Fail> {
-    let script = script_of(alloc, transcript)?;
     let written = replies(alloc, keeper, script.as_bytes())?;
-    let wanted = wanted_of(alloc, transcript)?;
     compare(written.as_str(), wanted.as_str())
 }
 
@@ -89,24 +72,8 @@ pub fn opened(alloc: Global) -> Result<ListKeeper, Fail> {
     Ok(keeper)
 }
 
-/// Carries a transcript out over vaults in which the opening lines were accepted: one that is kept as a
-/// list, one in tables in memory, and one in files that are closed and opened again behind each line.
+/// Carries a transcript out over a vault in which the opening lines were accepted.
 pub fn play_opened(alloc: Global, transcript: &str) -> Result<(), Fail> {
-    let mut whole = String::new(alloc);
-    whole.push_str(OPENING)?;
-    whole.push_str(transcript)?;
-    let script = script_of(alloc, whole.as_str())?;
-    let wanted = wanted_of(alloc, whole.as_str())?;
-    compare(
-        replies_of_list(alloc, script.as_str())?.as_str(),
-        wanted.as_str(),
-    )?;
-    compare(
-        replies_of_memory(alloc, script.as_str())?.as_str(),
-        wanted.as_str(),
-    )?;
-    compare(
-        replies_of_files(alloc, script.as_str())?.as_str(),
-        wanted.as_str(),
-    )
+    let mut keeper = opened(alloc)?;
+    play(alloc, &mut keeper, transcript)
 }

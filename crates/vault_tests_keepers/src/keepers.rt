@@ -1,13 +1,14 @@
-//! Scripts carried out over each kind of keeper: the list, tables in memory, and tables in files that are
-//! closed and opened again behind each line.
-use crate::transcript::replies;
+//! Scripts over each kind of keeper: the list, tables in memory, and tables in files that are closed and
+//! opened again behind each line.
 use sqlite::{Connection, FileStore, Files, MemStore, Options};
 use sqlite_disk::Memory;
 use std::alloc::Global;
 use std::test::Fail;
+use vault_core::fuse_keeper::FuseKeeper;
 use vault_core_list::list_keeper::ListKeeper;
 use vault_core_model::keeper::Keeper;
 use vault_store::sql_keeper::SqlKeeper;
+use vault_transcript::transcript::replies;
 
 /// What is written for a script over a new vault that is kept as a list.
 pub fn replies_of_list(alloc: Global, script: &str) -> Result<String, Fail> {
@@ -39,6 +40,46 @@ pub fn replies_of_files(alloc: Global, script: &str) -> Result<String, Fail> {
         keeper = opened_again(alloc, keeper)?;
     }
     Ok(written)
+}
+
+/// What is written for a run of lines over a keeper whose device fails once after so many changes, and what
+/// for the lines behind. Fails where the device didn't fail just once.
+fn replies_of_failing<K: Keeper>(
+    alloc: Global,
+    keeper: K,
+    changes: u64,
+    script: &Failing<'_>,
+) -> Result<String, Fail> {
+    let mut keeper = keeper;
+    let mut written = replies(alloc, &mut keeper, script.before.as_bytes())?;
+    let mut fused = FuseKeeper::new(keeper, changes);
+    let behind = replies(alloc, &mut fused, script.behind.as_bytes())?;
+    if fused.faults() != 1 {
+        return Err(Fail::new("the device didn't fail once"));
+    }
+    written.push_str(behind.as_str())?;
+    Ok(written)
+}
+
+/// A script in two parts: the device may fail in the second.
+pub struct Failing<'a> {
+    pub before: &'a str,
+    pub behind: &'a str,
+}
+
+/// What is written for it over a new vault that is kept as a list.
+pub fn failing_of_list(alloc: Global, changes: u64, script: &Failing<'_>) -> Result<String, Fail> {
+    replies_of_failing(alloc, ListKeeper::new(alloc)?, changes, script)
+}
+
+/// What is written for it over a new vault in tables in memory.
+pub fn failing_of_memory(
+    alloc: Global,
+    changes: u64,
+    script: &Failing<'_>,
+) -> Result<String, Fail> {
+    let keeper = made(alloc, Connection::open_in_memory(alloc)?)?;
+    replies_of_failing(alloc, keeper, changes, script)
 }
 
 type InFiles = SqlKeeper<FileStore<Memory>>;
