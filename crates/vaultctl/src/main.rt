@@ -3,7 +3,6 @@
 
 use std::io::{self, BufWriter, Write};
 use std::process::ExitCode;
-use std::rt::Runtime;
 use vaultctl_perform::answer_words;
 
 /// How many bytes of replies are held back until they are written together.
@@ -22,9 +21,9 @@ fn main(rt: HostRuntime) -> ExitCode {
 }
 
 /// The status of what the words ask for; an error where room for the words was refused.
-fn run<R: Runtime + AllocGlobal, E: Write>(rt: &R, err: &mut E) -> io::Result<u8> {
+fn run<E: Write>(rt: &HostRuntime, err: &mut E) -> io::Result<u8> {
     let words: Vec<String> = std::env::args(rt)?.collect(rt.alloc())?;
     let mut out = BufWriter::with_capacity(rt.alloc(), HELD_BACK, io::writer(rt))?;
     let mut reader = rt.reader();
-    Ok(answer_words(rt.alloc(), words.as_slice(), &mut reader, &mut out, err))
+    Ok(answer_words(rt, words.as_slice(), &mut reader, &mut out, err))
 }

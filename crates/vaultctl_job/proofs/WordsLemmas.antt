@@ -1,6 +1,6 @@
 -- Where clap takes the words, they ask for a job.
-use Rattle.std.proofs.Common.{◌≡◌, List, [], ◌∷◌, Bool, true, false, cond, not, ◌&&◌, Option, Some, None, is_some, option_map, codes, refl, sym, ap, ◌∙◌, inl, inr}
-use Rattle.std.specs.List.{list_any}
+use Rattle.std.proofs.Common.{◌≡◌, List, [], ◌∷◌, Bool, true, false, cond, not, ◌&&◌, Option, Some, None, is_some, option_map, find, refl, sym, ap, ◌∙◌, inl, inr}
+use Rattle.std.specs.List.{AllByRecursion, list_any}
 use Rattle.clap.specs.Words.{App, Row, Shape, Text, built, fault_of, is_simple, subcommand_of}
 use Rattle.clap.specs.Faults.{is_simple_and_free, check_fault, level_fault, entered_fault, defaults_fault, settle_fault, walk_fault}
 use Rattle.clap.specs.Kinds.{HasKind, Kinds, or_else, check_kinds}
@@ -10,10 +10,10 @@ use Rattle.clap.specs.Words.{kind_of}
 use Rattle.clap.specs.declared.error.Error.{Error}
 use Rattle.clap.specs.declared.error.kind.ErrorKind.TheVariants.{OutOfMemory}
 use Rattle.clap.specs.Simple.{argument_words, entered, label_of, names_of, rows_at}
-use Rattle.clap.specs.Walk.{Held, Names, Rule, answers_to, finished, nothing_held, settled, stop_after, walk, walk_from}
+use Rattle.clap.specs.Walk.{Held, Names, Rule, answers_to, finished, nothing_held, rows_after, settled, stop_after, walk, walk_from}
 use Rattle.clap.proofs.OnLiterals.{clap_on_literals}
+use Rattle.vaultctl_job.specs.Jobs.{job_named}
 use Rattle.vaultctl_job.specs.Words.{vaultctl, job_for, job_in}
-use Rattle.vaultctl_job.specs.declared.job.Job.TheVariants.{Replay}
 
 pub is_simple_lem : is_simple vaultctl ≡ true
 unfolding vaultctl clap_on_literals
@@ -39,15 +39,27 @@ needs s rows false required e =
     let argument = not (s.subcommand_negates_reqs && false) && list_any (λ (a : Rule). a.required && not (is_given a.id rows)) s.rules in
     absurd (wanted help argument (rw required at e))
 
-module _ (a : App) (s : Shape) (subs : a.subs ≡ s ∷ []) (named : s.name ≡ codes "replay") where
-  met : (rest : List Text) (answers : Bool) → is_some (option_map (λ (t : Shape). rows_at t rest) (cond answers (Some s) None)) ≡ true
-      → job_in (option_map (λ (t : Shape). rows_at t rest) (cond answers (Some s) None)) ≡ Some Replay
-  met rest true h = rw named refl
-  met rest false h = cc
+-- of each of these subcommands something is asked for, whatever its words are
+abbrev HaveJobs : List Shape → Type 0
+HaveJobs ss = AllByRecursion (λ (s : Shape). (rows : List Row) → is_some (job_named s.name rows) ≡ true) ss
 
-  entered_replay : (stop : Option (Text × List Text)) → is_some (entered a stop) ≡ true → job_in (entered a stop) ≡ Some Replay
-  entered_replay None h = cc
-  entered_replay (Some p) h = rw subs (met p.1 (answers_to p.0 (label_of s)) (rw subs at h))
+-- the subcommand that is found is this one, or one that has a job where it is found
+one_job : (b : Bool) (s : Shape) (found : Option Shape) (rest : List Text) → ((rows : List Row) → is_some (job_named s.name rows) ≡ true)
+    → (is_some (option_map (λ (t : Shape). rows_at t rest) found) ≡ true → is_some (job_in (option_map (λ (t : Shape). rows_at t rest) found)) ≡ true)
+    → is_some (option_map (λ (t : Shape). rows_at t rest) (cond b (Some s) found)) ≡ true
+    → is_some (job_in (option_map (λ (t : Shape). rows_at t rest) (cond b (Some s) found))) ≡ true
+one_job true s found rest have others e = have (rows_after s.rules [] rest)
+one_job false s found rest have others e = others e
+
+find_job : (ss : List Shape) (p : Shape → Bool) (rest : List Text) → HaveJobs ss
+    → is_some (option_map (λ (t : Shape). rows_at t rest) (find p ss)) ≡ true
+    → is_some (job_in (option_map (λ (t : Shape). rows_at t rest) (find p ss))) ≡ true
+find_job [] p rest have e = cc
+find_job (s ∷ ss) p rest have e = one_job (p s) s (find p ss) rest have.0 (find_job ss p rest have.1) e
+
+entered_job : (a : App) → HaveJobs a.subs → (stop : Option (Text × List Text)) → is_some (entered a stop) ≡ true → is_some (job_in (entered a stop)) ≡ true
+entered_job a have None e = cc
+entered_job a have (Some p) e = find_job a.subs (λ (s : Shape). answers_to p.0 (label_of s)) p.1 have e
 
 level_met : (s : Shape) (names : Names) (held : Held) (words : List Text) (has : Bool) (below : Kinds) → s.subcommand_required ≡ true → level_fault s names held words has below ≡ [] → has ≡ true
 level_met s names held words has below required e =
@@ -58,20 +70,21 @@ level_met s names held words has below required e =
     (last_empty below _
     (last_empty (walk_fault s names (walk_from held) words) _ e))))
 
--- the one subcommand, as it is built
-subcommand : (s : Shape) × ((built vaultctl).subs ≡ s ∷ []) × (s.name ≡ codes "replay")
+-- the subcommands as they are built
+have_jobs : HaveJobs (built vaultctl).subs
 unfolding vaultctl
-subcommand = (_, refl, refl)
+have_jobs =
+    ((λ rows. refl), ((λ rows. refl), ((λ rows. refl), ((λ rows. refl), ((λ rows. refl), ((λ rows. refl), ((λ rows. refl), ((λ rows. refl), ((λ rows. refl), ((λ rows. refl), ((λ rows. refl), ((λ rows. refl), tt))))))))))))
 
 required : (built vaultctl).top.subcommand_required ≡ true
 unfolding vaultctl
 required = refl
 
-pub replay_asked : (words : List Text) → fault_of vaultctl words ≡ [] → job_for words ≡ Some Replay
-replay_asked words e =
+pub job_asked : (words : List Text) → fault_of vaultctl words ≡ [] → is_some (job_for words) ≡ true
+job_asked words e =
     let a = built vaultctl in
     let stop = stop_after a.top.rules (names_of a) (argument_words vaultctl words) in
-    entered_replay a subcommand.0 subcommand.1 subcommand.2 stop
+    entered_job a have_jobs stop
     (level_met a.top (names_of a) nothing_held (argument_words vaultctl words) (is_some (entered a stop)) (entered_fault a stop) required e)
 
 memory : (e : Error) (kinds : Kinds) → HasKind kinds e → kinds ≡ [] → kind_of e ≡ OutOfMemory

@@ -1,29 +1,83 @@
 -- The command line, as one of clap's simple commands.
-use Rattle.std.specs.Prelude.{List, codes, Option, Some, None, true, if◌then◌else◌, option_and_then}
-use Rattle.std.specs.Str.{bytes_eq}
-use Rattle.clap.specs.Words.{App, Row, Text, new_app, with_subcommand, subcommand_of}
+use Rattle.std.specs.Prelude.{List, codes, Option, true, option_and_then}
+use Rattle.clap.specs.Words.{App, Row, Text, new_app, with_rule, with_subcommand, subcommand_of}
+use Rattle.vaultctl_job.specs.Arguments as arg
+use Rattle.vaultctl_job.specs.Jobs.{job_named}
 use Rattle.vaultctl_job.specs.declared.fault.WordsFault.{WordsFault}
 use Rattle.vaultctl_job.specs.declared.fault.WordsFault.TheVariants.{Refused, Memory}
 use Rattle.vaultctl_job.specs.declared.job.Job.{Job}
-use Rattle.vaultctl_job.specs.declared.job.Job.TheVariants.{Replay}
 
--- replay
+-- a subcommand with FILE
+abbrev pub on_file : Text → App
+on_file name = with_rule (new_app name) (arg.place (codes "FILE"))
+
+abbrev pub asked : App → App
+asked a = with_rule (with_rule a arg.asker) arg.moment
+
+abbrev pub init_app : App
+init_app = on_file (codes "init")
+
+-- dept FILE NAME --as C [--at T]
+abbrev pub dept_app : App
+dept_app = asked (with_rule (on_file (codes "dept")) (arg.place (codes "NAME")))
+
+-- caller FILE NAME [RIGHT]... --as C [--at T] [--dept D] [--close]
+abbrev pub caller_app : App
+caller_app = with_rule (with_rule (asked (with_rule (with_rule (on_file (codes "caller")) (arg.place (codes "NAME"))) arg.rights)) arg.home) arg.close
+
+-- bucket FILE NAME DEPT --as C [--at T]
+abbrev pub bucket_app : App
+bucket_app = asked (with_rule (with_rule (on_file (codes "bucket")) (arg.place (codes "NAME"))) (arg.place (codes "DEPT")))
+
+-- intake FILE BUCKET BATCH LIST FOLDER --as C [--at T]
+abbrev pub intake_app : App
+intake_app = asked (with_rule (with_rule (with_rule (with_rule (on_file (codes "intake")) (arg.place (codes "BUCKET"))) (arg.place (codes "BATCH"))) (arg.place (codes "LIST"))) (arg.place (codes "FOLDER")))
+
+-- run FILE BUCKET --as C [--at T]
+abbrev pub run_app : App
+run_app = asked (with_rule (on_file (codes "run")) (arg.place (codes "BUCKET")))
+
+-- report FILE DEPT --as C [--at T]
+abbrev pub report_app : App
+report_app = asked (with_rule (on_file (codes "report")) (arg.place (codes "DEPT")))
+
+-- certificate FILE BUCKET VERSION --as C [--at T]
+abbrev pub certificate_app : App
+certificate_app = asked (with_rule (with_rule (on_file (codes "certificate")) (arg.place (codes "BUCKET"))) (arg.place (codes "VERSION")))
+
+abbrev pub register_app : App
+register_app = on_file (codes "register")
+
+abbrev pub verify_app : App
+verify_app = on_file (codes "verify")
+
+-- replay [FILE]
 abbrev pub replay_app : App
-replay_app = new_app (codes "replay")
+replay_app = with_rule (new_app (codes "replay")) (arg.optional_place (codes "FILE"))
+
+-- serve FILE PORT [--count N]
+abbrev pub serve_app : App
+serve_app = with_rule (with_rule (on_file (codes "serve")) arg.port) arg.count
 
 -- a subcommand is asked for, and help is no subcommand
 abbrev pub needing_subcommand : App → App
 needing_subcommand a = record a { top = record a.top { subcommand_required = true; disable_help_subcommand = true } }
 
+abbrev pub with_records : App → App
+with_records a = with_subcommand (with_subcommand (with_subcommand (with_subcommand a init_app.top) dept_app.top) caller_app.top) bucket_app.top
+
+abbrev pub with_work : App → App
+with_work a = with_subcommand (with_subcommand (with_subcommand (with_subcommand a intake_app.top) run_app.top) report_app.top) certificate_app.top
+
+abbrev pub with_files : App → App
+with_files a = with_subcommand (with_subcommand (with_subcommand (with_subcommand a register_app.top) verify_app.top) replay_app.top) serve_app.top
+
 unfoldable pub vaultctl : App
-vaultctl = with_subcommand (needing_subcommand (new_app (codes "vaultctl"))) replay_app.top
+vaultctl = with_files (with_work (with_records (needing_subcommand (new_app (codes "vaultctl")))))
 
 -- what a subcommand with its words asks for
-abbrev pub job_named : Text × List Row → Option Job
-job_named (name, rows) = if bytes_eq name (codes "replay") then Some Replay else None
-
 abbrev pub job_in : Option (Text × List Row) → Option Job
-job_in = option_and_then job_named
+job_in = option_and_then (λ p. job_named p.0 p.1)
 
 -- what the words ask for
 abbrev pub job_for : List Text → Option Job

@@ -1,22 +1,17 @@
 //! The words of a command line.
 ghost use Rattle.std.specs.Prelude.{◌≡◌, ◌≢◌, [], IfOk, IfErr, Some, map, string_bytes, true};
-ghost use Rattle.clap.specs.Words.{app_of, fault_of, kind_of, with_subcommand, subcommand_rows_of};
-ghost use Rattle.vaultctl_job.specs.Words.{vaultctl, job_for, job_in, replay_app, needing_subcommand, IsRefusal};
+ghost use Rattle.clap.specs.Words.{app_of, fault_of, kind_of, subcommand_rows_of};
+ghost use Rattle.vaultctl_job.specs.Words.{vaultctl, job_for, job_in, needing_subcommand, IsRefusal};
 
 use crate::fault::WordsFault;
 use crate::job::Job;
+use crate::reading::job_named;
+use crate::subcommands::files::with_files;
+use crate::subcommands::records::with_records;
+use crate::subcommands::work::with_work;
 use clap::error::ErrorKind;
 use clap::{ArgMatches, Command, Error};
 use std::alloc::{AllocError, Global};
-
-fn with_replay<'a>(alloc: Global, parent: Command<'a>) -> Result<Command<'a>, AllocError>
-    ensures { IfOk result (λ c. app_of c ≡ with_subcommand (app_of parent.entry) replay_app.top) }
-{
-    let replay = Command::new(alloc, "replay").about(
-        "Answers the script on standard input over a new vault in memory",
-    );
-    parent.subcommand(replay)
-}
 
 fn needs_subcommand<'a>(command: Command<'a>) -> Command<'a>
     ensures { app_of result ≡ needing_subcommand (app_of command.entry) }
@@ -30,19 +25,23 @@ fn needs_subcommand<'a>(command: Command<'a>) -> Command<'a>
 fn command<'a>(alloc: Global) -> Result<Command<'a>, AllocError>
     ensures { IfOk result (λ c. app_of c ≡ vaultctl) }
 {
-    let top = Command::new(alloc, "vaultctl").about(
-        "A records vault: what is put in stays until its retention ends",
-    );
-    with_replay(alloc, needs_subcommand(top))
+    let top = Command::new(alloc, "vaultctl")
+        .about("A records vault: what is put in stays until its retention ends")
+        .after_help(
+            "'vaultctl COMMAND --help' tells the words of a command.\n\nExample:\n  vaultctl init records.vault\n  vaultctl dept records.vault records --as registrar\n  vaultctl verify records.vault",
+        );
+    let top = with_records(alloc, needs_subcommand(top))?;
+    let top = with_work(alloc, top)?;
+    with_files(alloc, top)
 }
 
 /// The job of the subcommand that was met.
-fn met<'a>(matches: &ArgMatches<'a>) -> Option<Job>
-    ensures { result ≡ job_in (subcommand_rows_of matches.now) }
+fn met<'a>(alloc: Global, matches: &ArgMatches<'a>) -> Result<Option<Job>, AllocError>
+    ensures { IfOk result (λ job. job ≡ job_in (subcommand_rows_of matches.now)) }
 {
-    match matches.subcommand_name() {
-        Some("replay") => Some(Job::Replay),
-        _ => None,
+    match matches.subcommand() {
+        Some((name, words)) => job_named(alloc, name, words),
+        None => Ok(None),
     }
 }
 
@@ -74,8 +73,9 @@ pub fn job_of(alloc: Global, words: &[String]) -> Result<Job, WordsFault>
         Ok(matches) => matches,
         Err(error) => return Err(refusal(alloc, error)),
     };
-    let Some(job) = met(&matches) else {
-        unreachable!()
-    };
-    Ok(job)
+    match met(alloc, &matches) {
+        Ok(Some(job)) => Ok(job),
+        Ok(None) => unreachable!(),
+        Err(_) => Err(WordsFault::Memory),
+    }
 }

@@ -1,1 +1,3 @@
 pub mod Replay
+pub mod Status
+pub mod Values

@@ -1,0 +1,21 @@
+-- What is printed of a reply, and what came of its command.
+use Rattle.std.specs.Prelude.{ℕ, List}
+use Rattle.vault_core_model.specs.declared.reply.Answer.TheVariants as answer
+use Rattle.vault_core_model.specs.declared.reply.Reply.{Reply}
+use Rattle.vault_core_model.specs.declared.reply.Reply.TheVariants.{Done, Refused, Stopped}
+use Rattle.vault_files_certificate.specs.Certificate.{certificate_text}
+use Rattle.vault_files_certificate.specs.ReportText.{report_text}
+use Rattle.vault_http_reply.specs.ReplyLine.{reply_text}
+use Rattle.vaultctl_commands.specs.declared.outcome.Outcome.{Outcome}
+use Rattle.vaultctl_commands.specs.declared.outcome.Outcome.TheVariants as outcome
+
+-- a report and a certificate as text, and any other reply as its line
+abbrev pub printed : Reply → List ℕ
+printed (Done (answer.Report report)) = report_text report
+printed (Done (answer.Certificate entry)) = certificate_text entry
+printed reply = reply_text reply
+
+abbrev pub outcome_of : Reply → Outcome
+outcome_of (Done answer) = outcome.Done
+outcome_of (Refused refusal) = outcome.Refused
+outcome_of (Stopped changes stop) = outcome.Refused

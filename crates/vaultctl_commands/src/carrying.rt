@@ -1,0 +1,72 @@
+//! A command carried out, and its reply printed.
+ghost use Rattle.std.specs.Prelude.{◌≡◌, ◌≢◌, IfOk, OnErr, Err, Ok};
+ghost use Rattle.std.specs.Io.KnownBytes.{Appends};
+ghost use Rattle.vault_core_model.specs.Step.{Step, Reached};
+ghost use Rattle.vault_core_model.specs.declared.reply.Reply.{Reply as AnyReply};
+ghost use Rattle.vault_core_model.specs.declared.reply.Reply.TheVariants.{Refused};
+ghost use Rattle.vaultctl_commands.specs.Printed as spec;
+
+use crate::fault::JobFault;
+use crate::outcome::Outcome;
+use crate::printing::print;
+use crate::text::{outcome, reply_text};
+use std::alloc::Global;
+use std::io::Write;
+use vault_base::moment::Moment;
+use vault_base::name::CallerName;
+use vault_base::refusal::Refusal;
+use vault_core::step::step;
+use vault_core_model::command::Command;
+use vault_core_model::keeper::Keeper;
+use vault_core_model::reply::Reply;
+
+/// Prints a reply, drops it, and answers what came of it.
+fn tell<W: Write>(alloc: Global, reply: Reply, out: &mut W) -> Result<Outcome, JobFault>
+    ensures ok { IfOk result (λ outcome. (outcome ≡ spec.outcome_of reply) × Appends (W.contents out.old) (W.contents out.new) (spec.printed reply)) }
+    ensures reader { result ≢ Err JobFault.Read }
+    ensures device { result ≢ Err JobFault.Device }
+{
+    let Ok(text) = reply_text(alloc, &reply) else {
+        return Err(JobFault::Memory);
+    };
+    print(out, text.as_str())?;
+    Ok(outcome(&reply))
+}
+
+/// Prints the line of a refusal.
+pub fn tell_refusal<W: Write>(
+    alloc: Global,
+    refusal: Refusal,
+    out: &mut W,
+) -> Result<Outcome, JobFault>
+    ensures ok { IfOk result (λ outcome. (outcome ≡ Outcome.Refused) × Appends (W.contents out.old) (W.contents out.new) (spec.printed (Refused refusal))) }
+    ensures reader { result ≢ Err JobFault.Read }
+    ensures device { result ≢ Err JobFault.Device }
+{
+    tell(alloc, Reply::Refused(refusal), out)
+}
+
+/// Carries out a command at a reading, prints its reply, and answers what came of it.
+///
+/// `Write` comes where the reply can't be written, and `Memory` where there is no room for its text; the
+/// command was carried out all the same.
+pub fn carry_out<K: Keeper, W: Write>(
+    alloc: Global,
+    keeper: &mut K,
+    at: Moment,
+    who: &CallerName,
+    command: &Command,
+    out: &mut W,
+) -> Result<Outcome, JobFault>
+    // The reply is that of one step of the machine, and it is what is printed.
+    ensures ok { K.is_honest keeper.new → IfOk result (λ outcome. (reply : AnyReply) × Step (K.vault keeper.old) at who.now command.now reply (K.vault keeper.new)
+        × (outcome ≡ spec.outcome_of reply) × Appends (W.contents out.old) (W.contents out.new) (spec.printed reply)) }
+    ensures err { K.is_honest keeper.new → OnErr result ((reply : AnyReply) × Step (K.vault keeper.old) at who.now command.now reply (K.vault keeper.new)) }
+    ensures reached { K.is_honest keeper.new → Reached (K.vault keeper.old) → Reached (K.vault keeper.new) }
+    ensures honest { K.is_honest keeper.new → K.is_honest keeper.old }
+    ensures reader { result ≢ Err JobFault.Read }
+    ensures device { result ≢ Err JobFault.Device }
+{
+    let reply = step(alloc, keeper, at, who, command);
+    tell(alloc, reply, out)
+}

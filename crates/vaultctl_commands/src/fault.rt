@@ -1,0 +1,19 @@
+//! Why a job was not done to its end.
+use thiserror::Error;
+
+/// Why a job was not done to its end.
+#[derive(Clone, Copy, Debug, PartialEq, Eq, Error)]
+pub enum JobFault {
+    /// The reader failed.
+    #[error("Read")]
+    Read,
+    /// The writer failed.
+    #[error("Write")]
+    Write,
+    /// Memory was refused.
+    #[error("Memory")]
+    Memory,
+    /// A device failed, or a port can't be had.
+    #[error("Device")]
+    Device,
+}

@@ -1,0 +1,83 @@
+//! An intake carried out, and a line printed for each of its rows.
+ghost use Rattle.std.specs.Prelude.{◌≡◌, ◌≢◌, IfOk, Err};
+ghost use Rattle.std.specs.Io.KnownBytes.{Appends};
+ghost use Rattle.vault_base.specs.declared.refusal.Refusal.TheVariants.{Device as DeviceFailed};
+ghost use Rattle.vault_core_model.specs.Step.{Reached};
+ghost use Rattle.vault_files_lines.specs.Lines.{lines, stopped_line as stop_line};
+ghost use Rattle.vaultctl_commands.specs.Told as spec;
+
+use crate::fault::JobFault;
+use crate::outcome::Outcome;
+use crate::printing::print;
+use std::alloc::Global;
+use std::io::Write;
+use vault_base::moment::Moment;
+use vault_base::name::{BatchName, BucketName, CallerName};
+use vault_base::refusal::Refusal;
+use vault_core_model::keeper::Keeper;
+use vault_files_intake::folder::Folder;
+use vault_files_intake::intake::take_in;
+use vault_files_intake::report::IntakeReport;
+use vault_files_lines::lines::{intake_lines, is_accepted, stopped_line};
+
+/// What came of an intake: refused where a row was, or it stopped.
+fn outcome(report: &IntakeReport) -> Outcome
+    ensures { result ≡ spec.intake_outcome report.now.rows.items report.now.stopped }
+{
+    if is_accepted(report) {
+        Outcome::Done
+    } else {
+        Outcome::Refused
+    }
+}
+
+/// Prints the lines of an intake, drops it, and answers what came of it.
+fn tell<W: Write>(alloc: Global, report: IntakeReport, out: &mut W) -> Result<Outcome, JobFault>
+    ensures ok { IfOk result (λ outcome. (outcome ≡ spec.intake_outcome report.rows.items report.stopped) × Appends (W.contents out.old) (W.contents out.new) (lines report.rows.items report.stopped)) }
+    ensures reader { result ≢ Err JobFault.Read }
+    ensures device { result ≢ Err JobFault.Device }
+{
+    let Ok(text) = intake_lines(alloc, &report) else {
+        return Err(JobFault::Memory);
+    };
+    print(out, text.as_str())?;
+    Ok(outcome(&report))
+}
+
+/// Takes in files of a folder by a list, prints a line for each row, and answers what came of it.
+///
+/// `Write` comes where the lines can't be written, and `Memory` where there is no room for them; the files
+/// were taken in all the same.
+pub fn take_in_and_tell<K: Keeper, F: Folder, W: Write>(
+    alloc: Global,
+    keeper: &mut K,
+    at: Moment,
+    who: &CallerName,
+    bucket: &BucketName,
+    batch: &BatchName,
+    list: &[u8],
+    folder: &mut F,
+    out: &mut W,
+) -> Result<Outcome, JobFault>
+    ensures ok { K.is_honest keeper.new → IfOk result (λ outcome. spec.ToldIntake (F.files folder.old) at who.now bucket.now batch.now list.now (K.vault keeper.old) (K.vault keeper.new) outcome (W.contents out.old) (W.contents out.new)) }
+    ensures reached { K.is_honest keeper.new → Reached (K.vault keeper.old) → Reached (K.vault keeper.new) }
+    ensures honest { K.is_honest keeper.new → K.is_honest keeper.old }
+    ensures reader { result ≢ Err JobFault.Read }
+    ensures device { result ≢ Err JobFault.Device }
+{
+    let report = take_in(alloc, keeper, at, who, bucket, batch, list, folder);
+    tell(alloc, report, out)
+}
+
+/// Prints `stopped Device`, as for a list that can't be read.
+pub fn tell_unread_list<W: Write>(alloc: Global, out: &mut W) -> Result<Outcome, JobFault>
+    ensures ok { IfOk result (λ outcome. (outcome ≡ Outcome.Refused) × Appends (W.contents out.old) (W.contents out.new) (stop_line DeviceFailed)) }
+    ensures reader { result ≢ Err JobFault.Read }
+    ensures device { result ≢ Err JobFault.Device }
+{
+    let Ok(text) = stopped_line(alloc, Refusal::Device) else {
+        return Err(JobFault::Memory);
+    };
+    print(out, text.as_str())?;
+    Ok(Outcome::Refused)
+}

@@ -1,0 +1,9 @@
+//! What a job asks of a vault carried out over any keeper, and its answer printed.
+#![tactic(auto)]
+
+pub mod carrying;
+pub mod fault;
+pub mod intake;
+pub mod outcome;
+pub mod printing;
+pub mod text;

@@ -1,0 +1,122 @@
+-- What a subcommand with its words asks for.
+use Rattle.std.specs.Prelude.{◌&&◌, nat_lt, ℕ, Bool, List, [], length, codes, Option, Some, None, if◌then◌else◌, unwrap_or}
+use Rattle.std.specs.Char.{digit_value}
+use Rattle.std.specs.List.{list_all}
+use Rattle.std.specs.Str.{bytes_eq}
+use Rattle.std.specs.Str.Parse.{digits_value, without_leading_plus}
+use Rattle.clap.specs.Words.{Row, Text, all_of, first_of, one_of}
+use Rattle.vaultctl_job.specs.declared.job.Asking.{Asking}
+use Rattle.vaultctl_job.specs.declared.job.Init.{Init}
+use Rattle.vaultctl_job.specs.declared.job.Dept.{Dept}
+use Rattle.vaultctl_job.specs.declared.job.Caller.{Caller}
+use Rattle.vaultctl_job.specs.declared.job.Bucket.{Bucket}
+use Rattle.vaultctl_job.specs.declared.job.Intake.{Intake}
+use Rattle.vaultctl_job.specs.declared.job.Run.{Run}
+use Rattle.vaultctl_job.specs.declared.job.Report.{Report}
+use Rattle.vaultctl_job.specs.declared.job.Certificate.{Certificate}
+use Rattle.vaultctl_job.specs.declared.job.Register.{Register}
+use Rattle.vaultctl_job.specs.declared.job.Verify.{Verify}
+use Rattle.vaultctl_job.specs.declared.job.Replay.{Replay}
+use Rattle.vaultctl_job.specs.declared.job.Serve.{Serve}
+use Rattle.vaultctl_job.specs.declared.job.Job.{Job}
+use Rattle.vaultctl_job.specs.declared.job.Job.TheVariants as job
+
+-- the text of a word; clap takes no words without those that have to be there
+abbrev pub text_of : Text → List Row → Text
+text_of id rows = unwrap_or (first_of id rows) []
+
+abbrev pub texts_of : Text → List Row → List Text
+texts_of id rows = unwrap_or (all_of id rows) []
+
+abbrev pub is_set : Text → List Row → Bool
+is_set id rows = bytes_eq (text_of id rows) (codes "true")
+
+abbrev pub is_number_below : ℕ → List ℕ → Bool
+is_number_below limit ds = nat_lt 0 (length ds) && list_all (λ d. nat_lt (digit_value d) 10) ds && nat_lt (digits_value 10 ds) limit
+
+-- the number that digits write; clap takes no words where they write none below the limit
+abbrev pub number_below : ℕ → Text → ℕ
+number_below limit text =
+    let ds = without_leading_plus text in
+    if is_number_below limit ds then digits_value 10 ds else 0
+
+abbrev pub number_of : ℕ → Text → List Row → ℕ
+number_of limit id rows = number_below limit (unwrap_or (one_of id rows) [])
+
+abbrev pub asking_of : List Row → Asking
+asking_of rows = record { who = text_of (codes "as") rows; at = first_of (codes "at") rows }
+
+abbrev pub file_of : List Row → Text
+file_of rows = text_of (codes "FILE") rows
+
+unfoldable pub init_of : List Row → Init
+init_of rows = record { file = file_of rows }
+
+unfoldable pub dept_of : List Row → Dept
+dept_of rows = record { file = file_of rows; name = text_of (codes "NAME") rows; asking = asking_of rows }
+
+unfoldable pub caller_of : List Row → Caller
+caller_of rows = record {
+  file = file_of rows;
+  name = text_of (codes "NAME") rows;
+  rights = texts_of (codes "RIGHT") rows;
+  asking = asking_of rows;
+  dept = first_of (codes "dept") rows;
+  close = is_set (codes "close") rows;
+}
+
+unfoldable pub bucket_of : List Row → Bucket
+bucket_of rows = record { file = file_of rows; name = text_of (codes "NAME") rows; dept = text_of (codes "DEPT") rows; asking = asking_of rows }
+
+unfoldable pub intake_of : List Row → Intake
+intake_of rows = record {
+  file = file_of rows;
+  bucket = text_of (codes "BUCKET") rows;
+  batch = text_of (codes "BATCH") rows;
+  list = text_of (codes "LIST") rows;
+  folder = text_of (codes "FOLDER") rows;
+  asking = asking_of rows;
+}
+
+unfoldable pub run_of : List Row → Run
+run_of rows = record { file = file_of rows; bucket = text_of (codes "BUCKET") rows; asking = asking_of rows }
+
+unfoldable pub report_of : List Row → Report
+report_of rows = record { file = file_of rows; dept = text_of (codes "DEPT") rows; asking = asking_of rows }
+
+unfoldable pub certificate_of : List Row → Certificate
+certificate_of rows = record {
+  file = file_of rows;
+  bucket = text_of (codes "BUCKET") rows;
+  version = text_of (codes "VERSION") rows;
+  asking = asking_of rows;
+}
+
+unfoldable pub register_of : List Row → Register
+register_of rows = record { file = file_of rows }
+
+unfoldable pub verify_of : List Row → Verify
+verify_of rows = record { file = file_of rows }
+
+unfoldable pub replay_of : List Row → Replay
+replay_of rows = record { file = first_of (codes "FILE") rows }
+
+unfoldable pub serve_of : List Row → Serve
+serve_of rows = record { file = file_of rows; port = number_of 65536 (codes "PORT") rows; count = number_of 4294967296 (codes "count") rows }
+
+-- what a subcommand of that name asks for with these words
+abbrev pub job_named : Text → List Row → Option Job
+job_named name rows =
+    if bytes_eq name (codes "init") then Some (job.Init (init_of rows))
+    else if bytes_eq name (codes "dept") then Some (job.Dept (dept_of rows))
+    else if bytes_eq name (codes "caller") then Some (job.Caller (caller_of rows))
+    else if bytes_eq name (codes "bucket") then Some (job.Bucket (bucket_of rows))
+    else if bytes_eq name (codes "intake") then Some (job.Intake (intake_of rows))
+    else if bytes_eq name (codes "run") then Some (job.Run (run_of rows))
+    else if bytes_eq name (codes "report") then Some (job.Report (report_of rows))
+    else if bytes_eq name (codes "certificate") then Some (job.Certificate (certificate_of rows))
+    else if bytes_eq name (codes "register") then Some (job.Register (register_of rows))
+    else if bytes_eq name (codes "verify") then Some (job.Verify (verify_of rows))
+    else if bytes_eq name (codes "replay") then Some (job.Replay (replay_of rows))
+    else if bytes_eq name (codes "serve") then Some (job.Serve (serve_of rows))
+    else None

@@ -1,0 +1,4 @@
+//! The subcommands, each with its words and its help.
+pub mod files;
+pub mod records;
+pub mod work;

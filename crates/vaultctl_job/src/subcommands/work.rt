@@ -1,0 +1,97 @@
+//! Subcommands for a day's work with buckets and departments.
+ghost use Rattle.std.specs.Prelude.{◌≡◌, IfOk};
+ghost use Rattle.clap.specs.Words.{app_of, with_subcommand};
+ghost use Rattle.vaultctl_job.specs.Words as spec;
+
+use crate::arguments::{asker, moment, named, place};
+use clap::Command;
+use std::alloc::{AllocError, Global};
+
+fn with_intake<'a>(alloc: Global, parent: Command<'a>) -> Result<Command<'a>, AllocError>
+    ensures { IfOk result (λ c. app_of c ≡ with_subcommand (app_of parent.entry) spec.intake_app.top) }
+{
+    let intake = named(
+        alloc,
+        "intake",
+        "Takes in files of a folder by a list",
+        "A list is CSV with the first line file,key,mode,until,hold. Each further line\nis answered by a line: its number, and 'admitted ID', 'again ID' (it was taken\nin before) or 'refused NAME'.\n\nExample:\n  vaultctl intake records.vault docs 2024-01 list.csv scans --as ann",
+    )
+    .override_usage(
+        "vaultctl intake [OPTIONS] --as <CALLER> <FILE> <BUCKET> <BATCH>\n                       <LIST> <FOLDER>",
+    )
+    .arg(place(alloc, "FILE", "The vault's file"))?
+    .arg(place(alloc, "BUCKET", "The bucket that gets the files"))?
+    .arg(place(
+        alloc,
+        "BATCH",
+        "A name for this delivery: 1 to 64 of a-z, 0-9, '-', '_',\n'.'; given again, no line is taken in twice",
+    ))?
+    .arg(place(alloc, "LIST", "The list's file"))?
+    .arg(place(alloc, "FOLDER", "The folder of the files that it names"))?
+    .arg(asker(alloc))?
+    .arg(moment(alloc))?;
+    parent.subcommand(intake)
+}
+
+fn with_run<'a>(alloc: Global, parent: Command<'a>) -> Result<Command<'a>, AllocError>
+    ensures { IfOk result (λ c. app_of c ≡ with_subcommand (app_of parent.entry) spec.run_app.top) }
+{
+    let run = named(
+        alloc,
+        "run",
+        "Carries out the lifecycle rules of a bucket",
+        "Example:\n  vaultctl run records.vault docs --as ann",
+    )
+    .arg(place(alloc, "FILE", "The vault's file"))?
+    .arg(place(alloc, "BUCKET", "The bucket's name"))?
+    .arg(asker(alloc))?
+    .arg(moment(alloc))?;
+    parent.subcommand(run)
+}
+
+fn with_report<'a>(alloc: Global, parent: Command<'a>) -> Result<Command<'a>, AllocError>
+    ensures { IfOk result (λ c. app_of c ≡ with_subcommand (app_of parent.entry) spec.report_app.top) }
+{
+    let report = named(
+        alloc,
+        "report",
+        "Prints the sums of a department",
+        "Sizes are in bytes; byte-days are bytes times whole days held.\n\nExample:\n  vaultctl report records.vault records --as ann",
+    )
+    .arg(place(alloc, "FILE", "The vault's file"))?
+    .arg(place(alloc, "DEPT", "The department's name"))?
+    .arg(asker(alloc))?
+    .arg(moment(alloc))?;
+    parent.subcommand(report)
+}
+
+fn with_certificate<'a>(alloc: Global, parent: Command<'a>) -> Result<Command<'a>, AllocError>
+    ensures { IfOk result (λ c. app_of c ≡ with_subcommand (app_of parent.entry) spec.certificate_app.top) }
+{
+    let certificate = named(
+        alloc,
+        "certificate",
+        "Prints the certificate of destruction of a removed version",
+        "Example:\n  vaultctl certificate records.vault docs 1 --as ann",
+    )
+    .arg(place(alloc, "FILE", "The vault's file"))?
+    .arg(place(alloc, "BUCKET", "The bucket that the version was in"))?
+    .arg(place(
+        alloc,
+        "VERSION",
+        "The version's id: a number from 1 to 1000000000",
+    ))?
+    .arg(asker(alloc))?
+    .arg(moment(alloc))?;
+    parent.subcommand(certificate)
+}
+
+/// Adds the subcommands for a day's work.
+pub fn with_work<'a>(alloc: Global, parent: Command<'a>) -> Result<Command<'a>, AllocError>
+    ensures { IfOk result (λ c. app_of c ≡ spec.with_work (app_of parent.entry)) }
+{
+    let top = with_intake(alloc, parent)?;
+    let top = with_run(alloc, top)?;
+    let top = with_report(alloc, top)?;
+    with_certificate(alloc, top)
+}

@@ -1,0 +1,116 @@
+//! Jobs that ask one thing of the vault in a file: their values, then the file, then the reading, then the step.
+ghost use Rattle.std.specs.Prelude.{◌≡◌, ◌≢◌, ℕ, Result, Err, Some};
+ghost use Rattle.vault_base.specs.declared.refusal.Refusal.{Refusal as AnyRefusal};
+ghost use Rattle.vault_core_model.specs.Step.{Reached};
+ghost use Rattle.vault_http_values.specs.Fault.{Gives};
+ghost use Rattle.vaultctl_values.specs.declared.asked.Asked.{Asked as AskedOf};
+
+use crate::telling::{status, tell_fault, tell_unopened, tell_value};
+use std::alloc::Global;
+use std::io::Write;
+use std::time::Clock;
+use vault_base::moment::Moment;
+use vault_base::refusal::Refusal;
+use vault_core_model::keeper::Keeper;
+use vault_http_values::fault::LineFault;
+use vaultctl_commands::carrying::{carry_out, tell_refusal};
+use vaultctl_commands::fault::JobFault;
+use vaultctl_commands::outcome::Outcome;
+use vaultctl_machine::clock::now;
+use vaultctl_machine::vaults::{FileVault, Machine, close_vault};
+use vaultctl_values::asked::Asked;
+
+/// The reading that is given, or else the machine's clock.
+pub fn reading<C: Clock>(clock: &C, given: Option<Moment>) -> Option<Moment>
+    ensures { (at : ℕ) → given ≡ Some at → result ≡ Some at }
+{
+    match given {
+        Some(at) => Some(at),
+        None => now(clock),
+    }
+}
+
+/// Carries out what is asked of a vault, at the reading that is given or else at the clock's, and prints the
+/// reply. A clock that shows no moment is refused ClockOutOfRange.
+fn carry_out_asked<C: Clock, K: Keeper, W: Write>(
+    alloc: Global,
+    clock: &C,
+    keeper: &mut K,
+    asked: &Asked,
+    out: &mut W,
+) -> Result<Outcome, JobFault>
+    ensures reached { K.is_honest keeper.new → Reached (K.vault keeper.old) → Reached (K.vault keeper.new) }
+    ensures honest { K.is_honest keeper.new → K.is_honest keeper.old }
+{
+    let Some(at) = reading(clock, asked.at) else {
+        return tell_refusal(alloc, Refusal::ClockOutOfRange, out);
+    };
+    carry_out(alloc, keeper, at, &asked.who, &asked.command, out)
+}
+
+/// Asks it of a vault, and closes the vault.
+fn ask_vault<W: Write>(
+    rt: &HostRuntime,
+    vault: FileVault,
+    asked: &Asked,
+    out: &mut W,
+) -> Result<Outcome, JobFault> {
+    let mut vault = vault;
+    let outcome = carry_out_asked(rt.alloc(), rt, &mut vault, asked, out);
+    close_vault(vault);
+    outcome
+}
+
+/// Asks it of the vault in a file.
+fn ask_in_file<W: Write, E: Write>(
+    machine: &mut Machine<'_>,
+    subcommand: &str,
+    file: &str,
+    asked: &Asked,
+    out: &mut W,
+    err: &mut E,
+) -> u8
+    ensures status { result ≢ 2 }
+{
+    let rt = machine.runtime();
+    match machine.open(file) {
+        Ok(vault) => status(err, subcommand, ask_vault(rt, vault, asked, out)),
+        Err(refusal) => tell_unopened(err, "open", refusal),
+    }
+}
+
+/// The same as `ask`, of what was read by another.
+fn ask_read<W: Write, E: Write>(
+    machine: &mut Machine<'_>,
+    subcommand: &str,
+    file: &str,
+    asked: &Result<Asked, LineFault>,
+    out: &mut W,
+    err: &mut E,
+) -> u8
+    ensures values { (said : Result AskedOf AnyRefusal) (r : AnyRefusal) → Gives (λ x. x) asked.now said → said ≡ Err r → (machine.new ≡ machine.old) × (result ≡ 1) }
+    ensures status { result ≢ 2 }
+{
+    let alloc = machine.runtime().alloc();
+    match asked {
+        Ok(asked) => ask_in_file(machine, subcommand, file, asked, out, err),
+        Err(LineFault::Memory) => tell_fault(err, subcommand, JobFault::Memory),
+        Err(LineFault::Refused(refusal)) => tell_value(alloc, subcommand, *refusal, out, err),
+    }
+}
+
+/// Carries out what a job's words ask of the vault in a file, where their values are such; else prints the
+/// refusal of the first that isn't, and looks for no file.
+pub fn ask<W: Write, E: Write>(
+    machine: &mut Machine<'_>,
+    subcommand: &str,
+    file: &str,
+    asked: Result<Asked, LineFault>,
+    out: &mut W,
+    err: &mut E,
+) -> u8
+    ensures values { (said : Result AskedOf AnyRefusal) (r : AnyRefusal) → Gives (λ x. x) asked said → said ≡ Err r → (machine.new ≡ machine.old) × (result ≡ 1) }
+    ensures status { result ≢ 2 }
+{
+    ask_read(machine, subcommand, file, &asked, out, err)
+}

@@ -1,0 +1,136 @@
+//! The intake of a list into the vault in a file.
+ghost use Rattle.std.specs.Prelude.{◌≡◌, ◌≢◌, Result, Err};
+ghost use Rattle.vault_base.specs.declared.refusal.Refusal.{Refusal as AnyRefusal};
+ghost use Rattle.vault_core_model.specs.Step.{Reached};
+ghost use Rattle.vault_http_values.specs.Fault.{Gives};
+ghost use Rattle.vaultctl_values.specs.declared.asked.AskedIntake.{AskedIntake as AskedOf};
+
+use crate::asked::reading;
+use crate::telling::{status, tell_fault, tell_unopened, tell_value};
+use std::alloc::Global;
+use std::io::Write;
+use vault_base::refusal::Refusal;
+use vault_core_model::halt::Fault;
+use vault_core_model::keeper::Keeper;
+use vault_files_folder::disk_folder::DiskFolder;
+use vault_files_folder::list::read_list;
+use vault_http_values::fault::LineFault;
+use vaultctl_commands::carrying::tell_refusal;
+use vaultctl_commands::fault::JobFault;
+use vaultctl_commands::intake::{take_in_and_tell, tell_unread_list};
+use vaultctl_commands::outcome::Outcome;
+use vaultctl_job::job::Intake;
+use vaultctl_machine::vaults::{FileVault, Machine, close_vault};
+use vaultctl_values::asked::AskedIntake;
+
+/// Takes in a list whose bytes were read, at the reading that is given or else at the clock's.
+fn take_in_read<K: Keeper, W: Write>(
+    rt: &HostRuntime,
+    keeper: &mut K,
+    asked: &AskedIntake,
+    list: &[u8],
+    folder: &str,
+    out: &mut W,
+) -> Result<Outcome, JobFault>
+    ensures reached { K.is_honest keeper.new → Reached (K.vault keeper.old) → Reached (K.vault keeper.new) }
+    ensures honest { K.is_honest keeper.new → K.is_honest keeper.old }
+{
+    let alloc = rt.alloc();
+    let Some(at) = reading(rt, asked.at) else {
+        return tell_refusal(alloc, Refusal::ClockOutOfRange, out);
+    };
+    let mut folder = DiskFolder::new(alloc, rt, folder);
+    take_in_and_tell(
+        alloc,
+        keeper,
+        at,
+        &asked.who,
+        &asked.bucket,
+        &asked.batch,
+        list,
+        &mut folder,
+        out,
+    )
+}
+
+/// Takes in the list of that file.
+fn take_in_list<K: Keeper, W: Write>(
+    rt: &HostRuntime,
+    keeper: &mut K,
+    asked: &AskedIntake,
+    job: &Intake,
+    out: &mut W,
+) -> Result<Outcome, JobFault>
+    ensures reached { K.is_honest keeper.new → Reached (K.vault keeper.old) → Reached (K.vault keeper.new) }
+    ensures honest { K.is_honest keeper.new → K.is_honest keeper.old }
+{
+    match read_list(rt.alloc(), rt, job.list.as_str()) {
+        Ok(list) => take_in_read(rt, keeper, asked, list.as_slice(), job.folder.as_str(), out),
+        Err(Fault::Memory) => Err(JobFault::Memory),
+        Err(Fault::Device) => tell_unread_list(rt.alloc(), out),
+    }
+}
+
+/// Takes in the list, and closes the vault.
+fn take_in_vault<W: Write>(
+    rt: &HostRuntime,
+    vault: FileVault,
+    asked: &AskedIntake,
+    job: &Intake,
+    out: &mut W,
+) -> Result<Outcome, JobFault> {
+    let mut vault = vault;
+    let outcome = take_in_list(rt, &mut vault, asked, job, out);
+    close_vault(vault);
+    outcome
+}
+
+fn take_in_file<W: Write, E: Write>(
+    machine: &mut Machine<'_>,
+    asked: &AskedIntake,
+    job: &Intake,
+    out: &mut W,
+    err: &mut E,
+) -> u8
+    ensures status { result ≢ 2 }
+{
+    let rt = machine.runtime();
+    match machine.open(job.file.as_str()) {
+        Ok(vault) => status(err, "intake", take_in_vault(rt, vault, asked, job, out)),
+        Err(refusal) => tell_unopened(err, "open", refusal),
+    }
+}
+
+/// The same as `take_in`, of what was read by another.
+fn take_in_asked<W: Write, E: Write>(
+    machine: &mut Machine<'_>,
+    asked: &Result<AskedIntake, LineFault>,
+    job: &Intake,
+    out: &mut W,
+    err: &mut E,
+) -> u8
+    ensures values { (said : Result AskedOf AnyRefusal) (r : AnyRefusal) → Gives (λ x. x) asked.now said → said ≡ Err r → (machine.new ≡ machine.old) × (result ≡ 1) }
+    ensures status { result ≢ 2 }
+{
+    let alloc = machine.runtime().alloc();
+    match asked {
+        Ok(asked) => take_in_file(machine, asked, job, out, err),
+        Err(LineFault::Memory) => tell_fault(err, "intake", JobFault::Memory),
+        Err(LineFault::Refused(refusal)) => tell_value(alloc, "intake", *refusal, out, err),
+    }
+}
+
+/// Takes in files of a folder by a list, where the values of the job's words are such; else prints the refusal
+/// of the first that isn't, and looks for no file.
+pub fn take_in<W: Write, E: Write>(
+    machine: &mut Machine<'_>,
+    asked: Result<AskedIntake, LineFault>,
+    job: &Intake,
+    out: &mut W,
+    err: &mut E,
+) -> u8
+    ensures values { (said : Result AskedOf AnyRefusal) (r : AnyRefusal) → Gives (λ x. x) asked said → said ≡ Err r → (machine.new ≡ machine.old) × (result ≡ 1) }
+    ensures status { result ≢ 2 }
+{
+    take_in_asked(machine, &asked, job, out, err)
+}
