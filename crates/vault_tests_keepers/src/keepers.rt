@@ -44,7 +44,7 @@ pub fn replies_of_files(alloc: Global, script: &str) -> Result<String, Fail> {
 
 /// What is written for a run of lines over a keeper whose device fails once after so many changes, and what
 /// for the lines behind. Fails where the device didn't fail just once.
-fn replies_of_failing<K: Keeper>(
+fn replies_of_failing<K: Keeper + Drop>(
     alloc: Global,
     keeper: K,
     changes: u64,
@@ -62,6 +62,7 @@ fn replies_of_failing<K: Keeper>(
 }
 
 /// A script in two parts: the device may fail in the second.
+#[derive(Clone, Copy)]
 pub struct Failing<'a> {
     pub before: &'a str,
     pub behind: &'a str,
