@@ -3,5 +3,3 @@
 
 #[cfg(test)]
 mod reads;
-#[cfg(test)]
-mod steps;
