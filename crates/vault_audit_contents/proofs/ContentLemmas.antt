@@ -74,14 +74,14 @@ rise p (c ∷ cs) fit = (above (with_content p c) c cs (omega arith) fit.1, rise
 
 -- ---- what the query shows
 
-by_first : IsOrderOf (beside_of 10 0 contents_shown ((col 1 0, ascending Binary) ∷ [])) first_cmp
+by_first : IsOrderOf (beside_of contents_tree 0 contents_shown ((col 1 0, ascending Binary) ∷ [])) first_cmp
 by_first a b = ap is_lt (then-Equal (value_cmp (eval (col 1 0) a) (eval (col 1 0) b)))
 
 abbrev source : Database → List Row
-source db = join_rows 10 0 contents_shown db.trees
+source db = join_rows contents_tree 0 contents_shown db.trees
 
 answers : (a b : State) → a.now.schema ≡ vault_schema → (rows : List Row) → Shown contents_walk [] a b rows → IsPermutation (source a.now) rows × IsSorted first_cmp rows
-answers a b schema rows shown = joined contents_walk a b vault_schema schema contents_walk_plain contents_walk_is.1 10 0 contents_shown _ first_cmp _ contents_walk_is.0 by_first refl rows shown
+answers a b schema rows shown = joined contents_walk a b vault_schema schema contents_walk_plain contents_walk_is.1 contents_tree 0 contents_shown _ first_cmp _ contents_walk_is.0 by_first refl rows shown
 
 -- the first two values of a row
 abbrev first_two : Row → Row

@@ -7,7 +7,7 @@ use Rattle.sqlite.specs.Command.TheVariants.{Select}
 use Rattle.sqlite.specs.Listing.{understood, reads_listing}
 use Rattle.sqlite.proofs.Callers.{IsPlain, command_of}
 use Rattle.sqlite_sql.specs.Term.{Term, col}
-use Rattle.vault_audit_model.specs.Tables.{vault_schema}
+use Rattle.vault_audit_model.specs.Tables.{vault_schema, contents_tree}
 use Rattle.vault_audit_walk.proofs.RecordLemmas.{Scans}
 use Rattle.vault_audit_contents.proofs.JoinLemmas.{beside_of}
 
@@ -17,7 +17,7 @@ contents_walk = codes "SELECT c.id, c.bytes, e.size, e.digest, e.removed FROM co
 abbrev pub contents_shown : List Term
 contents_shown = col 1 0 ∷ col 1 2 ∷ col 2 5 ∷ col 2 6 ∷ col 2 10 ∷ []
 
-pub contents_walk_is : (command_of (understood vault_schema contents_walk) ≡ Select (record { lets = []; body = beside_of 10 0 contents_shown ((col 1 0, ascending Binary) ∷ []) }) (codes "id" ∷ codes "bytes" ∷ codes "size" ∷ codes "digest" ∷ codes "removed" ∷ []))
+pub contents_walk_is : (command_of (understood vault_schema contents_walk) ≡ Select (record { lets = []; body = beside_of contents_tree 0 contents_shown ((col 1 0, ascending Binary) ∷ []) }) (codes "id" ∷ codes "bytes" ∷ codes "size" ∷ codes "digest" ∷ codes "removed" ∷ []))
     × (reads_listing vault_schema contents_walk ≡ false)
 unfolding understood everything
 contents_walk_is = (refl, refl)

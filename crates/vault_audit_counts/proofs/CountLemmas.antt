@@ -54,7 +54,7 @@ most = 9223372036854775807
 
 abbrev pub counts_query : Query
 counts_query = record {
-  from = inner 15 (counted most (inner 9 end) tests end);
+  from = inner heads_tree (counted most (inner 9 end) tests end);
   filter = [];
   group = None;
   project = col 1 4 ∷ col 2 0 ∷ [];
@@ -86,7 +86,7 @@ abbrev shown_counted : List Row → Row → Row
 shown_counted entries r = column r 4 ∷ Int (pos (min most (length (met entries r)))) ∷ []
 
 abbrev source : Trees → List Row
-source db = map (shown_counted (db 9)) (db 15)
+source db = map (shown_counted (db 9)) (db heads_tree)
 
 singles : {A B : Type 0} (f : A → B) (xs : List A) → flat_map (λ x. f x ∷ []) xs ≡ map f xs
 singles f [] = refl
@@ -99,8 +99,8 @@ answered : (db : Trees) (rows : List Row) → IsAnswer counts_query db [] rows �
 answered db rows a =
     let q = counts_query in
     let kept : map (λ (o : Output). o.1) a.kept ≡ source db =
-    ap (map (λ (o : Output). o.1)) (a.distinct ∙ ap (map (output q)) (a.grouped ∙ singles (env_of db) (db 15)))
-    ∙ map-map (λ (o : Output). o.1) (output q) (map (env_of db) (db 15)) ∙ map-map (eval_all q.project) (env_of db) (db 15) in
+    ap (map (λ (o : Output). o.1)) (a.distinct ∙ ap (map (output q)) (a.grouped ∙ singles (env_of db) (db heads_tree)))
+    ∙ map-map (λ (o : Output). o.1) (output q) (map (env_of db) (db heads_tree)) ∙ map-map (eval_all q.project) (env_of db) (db heads_tree) in
     subst (λ xs. IsPermutation xs rows) kept (subst (IsPermutation (map (λ (o : Output). o.1) a.kept)) (sym a.shown) (IsPermutation-map (λ (o : Output). o.1) a.kept a.ordered a.same))
 
 looked : (old new : State) → old.now.schema ≡ vault_schema → (rows : List Row) → Shown counts_text [] old new rows → IsPermutation (source old.now.trees) rows

@@ -48,7 +48,7 @@ tests = op2 (Compare Eq Binary) (col 2 1) (col 1 2) ∷ op2 (Compare Eq Binary) 
 
 abbrev pub headed_query : Query
 headed_query = record {
-  from = inner 9 (counted 1 (inner 15 end) tests end);
+  from = inner 9 (counted 1 (inner heads_tree end) tests end);
   filter = [];
   group = None;
   project = col 1 10 ∷ col 2 0 ∷ [];
@@ -77,14 +77,14 @@ abbrev shown_headed : List Row → Row → Row
 shown_headed heads r = column r 10 ∷ Int (pos (min 1 (length (flat_map (λ s. if passes r s then ([] ∷ r ∷ s ∷ []) ∷ [] else []) heads)))) ∷ []
 
 abbrev source : Trees → List Row
-source db = map (shown_headed (db 15)) (db 9)
+source db = map (shown_headed (db heads_tree)) (db 9)
 
 singles : {A B : Type 0} (f : A → B) (xs : List A) → flat_map (λ x. f x ∷ []) xs ≡ map f xs
 singles f [] = refl
 singles f (x ∷ xs) = ap (λ l. f x ∷ l) (singles f xs)
 
 abbrev env_of : Trees → Row → Env
-env_of db r = [] ∷ r ∷ (Int (pos (min 1 (length (flat_map (λ s. if passes r s then ([] ∷ r ∷ s ∷ []) ∷ [] else []) (db 15))))) ∷ []) ∷ []
+env_of db r = [] ∷ r ∷ (Int (pos (min 1 (length (flat_map (λ s. if passes r s then ([] ∷ r ∷ s ∷ []) ∷ [] else []) (db heads_tree))))) ∷ []) ∷ []
 
 answered : (db : Trees) (rows : List Row) → IsAnswer headed_query db [] rows → IsPermutation (source db) rows
 answered db rows a =

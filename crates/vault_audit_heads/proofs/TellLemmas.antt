@@ -34,14 +34,14 @@ use Rattle.vault_audit_heads.proofs.TextLemmas.{heads_walk, heads_shown, heads_o
 
 -- ---- what the query shows
 
-by_key : IsOrderOf (beside_of 15 3 heads_shown heads_order) row_order
+by_key : IsOrderOf (beside_of heads_tree 3 heads_shown heads_order) row_order
 by_key a b = refl
 
 abbrev source : Database → List Row
-source db = join_rows 15 3 heads_shown db.trees
+source db = join_rows heads_tree 3 heads_shown db.trees
 
 answers : (a b : State) → a.now.schema ≡ vault_schema → (rows : List Row) → Shown heads_walk [] a b rows → IsPermutation (source a.now) rows × IsSorted row_order rows
-answers a b schema rows shown = joined heads_walk a b vault_schema schema heads_walk_plain heads_walk_is.1 15 3 heads_shown heads_order row_order _ heads_walk_is.0 by_key refl rows shown
+answers a b schema rows shown = joined heads_walk a b vault_schema schema heads_walk_plain heads_walk_is.1 heads_tree 3 heads_shown heads_order row_order _ heads_walk_is.0 by_key refl rows shown
 
 -- a row of heads, with the bucket, the key and the removal of the entry that is its newest
 abbrev extended : List Entry → Row → Row

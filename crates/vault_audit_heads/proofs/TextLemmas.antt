@@ -8,7 +8,7 @@ use Rattle.sqlite.specs.Command.TheVariants.{Select}
 use Rattle.sqlite.specs.Listing.{understood, reads_listing}
 use Rattle.sqlite.proofs.Callers.{IsPlain, command_of}
 use Rattle.sqlite_sql.specs.Term.{Term, col}
-use Rattle.vault_audit_model.specs.Tables.{vault_schema}
+use Rattle.vault_audit_model.specs.Tables.{vault_schema, heads_tree}
 use Rattle.vault_audit_contents.proofs.JoinLemmas.{beside_of}
 
 abbrev pub heads_walk : List ℕ
@@ -20,7 +20,7 @@ heads_shown = col 1 1 ∷ col 1 2 ∷ col 1 3 ∷ col 1 4 ∷ col 2 2 ∷ col 2 
 abbrev pub heads_order : List (Term × Key)
 heads_order = (col 1 1, ascending Binary) ∷ (col 1 2, ascending Binary) ∷ []
 
-pub heads_walk_is : (command_of (understood vault_schema heads_walk) ≡ Select (record { lets = []; body = beside_of 15 3 heads_shown heads_order }) (codes "bucket" ∷ codes "key" ∷ codes "newest" ∷ codes "count" ∷ codes "bucket" ∷ codes "key" ∷ codes "removed" ∷ []))
+pub heads_walk_is : (command_of (understood vault_schema heads_walk) ≡ Select (record { lets = []; body = beside_of heads_tree 3 heads_shown heads_order }) (codes "bucket" ∷ codes "key" ∷ codes "newest" ∷ codes "count" ∷ codes "bucket" ∷ codes "key" ∷ codes "removed" ∷ []))
     × (reads_listing vault_schema heads_walk ≡ false)
 unfolding understood everything
 heads_walk_is = (refl, refl)

@@ -104,14 +104,14 @@ rows_rise (n ∷ ns) up = (all_rise n ns up.0, rows_rise ns up.1)
 
 -- ---- what the query shows
 
-by_line : IsOrderOf (beside_of 13 10 notes_shown notes_order) row_order
+by_line : IsOrderOf (beside_of intake_tree 10 notes_shown notes_order) row_order
 by_line a b = refl
 
 abbrev source : Database → List Row
-source db = join_rows 13 10 notes_shown db.trees
+source db = join_rows intake_tree 10 notes_shown db.trees
 
 answers : (a b : State) → a.now.schema ≡ vault_schema → (rows : List Row) → Shown notes_walk [] a b rows → IsPermutation (source a.now) rows × IsSorted row_order rows
-answers a b schema rows shown = joined notes_walk a b vault_schema schema notes_walk_plain notes_walk_is.1 13 10 notes_shown notes_order row_order _ notes_walk_is.0 by_line refl rows shown
+answers a b schema rows shown = joined notes_walk a b vault_schema schema notes_walk_plain notes_walk_is.1 intake_tree 10 notes_shown notes_order row_order _ notes_walk_is.0 by_line refl rows shown
 
 -- a row of intake, with the bucket, the key, the size and the digest of the entry of its id
 abbrev extended : List Entry → Row → Row

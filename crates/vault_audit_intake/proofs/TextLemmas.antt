@@ -8,7 +8,7 @@ use Rattle.sqlite.specs.Command.TheVariants.{Select}
 use Rattle.sqlite.specs.Listing.{understood, reads_listing}
 use Rattle.sqlite.proofs.Callers.{IsPlain, command_of}
 use Rattle.sqlite_sql.specs.Term.{Term, col}
-use Rattle.vault_audit_model.specs.Tables.{vault_schema}
+use Rattle.vault_audit_model.specs.Tables.{vault_schema, intake_tree}
 use Rattle.vault_audit_contents.proofs.JoinLemmas.{beside_of}
 
 abbrev pub notes_walk : List ℕ
@@ -20,7 +20,7 @@ notes_shown = col 1 1 ∷ col 1 2 ∷ col 1 3 ∷ col 1 4 ∷ col 1 5 ∷ col 1 
 abbrev pub notes_order : List (Term × Key)
 notes_order = (col 1 1, ascending Binary) ∷ (col 1 2, ascending Binary) ∷ (col 1 3, ascending Binary) ∷ []
 
-pub notes_walk_is : (command_of (understood vault_schema notes_walk) ≡ Select (record { lets = []; body = beside_of 13 10 notes_shown notes_order }) (codes "bucket" ∷ codes "batch" ∷ codes "line" ∷ codes "key" ∷ codes "size" ∷ codes "digest" ∷ codes "mode" ∷ codes "until" ∷ codes "hold" ∷ codes "id" ∷ codes "bucket" ∷ codes "key" ∷ codes "size" ∷ codes "digest" ∷ []))
+pub notes_walk_is : (command_of (understood vault_schema notes_walk) ≡ Select (record { lets = []; body = beside_of intake_tree 10 notes_shown notes_order }) (codes "bucket" ∷ codes "batch" ∷ codes "line" ∷ codes "key" ∷ codes "size" ∷ codes "digest" ∷ codes "mode" ∷ codes "until" ∷ codes "hold" ∷ codes "id" ∷ codes "bucket" ∷ codes "key" ∷ codes "size" ∷ codes "digest" ∷ []))
     × (reads_listing vault_schema notes_walk ≡ false)
 unfolding understood everything
 notes_walk_is = (refl, refl)

@@ -51,6 +51,10 @@ table name tree columns key primary uniques orders references = record {
 abbrev pub table_by_number : List ℕ → ℕ → List Column → List Reference → Table
 table_by_number name tree columns references = table name tree columns (Some 0) (0 ∷ []) [] [] references
 
+-- one that also finds its rows by the columns at these places, counted from 1, and 0 for the number
+abbrev pub table_by_number_and : List ℕ → List ℕ → ℕ → List Column → List Reference → Table
+table_by_number_and places name tree columns references = table name tree columns (Some 0) (0 ∷ []) (places ∷ []) (plain ∷ []) references
+
 -- a table whose rows are told apart by the columns at these places, counted from 1; an index follows its tree
 abbrev pub table_by : List ℕ → List ℕ → ℕ → List Column → List Reference → Table
 table_by key name tree columns references = table name tree columns None key (key ∷ []) (plain ∷ []) references
@@ -76,16 +80,16 @@ abbrev pub entries_tree : ℕ
 entries_tree = 9
 
 abbrev pub contents_tree : ℕ
-contents_tree = 10
+contents_tree = 11
 
 abbrev pub settings_tree : ℕ
-settings_tree = 11
+settings_tree = 12
 
 abbrev pub intake_tree : ℕ
-intake_tree = 13
+intake_tree = 14
 
 abbrev pub heads_tree : ℕ
-heads_tree = 15
+heads_tree = 16
 
 -- ---- the tables
 
@@ -125,7 +129,7 @@ rules =
 
 abbrev pub entries : Table
 entries =
-    table_by_number (codes "entries") entries_tree
+    table_by_number_and (2 ∷ 3 ∷ 0 ∷ []) (codes "entries") entries_tree
     (may_have (codes "id") Integer ∷ has (codes "bucket") Text ∷ has (codes "key") Text ∷ has (codes "marker") Integer
     ∷ has (codes "size") Integer ∷ may_have (codes "digest") Blob ∷ has (codes "admitted") Integer
     ∷ has (codes "by_rule") Integer ∷ has (codes "admitted_by") Text ∷ may_have (codes "removed") Integer
@@ -169,7 +173,7 @@ abbrev pub vault_schema : Schema
 vault_schema = record {
   tables = meta ∷ departments ∷ callers ∷ buckets ∷ rules ∷ entries ∷ contents ∷ settings ∷ intake ∷ heads ∷ [];
   indexes = automatic departments 0 (1 ∷ []) 2 ∷ automatic callers 0 (1 ∷ []) 4 ∷ automatic buckets 0 (1 ∷ []) 6
-      ∷ automatic rules 0 (1 ∷ 2 ∷ []) 8 ∷ automatic settings 0 (1 ∷ 2 ∷ []) 12
-      ∷ automatic intake 0 (1 ∷ 2 ∷ 3 ∷ []) 14 ∷ automatic heads 0 (1 ∷ 2 ∷ []) 16 ∷ [];
+      ∷ automatic rules 0 (1 ∷ 2 ∷ []) 8 ∷ automatic entries 0 (2 ∷ 3 ∷ 0 ∷ []) 10 ∷ automatic settings 0 (1 ∷ 2 ∷ []) 13
+      ∷ automatic intake 0 (1 ∷ 2 ∷ 3 ∷ []) 15 ∷ automatic heads 0 (1 ∷ 2 ∷ []) 17 ∷ [];
   views = [];
 }

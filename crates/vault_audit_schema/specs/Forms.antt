@@ -13,7 +13,7 @@ use Rattle.vault_audit_schema.specs.declared.column.ColumnForm.TheVariants.{Has,
 use Rattle.vault_audit_schema.specs.declared.column.ReferenceForm.{ReferenceForm}
 use Rattle.vault_audit_schema.specs.declared.index.IndexForm.{IndexForm}
 use Rattle.vault_audit_schema.specs.declared.table.KeyForm.{KeyForm}
-use Rattle.vault_audit_schema.specs.declared.table.KeyForm.TheVariants.{Number, Places}
+use Rattle.vault_audit_schema.specs.declared.table.KeyForm.TheVariants.{Number, Places, NumberAnd}
 use Rattle.vault_audit_schema.specs.declared.table.TableForm.{TableForm}
 
 -- the column of a form
@@ -29,21 +29,25 @@ reference_of form = refers form.at (table_name form.parent) form.column.now
 abbrev pub key_of : KeyForm → Option ℕ
 key_of Number = Some 0
 key_of (Places places) = None
+key_of (NumberAnd places) = Some 0
 
 -- the places of a key
 abbrev pub primary_of : KeyForm → List ℕ
 primary_of Number = 0 ∷ []
 primary_of (Places places) = places.now
+primary_of (NumberAnd places) = 0 ∷ []
 
 -- the places that an index tells apart
 abbrev pub uniques_of : KeyForm → List (List ℕ)
 uniques_of Number = []
 uniques_of (Places places) = places.now ∷ []
+uniques_of (NumberAnd places) = places.now ∷ []
 
 -- the orders of those indexes
 abbrev pub orders_of : KeyForm → List Order
 orders_of Number = []
 orders_of (Places places) = plain ∷ []
+orders_of (NumberAnd places) = plain ∷ []
 
 -- the table of a form
 abbrev pub table_of : TableForm → Table

@@ -1,4 +1,4 @@
-//! The indexes that the keys of the tables bring.
+//! The indexes that the tables bring.
 
 ghost use Rattle.vault_audit_schema.specs.Forms.{index_of};
 
@@ -7,7 +7,7 @@ use sqlite_schema::schema::Index;
 use sqlite_value::keys::Order;
 use vault_base::refusal::Table;
 
-/// The index of a table's key.
+/// The index of the places by which a table's rows are found.
 #[derive(Clone, Copy, Debug)]
 pub(crate) struct IndexForm {
     pub(crate) table: Table,
@@ -19,7 +19,7 @@ pub(crate) struct IndexForm {
 }
 
 /// The indexes in the order in which they are made.
-pub(crate) static INDEXES: [IndexForm; 7] = [
+pub(crate) static INDEXES: [IndexForm; 8] = [
     IndexForm {
         table: Table::Departments,
         name: "sqlite_autoindex_departments_1",
@@ -49,24 +49,31 @@ pub(crate) static INDEXES: [IndexForm; 7] = [
         places: &[1, 2],
     },
     IndexForm {
+        table: Table::Entries,
+        name: "sqlite_autoindex_entries_1",
+        tree: 10,
+        table_tree: 9,
+        places: &[2, 3, 0],
+    },
+    IndexForm {
         table: Table::Settings,
         name: "sqlite_autoindex_settings_1",
-        tree: 12,
-        table_tree: 11,
+        tree: 13,
+        table_tree: 12,
         places: &[1, 2],
     },
     IndexForm {
         table: Table::Intake,
         name: "sqlite_autoindex_intake_1",
-        tree: 14,
-        table_tree: 13,
+        tree: 15,
+        table_tree: 14,
         places: &[1, 2, 3],
     },
     IndexForm {
         table: Table::Heads,
         name: "sqlite_autoindex_heads_1",
-        tree: 16,
-        table_tree: 15,
+        tree: 17,
+        table_tree: 16,
         places: &[1, 2],
     },
 ];

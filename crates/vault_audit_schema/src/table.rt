@@ -20,6 +20,8 @@ pub(crate) enum KeyForm {
     Number,
     /// The columns at these places, counted from 1.
     Places(&'static [usize]),
+    /// Its first column, which is a number; its rows are found by these places too, 0 for the number.
+    NumberAnd(&'static [usize]),
 }
 
 /// A table, with the number of the tree that its rows are kept in.
@@ -117,7 +119,7 @@ pub(crate) static TABLES: [TableForm; 10] = [
     TableForm {
         table: Table::Entries,
         tree: 9,
-        key: KeyForm::Number,
+        key: KeyForm::NumberAnd(&[2, 3, 0]),
         columns: &[
             MayHave("id", Kind::Integer),
             Has("bucket", Kind::Text),
@@ -140,7 +142,7 @@ pub(crate) static TABLES: [TableForm; 10] = [
     },
     TableForm {
         table: Table::Contents,
-        tree: 10,
+        tree: 11,
         key: KeyForm::Number,
         columns: &[MayHave("id", Kind::Integer), Has("bytes", Kind::Blob)],
         references: &[ReferenceForm {
@@ -151,7 +153,7 @@ pub(crate) static TABLES: [TableForm; 10] = [
     },
     TableForm {
         table: Table::Settings,
-        tree: 11,
+        tree: 12,
         key: KeyForm::Places(&[1, 2]),
         columns: &[
             Has("id", Kind::Integer),
@@ -171,7 +173,7 @@ pub(crate) static TABLES: [TableForm; 10] = [
     },
     TableForm {
         table: Table::Intake,
-        tree: 13,
+        tree: 14,
         key: KeyForm::Places(&[1, 2, 3]),
         columns: &[
             Has("bucket", Kind::Text),
@@ -200,7 +202,7 @@ pub(crate) static TABLES: [TableForm; 10] = [
     },
     TableForm {
         table: Table::Heads,
-        tree: 15,
+        tree: 16,
         key: KeyForm::Places(&[1, 2]),
         columns: &[
             Has("bucket", Kind::Text),
@@ -259,6 +261,15 @@ fn has_places(it: &schema::Table, places: &[usize]) -> bool
         && is_one_plain_order(it.orders.as_slice())
 }
 
+fn has_number_and(it: &schema::Table, places: &[usize]) -> bool
+    ensures { IsTrue result ↔ HasKey it.now (Some 0) (0 ∷ []) (places.now ∷ []) (plain ∷ []) }
+{
+    it.key == Some(0)
+        && it.primary.as_slice() == [0usize].as_slice()
+        && is_one_unique(it.uniques.as_slice(), places)
+        && is_one_plain_order(it.orders.as_slice())
+}
+
 /// Whether this is what tells the rows of the table apart.
 fn has_key(it: &schema::Table, key: KeyForm) -> bool
     ensures { IsTrue result ↔ HasKey it.now (key_of key) (primary_of key) (uniques_of key) (orders_of key) }
@@ -266,6 +277,7 @@ fn has_key(it: &schema::Table, key: KeyForm) -> bool
     match key {
         KeyForm::Number => has_number(it),
         KeyForm::Places(places) => has_places(it, places),
+        KeyForm::NumberAnd(places) => has_number_and(it, places),
     }
 }
 

@@ -37,7 +37,7 @@ abbrev source : Database → List Row
 source db = map setting_columns (db.trees settings_tree)
 
 answers : (a b : State) → a.now.schema ≡ vault_schema → (rows : List Row) → Shown placed_walk [] a b rows → IsPermutation (source a.now) rows × IsSorted pair_cmp rows
-answers a b schema rows shown = pair_walked placed_walk a b vault_schema schema placed_walk_plain placed_walk_is.1 11 1 2 (col 1 3 ∷ col 1 4 ∷ col 1 5 ∷ col 1 6 ∷ col 1 7 ∷ col 1 8 ∷ []) _ placed_walk_is.0 refl rows shown
+answers a b schema rows shown = pair_walked placed_walk a b vault_schema schema placed_walk_plain placed_walk_is.1 settings_tree 1 2 (col 1 3 ∷ col 1 4 ∷ col 1 5 ∷ col 1 6 ∷ col 1 7 ∷ col 1 8 ∷ []) _ placed_walk_is.0 refl rows shown
 
 module _ (old new : State) (has : old.now.schema ≡ vault_schema) (same : IsUnchanged old new) (r : SettingPass) where
   pub places : (b : Bool) → Walked (Takes setting_row ComesNext with_setting) (Refuses setting_row ComesNext with_setting) placed_walk old new no_setting r b → TellPlaces new.now b

@@ -6,14 +6,14 @@ use Rattle.sqlite.specs.Listing.{understood, reads_listing}
 use Rattle.sqlite.proofs.Callers.{IsPlain, command_of}
 use Rattle.sqlite_sql.specs.Term.{col, lit}
 use Rattle.sqlite_value.specs.declared.value.Value.TheVariants.{Int}
-use Rattle.vault_audit_model.specs.Tables.{vault_schema}
+use Rattle.vault_audit_model.specs.Tables.{vault_schema, settings_tree}
 use Rattle.vault_audit_walk.proofs.PairLemmas.{pair_walk_of}
 use Rattle.vault_audit_beside.proofs.BesideLemmas.{LooksBeside}
 
 abbrev pub placed_walk : List ℕ
 placed_walk = codes "SELECT id, n, moment, caller, mode, until, hold, bypass FROM settings ORDER BY id, n"
 
-pub placed_walk_is : (command_of (understood vault_schema placed_walk) ≡ Select (record { lets = []; body = pair_walk_of 11 1 2 (col 1 3 ∷ col 1 4 ∷ col 1 5 ∷ col 1 6 ∷ col 1 7 ∷ col 1 8 ∷ []) }) (codes "id" ∷ codes "n" ∷ codes "moment" ∷ codes "caller" ∷ codes "mode" ∷ codes "until" ∷ codes "hold" ∷ codes "bypass" ∷ []))
+pub placed_walk_is : (command_of (understood vault_schema placed_walk) ≡ Select (record { lets = []; body = pair_walk_of settings_tree 1 2 (col 1 3 ∷ col 1 4 ∷ col 1 5 ∷ col 1 6 ∷ col 1 7 ∷ col 1 8 ∷ []) }) (codes "id" ∷ codes "n" ∷ codes "moment" ∷ codes "caller" ∷ codes "mode" ∷ codes "until" ∷ codes "hold" ∷ codes "bypass" ∷ []))
     × (reads_listing vault_schema placed_walk ≡ false)
 unfolding understood everything
 placed_walk_is = (refl, refl)
@@ -25,13 +25,13 @@ placed_walk_plain = (refl, refl)
 abbrev pub settings_beside : List ℕ
 settings_beside = codes "SELECT e.marker, s.id FROM entries AS e LEFT JOIN settings AS s ON s.id = e.id"
 
-pub settings_beside_is : LooksBeside vault_schema settings_beside 9 11 (col 1 4) 1 0 (codes "marker" ∷ codes "id" ∷ [])
+pub settings_beside_is : LooksBeside vault_schema settings_beside 9 settings_tree (col 1 4) 1 0 (codes "marker" ∷ codes "id" ∷ [])
 unfolding understood everything
 settings_beside_is = record { command = refl; unlisted = refl; plain = (refl, refl) }
 
 abbrev pub entries_beside : List ℕ
 entries_beside = codes "SELECT 0, e.id FROM settings AS s LEFT JOIN entries AS e ON e.id = s.id"
 
-pub entries_beside_is : LooksBeside vault_schema entries_beside 11 9 (lit (Int (pos 0))) 0 1 (codes "0" ∷ codes "id" ∷ [])
+pub entries_beside_is : LooksBeside vault_schema entries_beside settings_tree 9 (lit (Int (pos 0))) 0 1 (codes "0" ∷ codes "id" ∷ [])
 unfolding understood everything
 entries_beside_is = record { command = refl; unlisted = refl; plain = (refl, refl) }

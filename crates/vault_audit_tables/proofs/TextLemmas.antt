@@ -5,7 +5,7 @@ use Rattle.sqlite.specs.Command.TheVariants.{Select}
 use Rattle.sqlite.specs.Listing.{understood, reads_listing}
 use Rattle.sqlite.proofs.Callers.{IsPlain, command_of}
 use Rattle.sqlite_sql.specs.Term.{col}
-use Rattle.vault_audit_model.specs.Tables.{vault_schema}
+use Rattle.vault_audit_model.specs.Tables.{vault_schema, contents_tree, heads_tree, intake_tree, settings_tree}
 use Rattle.vault_audit_walk.proofs.RecordLemmas.{Scans}
 use Rattle.vault_audit_walk.proofs.ScanLemmas.{walk_of}
 
@@ -40,28 +40,28 @@ rules_scan = record { command = refl; unlisted = refl; plain = (refl, refl) }
 abbrev pub contents_text : List ℕ
 contents_text = codes "SELECT id, bytes FROM contents"
 
-pub contents_scan : Scans vault_schema contents_text 10 (col 1 0 ∷ col 1 2 ∷ []) (codes "id" ∷ codes "bytes" ∷ [])
+pub contents_scan : Scans vault_schema contents_text contents_tree (col 1 0 ∷ col 1 2 ∷ []) (codes "id" ∷ codes "bytes" ∷ [])
 unfolding understood everything
 contents_scan = record { command = refl; unlisted = refl; plain = (refl, refl) }
 
 abbrev pub settings_text : List ℕ
 settings_text = codes "SELECT id, n, moment, caller, mode, until, hold, bypass FROM settings"
 
-pub settings_scan : Scans vault_schema settings_text 11 (col 1 1 ∷ col 1 2 ∷ col 1 3 ∷ col 1 4 ∷ col 1 5 ∷ col 1 6 ∷ col 1 7 ∷ col 1 8 ∷ []) (codes "id" ∷ codes "n" ∷ codes "moment" ∷ codes "caller" ∷ codes "mode" ∷ codes "until" ∷ codes "hold" ∷ codes "bypass" ∷ [])
+pub settings_scan : Scans vault_schema settings_text settings_tree (col 1 1 ∷ col 1 2 ∷ col 1 3 ∷ col 1 4 ∷ col 1 5 ∷ col 1 6 ∷ col 1 7 ∷ col 1 8 ∷ []) (codes "id" ∷ codes "n" ∷ codes "moment" ∷ codes "caller" ∷ codes "mode" ∷ codes "until" ∷ codes "hold" ∷ codes "bypass" ∷ [])
 unfolding understood everything
 settings_scan = record { command = refl; unlisted = refl; plain = (refl, refl) }
 
 abbrev pub intake_text : List ℕ
 intake_text = codes "SELECT bucket, batch, line, key, size, digest, mode, until, hold, id FROM intake"
 
-pub intake_scan : Scans vault_schema intake_text 13 (col 1 1 ∷ col 1 2 ∷ col 1 3 ∷ col 1 4 ∷ col 1 5 ∷ col 1 6 ∷ col 1 7 ∷ col 1 8 ∷ col 1 9 ∷ col 1 10 ∷ []) (codes "bucket" ∷ codes "batch" ∷ codes "line" ∷ codes "key" ∷ codes "size" ∷ codes "digest" ∷ codes "mode" ∷ codes "until" ∷ codes "hold" ∷ codes "id" ∷ [])
+pub intake_scan : Scans vault_schema intake_text intake_tree (col 1 1 ∷ col 1 2 ∷ col 1 3 ∷ col 1 4 ∷ col 1 5 ∷ col 1 6 ∷ col 1 7 ∷ col 1 8 ∷ col 1 9 ∷ col 1 10 ∷ []) (codes "bucket" ∷ codes "batch" ∷ codes "line" ∷ codes "key" ∷ codes "size" ∷ codes "digest" ∷ codes "mode" ∷ codes "until" ∷ codes "hold" ∷ codes "id" ∷ [])
 unfolding understood everything
 intake_scan = record { command = refl; unlisted = refl; plain = (refl, refl) }
 
 abbrev pub heads_text : List ℕ
 heads_text = codes "SELECT bucket, key, newest, count FROM heads"
 
-pub heads_scan : Scans vault_schema heads_text 15 (col 1 1 ∷ col 1 2 ∷ col 1 3 ∷ col 1 4 ∷ []) (codes "bucket" ∷ codes "key" ∷ codes "newest" ∷ codes "count" ∷ [])
+pub heads_scan : Scans vault_schema heads_text heads_tree (col 1 1 ∷ col 1 2 ∷ col 1 3 ∷ col 1 4 ∷ []) (codes "bucket" ∷ codes "key" ∷ codes "newest" ∷ codes "count" ∷ [])
 unfolding understood everything
 heads_scan = record { command = refl; unlisted = refl; plain = (refl, refl) }
 

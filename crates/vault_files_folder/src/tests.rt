@@ -1,6 +1,7 @@
 //! A folder that is made for the test.
 use crate::disk_folder::DiskFolder;
 use crate::list::read_list;
+use crate::progress::{ToldFolder, tell};
 use std::alloc::{AllocError, Global};
 use std::rt::Files;
 use std::test::Fail;
@@ -91,4 +92,21 @@ fn a_list_is_read_or_fails(rt: HostRuntime) -> Result<(), Fail> {
     compare(there.as_str(), "25 of 102")?;
     let absent = told(alloc, read_list(alloc, &rt, "no_list_of_a_test").map(Some))?;
     compare(absent.as_str(), "device")
+}
+
+#[test]
+fn a_line_is_told_after_each_thousand_files(rt: HostRuntime) -> Result<(), Fail> {
+    let mut told = Vec::new(rt.alloc());
+    for asked in 0..2_000 {
+        tell(&mut told, asked + 1);
+    }
+    assert_eq!(rt; told.as_slice(), b"1000 files\n2000 files\n".as_slice());
+    Ok(())
+}
+
+#[test]
+fn a_told_folder_reads_what_its_folder_reads(rt: HostRuntime) -> Result<(), Fail> {
+    let alloc = rt.alloc();
+    let mut folder = ToldFolder::new(DiskFolder::new(alloc, &rt, "."), None);
+    compare(told_of(alloc, &mut folder, &["absent"])?.as_str(), "none; ")
 }

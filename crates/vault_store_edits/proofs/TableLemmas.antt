@@ -38,7 +38,7 @@ one_table t s same = sym (numbered_back t) ∙ ap table_at same ∙ numbered_bac
 
 -- their numbers by their trees
 abbrev number_at : ℕ → ℕ
-number_at tree = get_or (0 ∷ 1 ∷ 0 ∷ 2 ∷ 0 ∷ 3 ∷ 0 ∷ 4 ∷ 0 ∷ 5 ∷ 6 ∷ 7 ∷ 0 ∷ 8 ∷ 0 ∷ 9 ∷ []) tree 0
+number_at tree = get_or (0 ∷ 1 ∷ 0 ∷ 2 ∷ 0 ∷ 3 ∷ 0 ∷ 4 ∷ 0 ∷ 5 ∷ 0 ∷ 6 ∷ 7 ∷ 0 ∷ 8 ∷ 0 ∷ 9 ∷ []) tree 0
 
 number_by_tree : (t : Table) → number_at (tree_of t) ≡ number_of t
 number_by_tree table.Meta = refl

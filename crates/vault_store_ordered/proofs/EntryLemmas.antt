@@ -13,6 +13,7 @@ use Rattle.sqlite_sql.specs.declared.ops.CompareOp.TheVariants.{Eq, Ne}
 use Rattle.sqlite_sql.specs.Ops.{unary, binary, is_true}
 use Rattle.sqlite_sql.specs.Term.{col, lit}
 use Rattle.sqlite_sql.specs.Query.{Query, Output, output, output_cmp}
+use Rattle.vault_audit_model.specs.Tables.{entries_tree}
 use Rattle.vault_core_model.specs.declared.records.Head.{Head}
 use Rattle.vault_core_model.specs.declared.records.History.{History}
 use Rattle.vault_core_model.specs.Places.{is_held, is_held_at, held_at}
@@ -54,7 +55,7 @@ abbrev held_out : Row → Output
 held_out c = (column c 0 ∷ [], column c 0 ∷ column c 3 ∷ column c 4 ∷ column c 6 ∷ [])
 
 abbrev pub held_query : Query
-held_query = select_of 9 entries_tests entries_shown entries_order no_limit
+held_query = select_of entries_tree entries_tests entries_shown entries_order no_limit
 
 held_rise : (hs : List History) → IsAscending IsOlder hs → IsAscending (λ a b. output_cmp held_query a b ≡ Less) (map (λ h. held_out (row_of h)) hs)
 held_rise hs up =
@@ -65,10 +66,10 @@ pub found_held : (v : Vault) (bucket key : List ℕ) (rows : List Row) → Finds
 found_held v bucket key rows (db, sound, answers) =
     let params : Row = Text bucket ∷ Text key ∷ [] in
     let keep = λ (h : History). is_held_at bucket key h.entry in
-    let are = of_records row_of entry_columns (held_test bucket key) held_out (passes entries_tests params) (λ r. output held_query (params ∷ r ∷ [])) (λ r. refl) (λ r. refl) keep v.histories (db.trees 9) sound.spells.entries
+    let are = of_records row_of entry_columns (held_test bucket key) held_out (passes entries_tests params) (λ r. output held_query (params ∷ r ∷ [])) (λ r. refl) (λ r. refl) keep v.histories (db.trees entries_tree) sound.spells.entries
     (always (λ h. held_test bucket key (row_of h) ≡ keep h) (held_tests bucket key) v.histories) in
     let rise = ascending-filter IsOlder keep v.histories (ids_rise 1 v.histories sound.spells.kept.sound.ids) in
-    answered 9 entries_tests entries_shown entries_order no_limit db params rows (answers held_query entries_is) (map (λ h. held_out (row_of h)) (held_at v bucket key)) are (held_rise (held_at v bucket key) rise)
+    answered entries_tree entries_tests entries_shown entries_order no_limit db params rows (answers held_query entries_is) (map (λ h. held_out (row_of h)) (held_at v bucket key)) are (held_rise (held_at v bucket key) rise)
     ∙ map-map (λ (o : Output). o.1) (λ h. held_out (row_of h)) (held_at v bucket key) ∙ sym (map-map entry_shown held_of (held_at v bucket key))
 
 -- ---- the newest besides one
@@ -96,7 +97,7 @@ abbrev but_out : Row → Output
 but_out c = (column c 0 ∷ [], column c 0 ∷ [])
 
 abbrev pub but_query : Query
-but_query = select_of 9 newest_tests (col 1 0 ∷ []) newest_order (lit (Int (pos 1)))
+but_query = select_of entries_tree newest_tests (col 1 0 ∷ []) newest_order (lit (Int (pos 1)))
 
 abbrev but_outs : List History → List Output
 but_outs hs = map (λ h. but_out (row_of h)) hs
@@ -133,11 +134,11 @@ found_newest v bucket key id rows (db, sound, answers) =
     let params : Row = Text bucket ∷ Text key ∷ number id ∷ [] in
     let keep = λ (h : History). is_held_at bucket key h.entry && not (h.entry.id == id) in
     let hs = filter keep v.histories in
-    let are = of_records row_of entry_columns (but_test bucket key id) but_out (passes newest_tests params) (λ r. output but_query (params ∷ r ∷ [])) (λ r. refl) (λ r. refl) keep v.histories (db.trees 9) sound.spells.entries
+    let are = of_records row_of entry_columns (but_test bucket key id) but_out (passes newest_tests params) (λ r. output but_query (params ∷ r ∷ [])) (λ r. refl) (λ r. refl) keep v.histories (db.trees entries_tree) sound.spells.entries
     (always (λ h. but_test bucket key id (row_of h) ≡ keep h) (but_tests bucket key id) v.histories) in
     let same = IsPermutation-trans _ _ _ (IsPermutation-sym _ _ (IsPermutation-reverse (but_outs hs))) are in
     let rise = ascending-filter IsOlder keep v.histories (ids_rise 1 v.histories sound.spells.kept.sound.ids) in
-    answered 9 newest_tests (col 1 0 ∷ []) newest_order (lit (Int (pos 1))) db params rows (answers but_query newest_is) (reverse (but_outs hs)) same (but_fall hs rise)
+    answered entries_tree newest_tests (col 1 0 ∷ []) newest_order (lit (Int (pos 1))) db params rows (answers but_query newest_is) (reverse (but_outs hs)) same (but_fall hs rise)
     ∙ first_but hs ∙ ap (λ gs. map id_row (option_to_list (option_map (λ head. head.newest) (head_over gs)))) (sym (filter_twice (λ h. not (h.entry.id == id)) (λ h. is_held_at bucket key h.entry) v.histories))
 
 -- ---- removed entries
@@ -149,7 +150,7 @@ abbrev removed_out : Row → Output
 removed_out c = (column c 0 ∷ [], column c 0 ∷ column c 1 ∷ column c 2 ∷ column c 3 ∷ column c 4 ∷ column c 5 ∷ column c 6 ∷ column c 7 ∷ column c 8 ∷ column c 9 ∷ column c 10 ∷ column c 11 ∷ [])
 
 abbrev pub removed_query : Query
-removed_query = select_of 9 removed_tests removed_shown entries_order no_limit
+removed_query = select_of entries_tree removed_tests removed_shown entries_order no_limit
 
 removed_rise : (hs : List History) → IsAscending IsOlder hs → IsAscending (λ a b. output_cmp removed_query a b ≡ Less) (map (λ h. removed_out (row_of h)) hs)
 removed_rise hs up =
@@ -160,8 +161,8 @@ pub found_removed : (v : Vault) (rows : List Row) → Finds v removed_text [] ro
 found_removed v rows (db, sound, answers) =
     let keep = λ (h : History). not (is_held h.entry) in
     let hs = filter keep v.histories in
-    let are = of_records row_of entry_columns removed_test removed_out (passes removed_tests []) (λ r. output removed_query ([] ∷ r ∷ [])) (λ r. refl) (λ r. refl) keep v.histories (db.trees 9) sound.spells.entries
+    let are = of_records row_of entry_columns removed_test removed_out (passes removed_tests []) (λ r. output removed_query ([] ∷ r ∷ [])) (λ r. refl) (λ r. refl) keep v.histories (db.trees entries_tree) sound.spells.entries
     (always (λ h. removed_test (row_of h) ≡ keep h) (λ h. and_true _ ∙ some_removed h.entry.removal) v.histories) in
     let rise = ascending-filter IsOlder keep v.histories (ids_rise 1 v.histories sound.spells.kept.sound.ids) in
-    answered 9 removed_tests removed_shown entries_order no_limit db [] rows (answers removed_query removed_is) (map (λ h. removed_out (row_of h)) hs) are (removed_rise hs rise)
+    answered entries_tree removed_tests removed_shown entries_order no_limit db [] rows (answers removed_query removed_is) (map (λ h. removed_out (row_of h)) hs) are (removed_rise hs rise)
     ∙ map-map (λ (o : Output). o.1) (λ h. removed_out (row_of h)) hs ∙ sym (map-map entry_row (λ h. h.entry) hs)

@@ -16,6 +16,7 @@ use Rattle.sqlite_sql.specs.declared.ops.CompareOp.TheVariants.{Eq, Gt}
 use Rattle.sqlite_sql.specs.Ops.{binary, is_true}
 use Rattle.sqlite_sql.specs.Term.{col}
 use Rattle.sqlite_sql.specs.Query.{Query, Output, output, output_cmp}
+use Rattle.vault_audit_model.specs.Tables.{heads_tree}
 use Rattle.vault_base.specs.Name.{is_object_key}
 use Rattle.vault_core_model.specs.declared.records.History.{History}
 use Rattle.vault_core_model.specs.Places.{is_behind, is_current, keys_of}
@@ -74,7 +75,7 @@ abbrev out : Row → Output
 out c = (column c 1 ∷ [], column c 1 ∷ [])
 
 abbrev pub query : Query
-query = select_of 15 keys_tests (col 1 2 ∷ []) keys_order (col 0 2)
+query = select_of heads_tree keys_tests (col 1 2 ∷ []) keys_order (col 0 2)
 
 abbrev key_out : List ℕ → Output
 key_out key = (key_row key, key_row key)
@@ -109,10 +110,10 @@ found_keys v bucket after most rows (db, sound, answers) =
     let params : Row = Text bucket ∷ Text after ∷ number most ∷ [] in
     let behind = λ (k : List ℕ). is_behind k after in
     let ks = filter behind (keys_of v bucket) in
-    let are = of_records head_row head_columns (test bucket after) out (passes keys_tests params) (λ r. output query (params ∷ r ∷ [])) (λ r. refl) (λ r. refl) (keep bucket after) (heads_in v) (db.trees 15) sound.heads
+    let are = of_records head_row head_columns (test bucket after) out (passes keys_tests params) (λ r. output query (params ∷ r ∷ [])) (λ r. refl) (λ r. refl) (keep bucket after) (heads_in v) (db.trees heads_tree) sound.heads
     (all_tests v bucket after sound.spells.kept.limits.histories) in
     let each = IsPermutation-map key_out _ _ (IsPermutation-filter behind _ _ (one_each v bucket v.histories (are_now v sound.spells.kept.sound.ids))) in
-    let same = IsPermutation-trans (map key_out ks) _ _ each (subst (λ l. IsPermutation l (map (λ r. output query (params ∷ r ∷ [])) (filter (passes keys_tests params) (db.trees 15)))) (heads_keys v bucket after v.histories) are) in
+    let same = IsPermutation-trans (map key_out ks) _ _ each (subst (λ l. IsPermutation l (map (λ r. output query (params ∷ r ∷ [])) (filter (passes keys_tests params) (db.trees heads_tree)))) (heads_keys v bucket after v.histories) are) in
     let rise = ascending-filter (λ j k. slice_cmp nat_cmp j k ≡ Less) behind (keys_of v bucket) (keys_rise (held_keys bucket v.histories)) in
-    answered 15 keys_tests (col 1 2 ∷ []) keys_order (col 0 2) db params rows (answers query keys_is) (map key_out ks) same (outs_rise ks rise)
+    answered heads_tree keys_tests (col 1 2 ∷ []) keys_order (col 0 2) db params rows (answers query keys_is) (map key_out ks) same (outs_rise ks rise)
     ∙ ap (take most) (map-map (λ (o : Output). o.1) key_out ks) ∙ take-map key_row most ks

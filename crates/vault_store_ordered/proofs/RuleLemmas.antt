@@ -17,6 +17,7 @@ use Rattle.sqlite_sql.specs.declared.ops.BinaryOp.TheVariants.{Compare}
 use Rattle.sqlite_sql.specs.declared.ops.CompareOp.TheVariants.{Eq}
 use Rattle.sqlite_sql.specs.Ops.{binary, is_true}
 use Rattle.sqlite_sql.specs.Query.{Query, Output, output, output_cmp}
+use Rattle.vault_audit_model.specs.Tables.{rules_tree}
 use Rattle.vault_rules.specs.declared.rule.Rule.{Rule}
 use Rattle.vault_core_model.specs.declared.records.Bucket.{Bucket}
 use Rattle.vault_core_model.specs.Order.{IsAscending, bucket_cmp}
@@ -85,7 +86,7 @@ abbrev out : Row → Output
 out c = (column c 1 ∷ [], column c 0 ∷ column c 1 ∷ column c 2 ∷ column c 3 ∷ column c 4 ∷ column c 5 ∷ column c 6 ∷ column c 7 ∷ column c 8 ∷ [])
 
 abbrev pub query : Query
-query = select_of 7 rules_tests rules_shown rules_order no_limit
+query = select_of rules_tree rules_tests rules_shown rules_order no_limit
 
 abbrev outs : List RuleRow → List Output
 outs rs = map (λ r. out (rule_row r)) rs
@@ -102,10 +103,10 @@ found_rules v name rows (db, sound, answers) =
     let its : mine ≡ part_of rules_in (bucket_in v.buckets name) =
     in_one_part (λ b. bytes_eq b.name name) rules_in (λ r. bytes_eq r.bucket name) (λ b. all_given name b.name b.rules) v.buckets (names_apart name v.buckets sound.spells.kept.sound.ordered.buckets) in
     let params : Row = Text name ∷ [] in
-    let are = of_records rule_row rule_columns (test name) out (passes rules_tests params) (λ r. output query (params ∷ r ∷ [])) (λ r. refl) (λ r. refl) (λ r. bytes_eq r.bucket name) all (db.trees 7) sound.spells.rules
+    let are = of_records rule_row rule_columns (test name) out (passes rules_tests params) (λ r. output query (params ∷ r ∷ [])) (λ r. refl) (λ r. refl) (λ r. bytes_eq r.bucket name) all (db.trees rules_tree) sound.spells.rules
     (always (λ r. test name (rule_row r) ≡ bytes_eq r.bucket name) (λ r. and_true _ ∙ same_text r.bucket name) all) in
     let rise = subst (Ascending (λ r s. r.place < s.place)) (sym its) (part_rises (bucket_in v.buckets name)) in
-    answered 7 rules_tests rules_shown rules_order no_limit db params rows (answers query rules_is) (outs mine) are (outs_rise mine rise)
+    answered rules_tree rules_tests rules_shown rules_order no_limit db params rows (answers query rules_is) (outs mine) are (outs_rise mine rise)
     ∙ map-map (λ (o : Output). o.1) (λ r. out (rule_row r)) mine ∙ ap (map rule_row) its
 
 -- ---- the rules that such rows tell

@@ -14,6 +14,7 @@ use Rattle.sqlite_sql.specs.declared.ops.CompareOp.TheVariants.{Eq}
 use Rattle.sqlite_sql.specs.Ops.{binary, is_true}
 use Rattle.sqlite_sql.specs.Term.{lit}
 use Rattle.sqlite_sql.specs.Query.{Query, Output, output, output_cmp}
+use Rattle.vault_audit_model.specs.Tables.{settings_tree}
 use Rattle.vault_core_model.specs.declared.records.History.{History}
 use Rattle.vault_core_model.specs.declared.records.LastSetting.{LastSetting}
 use Rattle.vault_core_model.specs.declared.records.Setting.{Setting}
@@ -91,7 +92,7 @@ abbrev out : Row → Output
 out c = (column c 1 ∷ [], column c 1 ∷ column c 4 ∷ column c 5 ∷ column c 6 ∷ [])
 
 abbrev pub query : Query
-query = select_of 11 setting_tests setting_shown setting_order (lit (Int (pos 1)))
+query = select_of settings_tree setting_tests setting_shown setting_order (lit (Int (pos 1)))
 
 abbrev outs : List SettingRow → List Output
 outs ss = map (λ s. out (setting_row s)) ss
@@ -117,9 +118,9 @@ found_setting v id rows (db, sound, answers) =
     let its : mine ≡ part_of settings_in (history_of v id) =
     in_one_part (λ h. h.entry.id == id) settings_in (λ s. s.id == id) (λ h. all_of h.entry.id 1 h.settings id) v.histories (ids_apart id v.histories sound.spells.kept.sound.ids) in
     let params : Row = number id ∷ [] in
-    let are = of_records setting_row setting_columns (test id) out (passes setting_tests params) (λ r. output query (params ∷ r ∷ [])) (λ r. refl) (λ r. refl) (λ s. s.id == id) all (db.trees 11) sound.spells.settings
+    let are = of_records setting_row setting_columns (test id) out (passes setting_tests params) (λ r. output query (params ∷ r ∷ [])) (λ r. refl) (λ r. refl) (λ s. s.id == id) all (db.trees settings_tree) sound.spells.settings
     (always (λ s. test id (setting_row s) ≡ (s.id == id)) (λ s. and_true _ ∙ same_number s.id id) all) in
     let same = IsPermutation-trans _ _ _ (IsPermutation-sym _ _ (IsPermutation-reverse (outs mine))) are in
     let rise = subst (IsAscending (λ s t. s.place < t.place)) (sym its) (part_rises (history_of v id)) in
-    answered 11 setting_tests setting_shown setting_order (lit (Int (pos 1))) db params rows (answers query setting_is) (reverse (outs mine)) same (outs_fall mine rise)
+    answered settings_tree setting_tests setting_shown setting_order (lit (Int (pos 1))) db params rows (answers query setting_is) (reverse (outs mine)) same (outs_fall mine rise)
     ∙ first_out mine ∙ ap (λ ss. map last_row (option_to_list (option_map told (last ss)))) its ∙ ap (λ o. map last_row (option_to_list o)) (last_of_part (history_of v id))

@@ -12,7 +12,7 @@ use Rattle.sqlite_sql.specs.Term.{Term, lit, col, op1, op2}
 use Rattle.sqlite_schema.specs.declared.command.Command.TheVariants.{Select}
 use Rattle.sqlite.specs.Listing.{understood}
 use Rattle.sqlite.proofs.Callers.{IsPlain, command_of}
-use Rattle.vault_audit_model.specs.Tables.{vault_schema}
+use Rattle.vault_audit_model.specs.Tables.{vault_schema, entries_tree, heads_tree, rules_tree, settings_tree}
 use Rattle.vault_store_query.specs.Queries.{Selects}
 use Rattle.vault_store_ordered.proofs.SelectLemmas.{select_of}
 
@@ -36,7 +36,7 @@ setting_shown = col 1 2 ∷ col 1 5 ∷ col 1 6 ∷ col 1 7 ∷ []
 abbrev pub setting_order : List (Term × Key)
 setting_order = (col 1 2, descending) ∷ []
 
-pub setting_is : Selects setting_text (select_of 11 setting_tests setting_shown setting_order (lit (Int (pos 1))))
+pub setting_is : Selects setting_text (select_of settings_tree setting_tests setting_shown setting_order (lit (Int (pos 1))))
 unfolding understood everything
 setting_is = record { names = codes "n" ∷ codes "mode" ∷ codes "until" ∷ codes "hold" ∷ []; is = refl; plain = (refl, refl); unlisted = refl }
 
@@ -54,7 +54,7 @@ rules_shown = col 1 1 ∷ col 1 2 ∷ col 1 3 ∷ col 1 4 ∷ col 1 5 ∷ col 1 
 abbrev pub rules_order : List (Term × Key)
 rules_order = (col 1 2, ascending Binary) ∷ []
 
-pub rules_is : Selects rules_text (select_of 7 rules_tests rules_shown rules_order no_limit)
+pub rules_is : Selects rules_text (select_of rules_tree rules_tests rules_shown rules_order no_limit)
 unfolding understood everything
 rules_is = record { names = codes "bucket" ∷ codes "n" ∷ codes "id" ∷ codes "prefix" ∷ codes "enabled" ∷ codes "days" ∷ codes "lone" ∷ codes "nc_days" ∷ codes "nc_keep" ∷ []; is = refl; plain = (refl, refl); unlisted = refl }
 
@@ -72,7 +72,7 @@ entries_shown = col 1 0 ∷ col 1 4 ∷ col 1 5 ∷ col 1 7 ∷ []
 abbrev pub entries_order : List (Term × Key)
 entries_order = (col 1 0, ascending Binary) ∷ []
 
-pub entries_is : Selects entries_text (select_of 9 entries_tests entries_shown entries_order no_limit)
+pub entries_is : Selects entries_text (select_of entries_tree entries_tests entries_shown entries_order no_limit)
 unfolding understood everything
 entries_is = record { names = codes "id" ∷ codes "marker" ∷ codes "size" ∷ codes "admitted" ∷ []; is = refl; plain = (refl, refl); unlisted = refl }
 
@@ -88,7 +88,7 @@ newest_tests =
 abbrev pub newest_order : List (Term × Key)
 newest_order = (col 1 0, descending) ∷ []
 
-pub newest_is : Selects newest_text (select_of 9 newest_tests (col 1 0 ∷ []) newest_order (lit (Int (pos 1))))
+pub newest_is : Selects newest_text (select_of entries_tree newest_tests (col 1 0 ∷ []) newest_order (lit (Int (pos 1))))
 unfolding understood everything
 newest_is = record { names = codes "id" ∷ []; is = refl; plain = (refl, refl); unlisted = refl }
 
@@ -103,7 +103,7 @@ keys_tests = op2 (Compare Eq Binary) (col 1 1) (col 0 0) ∷ op2 (Compare Gt Bin
 abbrev pub keys_order : List (Term × Key)
 keys_order = (col 1 2, ascending Binary) ∷ []
 
-pub keys_is : Selects keys_text (select_of 15 keys_tests (col 1 2 ∷ []) keys_order (col 0 2))
+pub keys_is : Selects keys_text (select_of heads_tree keys_tests (col 1 2 ∷ []) keys_order (col 0 2))
 unfolding understood everything
 keys_is = record { names = codes "key" ∷ []; is = refl; plain = (refl, refl); unlisted = refl }
 
@@ -122,11 +122,11 @@ abbrev pub removed_names : List (List ℕ)
 removed_names =
     codes "id" ∷ codes "bucket" ∷ codes "key" ∷ codes "marker" ∷ codes "size" ∷ codes "digest" ∷ codes "admitted" ∷ codes "by_rule" ∷ codes "admitted_by" ∷ codes "removed" ∷ codes "cause" ∷ codes "cause_by" ∷ []
 
-pub removed_is : Selects removed_text (select_of 9 removed_tests removed_shown entries_order no_limit)
+pub removed_is : Selects removed_text (select_of entries_tree removed_tests removed_shown entries_order no_limit)
 unfolding understood everything
 removed_is = record { names = removed_names; is = refl; plain = (refl, refl); unlisted = refl }
 
-pub removed_command : command_of (understood vault_schema removed_text) ≡ Select (record { lets = []; body = select_of 9 removed_tests removed_shown entries_order no_limit }) removed_names
+pub removed_command : command_of (understood vault_schema removed_text) ≡ Select (record { lets = []; body = select_of entries_tree removed_tests removed_shown entries_order no_limit }) removed_names
 unfolding understood everything
 removed_command = refl
 

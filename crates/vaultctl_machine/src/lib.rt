@@ -1,5 +1,6 @@
-//! What the program uses of the machine: its clock, and vaults in files.
+//! What the program uses of the machine: its clock, its terminal, and vaults in files.
 #![tactic(auto)]
 
 pub mod clock;
+pub mod terminal;
 pub mod vaults;

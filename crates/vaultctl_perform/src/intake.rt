@@ -14,16 +14,19 @@ use vault_core_model::halt::Fault;
 use vault_core_model::keeper::Keeper;
 use vault_files_folder::disk_folder::DiskFolder;
 use vault_files_folder::list::read_list;
+use vault_files_folder::progress::ToldFolder;
 use vault_http_values::fault::LineFault;
 use vaultctl_commands::carrying::tell_refusal;
 use vaultctl_commands::fault::JobFault;
 use vaultctl_commands::intake::{take_in_and_tell, tell_unread_list};
 use vaultctl_commands::outcome::Outcome;
 use vaultctl_job::job::Intake;
+use vaultctl_machine::terminal::terminal;
 use vaultctl_machine::vaults::{FileVault, Machine, close_vault};
 use vaultctl_values::asked::AskedIntake;
 
-/// Takes in a list whose bytes were read, at the reading that is given or else at the clock's.
+/// Takes in a list whose bytes were read, at the reading that is given or else at the clock's; on a terminal
+/// it tells how far it has come.
 fn take_in_read<K: Keeper, W: Write>(
     rt: &HostRuntime,
     keeper: &mut K,
@@ -39,7 +42,7 @@ fn take_in_read<K: Keeper, W: Write>(
     let Some(at) = reading(rt, asked.at) else {
         return tell_refusal(alloc, Refusal::ClockOutOfRange, out);
     };
-    let mut folder = DiskFolder::new(alloc, rt, folder);
+    let mut folder = ToldFolder::new(DiskFolder::new(alloc, rt, folder), terminal(rt));
     take_in_and_tell(
         alloc,
         keeper,

@@ -1,0 +1,61 @@
+//! How far an intake has come, told on a terminal while it goes on.
+ghost use Rattle.std.specs.Prelude.{◌≡◌};
+
+use std::io::{Stderr, Write};
+use vault_core_model::halt::Fault;
+use vault_files_intake::folder::Folder;
+use vault_files_rows::file_name::FileName;
+
+/// After how many files a line is written.
+const FILES_A_LINE: u64 = 1_000;
+
+/// A folder of which a line is written after each thousand files that were asked for, as `1000 files`.
+///
+/// What it reads is what the folder within it reads. That a line can't be written is no failure of it, and
+/// is told to nobody; without a terminal nothing is written.
+#[derive(Drop)]
+pub struct ToldFolder<F: Drop> {
+    folder: F,
+    terminal: Option<Stderr>,
+    asked: u64,
+}
+
+impl<F: Drop> ToldFolder<F> {
+    ghost use Rattle.std.specs.Prelude.{◌≡◌};
+
+    /// A folder of which no file was asked for yet, and the terminal that is told.
+    pub fn new(folder: F, terminal: Option<Stderr>) -> ToldFolder<F>
+        ensures folder { result.folder ≡ folder }
+    {
+        ToldFolder {
+            folder,
+            terminal,
+            asked: 0,
+        }
+    }
+}
+
+/// Writes how many files were asked for, after each thousand of them.
+pub(crate) fn tell<W: Write>(writer: &mut W, asked: u64) {
+    if asked % FILES_A_LINE == 0 {
+        let _ = writeln!(writer, "{asked} files");
+    }
+}
+
+impl<F: Folder + Drop> Folder for ToldFolder<F> {
+    ghost files = { λ f. F.Folder.files f.folder };
+
+    ghost count = { λ f. F.Folder.count f.folder };
+
+    fn faults(&self) -> u64 {
+        self.folder.faults()
+    }
+
+    fn read(&mut self, name: &FileName) -> Result<Option<Vec<u8>>, Fault> {
+        self.asked = self.asked.saturating_add(1);
+        if let Some(terminal) = &mut self.terminal {
+            tell(terminal, self.asked);
+        }
+        self.folder.read(name)
+    }
+}

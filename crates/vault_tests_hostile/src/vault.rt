@@ -1,0 +1,51 @@
+//! A vault for the requests, and all that can be asked of it.
+use std::alloc::Global;
+use std::test::Fail;
+use vault_core_list::list_keeper::ListKeeper;
+use vault_core_model::keeper::Keeper;
+use vault_transcript::transcript::{opened, play, replies};
+
+/// A version under COMPLIANCE at `a`, a marker on top of a version at `b`, a version under GOVERNANCE and
+/// hold at `c`; a default and a rule.
+const FILLING: &str = r#"
+{"at":"2024-01-15T10:29:00Z","as":"ann","do":"put","bucket":"docs","key":"a","text":"hello","mode":"COMPLIANCE","until":"2030-01-01T00:00:00Z"}
+  {"ok":{"version_id":1}}
+{"at":"2024-01-15T10:29:00Z","as":"ann","do":"put","bucket":"docs","key":"b","text":"hi"}
+  {"ok":{"version_id":2}}
+{"at":"2024-01-15T10:29:00Z","as":"ann","do":"delete","bucket":"docs","key":"b"}
+  {"ok":{"delete_marker":true,"version_id":3}}
+{"at":"2024-01-15T10:29:00Z","as":"ann","do":"put","bucket":"docs","key":"c","text":"x","mode":"GOVERNANCE","until":"2030-01-01T00:00:00Z","hold":"ON"}
+  {"ok":{"version_id":4}}
+{"at":"2024-01-15T10:29:00Z","as":"ann","do":"set-default","bucket":"docs","mode":"GOVERNANCE","days":7}
+  {"ok":{}}
+{"at":"2024-01-15T10:29:00Z","as":"ann","do":"set-rules","bucket":"docs","rules":[{"ID":"r1","Prefix":"","Status":"Enabled","Expiration":{"Days":3}}]}
+  {"ok":{}}
+"#;
+
+const READS: &str = r#"
+{"at":"2024-01-16T00:00:00Z","as":"registrar","do":"report","dept":"records"}
+{"at":"2024-01-16T00:00:00Z","as":"ann","do":"list-versions","bucket":"docs"}
+{"at":"2024-01-16T00:00:00Z","as":"ann","do":"get-default","bucket":"docs"}
+{"at":"2024-01-16T00:00:00Z","as":"ann","do":"get-rules","bucket":"docs"}
+{"at":"2024-01-16T00:00:00Z","as":"ann","do":"get","bucket":"docs","key":"a","id":1}
+{"at":"2024-01-16T00:00:00Z","as":"ann","do":"get","bucket":"docs","key":"b","id":2}
+{"at":"2024-01-16T00:00:00Z","as":"ann","do":"get","bucket":"docs","key":"c","id":4}
+{"at":"2024-01-16T00:00:00Z","as":"ann","do":"get","bucket":"docs","key":"n"}
+"#;
+
+/// The vault that the rows are asked of.
+pub fn filled(alloc: Global) -> Result<ListKeeper, Fail> {
+    let mut keeper = opened(alloc)?;
+    play(alloc, &mut keeper, FILLING)?;
+    Ok(keeper)
+}
+
+/// The moment of the last change in seconds, and the id that the next entry gets.
+pub fn edge<K: Keeper>(keeper: &mut K) -> Result<(u64, u64), Fail> {
+    Ok((keeper.last()?.secs(), keeper.next_id()?))
+}
+
+/// All that replies tell of the vault: the report, what is held, its locks, contents, the default, the rules.
+pub fn told<K: Keeper>(alloc: Global, keeper: &mut K) -> Result<String, Fail> {
+    replies(alloc, keeper, READS.as_bytes())
+}

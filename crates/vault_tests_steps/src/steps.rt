@@ -1,0 +1,170 @@
+//! What a report reads, and what is read of one key, takes as many steps in a large vault as in a small one.
+use sqlite::{Alter, Connection, Error, params};
+use std::alloc::Global;
+use std::test::Fail;
+use vault_base::name::{BucketName, DeptName, KeyPrefix, ObjectKey};
+use vault_base::refusal::Refusal;
+use vault_store_create::create::fill;
+use vault_store_ordered::reads::{read_entries, read_keys};
+use vault_store_reads::heads::read_head;
+use vault_store_reads::meta::read_last;
+use vault_store_reads::names::{has_department, read_totals};
+
+/// A department, its bucket, a key of it, and where the bucket's keys begin.
+#[derive(Drop)]
+struct Names {
+    dept: DeptName,
+    bucket: BucketName,
+    key: ObjectKey,
+    start: KeyPrefix,
+}
+
+/// What is read for a command.
+#[derive(Clone, Copy)]
+enum Reading {
+    Report,
+    Head,
+    Entries,
+    Keys,
+}
+
+// These have no clause, so that the proof of a test does not carry the state of each call.
+fn made<S: Alter>(conn: &mut Connection<S>) -> Result<(), Refusal> {
+    fill(conn)
+}
+
+fn batch<S: Alter>(conn: &mut Connection<S>, sql: &str) -> Result<(), Error> {
+    conn.execute_batch(sql)
+}
+
+fn entries<S: Alter>(conn: &mut Connection<S>) -> Result<i64, Error> {
+    conn.query_row("SELECT count(*) FROM entries", &[])?.get(0)
+}
+
+/// Bounds the steps of each statement from now on.
+fn limit<S: Alter>(conn: &mut Connection<S>, steps: Option<u64>) {
+    conn.set_step_limit(steps)
+}
+
+fn reads_last<S: Alter>(conn: &mut Connection<S>) -> bool {
+    read_last(conn).is_ok()
+}
+
+fn reads_department<S: Alter>(conn: &mut Connection<S>, names: &Names) -> bool {
+    has_department(conn, &names.dept).is_ok()
+}
+
+fn reads_totals<S: Alter>(conn: &mut Connection<S>, names: &Names) -> bool {
+    read_totals(conn, &names.dept).is_ok()
+}
+
+fn reads_head<S: Alter>(conn: &mut Connection<S>, names: &Names) -> bool {
+    read_head(conn, &names.bucket, &names.key).is_ok()
+}
+
+fn reads_entries<S: Alter>(conn: &mut Connection<S>, alloc: Global, names: &Names) -> bool {
+    read_entries(conn, alloc, &names.bucket, &names.key).is_ok_and(|found| found.len() == 1)
+}
+
+fn reads_keys<S: Alter>(conn: &mut Connection<S>, alloc: Global, names: &Names) -> bool {
+    read_keys(conn, alloc, &names.bucket, &names.start, 5).is_ok_and(|found| found.len() == 5)
+}
+
+fn can<S: Alter>(conn: &mut Connection<S>, alloc: Global, names: &Names, reading: Reading) -> bool {
+    match reading {
+        Reading::Report => reads_last(conn)
+            && reads_department(conn, names)
+            && reads_totals(conn, names),
+        Reading::Head => reads_head(conn, names),
+        Reading::Entries => reads_entries(conn, alloc, names),
+        Reading::Keys => reads_keys(conn, alloc, names),
+    }
+}
+
+/// The least power of two that, as a number of steps for each statement, is enough; 1024 where none below is.
+fn enough_steps<S: Alter>(
+    conn: &mut Connection<S>,
+    alloc: Global,
+    names: &Names,
+    reading: Reading,
+) -> u64 {
+    for steps in [1, 2, 4, 8, 16, 32, 64, 128, 256, 512] {
+        limit(conn, Some(steps));
+        if can(conn, alloc, names, reading) {
+            return steps;
+        }
+    }
+    1024
+}
+
+/// Whether that many steps are enough, fewer than half of what going through all entries would take.
+fn is_steady<S: Alter>(
+    conn: &mut Connection<S>,
+    alloc: Global,
+    names: &Names,
+    wanted: [u64; 4],
+) -> bool {
+    let [report, head, entries, keys] = wanted;
+    enough_steps(conn, alloc, names, Reading::Report) == report
+        && enough_steps(conn, alloc, names, Reading::Head) == head
+        && enough_steps(conn, alloc, names, Reading::Entries) == entries
+        && enough_steps(conn, alloc, names, Reading::Keys) == keys
+}
+
+/// Puts as many versions more as there are, each at a key of its own.
+fn double<S: Alter>(conn: &mut Connection<S>, present: i64) -> Result<(), Error> {
+    conn.execute(MORE_ENTRIES, params![present])?;
+    conn.execute(MORE_HEADS, params![present])?;
+    Ok(())
+}
+
+fn grow<S: Alter>(conn: &mut Connection<S>) -> Result<(), Error> {
+    limit(conn, None);
+    for present in [10, 20, 40, 80, 160, 320, 640, 1280, 2560, 5120] {
+        double(conn, present)?;
+    }
+    Ok(())
+}
+
+const TEN_VERSIONS: &str =
+    "INSERT INTO departments VALUES ('records', 10, 10, 0, 185180, 0); INSERT INTO buckets VALUES ('docs', 'records', 0, NULL, NULL); INSERT INTO entries SELECT id + n, 'docs', 'k' || (id + n), 0, 1, x'00', 1600000000, 0, 'ada', NULL, NULL, NULL FROM (SELECT 1 AS id UNION ALL SELECT 2 UNION ALL SELECT 3 UNION ALL SELECT 4 UNION ALL SELECT 5), (SELECT 0 AS n UNION ALL SELECT 5); INSERT INTO settings SELECT id, 1, admitted, admitted_by, 0, NULL, 0, 0 FROM entries; INSERT INTO heads SELECT bucket, key, id, 1 FROM entries";
+
+const MORE_ENTRIES: &str =
+    "INSERT INTO entries SELECT id + ?1, bucket, 'k' || (id + ?1), marker, size, digest, admitted, by_rule, admitted_by, removed, cause, cause_by FROM entries";
+
+const MORE_HEADS: &str = "INSERT INTO heads SELECT bucket, key, id, 1 FROM entries WHERE id > ?1";
+
+fn read_names(alloc: Global) -> Result<Names, Fail> {
+    Ok(Names {
+        dept: DeptName::read(alloc, "records")?.ok().ok_or("a name")?,
+        bucket: BucketName::read(alloc, "docs")?.ok().ok_or("a name")?,
+        key: ObjectKey::read(alloc, "k7")?.ok().ok_or("a key")?,
+        start: KeyPrefix::read(alloc, "")?.ok().ok_or("a prefix")?,
+    })
+}
+
+/// The steps that are enough for each reading in a vault of ten versions.
+fn steps_among_ten<S: Alter>(conn: &mut Connection<S>, alloc: Global, names: &Names) -> [u64; 4] {
+    [
+        enough_steps(conn, alloc, names, Reading::Report),
+        enough_steps(conn, alloc, names, Reading::Head),
+        enough_steps(conn, alloc, names, Reading::Entries),
+        enough_steps(conn, alloc, names, Reading::Keys),
+    ]
+}
+
+#[test]
+fn what_a_command_reads_does_not_grow_with_the_vault(rt: HostRuntime) -> Result<(), Fail> {
+    let alloc = rt.alloc();
+    let mut conn = Connection::open_in_memory(alloc)?;
+    assert_eq!(rt; made(&mut conn), Ok(()));
+    batch(&mut conn, TEN_VERSIONS)?;
+    let names = read_names(alloc)?;
+    let among_ten = steps_among_ten(&mut conn, alloc, &names);
+    assert!(rt; among_ten[0] < 64 && among_ten[1] < 64 && among_ten[2] < 64 && among_ten[3] < 64);
+    grow(&mut conn)?;
+    assert_eq!(rt; entries(&mut conn)?, 10_240);
+    assert!(rt; is_steady(&mut conn, alloc, &names, among_ten));
+    assert!(rt; entries(&mut conn).is_err());
+    Ok(())
+}

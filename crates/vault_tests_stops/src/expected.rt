@@ -1,0 +1,152 @@
+//! What is to be found, from the list: the vault after each change of a day.
+use crate::day::Day;
+use crate::telling::told;
+use std::alloc::Global;
+use std::test::Fail;
+use vault_core::fuse_keeper::FuseKeeper;
+use vault_core_list::list_keeper::ListKeeper;
+use vault_core_model::keeper::Keeper;
+use vault_transcript::transcript::replies;
+
+/// How far a day went.
+#[derive(Clone, Copy, Debug, PartialEq, Eq)]
+pub struct Progress {
+    /// How many lines were answered before the device failed.
+    pub lines: usize,
+    /// How many changes the next one had made by then, as its reply tells.
+    pub changes: usize,
+    /// Whether the device failed at that line.
+    pub has_failed: bool,
+}
+
+/// Carries out the lines behind the first so many, until the device fails.
+pub fn play<K: Keeper>(
+    alloc: Global,
+    keeper: &mut K,
+    lines: &str,
+    from: usize,
+) -> Result<Progress, Fail> {
+    let mut done = from;
+    for line in lines.lines().skip(from) {
+        let reply = replies(alloc, keeper, line.as_bytes())?;
+        if keeper.faults() != 0 {
+            return failed_at(done, reply.as_str());
+        }
+        done = done.saturating_add(1);
+    }
+    Ok(Progress {
+        lines: done,
+        changes: 0,
+        has_failed: false,
+    })
+}
+
+/// The progress where the line behind so many got that reply. Fails where it tells of no failure.
+fn failed_at(lines: usize, reply: &str) -> Result<Progress, Fail> {
+    if !reply.contains("\"Device\"") {
+        return Err(Fail::new("a failure isn't told"));
+    }
+    Ok(Progress {
+        lines,
+        changes: changes_told(reply),
+        has_failed: true,
+    })
+}
+
+/// The changes of a stopped run; of any other reply none.
+fn changes_told(reply: &str) -> usize {
+    let Some(rest) = reply.strip_prefix("{\"stopped\":{\"changes\":") else {
+        return 0;
+    };
+    let Some((number, _)) = rest.split_once(",") else {
+        return 0;
+    };
+    number.parse().unwrap_or(0)
+}
+
+/// The vault after each change of a day.
+#[derive(Drop)]
+pub struct Expected {
+    /// What is told of it after none, one, two changes and so on.
+    states: Vec<String>,
+    /// How many lines come before the one that makes the next change.
+    lines: Vec<usize>,
+}
+
+/// How many changes a day may have.
+const MOST: u64 = 64;
+
+/// The vault after each change of a day, kept as a list whose device fails behind that change.
+pub fn expected(alloc: Global, day: &Day) -> Result<Expected, Fail> {
+    let mut all = Expected {
+        states: Vec::new(alloc),
+        lines: Vec::new(alloc),
+    };
+    for changes in 0..MOST {
+        let mut keeper = FuseKeeper::new(listed(alloc, day.before)?, changes);
+        let progress = play(alloc, &mut keeper, day.lines, 0)?;
+        all.states.push(told(alloc, &mut keeper)?)?;
+        all.lines.push(progress.lines)?;
+        if !progress.has_failed {
+            return Ok(all);
+        }
+    }
+    Err(Fail::new("the day has too many changes"))
+}
+
+fn listed(alloc: Global, before: &str) -> Result<ListKeeper, Fail> {
+    let mut keeper = ListKeeper::new(alloc)?;
+    play(alloc, &mut keeper, before, 0)?;
+    Ok(keeper)
+}
+
+impl Expected {
+    /// How many changes were acknowledged.
+    fn acknowledged(&self, progress: &Progress) -> usize {
+        let before = self
+            .lines
+            .iter()
+            .filter(|lines| **lines < progress.lines)
+            .count();
+        before.saturating_add(progress.changes)
+    }
+
+    /// Whether the text is what is told of the vault after so many changes.
+    fn is_after(&self, changes: usize, text: &str) -> bool {
+        match self.states.get(changes) {
+            Some(state) => state.as_str() == text,
+            None => false,
+        }
+    }
+
+    /// Whether the change that was being made is found, behind all that were acknowledged. Fails where
+    /// another vault is found than that with it or without it.
+    pub fn finds_one_more(&self, progress: &Progress, text: &str) -> Result<bool, Fail> {
+        let acknowledged = self.acknowledged(progress);
+        if self.is_after(acknowledged, text) {
+            return Ok(false);
+        }
+        if progress.has_failed && self.is_after(acknowledged.saturating_add(1), text) {
+            return Ok(true);
+        }
+        Err(Fail::new(format_args!("after {acknowledged} changes: {text}")))
+    }
+
+    /// Whether the text is what is told at the end of the day.
+    pub fn is_end(&self, text: &str) -> bool {
+        self.is_after(self.states.len().saturating_sub(1), text)
+    }
+
+    /// Whether something else is told after each change.
+    pub fn tells_each_change(&self) -> bool {
+        self.states
+            .iter()
+            .zip(self.states.iter().skip(1))
+            .all(|(before, after)| before.as_str() != after.as_str())
+    }
+
+    /// How many changes the day makes.
+    pub fn changes(&self) -> usize {
+        self.states.len().saturating_sub(1)
+    }
+}

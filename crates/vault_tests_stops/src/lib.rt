@@ -1,0 +1,17 @@
+//! Tests of stops: one of a vault's two files fails from some call on, for each call in turn.
+#![tactic(auto)]
+
+#[cfg(test)]
+mod day;
+#[cfg(test)]
+mod disks;
+#[cfg(test)]
+mod expected;
+#[cfg(test)]
+mod stopped;
+#[cfg(test)]
+mod stops;
+#[cfg(test)]
+mod telling;
+#[cfg(test)]
+mod trial;

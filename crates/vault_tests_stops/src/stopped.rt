@@ -1,0 +1,122 @@
+//! A day of a vault in files, up to where one of them fails.
+use crate::day::Day;
+use crate::disks::Fused;
+use crate::expected::{Progress, play};
+use sqlite::{Connection, FileStore, Options};
+use sqlite_disk::{Fuse, Memory};
+use std::alloc::Global;
+use std::test::Fail;
+use vault_base::refusal::Refusal;
+use vault_store::sql_keeper::SqlKeeper;
+
+pub type InFiles = FileStore<Fuse<Memory>>;
+
+/// Few pages in memory, and a short log, so that there are many calls on both files.
+const OPTIONS: Options = Options {
+    cache_pages: 64,
+    spill_pages: 2000,
+    checkpoint_frames: 40,
+    seed: 1,
+};
+
+/// What was under way as a file failed.
+#[derive(Clone, Copy, Debug, PartialEq, Eq)]
+pub enum Phase {
+    /// The files were being opened.
+    Opening,
+    /// The vault was being made, or its tables looked at.
+    Entering,
+    /// A line was being carried out.
+    Asking,
+    /// The log was being copied into the database file.
+    Closing,
+    /// Nothing: no file failed.
+    Over,
+}
+
+impl Phase {
+    /// Whether the vault was there by then.
+    pub fn is_behind_entering(self) -> bool {
+        self != Phase::Opening && self != Phase::Entering
+    }
+}
+
+/// Where a day ended.
+#[derive(Clone, Copy)]
+pub struct Stop {
+    pub phase: Phase,
+    pub progress: Progress,
+}
+
+/// A stop before any line.
+fn before_lines(phase: Phase) -> Stop {
+    let progress = Progress {
+        lines: 0,
+        changes: 0,
+        has_failed: false,
+    };
+    Stop { phase, progress }
+}
+
+/// Opens the files. They come back where that fails.
+pub fn connected(alloc: Global, files: Fused) -> Result<Connection<InFiles>, Fused> {
+    if !files.may_be_used() {
+        return Err(files);
+    }
+    match Connection::open_files(alloc, files, OPTIONS) {
+        Ok(conn) => Ok(conn),
+        Err((_, left)) => Err(left.into_files()),
+    }
+}
+
+type Entered = Result<SqlKeeper<InFiles>, (Refusal, Connection<InFiles>)>;
+
+/// The vault, which is made where that is to be done and was not done before.
+pub fn entered(alloc: Global, is_made: bool, conn: Connection<InFiles>) -> Entered {
+    if is_made {
+        return SqlKeeper::open(alloc, conn);
+    }
+    match SqlKeeper::create(alloc, conn) {
+        Err((Refusal::NameTaken, conn)) => SqlKeeper::open(alloc, conn),
+        other => other,
+    }
+}
+
+/// A day up to its stop, and the files as they are left then.
+pub fn stopped(alloc: Global, day: &Day, files: Fused) -> Result<(Stop, Fused), Fail> {
+    let conn = match connected(alloc, files) {
+        Ok(conn) => conn,
+        Err(files) => return Ok((before_lines(Phase::Opening), files)),
+    };
+    match entered(alloc, day.is_made, conn) {
+        Ok(keeper) => asked(alloc, day, keeper),
+        Err((Refusal::Device, conn)) => {
+            Ok((before_lines(Phase::Entering), conn.into_store().close()))
+        }
+        Err((refusal, _)) => Err(Fail::new(refusal.name())),
+    }
+}
+
+fn asked(alloc: Global, day: &Day, keeper: SqlKeeper<InFiles>) -> Result<(Stop, Fused), Fail> {
+    let mut keeper = keeper;
+    let progress = play(alloc, &mut keeper, day.lines, 0)?;
+    Ok(closed(keeper.into_connection(), progress))
+}
+
+/// Closes the files where no line failed.
+fn closed(conn: Connection<InFiles>, progress: Progress) -> (Stop, Fused) {
+    if progress.has_failed {
+        let phase = Phase::Asking;
+        return (Stop { phase, progress }, conn.into_store().close());
+    }
+    match conn.close_files() {
+        Ok(files) => {
+            let phase = Phase::Over;
+            (Stop { phase, progress }, files)
+        }
+        Err((_, store)) => {
+            let phase = Phase::Closing;
+            (Stop { phase, progress }, store.close())
+        }
+    }
+}

@@ -1,0 +1,237 @@
+//! A day that is stopped at each call of one of its files.
+use crate::day::Day;
+use crate::disks::{Bytes, Fused, Left, Which, fused, left, sound};
+use crate::expected::{Expected, Progress, expected, play};
+use crate::stopped::{InFiles, Phase, Stop, connected, entered, stopped};
+use crate::telling::{is_conserved, told};
+use sqlite::Files;
+use std::alloc::Global;
+use std::test::Fail;
+use vault_core_model::keeper::Keeper;
+use vault_store::sql_keeper::SqlKeeper;
+
+/// A day, the files that it begins with, and what is to be found.
+#[derive(Drop)]
+pub struct Trial {
+    day: Day,
+    log: Vec<u8>,
+    database: Vec<u8>,
+    expected: Expected,
+}
+
+/// How often a day was stopped.
+#[derive(Clone, Copy, Debug, PartialEq, Eq)]
+pub struct Stops {
+    pub opening: u64,
+    pub entering: u64,
+    pub asking: u64,
+    pub closing: u64,
+    /// In how many the change that was being made was found.
+    pub one_more: u64,
+    /// How many pairs of files were left.
+    pub outcomes: u64,
+    /// Whether the last day wasn't stopped.
+    pub is_over: bool,
+}
+
+impl Stops {
+    fn new() -> Stops {
+        Stops {
+            opening: 0,
+            entering: 0,
+            asking: 0,
+            closing: 0,
+            one_more: 0,
+            outcomes: 0,
+            is_over: false,
+        }
+    }
+
+    /// How many stops there were.
+    pub fn all(&self) -> u64 {
+        self.opening
+            .saturating_add(self.entering)
+            .saturating_add(self.asking)
+            .saturating_add(self.closing)
+    }
+
+    fn count(&mut self, phase: Phase) {
+        match phase {
+            Phase::Opening => self.opening = self.opening.saturating_add(1),
+            Phase::Entering => self.entering = self.entering.saturating_add(1),
+            Phase::Asking => self.asking = self.asking.saturating_add(1),
+            Phase::Closing => self.closing = self.closing.saturating_add(1),
+            Phase::Over => self.is_over = true,
+        }
+    }
+
+    fn count_outcome(&mut self, has_more: bool) {
+        self.outcomes = self.outcomes.saturating_add(1);
+        if has_more {
+            self.one_more = self.one_more.saturating_add(1);
+        }
+    }
+}
+
+/// A day with the files that earlier days leave.
+pub fn trial(alloc: Global, day: Day) -> Result<Trial, Fail> {
+    let (log, database) = files_before(alloc, &day)?;
+    let expected = expected(alloc, &day)?;
+    if !expected.tells_each_change() {
+        return Err(Fail::new("a change is not told"));
+    }
+    Ok(Trial {
+        day,
+        log,
+        database,
+        expected,
+    })
+}
+
+/// The bytes of the log and of the database file as the day begins.
+fn files_before(alloc: Global, day: &Day) -> Result<(Vec<u8>, Vec<u8>), Fail> {
+    if !day.is_made {
+        return Ok((Vec::new(alloc), Vec::new(alloc)));
+    }
+    let making = Day {
+        is_made: false,
+        before: "",
+        lines: day.before,
+    };
+    let none = Bytes {
+        log: &[],
+        database: &[],
+    };
+    let (stop, files) = stopped(alloc, &making, sound(alloc, &none)?)?;
+    if stop.phase != Phase::Over {
+        return Err(Fail::new("a sound file failed"));
+    }
+    let (log, database) = left_of(alloc, files)?;
+    Ok((log.synced, database.synced))
+}
+
+fn left_of(alloc: Global, files: Fused) -> Result<(Left, Left), Fail> {
+    let Files { log, db } = files;
+    Ok((left(alloc, log)?, left(alloc, db)?))
+}
+
+/// Stops the day at each of these calls of a file in turn, up to the first day that isn't stopped.
+pub fn stops(
+    alloc: Global,
+    trial: &Trial,
+    which: Which,
+    from: u64,
+    to: u64,
+) -> Result<Stops, Fail> {
+    let mut stops = Stops::new();
+    for passed in from..to {
+        stop_behind(alloc, trial, which, passed, &mut stops)?;
+        if stops.is_over {
+            return Ok(stops);
+        }
+    }
+    Ok(stops)
+}
+
+/// The day, where a file fails behind so many calls; and what becomes of all that may be left then.
+fn stop_behind(
+    alloc: Global,
+    trial: &Trial,
+    which: Which,
+    passed: u64,
+    stops: &mut Stops,
+) -> Result<(), Fail> {
+    let begins = Bytes {
+        log: trial.log.as_slice(),
+        database: trial.database.as_slice(),
+    };
+    let files = fused(alloc, &begins, which, passed)?;
+    let (stop, files) = stopped(alloc, &trial.day, files)?;
+    stops.count(stop.phase);
+    let (log, database) = left_of(alloc, files)?;
+    find_all(alloc, trial, &stop, &log, &database, stops)
+}
+
+/// All that was written is left, or of one of the files, or of both, only what was synced.
+fn find_all(
+    alloc: Global,
+    trial: &Trial,
+    stop: &Stop,
+    log: &Left,
+    database: &Left,
+    stops: &mut Stops,
+) -> Result<(), Fail> {
+    find(alloc, trial, stop, &log.standing, &database.standing, stops)?;
+    if log.differs() {
+        find(alloc, trial, stop, &log.synced, &database.standing, stops)?;
+    }
+    if database.differs() {
+        find(alloc, trial, stop, &log.standing, &database.synced, stops)?;
+    }
+    if log.differs() && database.differs() {
+        find(alloc, trial, stop, &log.synced, &database.synced, stops)?;
+    }
+    Ok(())
+}
+
+/// The vault in these files is that after the acknowledged changes, or with the one that was being made,
+/// and the rest of the day leads from there to its end.
+fn find(
+    alloc: Global,
+    trial: &Trial,
+    stop: &Stop,
+    log: &[u8],
+    database: &[u8],
+    stops: &mut Stops,
+) -> Result<(), Fail> {
+    let is_made = trial.day.is_made || stop.phase.is_behind_entering();
+    let keeper = found(alloc, is_made, &Bytes { log, database })?;
+    let has_more = goes_on(alloc, trial, &stop.progress, keeper)?;
+    stops.count_outcome(has_more);
+    Ok(())
+}
+
+/// The vault in files that don't fail. A vault that was made before is opened, and not made again.
+fn found(alloc: Global, is_made: bool, bytes: &Bytes<'_>) -> Result<SqlKeeper<InFiles>, Fail> {
+    let files = sound(alloc, bytes)?;
+    let conn = connected(alloc, files)
+        .ok()
+        .ok_or("the files can't be opened")?;
+    match entered(alloc, is_made, conn) {
+        Ok(keeper) => Ok(keeper),
+        Err((refusal, _)) => Err(Fail::new(refusal.name())),
+    }
+}
+
+/// Whether the change that was being made is found. Fails unless the vault is one that may be found, and
+/// the rest of the day leads to its end.
+fn goes_on<K: Keeper + Drop>(
+    alloc: Global,
+    trial: &Trial,
+    progress: &Progress,
+    keeper: K,
+) -> Result<bool, Fail> {
+    let mut keeper = keeper;
+    let text = told(alloc, &mut keeper)?;
+    let has_more = trial.expected.finds_one_more(progress, text.as_str())?;
+    is_conserved(alloc, &mut keeper)?;
+    let from = next_line(trial.day.lines, progress.lines, has_more);
+    play(alloc, &mut keeper, trial.day.lines, from)?;
+    if !trial.expected.is_end(told(alloc, &mut keeper)?.as_str()) {
+        return Err(Fail::new("the rest of the day leads elsewhere"));
+    }
+    Ok(has_more)
+}
+
+/// How many lines come before the one that the day goes on with. A run and an intake are given again,
+/// any other line only where its change isn't found.
+fn next_line(lines: &str, line: usize, has_more: bool) -> usize {
+    match lines.lines().nth(line) {
+        Some(text) if has_more && !may_be_repeated(text) => line.saturating_add(1),
+        _ => line,
+    }
+}
+
+fn may_be_repeated(line: &str) -> bool {
+    line.contains("\"do\":\"run\"") || line.contains("\"do\":\"intake\"")
+}
