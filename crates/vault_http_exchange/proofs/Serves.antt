@@ -29,19 +29,19 @@ module _ (shown : Bool) (plan : Plan) (old new : Vault) where
   plan_served (Some rest) a b c judged gives p d =
       (told plan.terms.waits ++ d.0, (d.0, refl, subst (λ (j : Result Command Refusal). Judged plan.at shown plan.terms.caller j old d.0 new) gives d.1), Appends-trans a b c (told plan.terms.waits) d.0 p d.2)
 
-  judged_left : (e : ServeFault) (judged : Result Command Refusal) (rest : List ℕ) → judged ≡ planned_command plan rest → JudgedLeft e plan.at shown plan.terms.caller judged old new → PlanLeft e shown plan rest old new
-  judged_left faults.Read judged rest is d = absurd d
-  judged_left faults.Memory judged rest is d = subst (λ (j : Result Command Refusal). (new ≡ old) ⊎ Stepped plan.at plan.terms.caller j old new) is d
-  judged_left faults.Write judged rest is d = inr (told plan.terms.waits ++ d.0, (d.0, refl, subst (λ (j : Result Command Refusal). Judged plan.at shown plan.terms.caller j old d.0 new) is d.1))
+  judged_left : (unread : Option (List ℕ)) (e : ServeFault) (judged : Result Command Refusal) (rest : List ℕ) → judged ≡ planned_command plan rest → JudgedLeft e plan.at shown plan.terms.caller judged old new → PlanLeft e shown plan rest unread old new
+  judged_left unread faults.Read judged rest is d = absurd d
+  judged_left unread faults.Memory judged rest is d = subst (λ (j : Result Command Refusal). (new ≡ old) ⊎ Stepped plan.at plan.terms.caller j old new) is d
+  judged_left unread faults.Write judged rest is d = inr (told plan.terms.waits ++ d.0, (d.0, refl, subst (λ (j : Result Command Refusal). Judged plan.at shown plan.terms.caller j old d.0 new) is d.1))
 
   -- its answer failed
-  pub plan_left : (left : Option (List ℕ)) (e : ServeFault) (judged : Result Command Refusal) → Gives left judged → JudgedLeft e plan.at shown plan.terms.caller judged old new → IfSome left (λ rest. PlanLeft e shown plan rest old new)
-  plan_left None e judged gives d = tt
-  plan_left (Some rest) e judged gives d = judged_left e judged rest gives d
+  pub plan_left : (left unread : Option (List ℕ)) (e : ServeFault) (judged : Result Command Refusal) → Gives left judged → JudgedLeft e plan.at shown plan.terms.caller judged old new → IfSome left (λ rest. PlanLeft e shown plan rest unread old new)
+  plan_left None unread e judged gives d = tt
+  plan_left (Some rest) unread e judged gives d = judged_left unread e judged rest gives d
 
   -- before the body was there nothing is written but 100 Continue, and that failed
-  pub early_left : (left : Option (List ℕ)) (e : ServeFault) → (e ≡ faults.Write → plan.terms.waits ≡ true) → new ≡ old → IfSome left (λ rest. PlanLeft e shown plan rest old new)
-  early_left None e waits same = tt
-  early_left (Some rest) faults.Read waits same = same
-  early_left (Some rest) faults.Memory waits same = inl same
-  early_left (Some rest) faults.Write waits same = inl (waits refl, same)
+  pub early_left : (left unread : Option (List ℕ)) (e : ServeFault) → (e ≡ faults.Write → plan.terms.waits ≡ true) → (e ≡ faults.Write → unread ≡ left) → new ≡ old → IfSome left (λ rest. PlanLeft e shown plan rest unread old new)
+  early_left None unread e waits kept same = tt
+  early_left (Some rest) unread faults.Read waits kept same = same
+  early_left (Some rest) unread faults.Memory waits kept same = inl same
+  early_left (Some rest) unread faults.Write waits kept same = inl (waits refl, kept refl, same)

@@ -47,26 +47,26 @@ DenyLeft faults.Read moment r a shown = ⊥
 DenyLeft faults.Memory moment r a shown = Unit {0}
 DenyLeft faults.Write moment r a shown = (out : List ℕ) × AnswersRefusal moment r a shown out
 
--- After Read no step was made; after Memory at most that one. After Write 100 Continue failed and no step was made, or an answer failed and the vault is as it says.
-abbrev pub PlanLeft : ServeFault → Bool → Plan → List ℕ → Vault → Vault → Type 0
-PlanLeft faults.Read shown plan rest old new = new ≡ old
-PlanLeft faults.Memory shown plan rest old new = (new ≡ old) ⊎ Stepped plan.at plan.terms.caller (planned_command plan rest) old new
-PlanLeft faults.Write shown plan rest old new =
-    ((plan.terms.waits ≡ true) × (new ≡ old)) ⊎ ((out : List ℕ) × PlanServed shown plan rest old out new)
+-- After Read no step was made; after Memory at most that one. After Write 100 Continue failed, nothing of the body was read and no step was made, or an answer failed and the vault is as it says.
+abbrev pub PlanLeft : ServeFault → Bool → Plan → List ℕ → Option (List ℕ) → Vault → Vault → Type 0
+PlanLeft faults.Read shown plan rest unread old new = new ≡ old
+PlanLeft faults.Memory shown plan rest unread old new = (new ≡ old) ⊎ Stepped plan.at plan.terms.caller (planned_command plan rest) old new
+PlanLeft faults.Write shown plan rest unread old new =
+    ((plan.terms.waits ≡ true) × (unread ≡ Some rest) × (new ≡ old)) ⊎ ((out : List ℕ) × PlanServed shown plan rest old out new)
 
 abbrev pub DeniedLeft : ServeFault → Option ℕ → Bool → Refusal → Option Allow → Vault → Vault → Type 0
 DeniedLeft faults.Read moment shown r a old new = new ≡ old
 DeniedLeft faults.Memory moment shown r a old new = new ≡ old
 DeniedLeft faults.Write moment shown r a old new = (out : List ℕ) × Denied moment shown r a old out new
 
-abbrev pub AskedLeft : ServeFault → Option ℕ → Bool → Asked → List ℕ → Vault → Vault → Type 0
-AskedLeft e moment shown (asked.Plan plan) rest old new = PlanLeft e shown plan rest old new
-AskedLeft e moment shown (asked.NotAllowed r) rest old new =
+abbrev pub AskedLeft : ServeFault → Option ℕ → Bool → Asked → List ℕ → Option (List ℕ) → Vault → Vault → Type 0
+AskedLeft e moment shown (asked.Plan plan) rest unread old new = PlanLeft e shown plan rest unread old new
+AskedLeft e moment shown (asked.NotAllowed r) rest unread old new =
     DeniedLeft e moment shown refusal.MethodNotAllowed (Some (allow_of r)) old new
 
-abbrev pub HeadLeft : ServeFault → Option ℕ → Bool → Result Asked Refusal → List ℕ → Vault → Vault → Type 0
-HeadLeft e moment shown (Ok a) rest old new = AskedLeft e moment shown a rest old new
-HeadLeft e moment shown (Err r) rest old new = DeniedLeft e moment shown r None old new
+abbrev pub HeadLeft : ServeFault → Option ℕ → Bool → Result Asked Refusal → List ℕ → Option (List ℕ) → Vault → Vault → Type 0
+HeadLeft e moment shown (Ok a) rest unread old new = AskedLeft e moment shown a rest unread old new
+HeadLeft e moment shown (Err r) rest unread old new = DeniedLeft e moment shown r None old new
 
 -- before a head was judged: writing fails only where there is none
 abbrev pub Early : ServeFault → Option ℕ → List ℕ → Vault → Vault → Type 0
@@ -74,10 +74,11 @@ Early faults.Read moment input old new = new ≡ old
 Early faults.Memory moment input old new = new ≡ old
 Early faults.Write moment input old new = (0 < length input) × HasNoHead input × (new ≡ old)
 
-abbrev pub Left : ServeFault → Option ℕ → List ℕ → Vault → Vault → Type 0
-Left e moment input old new =
+-- of an input, of which this is unread after it
+abbrev pub Left : ServeFault → Option ℕ → List ℕ → Option (List ℕ) → Vault → Vault → Type 0
+Left e moment input unread old new =
     Early e moment input old new
-    ⊎ ((h : RequestHead) × (rest : List ℕ) × IsHead input h rest × HeadLeft e moment (is_shown h.method) (head_asked moment h) rest old new)
+    ⊎ ((h : RequestHead) × (rest : List ℕ) × IsHead input h rest × HeadLeft e moment (is_shown h.method) (head_asked moment h) rest unread old new)
 
 -- ---- what was read
 

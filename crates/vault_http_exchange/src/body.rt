@@ -106,6 +106,7 @@ pub fn command_after<R: Read>(
     ensures command { IfOk result (λ judged. IfSome (R.remaining reader.old) (λ rest. judged ≡ spec.command_after order locks size rest)) }
     ensures told { OnOk result (told ≡ Ok tt) }
     ensures err { result ≡ Err faults.Write → told ≡ Err faults.Write }
+    ensures unread { result ≡ Err faults.Write → R.remaining reader.new ≡ R.remaining reader.old }
     ensures taken { OnOk result ((taken : List ℕ) × Consumes (R.remaining reader.old) (R.remaining reader.new) taken × spec.IsWithinLength size taken) }
 {
     if let Err(fault) = told {
