@@ -28,15 +28,12 @@ fn is_changed<K: Keeper>(alloc: Global, keeper: &mut K, before: &str) -> Result<
     Ok(after.as_str() != before)
 }
 
-/// All that is cut changes nothing; then the whole request does what it should, and what comes behind it is left.
+/// No cut changes anything; then the whole request does what it should.
 fn cut_everywhere(alloc: Global, row: Row) -> Result<(), Fail> {
     let exchange = Exchange::of(alloc, row)?;
     let mut keeper = filled(alloc)?;
     let before = told(alloc, &mut keeper)?;
-    for size in 0..exchange.read {
-        cut(alloc, &mut keeper, &exchange, size)?;
-    }
-    for size in exchange.read..exchange.request.len() {
+    for size in 0..exchange.request.len() {
         cut(alloc, &mut keeper, &exchange, size)?;
     }
     if is_changed(alloc, &mut keeper, before.as_str())? {
