@@ -1,5 +1,5 @@
 //! The body of a request, and the command that it makes.
-ghost use Rattle.std.specs.Prelude.{◌≡◌, ℕ, List, Ok, Err, IfOk, IfSome, OnOk};
+ghost use Rattle.std.specs.Prelude.{◌≡◌, ℕ, List, None, Ok, Err, IfOk, IfSome, OnOk};
 ghost use Rattle.std.specs.Io.KnownBytes.{Consumes};
 ghost use Rattle.vault_base.specs.declared.refusal.Refusal.TheVariants.{MalformedBody};
 ghost use Rattle.vault_http_exchange.specs.Body as spec;
@@ -50,18 +50,15 @@ fn command_with(
     }
 }
 
-/// The body is cut. The order is dropped here, and not on each way out.
-fn cut(order: Order) -> Result<Command, Refusal>
-    ensures { result ≡ Err MalformedBody }
+/// The refusal of a cut body, or a fault that came first. The order is dropped here, and not on each way out.
+fn without(order: Order, fault: Option<ServeFault>) -> Result<Result<Command, Refusal>, ServeFault>
+    ensures cut { fault ≡ None → result ≡ Ok (Err MalformedBody) }
+    ensures fault { IfSome fault (λ f. result ≡ Err f) }
 {
-    Err(Refusal::MalformedBody)
-}
-
-/// A fault came first. The order is dropped here.
-fn faulted(order: Order, fault: ServeFault) -> Result<Result<Command, Refusal>, ServeFault>
-    ensures { result ≡ Err fault }
-{
-    Err(fault)
+    match fault {
+        Some(fault) => Err(fault),
+        None => Ok(Err(Refusal::MalformedBody)),
+    }
 }
 
 fn or_fault(
@@ -89,7 +86,7 @@ fn command_of_body(
 {
     match body {
         Some(body) => or_fault(command_with(alloc, order, locks, body)),
-        None => Ok(cut(order)),
+        None => without(order, None),
     }
 }
 
@@ -110,11 +107,11 @@ pub fn command_after<R: Read>(
     ensures taken { OnOk result ((taken : List ℕ) × Consumes (R.remaining reader.old) (R.remaining reader.new) taken × spec.IsWithinLength size taken) }
 {
     if let Err(fault) = told {
-        return faulted(order, fault);
+        return without(order, Some(fault));
     }
     match body_of(alloc, reader, size) {
         Ok(body) => command_of_body(alloc, order, locks, body),
-        Err(ReadFault::Read) => faulted(order, ServeFault::Read),
-        Err(ReadFault::Memory) => faulted(order, ServeFault::Memory),
+        Err(ReadFault::Read) => without(order, Some(ServeFault::Read)),
+        Err(ReadFault::Memory) => without(order, Some(ServeFault::Memory)),
     }
 }

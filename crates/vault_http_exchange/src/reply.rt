@@ -30,6 +30,29 @@ fn drops(command: &Command) -> bool
 }
 
 /// Carries a command out and writes its answer.
+fn answer<W: Write, K: Keeper>(
+    alloc: Global,
+    writer: &mut W,
+    keeper: &mut K,
+    at: Moment,
+    who: &CallerName,
+    command: &Command,
+    shown: bool,
+) -> Result<(), ServeFault>
+    ensures ok { K.is_honest keeper.new → OnOk result ((out : List ℕ) × spec.Done at shown who.now command.now (K.vault keeper.old) out (K.vault keeper.new) × Appends (W.contents writer.old) (W.contents writer.new) out) }
+    ensures err { K.is_honest keeper.new → IfErr result (λ e. left.JudgedLeft e at shown who.now (Ok command.now) (K.vault keeper.old) (K.vault keeper.new)) }
+    ensures kind { ¬ (result ≡ Err faults.Read) }
+    ensures once { K.is_honest keeper.new → left.AtMostOne (Some at) (K.vault keeper.old) (K.vault keeper.new) }
+    ensures honest { K.is_honest keeper.new → K.is_honest keeper.old }
+{
+    let reply = step(alloc, keeper, at, who, command);
+    let Ok(bytes) = reply_bytes(alloc, Some(at), drops(command), reply, shown) else {
+        return Err(ServeFault::Memory);
+    };
+    send(writer, bytes.as_slice())
+}
+
+/// Carries a command out and writes its answer. The command is dropped here, on one way out.
 fn finish<W: Write, K: Keeper>(
     alloc: Global,
     writer: &mut W,
@@ -45,12 +68,7 @@ fn finish<W: Write, K: Keeper>(
     ensures once { K.is_honest keeper.new → left.AtMostOne (Some at) (K.vault keeper.old) (K.vault keeper.new) }
     ensures honest { K.is_honest keeper.new → K.is_honest keeper.old }
 {
-    let dropping = drops(&command);
-    let reply = step(alloc, keeper, at, &who, &command);
-    let Ok(bytes) = reply_bytes(alloc, Some(at), dropping, reply, shown) else {
-        return Err(ServeFault::Memory);
-    };
-    send(writer, bytes.as_slice())
+    answer(alloc, writer, keeper, at, &who, &command, shown)
 }
 
 /// Writes the answer to a refusal.

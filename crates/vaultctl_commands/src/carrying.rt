@@ -20,17 +20,26 @@ use vault_core_model::command::Command;
 use vault_core_model::keeper::Keeper;
 use vault_core_model::reply::Reply;
 
-/// Prints a reply, drops it, and answers what came of it.
+/// Prints a reply, and answers what came of it.
+fn tell_lent<W: Write>(alloc: Global, reply: &Reply, out: &mut W) -> Result<Outcome, JobFault>
+    ensures ok { IfOk result (λ outcome. (outcome ≡ spec.outcome_of reply.now) × Appends (W.contents out.old) (W.contents out.new) (spec.printed reply.now)) }
+    ensures reader { result ≢ Err JobFault.Read }
+    ensures device { result ≢ Err JobFault.Device }
+{
+    let Ok(text) = reply_text(alloc, reply) else {
+        return Err(JobFault::Memory);
+    };
+    print(out, text.as_str())?;
+    Ok(outcome(reply))
+}
+
+/// Prints a reply, and answers what came of it. The reply is dropped here, on one way out.
 fn tell<W: Write>(alloc: Global, reply: Reply, out: &mut W) -> Result<Outcome, JobFault>
     ensures ok { IfOk result (λ outcome. (outcome ≡ spec.outcome_of reply) × Appends (W.contents out.old) (W.contents out.new) (spec.printed reply)) }
     ensures reader { result ≢ Err JobFault.Read }
     ensures device { result ≢ Err JobFault.Device }
 {
-    let Ok(text) = reply_text(alloc, &reply) else {
-        return Err(JobFault::Memory);
-    };
-    print(out, text.as_str())?;
-    Ok(outcome(&reply))
+    tell_lent(alloc, &reply, out)
 }
 
 /// Prints the line of a refusal.
