@@ -1,0 +1,11 @@
+//! Tests over tables in memory: their schema, the audit, reads by key, and how much is read.
+#![tactic(auto)]
+
+#[cfg(test)]
+mod audit;
+#[cfg(test)]
+mod reads;
+#[cfg(test)]
+mod schema;
+#[cfg(test)]
+mod steps;
