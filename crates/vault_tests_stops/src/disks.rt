@@ -5,13 +5,13 @@ use std::alloc::Global;
 use std::test::Fail;
 
 /// A vault's log and database file, each of which passes so many calls on.
-pub type Fused = Files<Fuse<Memory>>;
+pub type VaultFiles = Files<Fuse<Memory>>;
 
 /// More calls than any day makes.
 const ALL_CALLS: u64 = u64::MAX;
 
 /// One of the two files.
-#[derive(Clone, Copy, Debug, PartialEq, Eq)]
+#[derive(Clone, Copy)]
 pub enum Which {
     Log,
     Database,
@@ -25,7 +25,7 @@ pub struct Bytes<'a> {
 }
 
 /// Files with these bytes, of which none fails.
-pub fn sound(alloc: Global, bytes: &Bytes<'_>) -> Result<Fused, Fail> {
+pub fn sound(alloc: Global, bytes: &Bytes<'_>) -> Result<VaultFiles, Fail> {
     Ok(Files {
         log: disk(alloc, bytes.log, ALL_CALLS)?,
         db: disk(alloc, bytes.database, ALL_CALLS)?,
@@ -33,7 +33,12 @@ pub fn sound(alloc: Global, bytes: &Bytes<'_>) -> Result<Fused, Fail> {
 }
 
 /// Files with these bytes, of which one fails behind so many calls.
-pub fn fused(alloc: Global, bytes: &Bytes<'_>, which: Which, calls: u64) -> Result<Fused, Fail> {
+pub fn fused(
+    alloc: Global,
+    bytes: &Bytes<'_>,
+    which: Which,
+    calls: u64,
+) -> Result<VaultFiles, Fail> {
     let (log_calls, database_calls) = match which {
         Which::Log => (calls, ALL_CALLS),
         Which::Database => (ALL_CALLS, calls),
@@ -73,7 +78,7 @@ impl Left {
 }
 
 /// What may be left of a file.
-pub fn left(alloc: Global, file: Fuse<Memory>) -> Result<Left, Fail> {
+pub fn leave(alloc: Global, file: Fuse<Memory>) -> Result<Left, Fail> {
     let mut file = file;
     let standing = copied(alloc, file.inner().bytes())?;
     file.crash();

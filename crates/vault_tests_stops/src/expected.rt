@@ -9,7 +9,7 @@ use vault_core_model::keeper::Keeper;
 use vault_transcript::transcript::replies;
 
 /// How far a day went.
-#[derive(Clone, Copy, Debug, PartialEq, Eq)]
+#[derive(Clone, Copy)]
 pub struct Progress {
     /// How many lines were answered before the device failed.
     pub lines: usize,
@@ -77,7 +77,7 @@ pub struct Expected {
 const MOST: u64 = 64;
 
 /// The vault after each change of a day, kept as a list whose device fails behind that change.
-pub fn expected(alloc: Global, day: &Day) -> Result<Expected, Fail> {
+pub fn expect(alloc: Global, day: &Day) -> Result<Expected, Fail> {
     let mut all = Expected {
         states: Vec::new(alloc),
         lines: Vec::new(alloc),
@@ -143,10 +143,5 @@ impl Expected {
             .iter()
             .zip(self.states.iter().skip(1))
             .all(|(before, after)| before.as_str() != after.as_str())
-    }
-
-    /// How many changes the day makes.
-    pub fn changes(&self) -> usize {
-        self.states.len().saturating_sub(1)
     }
 }

@@ -1,6 +1,6 @@
 //! A day of a vault in files, up to where one of them fails.
 use crate::day::Day;
-use crate::disks::Fused;
+use crate::disks::VaultFiles;
 use crate::expected::{Progress, play};
 use sqlite::{Connection, FileStore, Options};
 use sqlite_disk::{Fuse, Memory};
@@ -13,14 +13,14 @@ pub type InFiles = FileStore<Fuse<Memory>>;
 
 /// Few pages in memory, and a short log, so that there are many calls on both files.
 const OPTIONS: Options = Options {
-    cache_pages: 64,
+    cache_pages: 8,
     spill_pages: 2000,
     checkpoint_frames: 40,
     seed: 1,
 };
 
 /// What was under way as a file failed.
-#[derive(Clone, Copy, Debug, PartialEq, Eq)]
+#[derive(Clone, Copy, PartialEq, Eq)]
 pub enum Phase {
     /// The files were being opened.
     Opening,
@@ -59,7 +59,7 @@ fn before_lines(phase: Phase) -> Stop {
 }
 
 /// Opens the files. They come back where that fails.
-pub fn connected(alloc: Global, files: Fused) -> Result<Connection<InFiles>, Fused> {
+pub fn connected(alloc: Global, files: VaultFiles) -> Result<Connection<InFiles>, VaultFiles> {
     if !files.may_be_used() {
         return Err(files);
     }
@@ -69,10 +69,10 @@ pub fn connected(alloc: Global, files: Fused) -> Result<Connection<InFiles>, Fus
     }
 }
 
-type Entered = Result<SqlKeeper<InFiles>, (Refusal, Connection<InFiles>)>;
+type Entrance = Result<SqlKeeper<InFiles>, (Refusal, Connection<InFiles>)>;
 
 /// The vault, which is made where that is to be done and was not done before.
-pub fn entered(alloc: Global, is_made: bool, conn: Connection<InFiles>) -> Entered {
+pub fn entered(alloc: Global, is_made: bool, conn: Connection<InFiles>) -> Entrance {
     if is_made {
         return SqlKeeper::open(alloc, conn);
     }
@@ -83,7 +83,7 @@ pub fn entered(alloc: Global, is_made: bool, conn: Connection<InFiles>) -> Enter
 }
 
 /// A day up to its stop, and the files as they are left then.
-pub fn stopped(alloc: Global, day: &Day, files: Fused) -> Result<(Stop, Fused), Fail> {
+pub fn stopped(alloc: Global, day: &Day, files: VaultFiles) -> Result<(Stop, VaultFiles), Fail> {
     let conn = match connected(alloc, files) {
         Ok(conn) => conn,
         Err(files) => return Ok((before_lines(Phase::Opening), files)),
@@ -97,14 +97,14 @@ pub fn stopped(alloc: Global, day: &Day, files: Fused) -> Result<(Stop, Fused), 
     }
 }
 
-fn asked(alloc: Global, day: &Day, keeper: SqlKeeper<InFiles>) -> Result<(Stop, Fused), Fail> {
+fn asked(alloc: Global, day: &Day, keeper: SqlKeeper<InFiles>) -> Result<(Stop, VaultFiles), Fail> {
     let mut keeper = keeper;
     let progress = play(alloc, &mut keeper, day.lines, 0)?;
     Ok(closed(keeper.into_connection(), progress))
 }
 
 /// Closes the files where no line failed.
-fn closed(conn: Connection<InFiles>, progress: Progress) -> (Stop, Fused) {
+fn closed(conn: Connection<InFiles>, progress: Progress) -> (Stop, VaultFiles) {
     if progress.has_failed {
         let phase = Phase::Asking;
         return (Stop { phase, progress }, conn.into_store().close());

@@ -1,7 +1,7 @@
 //! A day that is stopped at each call of one of its files.
 use crate::day::Day;
-use crate::disks::{Bytes, Fused, Left, Which, fused, left, sound};
-use crate::expected::{Expected, Progress, expected, play};
+use crate::disks::{Bytes, Left, VaultFiles, Which, fused, leave, sound};
+use crate::expected::{Expected, Progress, expect, play};
 use crate::stopped::{InFiles, Phase, Stop, connected, entered, stopped};
 use crate::telling::{is_conserved, told};
 use sqlite::Files;
@@ -20,7 +20,7 @@ pub struct Trial {
 }
 
 /// How often a day was stopped.
-#[derive(Clone, Copy, Debug, PartialEq, Eq)]
+#[derive(Clone, Copy, Debug)]
 pub struct Stops {
     pub opening: u64,
     pub entering: u64,
@@ -47,12 +47,10 @@ impl Stops {
         }
     }
 
-    /// How many stops there were.
-    pub fn all(&self) -> u64 {
-        self.opening
-            .saturating_add(self.entering)
-            .saturating_add(self.asking)
-            .saturating_add(self.closing)
+    /// Whether the day was stopped while its files were opened, while a line was carried out and while they
+    /// were closed, and wasn't stopped in the end.
+    pub fn are_complete(&self) -> bool {
+        self.is_over && self.opening != 0 && self.asking != 0 && self.closing != 0
     }
 
     fn count(&mut self, phase: Phase) {
@@ -74,9 +72,9 @@ impl Stops {
 }
 
 /// A day with the files that earlier days leave.
-pub fn trial(alloc: Global, day: Day) -> Result<Trial, Fail> {
+pub fn prepare(alloc: Global, day: Day) -> Result<Trial, Fail> {
     let (log, database) = files_before(alloc, &day)?;
-    let expected = expected(alloc, &day)?;
+    let expected = expect(alloc, &day)?;
     if !expected.tells_each_change() {
         return Err(Fail::new("a change is not told"));
     }
@@ -110,13 +108,13 @@ fn files_before(alloc: Global, day: &Day) -> Result<(Vec<u8>, Vec<u8>), Fail> {
     Ok((log.synced, database.synced))
 }
 
-fn left_of(alloc: Global, files: Fused) -> Result<(Left, Left), Fail> {
+fn left_of(alloc: Global, files: VaultFiles) -> Result<(Left, Left), Fail> {
     let Files { log, db } = files;
-    Ok((left(alloc, log)?, left(alloc, db)?))
+    Ok((leave(alloc, log)?, leave(alloc, db)?))
 }
 
 /// Stops the day at each of these calls of a file in turn, up to the first day that isn't stopped.
-pub fn stops(
+pub fn stop_behind_each(
     alloc: Global,
     trial: &Trial,
     which: Which,
@@ -186,7 +184,7 @@ fn find(
 ) -> Result<(), Fail> {
     let is_made = trial.day.is_made || stop.phase.is_behind_entering();
     let keeper = found(alloc, is_made, &Bytes { log, database })?;
-    let has_more = goes_on(alloc, trial, &stop.progress, keeper)?;
+    let has_more = resumed(alloc, trial, &stop.progress, keeper)?;
     stops.count_outcome(has_more);
     Ok(())
 }
@@ -203,21 +201,31 @@ fn found(alloc: Global, is_made: bool, bytes: &Bytes<'_>) -> Result<SqlKeeper<In
     }
 }
 
-/// Whether the change that was being made is found. Fails unless the vault is one that may be found, and
-/// the rest of the day leads to its end.
-fn goes_on<K: Keeper + Drop>(
+/// Whether the change that was being made is found in a vault that was opened again.
+fn resumed(
     alloc: Global,
     trial: &Trial,
     progress: &Progress,
-    keeper: K,
+    keeper: SqlKeeper<InFiles>,
 ) -> Result<bool, Fail> {
     let mut keeper = keeper;
-    let text = told(alloc, &mut keeper)?;
+    goes_on(alloc, trial, progress, &mut keeper)
+}
+
+/// Whether the change that was being made is found. Fails unless the vault is one that may be found, and
+/// the rest of the day leads to its end.
+fn goes_on<K: Keeper>(
+    alloc: Global,
+    trial: &Trial,
+    progress: &Progress,
+    keeper: &mut K,
+) -> Result<bool, Fail> {
+    let text = told(alloc, keeper)?;
     let has_more = trial.expected.finds_one_more(progress, text.as_str())?;
-    is_conserved(alloc, &mut keeper)?;
+    is_conserved(alloc, keeper)?;
     let from = next_line(trial.day.lines, progress.lines, has_more);
-    play(alloc, &mut keeper, trial.day.lines, from)?;
-    if !trial.expected.is_end(told(alloc, &mut keeper)?.as_str()) {
+    play(alloc, keeper, trial.day.lines, from)?;
+    if !trial.expected.is_end(told(alloc, keeper)?.as_str()) {
         return Err(Fail::new("the rest of the day leads elsewhere"));
     }
     Ok(has_more)
