@@ -1,5 +1,5 @@
 //! The body of a request, and the command that it makes.
-ghost use Rattle.std.specs.Prelude.{◌≡◌, ℕ, List, None, Ok, Err, IfOk, IfSome, OnOk};
+ghost use Rattle.std.specs.Prelude.{◌≡◌, ℕ, List, Ok, Err, IfOk, IfSome, OnOk};
 ghost use Rattle.std.specs.Io.KnownBytes.{Consumes};
 ghost use Rattle.vault_base.specs.declared.refusal.Refusal.TheVariants.{MalformedBody};
 ghost use Rattle.vault_http_exchange.specs.Body as spec;
@@ -50,15 +50,18 @@ fn command_with(
     }
 }
 
-/// The refusal of a cut body, or a fault that came first. The order is dropped here, and not on each way out.
-fn without(order: Order, fault: Option<ServeFault>) -> Result<Result<Command, Refusal>, ServeFault>
-    ensures cut { fault ≡ None → result ≡ Ok (Err MalformedBody) }
-    ensures fault { IfSome fault (λ f. result ≡ Err f) }
+/// The body is cut. The order is dropped here, and not on each way out.
+fn cut(order: Order) -> Result<Command, Refusal>
+    ensures { result ≡ Err MalformedBody }
 {
-    match fault {
-        Some(fault) => Err(fault),
-        None => Ok(Err(Refusal::MalformedBody)),
-    }
+    Err(Refusal::MalformedBody)
+}
+
+/// A fault came first. The order is dropped here.
+fn faulted(order: Order, fault: ServeFault) -> Result<Result<Command, Refusal>, ServeFault>
+    ensures { result ≡ Err fault }
+{
+    Err(fault)
 }
 
 fn or_fault(
@@ -86,7 +89,7 @@ fn command_of_body(
 {
     match body {
         Some(body) => or_fault(command_with(alloc, order, locks, body)),
-        None => without(order, None),
+        None => Ok(cut(order)),
     }
 }
 
@@ -107,11 +110,11 @@ pub fn command_after<R: Read>(
     ensures taken { OnOk result ((taken : List ℕ) × Consumes (R.remaining reader.old) (R.remaining reader.new) taken × spec.IsWithinLength size taken) }
 {
     if let Err(fault) = told {
-        return without(order, Some(fault));
+        return faulted(order, fault);
     }
     match body_of(alloc, reader, size) {
         Ok(body) => command_of_body(alloc, order, locks, body),
-        Err(ReadFault::Read) => without(order, Some(ServeFault::Read)),
-        Err(ReadFault::Memory) => without(order, Some(ServeFault::Memory)),
+        Err(ReadFault::Read) => faulted(order, ServeFault::Read),
+        Err(ReadFault::Memory) => faulted(order, ServeFault::Memory),
     }
 }
