@@ -41,11 +41,11 @@ fn cases(alloc: Global) -> Result<Vec<Case>, Fail> {
 }
 
 const REFUSED: &str =
-    "HTTP/1.1 503 Service Unavailable\r\ndate: Mon, 15 Jan 2024 10:30:00 GMT\r\nconnection: close\r\ncontent-type: application/json\r\ncontent-length: 23\r\n\r\n{\"code\":\"Memory\",\"n\":22}";
+    "HTTP/1.1 503 Service Unavailable\r\ndate: Mon, 15 Jan 2024 10:30:00 GMT\r\nconnection: close\r\ncontent-type: application/json\r\ncontent-length: 24\r\n\r\n{\"code\":\"Memory\",\"n\":22}";
 
 /// The refusal Memory without its body, which is what HEAD gets.
 const REFUSED_HEAD: &str =
-    "HTTP/1.1 503 Service Unavailable\r\ndate: Mon, 15 Jan 2024 10:30:00 GMT\r\nconnection: close\r\ncontent-type: application/json\r\ncontent-length: 23\r\n\r\n";
+    "HTTP/1.1 503 Service Unavailable\r\ndate: Mon, 15 Jan 2024 10:30:00 GMT\r\nconnection: close\r\ncontent-type: application/json\r\ncontent-length: 24\r\n\r\n";
 
 /// The bytes behind 100 Continue, if it was written.
 fn behind_go_on(written: &str) -> &str {

@@ -112,11 +112,9 @@ fn row_of(request: &'static str, outcome: &'static str) -> Result<Row, Fail> {
 /// All rows of the table.
 pub fn rows(alloc: Global) -> Result<Vec<Row>, Fail> {
     let mut rows = Vec::new(alloc);
-    let mut request = "";
-    for line in ROWS.lines() {
-        match line.strip_prefix("  ") {
-            Some(outcome) => rows.push(row_of(request, outcome)?)?,
-            None => request = line,
+    for (request, line) in ROWS.lines().zip(ROWS.lines().skip(1)) {
+        if let Some(outcome) = line.strip_prefix("  ") {
+            rows.push(row_of(request, outcome)?)?;
         }
     }
     Ok(rows)
