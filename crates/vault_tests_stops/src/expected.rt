@@ -17,6 +17,8 @@ pub struct Progress {
     pub changes: usize,
     /// Whether the device failed at that line.
     pub has_failed: bool,
+    /// Whether the change that was being made at an earlier stop was found as it began.
+    pub has_more: bool,
 }
 
 /// Carries out the lines behind the first so many, until the device fails.
@@ -38,6 +40,7 @@ pub fn play<K: Keeper>(
         lines: done,
         changes: 0,
         has_failed: false,
+        has_more: false,
     })
 }
 
@@ -50,6 +53,7 @@ fn failed_at(lines: usize, reply: &str) -> Result<Progress, Fail> {
         lines,
         changes: changes_told(reply),
         has_failed: true,
+        has_more: false,
     })
 }
 

@@ -15,3 +15,5 @@ mod stops;
 mod telling;
 #[cfg(test)]
 mod trial;
+#[cfg(test)]
+mod visit;

@@ -1,7 +1,7 @@
 //! A day of a vault in files, up to where one of them fails.
-use crate::day::Day;
 use crate::disks::VaultFiles;
-use crate::expected::{Progress, play};
+use crate::expected::Progress;
+use crate::visit::{Visit, work};
 use sqlite::{Connection, FileStore, Options};
 use sqlite_disk::{Fuse, Memory};
 use std::alloc::Global;
@@ -9,7 +9,7 @@ use std::test::Fail;
 use vault_base::refusal::Refusal;
 use vault_store::sql_keeper::SqlKeeper;
 
-pub type InFiles = FileStore<Fuse<Memory>>;
+type InFiles = FileStore<Fuse<Memory>>;
 
 /// Few pages in memory, and a short log, so that there are many calls on both files.
 const OPTIONS: Options = Options {
@@ -54,12 +54,13 @@ fn before_lines(phase: Phase) -> Stop {
         lines: 0,
         changes: 0,
         has_failed: false,
+        has_more: false,
     };
     Stop { phase, progress }
 }
 
 /// Opens the files. They come back where that fails.
-pub fn connected(alloc: Global, files: VaultFiles) -> Result<Connection<InFiles>, VaultFiles> {
+fn connected(alloc: Global, files: VaultFiles) -> Result<Connection<InFiles>, VaultFiles> {
     if !files.may_be_used() {
         return Err(files);
     }
@@ -72,7 +73,7 @@ pub fn connected(alloc: Global, files: VaultFiles) -> Result<Connection<InFiles>
 type Entrance = Result<SqlKeeper<InFiles>, (Refusal, Connection<InFiles>)>;
 
 /// The vault, which is made where that is to be done and was not done before.
-pub fn entered(alloc: Global, is_made: bool, conn: Connection<InFiles>) -> Entrance {
+fn entered(alloc: Global, is_made: bool, conn: Connection<InFiles>) -> Entrance {
     if is_made {
         return SqlKeeper::open(alloc, conn);
     }
@@ -82,14 +83,19 @@ pub fn entered(alloc: Global, is_made: bool, conn: Connection<InFiles>) -> Entra
     }
 }
 
-/// A day up to its stop, and the files as they are left then.
-pub fn stopped(alloc: Global, day: &Day, files: VaultFiles) -> Result<(Stop, VaultFiles), Fail> {
+/// A visit up to its stop, and the files as they are left then. Fails where a failing file is told as
+/// anything but that, and where the vault isn't the one that is to be found.
+pub fn stopped(
+    alloc: Global,
+    visit: &Visit<'_>,
+    files: VaultFiles,
+) -> Result<(Stop, VaultFiles), Fail> {
     let conn = match connected(alloc, files) {
         Ok(conn) => conn,
         Err(files) => return Ok((before_lines(Phase::Opening), files)),
     };
-    match entered(alloc, day.is_made, conn) {
-        Ok(keeper) => asked(alloc, day, keeper),
+    match entered(alloc, visit.day.is_made, conn) {
+        Ok(keeper) => asked(alloc, visit, keeper),
         Err((Refusal::Device, conn)) => {
             Ok((before_lines(Phase::Entering), conn.into_store().close()))
         }
@@ -97,9 +103,13 @@ pub fn stopped(alloc: Global, day: &Day, files: VaultFiles) -> Result<(Stop, Vau
     }
 }
 
-fn asked(alloc: Global, day: &Day, keeper: SqlKeeper<InFiles>) -> Result<(Stop, VaultFiles), Fail> {
+fn asked(
+    alloc: Global,
+    visit: &Visit<'_>,
+    keeper: SqlKeeper<InFiles>,
+) -> Result<(Stop, VaultFiles), Fail> {
     let mut keeper = keeper;
-    let progress = play(alloc, &mut keeper, day.lines, 0)?;
+    let progress = work(alloc, &mut keeper, visit)?;
     Ok(closed(keeper.into_connection(), progress))
 }
 

@@ -18,7 +18,7 @@ fn stopped_throughout(alloc: Global, day: Day, which: Which) -> Result<Stops, Fa
 fn a_first_day_is_stopped_in_its_log(rt: HostRuntime) -> Result<(), Fail> {
     let stops = stopped_throughout(rt.alloc(), first_day(), Which::Log)?;
     println!(rt; "{stops:?}")?;
-    assert!(rt; stops.are_complete() && stops.entering != 0);
+    assert!(rt; stops.are_complete() && stops.entering != 0 && stops.one_more != 0);
     Ok(())
 }
 
@@ -34,7 +34,7 @@ fn a_first_day_is_stopped_in_its_database_file(rt: HostRuntime) -> Result<(), Fa
 fn a_later_day_is_stopped_in_its_log(rt: HostRuntime) -> Result<(), Fail> {
     let stops = stopped_throughout(rt.alloc(), later_day(), Which::Log)?;
     println!(rt; "{stops:?}")?;
-    assert!(rt; stops.are_complete());
+    assert!(rt; stops.are_complete() && stops.one_more != 0);
     Ok(())
 }
 
@@ -42,6 +42,6 @@ fn a_later_day_is_stopped_in_its_log(rt: HostRuntime) -> Result<(), Fail> {
 fn a_later_day_is_stopped_in_its_database_file(rt: HostRuntime) -> Result<(), Fail> {
     let stops = stopped_throughout(rt.alloc(), later_day(), Which::Database)?;
     println!(rt; "{stops:?}")?;
-    assert!(rt; stops.are_complete());
+    assert!(rt; stops.are_complete() && stops.entering != 0);
     Ok(())
 }

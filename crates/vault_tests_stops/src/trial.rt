@@ -1,14 +1,12 @@
 //! A day that is stopped at each call of one of its files.
 use crate::day::Day;
 use crate::disks::{Bytes, Left, VaultFiles, Which, fused, leave, sound};
-use crate::expected::{Expected, Progress, expect, play};
-use crate::stopped::{InFiles, Phase, Stop, connected, entered, stopped};
-use crate::telling::{is_conserved, told};
+use crate::expected::{Expected, Progress, expect};
+use crate::stopped::{Phase, Stop, stopped};
+use crate::visit::{Resumed, Visit};
 use sqlite::Files;
 use std::alloc::Global;
 use std::test::Fail;
-use vault_core_model::keeper::Keeper;
-use vault_store::sql_keeper::SqlKeeper;
 
 /// A day, the files that it begins with, and what is to be found.
 #[derive(Drop)]
@@ -100,12 +98,13 @@ fn files_before(alloc: Global, day: &Day) -> Result<(Vec<u8>, Vec<u8>), Fail> {
         log: &[],
         database: &[],
     };
-    let (stop, files) = stopped(alloc, &making, sound(alloc, &none)?)?;
-    if stop.phase != Phase::Over {
-        return Err(Fail::new("a sound file failed"));
-    }
-    let (log, database) = left_of(alloc, files)?;
-    Ok((log.synced, database.synced))
+    let (_, log, database) = whole(alloc, &beginning(making), &none)?;
+    Ok((log, database))
+}
+
+/// The visit that begins a day.
+fn beginning(day: Day) -> Visit<'static> {
+    Visit { day, stop: None }
 }
 
 fn left_of(alloc: Global, files: VaultFiles) -> Result<(Left, Left), Fail> {
@@ -144,7 +143,7 @@ fn stop_behind(
         database: trial.database.as_slice(),
     };
     let files = fused(alloc, &begins, which, passed)?;
-    let (stop, files) = stopped(alloc, &trial.day, files)?;
+    let (stop, files) = stopped(alloc, &beginning(trial.day), files)?;
     stops.count(stop.phase);
     let (log, database) = left_of(alloc, files)?;
     find_all(alloc, trial, &stop, &log, &database, stops)
@@ -172,8 +171,8 @@ fn find_all(
     Ok(())
 }
 
-/// The vault in these files is that after the acknowledged changes, or with the one that was being made,
-/// and the rest of the day leads from there to its end.
+/// The vault in these files is that after the acknowledged changes, or with the one that was being made;
+/// the rest of the day leads from there to its end, which is still there once the files were closed.
 fn find(
     alloc: Global,
     trial: &Trial,
@@ -183,63 +182,42 @@ fn find(
     stops: &mut Stops,
 ) -> Result<(), Fail> {
     let is_made = trial.day.is_made || stop.phase.is_behind_entering();
-    let keeper = found(alloc, is_made, &Bytes { log, database })?;
-    let has_more = resumed(alloc, trial, &stop.progress, keeper)?;
-    stops.count_outcome(has_more);
+    let visit = resumption(trial, is_made, stop.progress);
+    let (progress, log, database) = whole(alloc, &visit, &Bytes { log, database })?;
+    stops.count_outcome(progress.has_more);
+    let visit = resumption(trial, true, progress);
+    let bytes = Bytes {
+        log: &log,
+        database: &database,
+    };
+    whole(alloc, &visit, &bytes)?;
     Ok(())
 }
 
-/// The vault in files that don't fail. A vault that was made before is opened, and not made again.
-fn found(alloc: Global, is_made: bool, bytes: &Bytes<'_>) -> Result<SqlKeeper<InFiles>, Fail> {
-    let files = sound(alloc, bytes)?;
-    let conn = connected(alloc, files)
-        .ok()
-        .ok_or("the files can't be opened")?;
-    match entered(alloc, is_made, conn) {
-        Ok(keeper) => Ok(keeper),
-        Err((refusal, _)) => Err(Fail::new(refusal.name())),
+/// The visit behind a stop there.
+fn resumption(trial: &Trial, is_made: bool, progress: Progress) -> Visit<'_> {
+    let day = Day {
+        is_made,
+        before: trial.day.before,
+        lines: trial.day.lines,
+    };
+    let expected = &trial.expected;
+    Visit {
+        day,
+        stop: Some(Resumed { expected, progress }),
     }
 }
 
-/// Whether the change that was being made is found in a vault that was opened again.
-fn resumed(
+/// A visit to a vault in these files, of which none fails; and what they hold, once they were closed.
+fn whole(
     alloc: Global,
-    trial: &Trial,
-    progress: &Progress,
-    keeper: SqlKeeper<InFiles>,
-) -> Result<bool, Fail> {
-    let mut keeper = keeper;
-    goes_on(alloc, trial, progress, &mut keeper)
-}
-
-/// Whether the change that was being made is found. Fails unless the vault is one that may be found, and
-/// the rest of the day leads to its end.
-fn goes_on<K: Keeper>(
-    alloc: Global,
-    trial: &Trial,
-    progress: &Progress,
-    keeper: &mut K,
-) -> Result<bool, Fail> {
-    let text = told(alloc, keeper)?;
-    let has_more = trial.expected.finds_one_more(progress, text.as_str())?;
-    is_conserved(alloc, keeper)?;
-    let from = next_line(trial.day.lines, progress.lines, has_more);
-    play(alloc, keeper, trial.day.lines, from)?;
-    if !trial.expected.is_end(told(alloc, keeper)?.as_str()) {
-        return Err(Fail::new("the rest of the day leads elsewhere"));
+    visit: &Visit<'_>,
+    bytes: &Bytes<'_>,
+) -> Result<(Progress, Vec<u8>, Vec<u8>), Fail> {
+    let (stop, files) = stopped(alloc, visit, sound(alloc, bytes)?)?;
+    if stop.phase != Phase::Over {
+        return Err(Fail::new("a sound file failed"));
     }
-    Ok(has_more)
-}
-
-/// How many lines come before the one that the day goes on with. A run and an intake are given again,
-/// any other line only where its change isn't found.
-fn next_line(lines: &str, line: usize, has_more: bool) -> usize {
-    match lines.lines().nth(line) {
-        Some(text) if has_more && !may_be_repeated(text) => line.saturating_add(1),
-        _ => line,
-    }
-}
-
-fn may_be_repeated(line: &str) -> bool {
-    line.contains("\"do\":\"run\"") || line.contains("\"do\":\"intake\"")
+    let (log, database) = left_of(alloc, files)?;
+    Ok((stop.progress, log.synced, database.synced))
 }
