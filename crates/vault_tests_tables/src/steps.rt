@@ -97,7 +97,7 @@ fn enough_steps<S: Alter>(
     1024
 }
 
-/// Whether that many steps are enough, fewer than half of what going through all entries would take.
+/// Whether these are still the least numbers of steps that are enough, one for each reading.
 fn is_steady<S: Alter>(
     conn: &mut Connection<S>,
     alloc: Global,
