@@ -1,7 +1,7 @@
 -- What a walk over removed entries has written.
 use Rattle.std.proofs.Common.{◌≡◌, ◌≢◌, ℕ, Bool, true, false, List, [], ◌∷◌, ◌++◌, ◌∙◌, sym, refl, ap, subst, inl, inr, append_assoc}
 use Rattle.std.proofs.lemmas.List.{append-nil}
-use Rattle.std.specs.Prelude.{Option, ◌⊎◌, Result, Ok, Err, OnOk, OnErr}
+use Rattle.std.specs.Prelude.{Option, Result, Ok, Err, OnOk, OnErr}
 use Rattle.std.specs.List.{flat_map}
 use Rattle.std.specs.Io.KnownBytes.{Appends}
 use Rattle.std.proofs.KnownBytes.{Appends-trans, Appends-nil}
@@ -9,7 +9,8 @@ use Rattle.vault_core_model.specs.declared.halt.Fault.{Fault}
 use Rattle.vault_core_model.specs.declared.records.Entry.{Entry}
 use Rattle.vault_core_model.specs.Handing.{Hands, TakesAll, TakesSome, Refuses}
 use Rattle.vault_files_register.specs.declared.rows.RegisterRows.{RegisterRows}
-use Rattle.vault_files_register.specs.Register.{row, Begins}
+use Rattle.vault_files_register.specs.Register.{row}
+use Rattle.vault_io.specs.Begins.{Begins}
 use Rattle.vault_files_register.specs.Rows.{WritesRow}
 
 -- ---- it is the same writer

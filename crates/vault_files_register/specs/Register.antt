@@ -1,8 +1,7 @@
 -- The register of removals: CSV with a header and a record for each removed entry, by rising id.
-use Rattle.std.specs.Prelude.{◌≡◌, ℕ, List, [], ◌∷◌, ◌++◌, Bool, true, false, Option, Some, None, codes}
+use Rattle.std.specs.Prelude.{ℕ, List, [], ◌∷◌, ◌++◌, Bool, true, false, Option, Some, None, codes}
 use Rattle.std.specs.Fmt.{decimal}
 use Rattle.std.specs.List.{flat_map}
-use Rattle.std.specs.Io.KnownBytes.{Appends}
 use Rattle.csv.specs.Writing.{row_text, default_writer}
 use Rattle.vault_base.specs.Moment.{moment_text}
 use Rattle.vault_core_model.specs.declared.records.Entry.{Entry}
@@ -50,7 +49,3 @@ row e = row_by e.removal e
 -- the header, and a record for each of these entries
 abbrev pub register : List Entry → List ℕ
 register entries = header ++ flat_map row entries
-
--- what is written is a beginning of these bytes
-abbrev pub Begins : Option (List ℕ) → Option (List ℕ) → List ℕ → Type 0
-Begins w w' bytes = (sent : List ℕ) × (unsent : List ℕ) × (bytes ≡ sent ++ unsent) × Appends w w' sent

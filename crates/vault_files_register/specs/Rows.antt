@@ -3,7 +3,8 @@ use Rattle.std.specs.Prelude.{◌≡◌, ℕ, true, false, List, Option}
 use Rattle.std.specs.Io.KnownBytes.{Appends}
 use Rattle.vault_core_model.specs.Handing.{Taking}
 use Rattle.vault_files_register.specs.declared.rows.RegisterRows.{RegisterRows}
-use Rattle.vault_files_register.specs.Register.{row, Begins}
+use Rattle.vault_files_register.specs.Register.{row}
+use Rattle.vault_io.specs.Begins.{Begins}
 
 -- the record of the entry is written to the same writer; where it isn't taken, a beginning of it
 abbrev pub WritesRow : {W : Type 0} → (W → Option (List ℕ)) → Taking (RegisterRows W)

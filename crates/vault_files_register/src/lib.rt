@@ -4,7 +4,6 @@
 mod fault;
 mod record;
 pub mod register;
-mod retry;
 mod rows;
 mod writing;
 

@@ -10,6 +10,7 @@ ghost use Rattle.std.specs.Io.KnownBytes.{Appends};
 ghost use Rattle.vault_core_model.specs.Halts.{Rose};
 ghost use Rattle.vault_core_model.specs.Reads.{removed_entries};
 ghost use Rattle.vault_files_register.specs.Register as spec;
+ghost use Rattle.vault_io.specs.Begins.{Begins};
 
 use crate::fault::ExportFault;
 use crate::rows::RegisterRows;
@@ -31,7 +32,7 @@ fn walk_rows<K: Keeper, W: Write>(
 ) -> Result<bool, Fault>
     ensures name { K.is_honest keeper.new → rows.new.writer.ghost_name ≡ rows.old.writer.ghost_name }
     ensures all { K.is_honest keeper.new → result ≡ Ok true → Appends (W.contents rows.old.writer.now) (W.contents rows.new.writer.now) (flat_map spec.row (removed_entries (K.vault keeper.old))) }
-    ensures some { K.is_honest keeper.new → result ≢ Ok true → spec.Begins (W.contents rows.old.writer.now) (W.contents rows.new.writer.now) (flat_map spec.row (removed_entries (K.vault keeper.old))) }
+    ensures some { K.is_honest keeper.new → result ≢ Ok true → Begins (W.contents rows.old.writer.now) (W.contents rows.new.writer.now) (flat_map spec.row (removed_entries (K.vault keeper.old))) }
     ensures same { K.vault keeper.new ≡ K.vault keeper.old }
     ensures honest { K.is_honest keeper.new → K.is_honest keeper.old }
     ensures counted { K.count keeper.old ≤ K.count keeper.new }
@@ -47,7 +48,7 @@ fn write_rows<K: Keeper, W: Write>(
     writer: &mut W,
 ) -> Result<(), ExportFault>
     ensures ok { K.is_honest keeper.new → OnOk result (Appends (W.contents writer.old) (W.contents writer.new) (flat_map spec.row (removed_entries (K.vault keeper.old)))) }
-    ensures err { K.is_honest keeper.new → OnErr result (spec.Begins (W.contents writer.old) (W.contents writer.new) (flat_map spec.row (removed_entries (K.vault keeper.old)))) }
+    ensures err { K.is_honest keeper.new → OnErr result (Begins (W.contents writer.old) (W.contents writer.new) (flat_map spec.row (removed_entries (K.vault keeper.old)))) }
     ensures same { K.vault keeper.new ≡ K.vault keeper.old }
     ensures honest { K.is_honest keeper.new → K.is_honest keeper.old }
     ensures counted { K.count keeper.old ≤ K.count keeper.new }
@@ -73,7 +74,7 @@ pub fn export_register<K: Keeper, W: Write>(
     writer: &mut W,
 ) -> Result<(), ExportFault>
     ensures ok { K.is_honest keeper.new → OnOk result (Appends (W.contents writer.old) (W.contents writer.new) (spec.register (removed_entries (K.vault keeper.old)))) }
-    ensures err { K.is_honest keeper.new → OnErr result (spec.Begins (W.contents writer.old) (W.contents writer.new) (spec.register (removed_entries (K.vault keeper.old)))) }
+    ensures err { K.is_honest keeper.new → OnErr result (Begins (W.contents writer.old) (W.contents writer.new) (spec.register (removed_entries (K.vault keeper.old)))) }
     ensures same { K.vault keeper.new ≡ K.vault keeper.old }
     ensures honest { K.is_honest keeper.new → K.is_honest keeper.old }
     ensures counted { K.count keeper.old ≤ K.count keeper.new }

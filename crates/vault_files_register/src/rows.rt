@@ -2,6 +2,7 @@
 ghost use Rattle.std.specs.Prelude.{◌≡◌, ◌≢◌, OnOk, OnErr};
 ghost use Rattle.std.specs.Io.KnownBytes.{Appends};
 ghost use Rattle.vault_files_register.specs.Register as spec;
+ghost use Rattle.vault_io.specs.Begins.{Begins};
 
 use crate::fault::ExportFault;
 use crate::record::row;
@@ -47,7 +48,7 @@ impl<'w, W: Write> RegisterRows<'w, W> {
 /// Writes the record of an entry.
 fn write_row<W: Write>(alloc: Global, writer: &mut W, entry: &Entry) -> Result<(), ExportFault>
     ensures ok { OnOk result (Appends (W.contents writer.old) (W.contents writer.new) (spec.row entry.now)) }
-    ensures err { OnErr result (spec.Begins (W.contents writer.old) (W.contents writer.new) (spec.row entry.now)) }
+    ensures err { OnErr result (Begins (W.contents writer.old) (W.contents writer.new) (spec.row entry.now)) }
 {
     let bytes = row(alloc, entry)?;
     write_bytes(writer, bytes.as_slice())

@@ -10,16 +10,15 @@ mod answer;
 mod fault;
 pub mod laws;
 mod lines;
-mod retry;
 mod writing;
 
 use crate::lines::{feed, finish};
-use crate::retry::read_retrying;
 pub use fault::ReplayFault;
 use std::alloc::Global;
 use std::io::{Read, Write};
 use vault_core_model::keeper::Keeper;
 use vault_http_script::read_line::LONGEST_LINE;
+use vault_io::retry::read_retrying;
 
 /// How many bytes of a line are kept: one more than a line may have, so that a longer one is seen
 /// to be too long.
