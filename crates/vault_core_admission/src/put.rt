@@ -27,10 +27,10 @@ pub fn put<K: Keeper>(
     ensures counted { K.count keeper.old ≤ K.count keeper.new }
     ensures device { IsTrue (is_device result) → Rose (K.count keeper.old) (K.count keeper.new) }
 {
-    let lock = {
-        let access = find_access_to_put(keeper, at, who, command)?;
-        find_lock_to_admit(keeper, at, command, &access)
-    }?;
+    let access = find_access_to_put(keeper, at, who, command)?;
+    let found = find_lock_to_admit(keeper, at, command, &access);
+    drop(access);
+    let lock = found?;
     let id = find_id(keeper)?;
     let admission = Admission {
         history: new_version(alloc, id, at, who, command, lock)?,

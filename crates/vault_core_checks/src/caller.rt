@@ -53,6 +53,7 @@ pub fn find_caller<K: Keeper>(keeper: &mut K, at: Moment, who: &CallerName) -> R
         return Err(denied(Reason::UnknownCaller));
     };
     if caller.closed {
+        drop(caller);
         return Err(denied(Reason::UnknownCaller));
     }
     Ok(caller)

@@ -57,6 +57,7 @@ pub fn find_held<K: Keeper>(
     if is_held_at(bucket, key, &entry) {
         Ok(entry)
     } else {
+        drop(entry);
         Err(Halt::Refused(Refusal::NoSuchVersion))
     }
 }
@@ -68,6 +69,7 @@ fn check_version(entry: Entry) -> Result<Entry, Refusal>
     ensures device { IfErr result (λ refusal. is_device_refusal refusal ≡ false) }
 {
     if entry.marker {
+        drop(entry);
         Err(Refusal::MethodNotAllowed)
     } else {
         Ok(entry)
@@ -115,6 +117,7 @@ fn find_current<K: Keeper>(
         return Err(Halt::Refused(Refusal::NoSuchKey(false)));
     };
     if entry.marker {
+        drop(entry);
         Err(Halt::Refused(Refusal::NoSuchKey(true)))
     } else {
         Ok(entry)

@@ -28,7 +28,7 @@ pub fn certificate<K: Keeper>(
     ensures counted { K.count keeper.old ≤ K.count keeper.new }
     ensures device { IsTrue (is_device result) → Rose (K.count keeper.old) (K.count keeper.new) }
 {
-    find_access(keeper, at, who, &command.bucket, Right::Report)?;
+    drop(find_access(keeper, at, who, &command.bucket, Right::Report)?);
     let entry = find_entry(keeper, &command.bucket, command.id)?;
     check_certifiable(&entry)?;
     Ok(Answer::Certificate(entry))
@@ -48,6 +48,7 @@ fn find_entry<K: Keeper>(keeper: &mut K, bucket: &BucketName, id: VersionId) -> 
     if entry.bucket == *bucket {
         Ok(entry)
     } else {
+        drop(entry);
         Err(Halt::Refused(Refusal::NoSuchVersion))
     }
 }

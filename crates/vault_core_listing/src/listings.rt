@@ -40,7 +40,7 @@ pub fn list_versions<K: Keeper>(
     ensures counted { K.count keeper.old ≤ K.count keeper.new }
     ensures device { IsTrue (is_device result) → Rose (K.count keeper.old) (K.count keeper.new) }
 {
-    find_access(keeper, at, who, &command.bucket, Right::List)?;
+    drop(find_access(keeper, at, who, &command.bucket, Right::List)?);
     check_most(command.most)?;
     Ok(Answer::Versions(find_page(alloc, keeper, command)?))
 }

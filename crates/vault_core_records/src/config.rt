@@ -28,7 +28,7 @@ pub fn set_default<K: Keeper>(
     ensures counted { K.count keeper.old ≤ K.count keeper.new }
     ensures device { IsTrue (is_device result) → Rose (K.count keeper.old) (K.count keeper.new) }
 {
-    find_access(keeper, at, who, &command.bucket, Right::Config)?;
+    drop(find_access(keeper, at, who, &command.bucket, Right::Config)?);
     check_default(command.default)?;
     let change = Change::SetDefault(command.bucket.clone()?, command.default);
     make_change(keeper, at, change)?;
@@ -66,7 +66,7 @@ pub fn set_rules<K: Keeper>(
 {
     // What the type promises of its rules, the change needs.
     let _rules = command.rules.as_slice();
-    find_access(keeper, at, who, &command.bucket, Right::Config)?;
+    drop(find_access(keeper, at, who, &command.bucket, Right::Config)?);
     let change = Change::SetRules(command.bucket.clone()?, Some(command.rules.clone()?));
     make_change(keeper, at, change)?;
     Ok(Answer::Nothing)
@@ -84,7 +84,7 @@ pub fn get_rules<K: Keeper>(
     ensures counted { K.count keeper.old ≤ K.count keeper.new }
     ensures device { IsTrue (is_device result) → Rose (K.count keeper.old) (K.count keeper.new) }
 {
-    find_access(keeper, at, who, &command.bucket, Right::Config)?;
+    drop(find_access(keeper, at, who, &command.bucket, Right::Config)?);
     let Some(rules) = keeper.rules(&command.bucket)? else {
         return Err(Halt::Refused(Refusal::NoSuchLifecycleConfiguration));
     };
@@ -103,7 +103,7 @@ pub fn drop_rules<K: Keeper>(
     ensures counted { K.count keeper.old ≤ K.count keeper.new }
     ensures device { IsTrue (is_device result) → Rose (K.count keeper.old) (K.count keeper.new) }
 {
-    find_access(keeper, at, who, &command.bucket, Right::Config)?;
+    drop(find_access(keeper, at, who, &command.bucket, Right::Config)?);
     let change = Change::SetRules(command.bucket.clone()?, None);
     make_change(keeper, at, change)?;
     Ok(Answer::Nothing)

@@ -29,7 +29,7 @@ pub fn add_dept<K: Keeper>(
     ensures counted { K.count keeper.old ≤ K.count keeper.new }
     ensures device { IsTrue (is_device result) → Rose (K.count keeper.old) (K.count keeper.new) }
 {
-    find_administrator(keeper, at, who)?;
+    drop(find_administrator(keeper, at, who)?);
     if keeper.dept(&command.dept)? {
         return Err(Halt::Refused(Refusal::NameTaken));
     }
@@ -49,7 +49,7 @@ pub fn add_caller<K: Keeper>(
     ensures counted { K.count keeper.old ≤ K.count keeper.new }
     ensures device { IsTrue (is_device result) → Rose (K.count keeper.old) (K.count keeper.new) }
 {
-    find_administrator(keeper, at, who)?;
+    drop(find_administrator(keeper, at, who)?);
     check_dept_if_given(keeper, &command.dept)?;
     if keeper.caller(&command.caller)?.is_some() {
         return Err(Halt::Refused(Refusal::NameTaken));
@@ -82,7 +82,7 @@ pub fn close_caller<K: Keeper>(
     ensures counted { K.count keeper.old ≤ K.count keeper.new }
     ensures device { IsTrue (is_device result) → Rose (K.count keeper.old) (K.count keeper.new) }
 {
-    find_administrator(keeper, at, who)?;
+    drop(find_administrator(keeper, at, who)?);
     if !is_open(&keeper.caller(&command.caller)?) {
         return Err(Halt::Refused(Refusal::InvalidArgument));
     }
@@ -112,7 +112,7 @@ pub fn add_bucket<K: Keeper>(
     ensures counted { K.count keeper.old ≤ K.count keeper.new }
     ensures device { IsTrue (is_device result) → Rose (K.count keeper.old) (K.count keeper.new) }
 {
-    find_administrator(keeper, at, who)?;
+    drop(find_administrator(keeper, at, who)?);
     check_dept(keeper, &command.dept)?;
     if keeper.bucket(&command.bucket)?.is_some() {
         return Err(Halt::Refused(Refusal::BucketAlreadyExists));
@@ -134,10 +134,10 @@ pub fn report<K: Keeper>(
     ensures counted { K.count keeper.old ≤ K.count keeper.new }
     ensures device { IsTrue (is_device result) → Rose (K.count keeper.old) (K.count keeper.new) }
 {
-    {
-        let caller = find_caller(keeper, at, who)?;
-        check_report(&caller, &command.dept)
-    }?;
+    let caller = find_caller(keeper, at, who)?;
+    let allowed = check_report(&caller, &command.dept);
+    drop(caller);
+    allowed?;
     check_dept(keeper, &command.dept)?;
     Ok(Answer::Report(sums_of(keeper, &command.dept, at)?))
 }

@@ -62,7 +62,7 @@ fn find_run<K: Keeper>(
     ensures counted { K.count keeper.old ≤ K.count keeper.new }
     ensures device { IsTrue (is_device result) → Rose (K.count keeper.old) (K.count keeper.new) }
 {
-    find_access(keeper, at, who, &command.bucket, Right::Run)?;
+    drop(find_access(keeper, at, who, &command.bucket, Right::Run)?);
     let Some(rules) = keeper.rules(&command.bucket)? else {
         return Ok(None);
     };

@@ -36,7 +36,7 @@ pub fn get<K: Keeper>(
     ensures counted { K.count keeper.old ≤ K.count keeper.new }
     ensures device { IsTrue (is_device result) → Rose (K.count keeper.old) (K.count keeper.new) }
 {
-    find_access(keeper, at, who, &command.bucket, Right::Get)?;
+    drop(find_access(keeper, at, who, &command.bucket, Right::Get)?);
     let entry = find_version(keeper, &command.bucket, &command.key, command.id)?;
     let lock = find_setting(keeper, entry.id)?.lock;
     let content = read_content(alloc, keeper, entry.id)?;
@@ -69,7 +69,7 @@ pub fn head<K: Keeper>(
     ensures counted { K.count keeper.old ≤ K.count keeper.new }
     ensures device { IsTrue (is_device result) → Rose (K.count keeper.old) (K.count keeper.new) }
 {
-    find_access(keeper, at, who, &command.bucket, Right::Get)?;
+    drop(find_access(keeper, at, who, &command.bucket, Right::Get)?);
     let entry = find_version(keeper, &command.bucket, &command.key, command.id)?;
     let lock = find_setting(keeper, entry.id)?.lock;
     Ok(Answer::Head(Version { entry, lock }))
@@ -112,7 +112,7 @@ fn find_marker_id<K: Keeper>(
     ensures counted { K.count keeper.old ≤ K.count keeper.new }
     ensures device { IsTrue (is_device result) → Rose (K.count keeper.old) (K.count keeper.new) }
 {
-    find_access(keeper, at, who, &command.bucket, Right::Delete)?;
+    drop(find_access(keeper, at, who, &command.bucket, Right::Delete)?);
     find_id(keeper)
 }
 
@@ -156,10 +156,10 @@ pub fn delete_version<K: Keeper>(
     ensures counted { K.count keeper.old ≤ K.count keeper.new }
     ensures device { IsTrue (is_device result) → Rose (K.count keeper.old) (K.count keeper.new) }
 {
-    let removed = {
-        let access = find_access(keeper, at, who, &command.bucket, Right::DeleteVersion)?;
-        find_removable(keeper, at, &access, command)
-    }?;
+    let access = find_access(keeper, at, who, &command.bucket, Right::DeleteVersion)?;
+    let found = find_removable(keeper, at, &access, command);
+    drop(access);
+    let removed = found?;
     let removal = removal_by(at, who, removed.permit)?;
     make_change(keeper, at, Change::Remove(command.id, removal))?;
     Ok(Answer::Removed(removed))
@@ -179,7 +179,9 @@ fn find_removable<K: Keeper>(
     ensures counted { K.count keeper.old ≤ K.count keeper.new }
     ensures device { IsTrue (is_device result) → Rose (K.count keeper.old) (K.count keeper.new) }
 {
-    let marker = find_held(keeper, &command.bucket, &command.key, command.id)?.marker;
+    let entry = find_held(keeper, &command.bucket, &command.key, command.id)?;
+    let marker = entry.marker;
+    drop(entry);
     let lock = find_setting(keeper, command.id)?.lock;
     let permit = check_removal(&lock, at, command.bypass, access.caller.rights.bypass)?;
     Ok(Removed {

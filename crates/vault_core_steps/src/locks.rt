@@ -34,8 +34,10 @@ pub fn get_retention<K: Keeper>(
     ensures counted { K.count keeper.old ≤ K.count keeper.new }
     ensures device { IsTrue (is_device result) → Rose (K.count keeper.old) (K.count keeper.new) }
 {
-    find_access(keeper, at, who, &command.bucket, Right::Get)?;
-    let id = find_version(keeper, &command.bucket, &command.key, command.id)?.id;
+    drop(find_access(keeper, at, who, &command.bucket, Right::Get)?);
+    let version = find_version(keeper, &command.bucket, &command.key, command.id)?;
+    let id = version.id;
+    drop(version);
     let last = find_setting(keeper, id)?;
     Ok(Answer::Retention(last.lock.retention))
 }
@@ -52,8 +54,10 @@ pub fn get_hold<K: Keeper>(
     ensures counted { K.count keeper.old ≤ K.count keeper.new }
     ensures device { IsTrue (is_device result) → Rose (K.count keeper.old) (K.count keeper.new) }
 {
-    find_access(keeper, at, who, &command.bucket, Right::Get)?;
-    let id = find_version(keeper, &command.bucket, &command.key, command.id)?.id;
+    drop(find_access(keeper, at, who, &command.bucket, Right::Get)?);
+    let version = find_version(keeper, &command.bucket, &command.key, command.id)?;
+    let id = version.id;
+    drop(version);
     let last = find_setting(keeper, id)?;
     Ok(Answer::Hold(last.lock.hold))
 }
@@ -70,10 +74,10 @@ pub fn set_retention<K: Keeper>(
     ensures counted { K.count keeper.old ≤ K.count keeper.new }
     ensures device { IsTrue (is_device result) → Rose (K.count keeper.old) (K.count keeper.new) }
 {
-    let NextSetting { id, setting } = {
-        let access = find_access(keeper, at, who, &command.bucket, Right::Retain)?;
-        find_next_retention(keeper, at, who, command, &access)
-    }?;
+    let access = find_access(keeper, at, who, &command.bucket, Right::Retain)?;
+    let found = find_next_retention(keeper, at, who, command, &access);
+    drop(access);
+    let NextSetting { id, setting } = found?;
     make_change(keeper, at, Change::AddSetting(id, setting))?;
     Ok(Answer::Nothing)
 }
@@ -90,7 +94,7 @@ pub fn set_hold<K: Keeper>(
     ensures counted { K.count keeper.old ≤ K.count keeper.new }
     ensures device { IsTrue (is_device result) → Rose (K.count keeper.old) (K.count keeper.new) }
 {
-    find_access(keeper, at, who, &command.bucket, Right::Hold)?;
+    drop(find_access(keeper, at, who, &command.bucket, Right::Hold)?);
     let NextSetting { id, setting } = find_next_hold(keeper, at, who, command)?;
     make_change(keeper, at, Change::AddSetting(id, setting))?;
     Ok(Answer::Nothing)
@@ -113,7 +117,9 @@ fn find_next_retention<K: Keeper>(
     ensures device { IsTrue (is_device result) → Rose (K.count keeper.old) (K.count keeper.new) }
 {
     check_end(at, Some(command.retention))?;
-    let id = find_version(keeper, &command.bucket, &command.key, command.id)?.id;
+    let version = find_version(keeper, &command.bucket, &command.key, command.id)?;
+    let id = version.id;
+    drop(version);
     let last = find_setting(keeper, id)?;
     let permit = check_retention(
         &last.lock,
@@ -148,7 +154,9 @@ fn find_next_hold<K: Keeper>(
     ensures counted { K.count keeper.old ≤ K.count keeper.new }
     ensures device { IsTrue (is_device result) → Rose (K.count keeper.old) (K.count keeper.new) }
 {
-    let id = find_version(keeper, &command.bucket, &command.key, command.id)?.id;
+    let version = find_version(keeper, &command.bucket, &command.key, command.id)?;
+    let id = version.id;
+    drop(version);
     let last = find_setting(keeper, id)?;
     check_settings(last.count)?;
     let lock = Lock {

@@ -134,7 +134,9 @@ fn carried_out<K: Keeper>(
     ensures device { result ≡ Err Fault.Device → Rose (K.count keeper.old) (K.count keeper.new) }
 {
     let command = Command::Intake(intake);
-    settled(step(alloc, keeper, at, who, &command))
+    let reply = step(alloc, keeper, at, who, &command);
+    drop(command);
+    settled(reply)
 }
 
 /// Takes in the file of a row. A fault of the row is its reply.

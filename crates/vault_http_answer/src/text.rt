@@ -20,7 +20,9 @@ fn within(line: &[u8], front: usize) -> &[u8]
 fn line_of(alloc: Global, reply: Reply) -> Result<String, AllocError>
     ensures { IfOk result (λ line. string_bytes line ≡ reply_text reply) }
 {
-    reply_line(alloc, &reply)
+    let line = reply_line(alloc, &reply);
+    drop(reply);
+    line
 }
 
 /// A refusal as JSON: its name, its number, and what else it tells. The error is want of memory.

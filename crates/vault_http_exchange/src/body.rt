@@ -50,17 +50,19 @@ fn command_with(
     }
 }
 
-/// The body is cut. The order is dropped here, and not on each way out.
+/// The body is cut. The order is dropped.
 fn cut(order: Order) -> Result<Command, Refusal>
     ensures { result ≡ Err MalformedBody }
 {
+    drop(order);
     Err(Refusal::MalformedBody)
 }
 
-/// A fault came first. The order is dropped here.
+/// A fault came first. The order is dropped.
 fn faulted(order: Order, fault: ServeFault) -> Result<Result<Command, Refusal>, ServeFault>
     ensures { result ≡ Err fault }
 {
+    drop(order);
     Err(fault)
 }
 

@@ -52,7 +52,7 @@ fn answer<W: Write, K: Keeper>(
     send(writer, bytes.as_slice())
 }
 
-/// Carries a command out and writes its answer. The command is dropped here, on one way out.
+/// Carries a command out, which is dropped, and writes its answer.
 fn finish<W: Write, K: Keeper>(
     alloc: Global,
     writer: &mut W,
@@ -68,7 +68,9 @@ fn finish<W: Write, K: Keeper>(
     ensures once { K.is_honest keeper.new → left.AtMostOne (Some at) (K.vault keeper.old) (K.vault keeper.new) }
     ensures honest { K.is_honest keeper.new → K.is_honest keeper.old }
 {
-    answer(alloc, writer, keeper, at, &who, &command, shown)
+    let written = answer(alloc, writer, keeper, at, &who, &command, shown);
+    drop(command);
+    written
 }
 
 /// Writes the answer to a refusal.

@@ -54,8 +54,13 @@ fn planned(
     ensures value { Gives (λ x. x) result (spec.planned at order minor (map (header_bytes buf.now) headers.now)) }
     ensures at { IfOk result (spec.IsAt (Some at)) }
 {
-    let terms = terms_of(alloc, takes_of(&order), minor, buf, headers)?;
-    Ok(Asked::Plan(Plan { at, order, terms }))
+    match terms_of(alloc, takes_of(&order), minor, buf, headers) {
+        Ok(terms) => Ok(Asked::Plan(Plan { at, order, terms })),
+        Err(fault) => {
+            drop(order);
+            Err(fault)
+        }
+    }
 }
 
 fn allowed(

@@ -19,13 +19,12 @@ use vault_http_script::read_line::{Line, read_line};
 use vault_http_script::reply_line::reply_line;
 
 /// The line of a reply, which is dropped.
-///
-/// What a line asks for and what it is answered by are handed on by value, each to the one function that
-/// drops it.
 fn told(alloc: Global, reply: Reply) -> Result<String, AllocError>
     ensures { IfOk result (λ text. string_bytes text ≡ reply_text reply) }
 {
-    reply_line(alloc, &reply)
+    let line = reply_line(alloc, &reply);
+    drop(reply);
+    line
 }
 
 /// Carries out a command. Its reply is a line.
@@ -35,6 +34,7 @@ fn carried_out<K: Keeper>(alloc: Global, keeper: &mut K, timed: Timed) -> Result
     ensures honest { K.is_honest keeper.new → K.is_honest keeper.old }
 {
     let reply = step(alloc, keeper, timed.at, &timed.who, &timed.command);
+    drop(timed);
     told(alloc, reply)
 }
 
