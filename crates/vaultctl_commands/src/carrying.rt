@@ -33,13 +33,15 @@ fn tell_lent<W: Write>(alloc: Global, reply: &Reply, out: &mut W) -> Result<Outc
     Ok(outcome(reply))
 }
 
-/// Prints a reply, and answers what came of it. The reply is dropped here, on one way out.
+/// Prints a reply, which is dropped, and answers what came of it.
 fn tell<W: Write>(alloc: Global, reply: Reply, out: &mut W) -> Result<Outcome, JobFault>
     ensures ok { IfOk result (λ outcome. (outcome ≡ spec.outcome_of reply) × Appends (W.contents out.old) (W.contents out.new) (spec.printed reply)) }
     ensures reader { result ≢ Err JobFault.Read }
     ensures device { result ≢ Err JobFault.Device }
 {
-    tell_lent(alloc, &reply, out)
+    let outcome = tell_lent(alloc, &reply, out);
+    drop(reply);
+    outcome
 }
 
 /// Prints the line of a refusal.

@@ -114,5 +114,7 @@ pub fn ask<V: Vaults, W: Write, E: Write>(
     ensures values { (said : Result AskedOf AnyRefusal) (r : AnyRefusal) → Gives (λ x. x) asked said → said ≡ Err r → (vaults.new ≡ vaults.old) × (result ≡ 1) }
     ensures status { result ≢ 2 }
 {
-    ask_read(rt, vaults, subcommand, file, &asked, out, err)
+    let status = ask_read(rt, vaults, subcommand, file, &asked, out, err);
+    drop(asked);
+    status
 }

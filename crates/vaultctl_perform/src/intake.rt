@@ -141,5 +141,7 @@ pub fn take_in<V: Vaults, W: Write, E: Write>(
     ensures values { (said : Result AskedOf AnyRefusal) (r : AnyRefusal) → Gives (λ x. x) asked said → said ≡ Err r → (vaults.new ≡ vaults.old) × (result ≡ 1) }
     ensures status { result ≢ 2 }
 {
-    take_in_asked(rt, vaults, &asked, job, out, err)
+    let status = take_in_asked(rt, vaults, &asked, job, out, err);
+    drop(asked);
+    status
 }

@@ -119,7 +119,11 @@ pub fn answer_words<V: Vaults, R: Read, W: Write, E: Write>(
     ensures refused { result ≡ 2 → (fault_of vaultctl (map string_bytes words.now) ≢ []) × (vaults.new ≡ vaults.old) }
 {
     match job_of(rt.alloc(), words) {
-        Ok(job) => perform(rt, vaults, &job, reader, out, err),
+        Ok(job) => {
+            let status = perform(rt, vaults, &job, reader, out, err);
+            drop(job);
+            status
+        }
         Err(WordsFault::Refused(text)) => {
             // Where even this can't be written, the status tells alone.
             let _ = write!(err, "{text}");
