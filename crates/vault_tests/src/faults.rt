@@ -66,14 +66,25 @@ fn go_on<K: Keeper>(
 /// out and answered, and no other; then the script goes on from there.
 fn cut_reader(rt: &impl Abort, alloc: Global, bytes: &[u8]) -> Result<(), Fail> {
     let mut keeper = ListKeeper::new(alloc)?;
+    let judged = cut_reader_over(rt, alloc, &mut keeper, bytes);
+    drop(keeper);
+    judged
+}
+
+fn cut_reader_over<K: Keeper>(
+    rt: &impl Abort,
+    alloc: Global,
+    keeper: &mut K,
+    bytes: &[u8],
+) -> Result<(), Fail> {
     let mut reader = FailingReader { bytes };
     let mut written = Vec::new(alloc);
-    let fault = replay(alloc, &mut reader, &mut written, &mut keeper);
+    let fault = replay(alloc, &mut reader, &mut written, keeper);
     assert!(rt; fault == Err(ReplayFault::Read));
     let read = bytes.iter().filter(|byte| **byte == b'\n').count();
     let text = String::from_utf8(written)?;
     assert_eq!(rt; text.as_str(), first_replies(alloc, read)?.as_str());
-    go_on(rt, alloc, &mut keeper, read)
+    go_on(rt, alloc, keeper, read)
 }
 
 #[test]
@@ -90,17 +101,28 @@ fn a_reader_that_fails(rt: HostRuntime) -> Result<(), Fail> {
 /// carried out, and no later one.
 fn cut_writer(rt: &impl Abort, alloc: Global, writes: usize) -> Result<(), Fail> {
     let mut keeper = ListKeeper::new(alloc)?;
+    let judged = cut_writer_over(rt, alloc, &mut keeper, writes);
+    drop(keeper);
+    judged
+}
+
+fn cut_writer_over<K: Keeper>(
+    rt: &impl Abort,
+    alloc: Global,
+    keeper: &mut K,
+    writes: usize,
+) -> Result<(), Fail> {
     let mut reader = SCRIPT.as_bytes();
     let mut writer = FailingWriter {
         written: Vec::new(alloc),
         writes_left: writes as u64,
     };
-    let fault = replay(alloc, &mut reader, &mut writer, &mut keeper);
+    let fault = replay(alloc, &mut reader, &mut writer, keeper);
     let text = String::from_utf8(writer.written)?;
     assert_eq!(rt; text.as_str(), first_replies(alloc, writes)?.as_str());
     if writes < REPLIES.len() {
         assert!(rt; fault == Err(ReplayFault::Write));
-        go_on(rt, alloc, &mut keeper, writes.saturating_add(1))
+        go_on(rt, alloc, keeper, writes.saturating_add(1))
     } else {
         assert!(rt; fault == Ok(()));
         Ok(())

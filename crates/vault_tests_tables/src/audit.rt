@@ -1,6 +1,7 @@
 //! A sound vault, and the same with one thing changed in its file.
 use sqlite::{Alter, Connection, Error};
 use std::alloc::Global;
+use std::process::Abort;
 use std::test::Fail;
 use vault_audit::audit;
 use vault_base::refusal::{Refusal, Table};
@@ -45,29 +46,65 @@ fn judged<S: Alter>(alloc: Global, conn: &mut Connection<S>) -> Result<(), Refus
 /// What is told of the vault with this change in its file.
 fn told(alloc: Global, change: &str) -> Result<Result<(), Refusal>, Fail> {
     let mut conn = Connection::open_in_memory(alloc)?;
-    if made(&mut conn).is_err() {
+    let told = told_with(alloc, &mut conn, change);
+    drop(conn);
+    told
+}
+
+/// The same, in that store, where nothing is yet.
+fn told_with<S: Alter>(
+    alloc: Global,
+    conn: &mut Connection<S>,
+    change: &str,
+) -> Result<Result<(), Refusal>, Fail> {
+    if made(conn).is_err() {
         Err("made")?;
     }
-    batch(&mut conn, ROWS)?;
-    batch(&mut conn, change)?;
-    Ok(judged(alloc, &mut conn))
+    batch(conn, ROWS)?;
+    batch(conn, change)?;
+    Ok(judged(alloc, conn))
+}
+
+/// Fails where not each of these changes is told by that table.
+fn are_told(rt: &impl Abort, alloc: Global, changes: &[&str], table: Table) -> Result<(), Fail> {
+    for change in changes {
+        assert_eq!(rt; told(alloc, change)?, Err(Refusal::Damaged(table)));
+    }
+    Ok(())
 }
 
 #[test]
 fn a_store_without_tables_is_no_vault(rt: HostRuntime) -> Result<(), Fail> {
     let mut conn = Connection::open_in_memory(rt.alloc())?;
-    assert_eq!(rt;
-        judged(rt.alloc(), &mut conn),
-        Err(Refusal::Damaged(Table::Meta))
-    );
+    let judged = judge_no_tables(&rt, rt.alloc(), &mut conn);
+    drop(conn);
+    judged
+}
+
+fn judge_no_tables<S: Alter>(
+    rt: &impl Abort,
+    alloc: Global,
+    conn: &mut Connection<S>,
+) -> Result<(), Fail> {
+    assert_eq!(rt; judged(alloc, conn), Err(Refusal::Damaged(Table::Meta)));
     Ok(())
 }
 
 #[test]
 fn a_new_vault_is_sound(rt: HostRuntime) -> Result<(), Fail> {
     let mut conn = Connection::open_in_memory(rt.alloc())?;
-    assert_eq!(rt; made(&mut conn), Ok(()));
-    assert_eq!(rt; judged(rt.alloc(), &mut conn), Ok(()));
+    let judged = judge_new_vault(&rt, rt.alloc(), &mut conn);
+    drop(conn);
+    judged
+}
+
+fn judge_new_vault<S: Alter>(
+    rt: &impl Abort,
+    alloc: Global,
+    conn: &mut Connection<S>,
+) -> Result<(), Fail> {
+    assert_eq!(rt; made(conn), Ok(()));
+    assert_eq!(rt; judged(alloc, conn), Ok(()));
     Ok(())
 }
 
@@ -96,13 +133,7 @@ fn faults_of_meta_are_told(rt: HostRuntime) -> Result<(), Fail> {
         "UPDATE meta SET next = 6",
         "UPDATE meta SET next = 0",
     ];
-    for change in &changes {
-        assert_eq!(rt;
-            told(rt.alloc(), change)?,
-            Err(Refusal::Damaged(Table::Meta))
-        );
-    }
-    Ok(())
+    are_told(&rt, rt.alloc(), &changes, Table::Meta)
 }
 
 #[test]
@@ -116,13 +147,7 @@ fn faults_of_departments_are_told(rt: HostRuntime) -> Result<(), Fail> {
         "UPDATE departments SET weighted = 109",
         "UPDATE departments SET closed = 41",
     ];
-    for change in &changes {
-        assert_eq!(rt;
-            told(rt.alloc(), change)?,
-            Err(Refusal::Damaged(Table::Departments))
-        );
-    }
-    Ok(())
+    are_told(&rt, rt.alloc(), &changes, Table::Departments)
 }
 
 #[test]
@@ -152,13 +177,7 @@ fn faults_of_rules_are_told(rt: HostRuntime) -> Result<(), Fail> {
         "UPDATE rules SET id = 'old' WHERE n = 2",
         "UPDATE rules SET days = NULL WHERE n = 1",
     ];
-    for change in &changes {
-        assert_eq!(rt;
-            told(rt.alloc(), change)?,
-            Err(Refusal::Damaged(Table::Rules))
-        );
-    }
-    Ok(())
+    are_told(&rt, rt.alloc(), &changes, Table::Rules)
 }
 
 #[test]
@@ -175,13 +194,7 @@ fn faults_of_entries_are_told(rt: HostRuntime) -> Result<(), Fail> {
         // A gap in the ids.
         "DELETE FROM heads WHERE newest = 4; UPDATE entries SET id = 7 WHERE id = 4; INSERT INTO heads VALUES ('papers', 'c', 7, 1)",
     ];
-    for change in &changes {
-        assert_eq!(rt;
-            told(rt.alloc(), change)?,
-            Err(Refusal::Damaged(Table::Entries))
-        );
-    }
-    Ok(())
+    are_told(&rt, rt.alloc(), &changes, Table::Entries)
 }
 
 #[test]
@@ -195,13 +208,7 @@ fn faults_of_contents_are_told(rt: HostRuntime) -> Result<(), Fail> {
         "INSERT INTO contents VALUES (3, x'676f6e65')",
         "INSERT INTO contents VALUES (4, x'')",
     ];
-    for change in &changes {
-        assert_eq!(rt;
-            told(rt.alloc(), change)?,
-            Err(Refusal::Damaged(Table::Contents))
-        );
-    }
-    Ok(())
+    are_told(&rt, rt.alloc(), &changes, Table::Contents)
 }
 
 #[test]
@@ -216,13 +223,7 @@ fn faults_of_settings_are_told(rt: HostRuntime) -> Result<(), Fail> {
         // A marker has one.
         "INSERT INTO settings VALUES (4, 1, 1814400, 'clerk', 0, NULL, 0, 0)",
     ];
-    for change in &changes {
-        assert_eq!(rt;
-            told(rt.alloc(), change)?,
-            Err(Refusal::Damaged(Table::Settings))
-        );
-    }
-    Ok(())
+    are_told(&rt, rt.alloc(), &changes, Table::Settings)
 }
 
 #[test]
@@ -235,13 +236,7 @@ fn faults_of_intake_are_told(rt: HostRuntime) -> Result<(), Fail> {
         "UPDATE intake SET id = 2",
         "UPDATE intake SET id = 4",
     ];
-    for change in &changes {
-        assert_eq!(rt;
-            told(rt.alloc(), change)?,
-            Err(Refusal::Damaged(Table::Intake))
-        );
-    }
-    Ok(())
+    are_told(&rt, rt.alloc(), &changes, Table::Intake)
 }
 
 #[test]
@@ -255,13 +250,7 @@ fn faults_of_heads_are_told(rt: HostRuntime) -> Result<(), Fail> {
         "DELETE FROM heads WHERE key = 'c'",
         "INSERT INTO heads VALUES ('papers', 'b', 3, 0)",
     ];
-    for change in &changes {
-        assert_eq!(rt;
-            told(rt.alloc(), change)?,
-            Err(Refusal::Damaged(Table::Heads))
-        );
-    }
-    Ok(())
+    are_told(&rt, rt.alloc(), &changes, Table::Heads)
 }
 
 #[test]

@@ -1,6 +1,7 @@
 //! Each read once where it finds its row, and once where there is none.
 use sqlite::{Alter, Connection, Error};
 use std::alloc::Global;
+use std::process::Abort;
 use std::test::Fail;
 use vault_base::content::Content;
 use vault_base::moment::Moment;
@@ -119,58 +120,113 @@ fn put_rows<S: Alter>(conn: &mut Connection<S>) -> Result<(), Error> {
 #[test]
 fn meta_is_read(rt: HostRuntime) -> Result<(), Fail> {
     let mut conn = Connection::open_in_memory(rt.alloc())?;
-    assert_eq!(rt; made(&mut conn), Ok(()));
-    assert_eq!(rt; last(&mut conn)?.secs(), 0);
-    assert_eq!(rt; next_id(&mut conn)?, 1);
-    put_rows(&mut conn)?;
-    assert_eq!(rt; last(&mut conn)?.secs(), 1_700_000_000);
-    assert_eq!(rt; next_id(&mut conn)?, 2);
+    let judged = look_at_meta(&rt, &mut conn);
+    drop(conn);
+    judged
+}
+
+fn look_at_meta<S: Alter>(rt: &impl Abort, conn: &mut Connection<S>) -> Result<(), Fail> {
+    assert_eq!(rt; made(conn), Ok(()));
+    assert_eq!(rt; last(conn)?.secs(), 0);
+    assert_eq!(rt; next_id(conn)?, 1);
+    put_rows(conn)?;
+    assert_eq!(rt; last(conn)?.secs(), 1_700_000_000);
+    assert_eq!(rt; next_id(conn)?, 2);
     Ok(())
 }
 
 #[test]
 fn departments_and_their_sums_are_read(rt: HostRuntime) -> Result<(), Fail> {
     let mut conn = Connection::open_in_memory(rt.alloc())?;
-    assert_eq!(rt; made(&mut conn), Ok(()));
-    put_rows(&mut conn)?;
-    let records = dept_name(rt.alloc(), "records")?;
-    let other = dept_name(rt.alloc(), "other")?;
-    assert!(rt; department(&mut conn, &records)?);
-    assert!(rt; !department(&mut conn, &other)?);
-    let sums = totals(&mut conn, &records)?;
+    let judged = look_at_departments(&rt, rt.alloc(), &mut conn);
+    drop(conn);
+    judged
+}
+
+fn look_at_departments<S: Alter>(
+    rt: &impl Abort,
+    alloc: Global,
+    conn: &mut Connection<S>,
+) -> Result<(), Fail> {
+    assert_eq!(rt; made(conn), Ok(()));
+    put_rows(conn)?;
+    let records = dept_name(alloc, "records")?;
+    let other = dept_name(alloc, "other")?;
+    assert!(rt; department(conn, &records)?);
+    assert!(rt; !department(conn, &other)?);
+    let sums = totals(conn, &records)?;
     assert_eq!(rt; (sums.admitted, sums.held, sums.removed), (3, 2, 1));
     assert_eq!(rt; (sums.weighted, sums.closed), (59_028, 19_676));
-    assert_eq!(rt; totals(&mut conn, &other)?.admitted, 0);
+    assert_eq!(rt; totals(conn, &other)?.admitted, 0);
     Ok(())
 }
 
 #[test]
 fn callers_are_read(rt: HostRuntime) -> Result<(), Fail> {
     let mut conn = Connection::open_in_memory(rt.alloc())?;
-    assert_eq!(rt; made(&mut conn), Ok(()));
-    put_rows(&mut conn)?;
-    let found = caller(&mut conn, &caller_name(rt.alloc(), "ada")?)?;
+    let judged = look_at_callers(&rt, rt.alloc(), &mut conn);
+    drop(conn);
+    judged
+}
+
+fn look_at_callers<S: Alter>(
+    rt: &impl Abort,
+    alloc: Global,
+    conn: &mut Connection<S>,
+) -> Result<(), Fail> {
+    assert_eq!(rt; made(conn), Ok(()));
+    put_rows(conn)?;
+    let found = caller(conn, &caller_name(alloc, "ada")?)?;
     let ada = found.as_ref().ok_or("a caller")?;
     assert_eq!(rt; ada.name.as_str(), "ada");
     assert!(rt; ada.closed && ada.rights.put && !ada.rights.admin);
-    let none = caller(&mut conn, &caller_name(rt.alloc(), "bob")?)?;
+    let none = caller(conn, &caller_name(alloc, "bob")?)?;
     assert!(rt; none.is_none());
     Ok(())
 }
 
 #[test]
-fn buckets_and_heads_are_read(rt: HostRuntime) -> Result<(), Fail> {
+fn buckets_are_read(rt: HostRuntime) -> Result<(), Fail> {
     let mut conn = Connection::open_in_memory(rt.alloc())?;
-    assert_eq!(rt; made(&mut conn), Ok(()));
-    put_rows(&mut conn)?;
-    let name = bucket_name(rt.alloc(), "records-2024")?;
-    let found = bucket(&mut conn, &name)?;
+    let judged = look_at_buckets(&rt, rt.alloc(), &mut conn);
+    drop(conn);
+    judged
+}
+
+fn look_at_buckets<S: Alter>(
+    rt: &impl Abort,
+    alloc: Global,
+    conn: &mut Connection<S>,
+) -> Result<(), Fail> {
+    assert_eq!(rt; made(conn), Ok(()));
+    put_rows(conn)?;
+    let name = bucket_name(alloc, "records-2024")?;
+    let found = bucket(conn, &name)?;
     let config = found.as_ref().ok_or("a bucket")?;
     assert_eq!(rt; config.dept.as_str(), "records");
     assert!(rt; config.default.is_some());
-    let none = bucket(&mut conn, &bucket_name(rt.alloc(), "records-2025")?)?;
+    let none = bucket(conn, &bucket_name(alloc, "records-2025")?)?;
     assert!(rt; none.is_none());
-    let newest = head(&mut conn, &name, &key(rt.alloc(), "a.txt")?)?;
+    Ok(())
+}
+
+#[test]
+fn heads_are_read(rt: HostRuntime) -> Result<(), Fail> {
+    let mut conn = Connection::open_in_memory(rt.alloc())?;
+    let judged = look_at_heads(&rt, rt.alloc(), &mut conn);
+    drop(conn);
+    judged
+}
+
+fn look_at_heads<S: Alter>(
+    rt: &impl Abort,
+    alloc: Global,
+    conn: &mut Connection<S>,
+) -> Result<(), Fail> {
+    assert_eq!(rt; made(conn), Ok(()));
+    put_rows(conn)?;
+    let name = bucket_name(alloc, "records-2024")?;
+    let newest = head(conn, &name, &key(alloc, "a.txt")?)?;
     assert!(rt;
         newest
             == Some(Head {
@@ -178,7 +234,7 @@ fn buckets_and_heads_are_read(rt: HostRuntime) -> Result<(), Fail> {
                 count: 1
             })
     );
-    let no_head = head(&mut conn, &name, &key(rt.alloc(), "b.txt")?)?;
+    let no_head = head(conn, &name, &key(alloc, "b.txt")?)?;
     assert!(rt; no_head.is_none());
     Ok(())
 }
@@ -186,32 +242,48 @@ fn buckets_and_heads_are_read(rt: HostRuntime) -> Result<(), Fail> {
 #[test]
 fn entries_and_their_bytes_are_read(rt: HostRuntime) -> Result<(), Fail> {
     let mut conn = Connection::open_in_memory(rt.alloc())?;
-    assert_eq!(rt; made(&mut conn), Ok(()));
-    put_rows(&mut conn)?;
-    let found = entry(&mut conn, id(1)?)?;
+    let judged = look_at_entries(&rt, &mut conn);
+    drop(conn);
+    judged
+}
+
+fn look_at_entries<S: Alter>(rt: &impl Abort, conn: &mut Connection<S>) -> Result<(), Fail> {
+    assert_eq!(rt; made(conn), Ok(()));
+    put_rows(conn)?;
+    let found = entry(conn, id(1)?)?;
     let version = found.as_ref().ok_or("an entry")?;
     assert_eq!(rt; version.key.as_str(), "a.txt");
     assert_eq!(rt; (version.size, version.admitted.secs()), (3, 1_600_000_000));
     assert!(rt; version.removal.is_none() && !version.marker);
-    let bytes = content(&mut conn, id(1)?)?;
+    let bytes = content(conn, id(1)?)?;
     let held = bytes.as_ref().ok_or("bytes")?;
     assert!(rt; held.as_slice() == b"\x01\x02\x03".as_slice());
-    assert!(rt; entry(&mut conn, id(2)?)?.is_none());
-    assert!(rt; content(&mut conn, id(2)?)?.is_none());
+    assert!(rt; entry(conn, id(2)?)?.is_none());
+    assert!(rt; content(conn, id(2)?)?.is_none());
     Ok(())
 }
 
 #[test]
 fn notes_are_read(rt: HostRuntime) -> Result<(), Fail> {
     let mut conn = Connection::open_in_memory(rt.alloc())?;
-    assert_eq!(rt; made(&mut conn), Ok(()));
-    put_rows(&mut conn)?;
-    let name = bucket_name(rt.alloc(), "records-2024")?;
-    let first = batch_name(rt.alloc(), "first")?;
-    let found = note(&mut conn, &name, &first, 7)?;
+    let judged = look_at_notes(&rt, rt.alloc(), &mut conn);
+    drop(conn);
+    judged
+}
+
+fn look_at_notes<S: Alter>(
+    rt: &impl Abort,
+    alloc: Global,
+    conn: &mut Connection<S>,
+) -> Result<(), Fail> {
+    assert_eq!(rt; made(conn), Ok(()));
+    put_rows(conn)?;
+    let name = bucket_name(alloc, "records-2024")?;
+    let first = batch_name(alloc, "first")?;
+    let found = note(conn, &name, &first, 7)?;
     let told = found.as_ref().ok_or("a note")?;
     assert_eq!(rt; told.key.as_str(), "a.txt");
     assert!(rt; told.id == id(1)? && told.retention.is_none() && told.hold.is_none());
-    assert!(rt; note(&mut conn, &name, &first, 8)?.is_none());
+    assert!(rt; note(conn, &name, &first, 8)?.is_none());
     Ok(())
 }

@@ -1,6 +1,6 @@
 //! Schemas that differ from the vault's in one place, and the table that is told of each.
 
-use sqlite::{Connection, Error};
+use sqlite::{Alter, Connection, Error};
 use std::alloc::Global;
 use std::test::Fail;
 use vault_audit_model::schema::creation;
@@ -23,6 +23,18 @@ const TABLES: [Table; 10] = [
 /// What is told of the ten tables, where `text` makes `changed`, or leaves it out if it is empty, and `more` follows.
 fn told(alloc: Global, changed: Table, text: &str, more: &[&str]) -> Result<Option<Table>, Error> {
     let mut conn = Connection::open_in_memory(alloc)?;
+    let told = told_with(&mut conn, changed, text, more);
+    drop(conn);
+    told
+}
+
+/// The same, in that store, where nothing is yet.
+fn told_with<S: Alter>(
+    conn: &mut Connection<S>,
+    changed: Table,
+    text: &str,
+    more: &[&str],
+) -> Result<Option<Table>, Error> {
     for table in &TABLES {
         let text = if *table == changed {
             text
@@ -36,7 +48,7 @@ fn told(alloc: Global, changed: Table, text: &str, more: &[&str]) -> Result<Opti
     for text in more {
         conn.execute_batch(text)?;
     }
-    Ok(check_schema(&conn))
+    Ok(check_schema(conn))
 }
 
 /// What is told of the vault's tables with this beside them.

@@ -1,6 +1,7 @@
 //! What a report reads, and what is read of one key, takes as many steps in a large vault as in a small one.
 use sqlite::{Alter, Connection, Error, params};
 use std::alloc::Global;
+use std::process::Abort;
 use std::test::Fail;
 use vault_base::name::{BucketName, DeptName, KeyPrefix, ObjectKey};
 use vault_base::refusal::Refusal;
@@ -155,16 +156,25 @@ fn steps_among_ten<S: Alter>(conn: &mut Connection<S>, alloc: Global, names: &Na
 
 #[test]
 fn what_a_command_reads_does_not_grow_with_the_vault(rt: HostRuntime) -> Result<(), Fail> {
-    let alloc = rt.alloc();
-    let mut conn = Connection::open_in_memory(alloc)?;
-    assert_eq!(rt; made(&mut conn), Ok(()));
-    batch(&mut conn, TEN_VERSIONS)?;
+    let mut conn = Connection::open_in_memory(rt.alloc())?;
+    let judged = read_in_small_and_large(&rt, rt.alloc(), &mut conn);
+    drop(conn);
+    judged
+}
+
+fn read_in_small_and_large<S: Alter>(
+    rt: &impl Abort,
+    alloc: Global,
+    conn: &mut Connection<S>,
+) -> Result<(), Fail> {
+    assert_eq!(rt; made(conn), Ok(()));
+    batch(conn, TEN_VERSIONS)?;
     let names = read_names(alloc)?;
-    let among_ten = steps_among_ten(&mut conn, alloc, &names);
+    let among_ten = steps_among_ten(conn, alloc, &names);
     assert!(rt; among_ten[0] < 64 && among_ten[1] < 64 && among_ten[2] < 64 && among_ten[3] < 64);
-    grow(&mut conn)?;
-    assert_eq!(rt; entries(&mut conn)?, 10_240);
-    assert!(rt; is_steady(&mut conn, alloc, &names, among_ten));
-    assert!(rt; entries(&mut conn).is_err());
+    grow(conn)?;
+    assert_eq!(rt; entries(conn)?, 10_240);
+    assert!(rt; is_steady(conn, alloc, &names, among_ten));
+    assert!(rt; entries(conn).is_err());
     Ok(())
 }

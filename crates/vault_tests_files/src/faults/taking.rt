@@ -1,0 +1,148 @@
+//! A list of three rows, the files of two, and what is printed of them.
+use crate::faults::vault::compare;
+use std::alloc::Global;
+use std::test::Fail;
+use vault_base::content::Content;
+use vault_base::moment::Moment;
+use vault_base::name::{BatchName, BucketName, CallerName};
+use vault_core_model::keeper::Keeper;
+use vault_files_intake::folder::File;
+use vault_files_intake::intake::take_in;
+use vault_files_intake::list_folder::ListFolder;
+use vault_files_intake::report::IntakeReport;
+use vault_files_lines::lines::intake_lines;
+use vault_files_rows::file_name::FileName;
+
+const HEADER: &str = "file,key,mode,until,hold\n";
+
+/// The second file isn't there.
+const ROWS: [&str; 3] = [
+    "a.txt,2024/a,,,\n",
+    "c.txt,2024/c,,,\n",
+    "b.txt,2024/b,GOVERNANCE,2030-01-01T00:00:00Z,ON\n",
+];
+
+/// What is printed of a row the first time, and then.
+const FIRST: [&str; 3] = [
+    "1 admitted 1\n",
+    "2 refused InvalidArgument\n",
+    "3 admitted 2\n",
+];
+
+const AGAIN: [&str; 3] = ["1 again 1\n", "2 refused InvalidArgument\n", "3 again 2\n"];
+
+/// The list with so many of its rows.
+pub fn list_of(alloc: Global, count: usize) -> Result<String, Fail> {
+    let mut list = String::from_str(alloc, HEADER)?;
+    for row in ROWS.iter().take(count) {
+        list.push_str(*row)?;
+    }
+    Ok(list)
+}
+
+/// What is printed of so many rows, and of what stops the intake behind them.
+pub fn stopped_behind(alloc: Global, count: usize, stop: &str) -> Result<String, Fail> {
+    let mut lines = String::new(alloc);
+    for line in FIRST.iter().take(count) {
+        lines.push_str(*line)?;
+    }
+    lines.push_str(stop)?;
+    Ok(lines)
+}
+
+/// What is printed of the whole list, so many rows of which were taken in before.
+pub fn resumed(alloc: Global, count: usize) -> Result<String, Fail> {
+    let mut lines = String::new(alloc);
+    for line in AGAIN.iter().take(count) {
+        lines.push_str(*line)?;
+    }
+    for line in FIRST.iter().skip(count) {
+        lines.push_str(*line)?;
+    }
+    Ok(lines)
+}
+
+fn file(alloc: Global, name: &str, bytes: &[u8]) -> Result<File, Fail> {
+    let name = FileName::read(alloc, name)?.ok_or("a name of a file")?;
+    let bytes = Content::new(Vec::from_slice(alloc, bytes)?);
+    Ok(File { name, bytes })
+}
+
+/// The two files. With a number the folder refuses the read behind so many.
+pub fn folder(alloc: Global, left: Option<u64>) -> Result<ListFolder, Fail> {
+    let mut folder = ListFolder::new(alloc, left);
+    folder.push(file(alloc, "a.txt", b"first")?)?;
+    folder.push(file(alloc, "b.txt", b"second")?)?;
+    Ok(folder)
+}
+
+/// Who takes in, when, and as what.
+#[derive(Drop)]
+pub struct Batch {
+    at: Moment,
+    who: CallerName,
+    bucket: BucketName,
+    batch: BatchName,
+}
+
+impl Batch {
+    /// By ann, as batch b1 of docs, at half past ten.
+    pub fn new(alloc: Global) -> Result<Batch, Fail> {
+        Ok(Batch {
+            at: Moment::read("2024-01-15T10:30:00Z").ok().ok_or("at")?,
+            who: CallerName::read(alloc, "ann")?.ok().ok_or("who")?,
+            bucket: BucketName::read(alloc, "docs")?.ok().ok_or("bucket")?,
+            batch: BatchName::read(alloc, "b1")?.ok().ok_or("batch")?,
+        })
+    }
+
+    pub fn take<K: Keeper>(
+        &self,
+        alloc: Global,
+        keeper: &mut K,
+        list: &[u8],
+        folder: &mut ListFolder,
+    ) -> IntakeReport {
+        take_in(
+            alloc,
+            keeper,
+            self.at,
+            &self.who,
+            &self.bucket,
+            &self.batch,
+            list,
+            folder,
+        )
+    }
+}
+
+/// Takes a list in, and compares what is printed of it.
+pub fn take_list<K: Keeper>(
+    alloc: Global,
+    keeper: &mut K,
+    list: &[u8],
+    left: Option<u64>,
+    wanted: &str,
+) -> Result<(), Fail> {
+    let mut folder = folder(alloc, left)?;
+    let report = Batch::new(alloc)?.take(alloc, keeper, list, &mut folder);
+    compare(intake_lines(alloc, &report)?.as_str(), wanted)
+}
+
+/// The same of the whole list.
+pub fn take<K: Keeper>(
+    alloc: Global,
+    keeper: &mut K,
+    left: Option<u64>,
+    wanted: &str,
+) -> Result<(), Fail> {
+    let list = list_of(alloc, 3)?;
+    take_list(alloc, keeper, list.as_bytes(), left, wanted)
+}
+
+/// The same of so many rows, with no fault.
+pub fn take_first<K: Keeper>(alloc: Global, keeper: &mut K, count: usize) -> Result<(), Fail> {
+    let list = list_of(alloc, count)?;
+    let wanted = stopped_behind(alloc, count, "")?;
+    take_list(alloc, keeper, list.as_bytes(), None, wanted.as_str())
+}

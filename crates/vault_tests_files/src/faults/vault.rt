@@ -1,0 +1,32 @@
+//! What can be asked of a vault, and texts that are compared.
+use std::alloc::Global;
+use std::test::Fail;
+use vault_core_model::keeper::Keeper;
+use vault_transcript::transcript::replies;
+
+const READS: &str = r#"
+{"at":"2024-01-16T00:00:00Z","as":"registrar","do":"report","dept":"records"}
+{"at":"2024-01-16T00:00:00Z","as":"ann","do":"list-versions","bucket":"docs"}
+{"at":"2024-01-16T00:00:00Z","as":"ann","do":"get-default","bucket":"docs"}
+{"at":"2024-01-16T00:00:00Z","as":"ann","do":"get-rules","bucket":"docs"}
+{"at":"2024-01-16T00:00:00Z","as":"ann","do":"get","bucket":"docs","key":"2024/a"}
+{"at":"2024-01-16T00:00:00Z","as":"ann","do":"get","bucket":"docs","key":"2024/b"}
+"#;
+
+/// All that replies tell of the vault.
+pub fn told<K: Keeper>(alloc: Global, keeper: &mut K) -> Result<String, Fail> {
+    replies(alloc, keeper, READS.as_bytes())
+}
+
+/// The moment of the last change in seconds, and the id that the next entry gets.
+pub fn edge<K: Keeper>(keeper: &mut K) -> Result<(u64, u64), Fail> {
+    Ok((keeper.last()?.secs(), keeper.next_id()?))
+}
+
+/// Fails unless both are the same.
+pub fn compare(given: &str, wanted: &str) -> Result<(), Fail> {
+    if given == wanted {
+        return Ok(());
+    }
+    Err(Fail::new(format_args!("wanted {wanted}, got {given}")))
+}

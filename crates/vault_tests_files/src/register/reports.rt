@@ -1,0 +1,49 @@
+//! Reports as texts.
+use crate::register::texts::{asking, compare, played};
+use std::alloc::Global;
+use std::test::Fail;
+use vault_base::name::DeptName;
+use vault_core_list::list_keeper::ListKeeper;
+use vault_core_model::command::Report;
+use vault_core_model::halt::Halt;
+use vault_core_model::reply::Answer;
+use vault_core_records::records::report;
+use vault_files_certificate::report_text::report_text;
+
+/// A hundred bytes that are removed a second later, on the next day.
+const HUNDRED: &str = r#"
+{"at":"2024-01-15T23:59:59Z","as":"ann","do":"put","bucket":"docs","key":"h","text":"0123456789012345678901234567890123456789012345678901234567890123456789012345678901234567890123456789"}
+  {"ok":{"version_id":1}}
+{"at":"2024-01-16T00:00:00Z","as":"ann","do":"delete-version","bucket":"docs","key":"h","id":1}
+  {"ok":{"cause":"request","delete_marker":false,"version_id":1}}
+"#;
+
+fn told(alloc: Global, answer: Result<Answer, Halt>) -> Result<String, Fail> {
+    match answer {
+        Ok(Answer::Report(sums)) => Ok(report_text(alloc, &sums)?),
+        _ => Err(Fail::new("no report")),
+    }
+}
+
+fn reported(alloc: Global, keeper: ListKeeper) -> Result<String, Fail> {
+    let mut keeper = keeper;
+    let (at, who) = asking(alloc, "2024-01-16T00:00:00Z")?;
+    let dept = DeptName::read(alloc, "records")?.ok().ok_or("dept")?;
+    told(alloc, report(&mut keeper, at, &who, &Report { dept }))
+}
+
+#[test]
+fn labels_stand_left_and_numbers_right(rt: HostRuntime) -> Result<(), Fail> {
+    let alloc = rt.alloc();
+    let text = reported(alloc, played(alloc, HUNDRED)?)?;
+    compare(
+        text.as_str(),
+        "department  records
+at          2024-01-16T00:00:00Z
+admitted                     100
+held                           0
+removed                      100
+byte-days                    100
+",
+    )
+}

@@ -1,0 +1,50 @@
+//! The texts that a vault has printed.
+use std::alloc::Global;
+use std::test::Fail;
+use vault_base::moment::Moment;
+use vault_base::name::CallerName;
+use vault_core_list::list_keeper::ListKeeper;
+use vault_transcript::transcript::{opened, play};
+
+/// A version that is removed after a day.
+pub const HELLO: &str = r#"
+{"at":"2024-01-15T10:30:00Z","as":"ann","do":"put","bucket":"docs","key":"a","text":"hello"}
+  {"ok":{"version_id":1}}
+{"at":"2024-01-16T00:00:00Z","as":"ann","do":"delete-version","bucket":"docs","key":"a","id":1}
+  {"ok":{"cause":"request","delete_marker":false,"version_id":1}}
+"#;
+
+/// A version without bytes that is removed, and the marker above it, which a rule removes.
+pub const EMPTY: &str = r#"
+{"at":"2024-03-01T08:00:00Z","as":"ann","do":"set-rules","bucket":"docs","rules":[{"ID":"r1","Status":"Enabled","Expiration":{"ExpiredObjectDeleteMarker":true}}]}
+  {"ok":{}}
+{"at":"2024-03-01T08:00:00Z","as":"ann","do":"put","bucket":"docs","key":"k","hex":""}
+  {"ok":{"version_id":1}}
+{"at":"2024-03-01T08:00:01Z","as":"ann","do":"delete","bucket":"docs","key":"k"}
+  {"ok":{"delete_marker":true,"version_id":2}}
+{"at":"2024-03-01T08:00:02Z","as":"ann","do":"delete-version","bucket":"docs","key":"k","id":1}
+  {"ok":{"cause":"request","delete_marker":false,"version_id":1}}
+{"at":"2024-03-01T08:00:03Z","as":"ann","do":"run","bucket":"docs"}
+  {"ok":{"changes":1,"lone":1,"marked":0,"removed":0}}
+"#;
+
+/// A vault in which a transcript was carried out.
+pub fn played(alloc: Global, transcript: &str) -> Result<ListKeeper, Fail> {
+    let mut keeper = opened(alloc)?;
+    play(alloc, &mut keeper, transcript)?;
+    Ok(keeper)
+}
+
+/// A reading, and ann.
+pub fn asking(alloc: Global, at: &str) -> Result<(Moment, CallerName), Fail> {
+    let at = Moment::read(at).ok().ok_or("at")?;
+    let who = CallerName::read(alloc, "ann")?.ok().ok_or("who")?;
+    Ok((at, who))
+}
+
+pub fn compare(given: &str, wanted: &str) -> Result<(), Fail> {
+    if given == wanted {
+        return Ok(());
+    }
+    Err(Fail::new(format_args!("wanted {wanted}, got {given}")))
+}
