@@ -239,6 +239,71 @@ fn look_at_heads<S: Alter>(
     Ok(())
 }
 
+/// Whether it is the version of these rows.
+fn is_version(found: &Option<Entry>) -> bool {
+    match found {
+        Some(entry) => {
+            entry.key.as_str() == "a.txt"
+                && entry.size == 3
+                && entry.admitted.secs() == 1_600_000_000
+                && entry.removal.is_none()
+                && !entry.marker
+        }
+        None => false,
+    }
+}
+
+/// Whether it is the note of these rows.
+fn is_note(found: &Option<Note>) -> bool {
+    match found {
+        Some(note) => {
+            note.key.as_str() == "a.txt"
+                && note.id.number() == 1
+                && note.retention.is_none()
+                && note.hold.is_none()
+        }
+        None => false,
+    }
+}
+
+/// Whether version 1 is read, and none by the id behind it.
+fn reads_entries<S: Alter>(conn: &mut Connection<S>) -> Result<bool, Fail> {
+    let found = entry(conn, id(1)?)?;
+    let is_first = is_version(&found);
+    drop(found);
+    let none = entry(conn, id(2)?)?;
+    let is_none = none.is_none();
+    drop(none);
+    Ok(is_first && is_none)
+}
+
+/// Whether the bytes of version 1 are read, and none by the id behind it.
+fn reads_contents<S: Alter>(conn: &mut Connection<S>) -> Result<bool, Fail> {
+    let found = content(conn, id(1)?)?;
+    let are_first = match &found {
+        Some(bytes) => bytes.as_slice() == b"\x01\x02\x03".as_slice(),
+        None => false,
+    };
+    drop(found);
+    let none = content(conn, id(2)?)?;
+    let is_none = none.is_none();
+    drop(none);
+    Ok(are_first && is_none)
+}
+
+/// Whether the note of line 7 is read, and none of the line behind it.
+fn reads_notes<S: Alter>(conn: &mut Connection<S>, alloc: Global) -> Result<bool, Fail> {
+    let name = bucket_name(alloc, "records-2024")?;
+    let first = batch_name(alloc, "first")?;
+    let found = note(conn, &name, &first, 7)?;
+    let is_first = is_note(&found);
+    drop(found);
+    let none = note(conn, &name, &first, 8)?;
+    let is_none = none.is_none();
+    drop(none);
+    Ok(is_first && is_none)
+}
+
 #[test]
 fn entries_and_their_bytes_are_read(rt: HostRuntime) -> Result<(), Fail> {
     let mut conn = Connection::open_in_memory(rt.alloc())?;
@@ -250,16 +315,8 @@ fn entries_and_their_bytes_are_read(rt: HostRuntime) -> Result<(), Fail> {
 fn look_at_entries<S: Alter>(rt: &impl Abort, conn: &mut Connection<S>) -> Result<(), Fail> {
     assert_eq!(rt; made(conn), Ok(()));
     put_rows(conn)?;
-    let found = entry(conn, id(1)?)?;
-    let version = found.as_ref().ok_or("an entry")?;
-    assert_eq!(rt; version.key.as_str(), "a.txt");
-    assert_eq!(rt; (version.size, version.admitted.secs()), (3, 1_600_000_000));
-    assert!(rt; version.removal.is_none() && !version.marker);
-    let bytes = content(conn, id(1)?)?;
-    let held = bytes.as_ref().ok_or("bytes")?;
-    assert!(rt; held.as_slice() == b"\x01\x02\x03".as_slice());
-    assert!(rt; entry(conn, id(2)?)?.is_none());
-    assert!(rt; content(conn, id(2)?)?.is_none());
+    assert!(rt; reads_entries(conn)?);
+    assert!(rt; reads_contents(conn)?);
     Ok(())
 }
 
@@ -278,12 +335,6 @@ fn look_at_notes<S: Alter>(
 ) -> Result<(), Fail> {
     assert_eq!(rt; made(conn), Ok(()));
     put_rows(conn)?;
-    let name = bucket_name(alloc, "records-2024")?;
-    let first = batch_name(alloc, "first")?;
-    let found = note(conn, &name, &first, 7)?;
-    let told = found.as_ref().ok_or("a note")?;
-    assert_eq!(rt; told.key.as_str(), "a.txt");
-    assert!(rt; told.id == id(1)? && told.retention.is_none() && told.hold.is_none());
-    assert!(rt; note(conn, &name, &first, 8)?.is_none());
+    assert!(rt; reads_notes(conn, alloc)?);
     Ok(())
 }

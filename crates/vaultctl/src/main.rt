@@ -1,9 +1,6 @@
 //! The vault's program: reads its words, carries out what they ask for, and answers the status.
 #![tactic(auto)]
 
-mod file_vaults;
-
-use file_vaults::FileVaults;
 use std::io::{self, BufWriter, Write};
 use std::process::ExitCode;
 use vaultctl_perform::answer_words;
@@ -28,13 +25,5 @@ fn run<E: Write>(rt: &HostRuntime, err: &mut E) -> io::Result<u8> {
     let words: Vec<String> = std::env::args(rt)?.collect(rt.alloc())?;
     let mut out = BufWriter::with_capacity(rt.alloc(), HELD_BACK, io::writer(rt))?;
     let mut reader = rt.reader();
-    let mut vaults = FileVaults::new(rt);
-    Ok(answer_words(
-        rt,
-        &mut vaults,
-        words.as_slice(),
-        &mut reader,
-        &mut out,
-        err,
-    ))
+    Ok(answer_words(rt, words.as_slice(), &mut reader, &mut out, err))
 }

@@ -1,4 +1,4 @@
-//! What the program uses of the machine: its clock, its terminal, and vaults that are found by path.
+//! What the program uses of the machine: its clock, its terminal, and vaults in files.
 #![tactic(auto)]
 
 pub mod clock;

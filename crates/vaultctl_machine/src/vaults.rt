@@ -1,29 +1,132 @@
-//! Vaults that are found by the paths of their files.
-ghost use Rattle.std.specs.Prelude.{◌≡◌, IfOk};
-ghost use Rattle.vault_core_model.specs.Vault.{opening};
+//! Vaults in files.
+ghost use Rattle.std.specs.Prelude.{◌≡◌, ◌+◌, ◌-◌, ◌^◌, min};
 
-use vault_base::refusal::Refusal;
-use vault_core_model::keeper::Keeper;
+use sqlite::{Connection, Error, ErrorCode, FileFrom, FileStore, Wary};
+use std::fs;
+use vault_base::refusal::{Refusal, Table};
+use vault_store::sql_keeper::SqlKeeper;
 
-/// Vaults that are found by path: those in the machine's files, or what stands for them.
-pub trait Vaults {
-    /// An open vault.
-    type Vault: Keeper + Drop;
+/// The store of a vault in a file. A write that a crash cuts short may leave any bytes, as `Wary` supposes, so each
+/// change is synced twice.
+pub type VaultStore = FileStore<FileFrom<Wary>>;
 
-    /// Opens the vault at a path: its tables have to be sound.
+/// A vault in a file.
+pub type FileVault = SqlKeeper<VaultStore>;
+
+/// The files of the machine, and how many vaults were looked for there.
+#[derive(Drop)]
+pub struct Machine<'a> {
+    rt: &'a HostRuntime,
+    looked: u64,
+}
+
+/// What a failure to open a file is told as, where a vault should be in it.
+fn unopened(error: Error) -> Refusal {
+    match error {
+        Error::SqliteFailure(ErrorCode::OutOfMemory) => Refusal::Memory,
+        Error::SqliteFailure(
+            ErrorCode::NotADatabase | ErrorCode::DatabaseCorrupt | ErrorCode::TooBig,
+        ) => Refusal::Damaged(Table::Meta),
+        _ => Refusal::Device,
+    }
+}
+
+/// What a failure to open a file is told as, where a new vault is to be made in it.
+fn unmade(error: Error) -> Refusal {
+    match error {
+        Error::SqliteFailure(ErrorCode::OutOfMemory) => Refusal::Memory,
+        Error::SqliteFailure(
+            ErrorCode::NotADatabase | ErrorCode::DatabaseCorrupt | ErrorCode::TooBig,
+        ) => Refusal::NameTaken,
+        _ => Refusal::Device,
+    }
+}
+
+fn connect(rt: &HostRuntime, path: &str) -> Result<Connection<VaultStore>, Error> {
+    match Connection::open_from(rt, path, false, Wary) {
+        Ok(conn) => Ok(conn),
+        Err((error, _)) => Err(error),
+    }
+}
+
+/// Closes a connection, so that all that it committed stands in its file.
+///
+/// Where that fails, what was committed stands in the log beside the file, and the next open finds it there.
+fn close(conn: Connection<VaultStore>) {
+    let _ = conn.close();
+}
+
+/// Closes a vault.
+pub fn close_vault(vault: FileVault) {
+    close(vault.into_connection());
+}
+
+impl<'a> Machine<'a> {
+    /// The files of a machine, where no vault was looked for yet.
+    pub fn new(rt: &'a HostRuntime) -> Machine<'a>
+        ensures { result.looked ≡ 0 }
+    {
+        Machine { rt, looked: 0 }
+    }
+
+    /// The runtime.
+    pub fn runtime(&self) -> &'a HostRuntime {
+        self.rt
+    }
+
+    /// Counts that a vault is looked for, and answers the runtime.
+    fn look(&mut self) -> &'a HostRuntime
+        ensures { self.new.looked ≡ min (self.old.looked + 1) (2 ^ 64 - 1) }
+    {
+        self.looked = self.looked.saturating_add(1);
+        self.rt
+    }
+
+    /// Opens the vault in a file: its tables have to be sound.
     ///
-    /// `Damaged` with the first table that isn't; with `meta` where nothing is there, or no store of tables
-    /// whose rows keep its own schema. No file is made. `Memory` where memory was refused, and `Device` where
-    /// it can't be read or another program has it.
-    fn open(&mut self, path: &str) -> Result<Self::Vault, Refusal>;
+    /// `Damaged` with the first table that isn't; with `meta` where the file isn't there, or is no store of
+    /// tables whose rows keep its own schema. No file is made. `Memory` where memory was refused, and `Device`
+    /// where the file can't be read or another program has it.
+    pub fn open(&mut self, path: &str) -> Result<FileVault, Refusal>
+        ensures looked { self.new.looked ≡ min (self.old.looked + 1) (2 ^ 64 - 1) }
+    {
+        let rt = self.look();
+        match fs::exists(rt, path) {
+            Ok(true) => {}
+            Ok(false) => return Err(Refusal::Damaged(Table::Meta)),
+            Err(_) => return Err(Refusal::Device),
+        }
+        let conn = match connect(rt, path) {
+            Ok(conn) => conn,
+            Err(error) => return Err(unopened(error)),
+        };
+        match SqlKeeper::open(rt.alloc(), conn) {
+            Ok(vault) => Ok(vault),
+            Err((refusal, conn)) => {
+                close(conn);
+                Err(refusal)
+            }
+        }
+    }
 
-    /// Makes a new vault at a path where nothing is, or an empty file.
+    /// Makes a new vault in a file that isn't there or is empty.
     ///
-    /// `NameTaken` where something is in it, `Memory` where memory was refused, and `Device` where it can't be
-    /// made.
-    fn make(&mut self, path: &str) -> Result<Self::Vault, Refusal>
-        ensures opening { IfOk result (λ made. Self.Vault.is_honest made → Self.Vault.vault made ≡ opening) };
-
-    /// Closes a vault. What it acknowledged stands where it was opened or made.
-    fn close(vault: Self::Vault);
+    /// `NameTaken` where something is in it, `Memory` where memory was refused, and `Device` where the file
+    /// can't be made.
+    pub fn make(&mut self, path: &str) -> Result<FileVault, Refusal>
+        ensures looked { self.new.looked ≡ min (self.old.looked + 1) (2 ^ 64 - 1) }
+    {
+        let rt = self.look();
+        let conn = match connect(rt, path) {
+            Ok(conn) => conn,
+            Err(error) => return Err(unmade(error)),
+        };
+        match SqlKeeper::create(rt.alloc(), conn) {
+            Ok(vault) => Ok(vault),
+            Err((refusal, conn)) => {
+                close(conn);
+                Err(refusal)
+            }
+        }
+    }
 }

@@ -17,7 +17,7 @@ use vaultctl_commands::carrying::{carry_out, tell_refusal};
 use vaultctl_commands::fault::JobFault;
 use vaultctl_commands::outcome::Outcome;
 use vaultctl_machine::clock::now;
-use vaultctl_machine::vaults::Vaults;
+use vaultctl_machine::vaults::{FileVault, Machine, close_vault};
 use vaultctl_values::asked::Asked;
 
 /// The reading that is given, or else the machine's clock.
@@ -49,22 +49,21 @@ fn carry_out_asked<C: Clock, K: Keeper, W: Write>(
 }
 
 /// Asks it of a vault, and closes the vault.
-fn ask_vault<V: Vaults, W: Write>(
+fn ask_vault<W: Write>(
     rt: &HostRuntime,
-    vault: V::Vault,
+    vault: FileVault,
     asked: &Asked,
     out: &mut W,
 ) -> Result<Outcome, JobFault> {
     let mut vault = vault;
     let outcome = carry_out_asked(rt.alloc(), rt, &mut vault, asked, out);
-    V::close(vault);
+    close_vault(vault);
     outcome
 }
 
 /// Asks it of the vault in a file.
-fn ask_in_file<V: Vaults, W: Write, E: Write>(
-    rt: &HostRuntime,
-    vaults: &mut V,
+fn ask_in_file<W: Write, E: Write>(
+    machine: &mut Machine<'_>,
     subcommand: &str,
     file: &str,
     asked: &Asked,
@@ -73,28 +72,28 @@ fn ask_in_file<V: Vaults, W: Write, E: Write>(
 ) -> u8
     ensures status { result ≢ 2 }
 {
-    match vaults.open(file) {
-        Ok(vault) => status(err, subcommand, ask_vault::<V, W>(rt, vault, asked, out)),
+    let rt = machine.runtime();
+    match machine.open(file) {
+        Ok(vault) => status(err, subcommand, ask_vault(rt, vault, asked, out)),
         Err(refusal) => tell_unopened(err, "open", refusal),
     }
 }
 
 /// The same as `ask`, of what was read by another.
-fn ask_read<V: Vaults, W: Write, E: Write>(
-    rt: &HostRuntime,
-    vaults: &mut V,
+fn ask_read<W: Write, E: Write>(
+    machine: &mut Machine<'_>,
     subcommand: &str,
     file: &str,
     asked: &Result<Asked, LineFault>,
     out: &mut W,
     err: &mut E,
 ) -> u8
-    ensures values { (said : Result AskedOf AnyRefusal) (r : AnyRefusal) → Gives (λ x. x) asked.now said → said ≡ Err r → (vaults.new ≡ vaults.old) × (result ≡ 1) }
+    ensures values { (said : Result AskedOf AnyRefusal) (r : AnyRefusal) → Gives (λ x. x) asked.now said → said ≡ Err r → (machine.new ≡ machine.old) × (result ≡ 1) }
     ensures status { result ≢ 2 }
 {
-    let alloc = rt.alloc();
+    let alloc = machine.runtime().alloc();
     match asked {
-        Ok(asked) => ask_in_file(rt, vaults, subcommand, file, asked, out, err),
+        Ok(asked) => ask_in_file(machine, subcommand, file, asked, out, err),
         Err(LineFault::Memory) => tell_fault(err, subcommand, JobFault::Memory),
         Err(LineFault::Refused(refusal)) => tell_value(alloc, subcommand, *refusal, out, err),
     }
@@ -102,19 +101,16 @@ fn ask_read<V: Vaults, W: Write, E: Write>(
 
 /// Carries out what a job's words ask of the vault in a file, where their values are such; else prints the
 /// refusal of the first that isn't, and looks for no file.
-pub fn ask<V: Vaults, W: Write, E: Write>(
-    rt: &HostRuntime,
-    vaults: &mut V,
+pub fn ask<W: Write, E: Write>(
+    machine: &mut Machine<'_>,
     subcommand: &str,
     file: &str,
     asked: Result<Asked, LineFault>,
     out: &mut W,
     err: &mut E,
 ) -> u8
-    ensures values { (said : Result AskedOf AnyRefusal) (r : AnyRefusal) → Gives (λ x. x) asked said → said ≡ Err r → (vaults.new ≡ vaults.old) × (result ≡ 1) }
+    ensures values { (said : Result AskedOf AnyRefusal) (r : AnyRefusal) → Gives (λ x. x) asked said → said ≡ Err r → (machine.new ≡ machine.old) × (result ≡ 1) }
     ensures status { result ≢ 2 }
 {
-    let status = ask_read(rt, vaults, subcommand, file, &asked, out, err);
-    drop(asked);
-    status
+    ask_read(machine, subcommand, file, &asked, out, err)
 }

@@ -10,17 +10,17 @@ use vault_files_register::register::export_register;
 use vaultctl_commands::fault::JobFault;
 use vaultctl_commands::outcome::Outcome;
 use vaultctl_commands::printing::print;
-use vaultctl_machine::vaults::Vaults;
+use vaultctl_machine::vaults::{FileVault, Machine, close_vault};
 use vaultctl_replay::{ReplayFault, replay};
 use vaultctl_serve::serve;
 
 /// Makes a new vault in a file, and prints nothing.
-pub fn init<V: Vaults, E: Write>(rt: &HostRuntime, vaults: &mut V, file: &str, err: &mut E) -> u8
+pub fn init<E: Write>(machine: &mut Machine<'_>, file: &str, err: &mut E) -> u8
     ensures status { result ≢ 2 }
 {
-    match vaults.make(file) {
+    match machine.make(file) {
         Ok(vault) => {
-            V::close(vault);
+            close_vault(vault);
             0
         }
         Err(refusal) => tell_unopened(err, "init", refusal),
@@ -43,19 +43,18 @@ fn tell_sound<W: Write>(out: &mut W) -> Result<Outcome, JobFault> {
 }
 
 /// Opens a vault's file, and prints `sound`, or `damaged` and the first table that isn't.
-pub fn verify<V: Vaults, W: Write, E: Write>(
-    rt: &HostRuntime,
-    vaults: &mut V,
+pub fn verify<W: Write, E: Write>(
+    machine: &mut Machine<'_>,
     file: &str,
     out: &mut W,
     err: &mut E,
 ) -> u8
     ensures status { result ≢ 2 }
 {
-    let alloc = rt.alloc();
-    match vaults.open(file) {
+    let alloc = machine.runtime().alloc();
+    match machine.open(file) {
         Ok(vault) => {
-            V::close(vault);
+            close_vault(vault);
             status(err, "verify", tell_sound(out))
         }
         Err(Refusal::Damaged(table)) => status(err, "verify", tell_damaged(out, alloc, table)),
@@ -73,30 +72,29 @@ fn done_or_fault(written: Result<(), ExportFault>) -> Result<Outcome, JobFault> 
 }
 
 /// Writes a vault's register, and closes the vault.
-fn write_register<V: Vaults, W: Write>(
+fn write_register<W: Write>(
     alloc: Global,
-    vault: V::Vault,
+    vault: FileVault,
     out: &mut W,
 ) -> Result<Outcome, JobFault> {
     let mut vault = vault;
     let written = export_register(alloc, &mut vault, out);
-    V::close(vault);
+    close_vault(vault);
     done_or_fault(written)
 }
 
 /// Prints the register of a vault's removals.
-pub fn register<V: Vaults, W: Write, E: Write>(
-    rt: &HostRuntime,
-    vaults: &mut V,
+pub fn register<W: Write, E: Write>(
+    machine: &mut Machine<'_>,
     file: &str,
     out: &mut W,
     err: &mut E,
 ) -> u8
     ensures status { result ≢ 2 }
 {
-    let alloc = rt.alloc();
-    match vaults.open(file) {
-        Ok(vault) => status(err, "register", write_register::<V, W>(alloc, vault, out)),
+    let alloc = machine.runtime().alloc();
+    match machine.open(file) {
+        Ok(vault) => status(err, "register", write_register(alloc, vault, out)),
         Err(refusal) => tell_unopened(err, "open", refusal),
     }
 }
@@ -111,22 +109,21 @@ fn replayed(answered: Result<(), ReplayFault>) -> Result<Outcome, JobFault> {
 }
 
 /// Answers a script over a vault, and closes the vault.
-fn answer_script<V: Vaults, R: Read, W: Write>(
+fn answer_script<R: Read, W: Write>(
     alloc: Global,
-    vault: V::Vault,
+    vault: FileVault,
     reader: &mut R,
     out: &mut W,
 ) -> Result<Outcome, JobFault> {
     let mut vault = vault;
     let answered = replay(alloc, reader, out, &mut vault);
-    V::close(vault);
+    close_vault(vault);
     replayed(answered)
 }
 
 /// Answers the script that the reader gives over the vault in a file.
-pub fn replay_file<V: Vaults, R: Read, W: Write, E: Write>(
-    rt: &HostRuntime,
-    vaults: &mut V,
+pub fn replay_file<R: Read, W: Write, E: Write>(
+    machine: &mut Machine<'_>,
     file: &str,
     reader: &mut R,
     out: &mut W,
@@ -134,27 +131,23 @@ pub fn replay_file<V: Vaults, R: Read, W: Write, E: Write>(
 ) -> u8
     ensures status { result ≢ 2 }
 {
-    let alloc = rt.alloc();
-    match vaults.open(file) {
-        Ok(vault) => status(
-            err,
-            "replay",
-            answer_script::<V, R, W>(alloc, vault, reader, out),
-        ),
+    let alloc = machine.runtime().alloc();
+    match machine.open(file) {
+        Ok(vault) => status(err, "replay", answer_script(alloc, vault, reader, out)),
         Err(refusal) => tell_unopened(err, "open", refusal),
     }
 }
 
 /// Serves requests over a vault, and closes the vault.
-fn serve_vault<V: Vaults>(
+fn serve_vault(
     rt: &HostRuntime,
-    vault: V::Vault,
+    vault: FileVault,
     port: u16,
     count: u32,
 ) -> Result<Outcome, JobFault> {
     let mut vault = vault;
     let served = serve(rt, rt.alloc(), &mut vault, port, count);
-    V::close(vault);
+    close_vault(vault);
     match served {
         Ok(()) => Ok(Outcome::Done),
         Err(_) => Err(JobFault::Device),
@@ -162,9 +155,8 @@ fn serve_vault<V: Vaults>(
 }
 
 /// Serves requests over the vault in a file, at a port of 127.0.0.1.
-pub fn serve_file<V: Vaults, E: Write>(
-    rt: &HostRuntime,
-    vaults: &mut V,
+pub fn serve_file<E: Write>(
+    machine: &mut Machine<'_>,
     file: &str,
     port: u16,
     count: u32,
@@ -172,8 +164,9 @@ pub fn serve_file<V: Vaults, E: Write>(
 ) -> u8
     ensures status { result ≢ 2 }
 {
-    match vaults.open(file) {
-        Ok(vault) => status(err, "serve", serve_vault::<V>(rt, vault, port, count)),
+    let rt = machine.runtime();
+    match machine.open(file) {
+        Ok(vault) => status(err, "serve", serve_vault(rt, vault, port, count)),
         Err(refusal) => tell_unopened(err, "open", refusal),
     }
 }

@@ -22,7 +22,7 @@ use vaultctl_commands::intake::{take_in_and_tell, tell_unread_list};
 use vaultctl_commands::outcome::Outcome;
 use vaultctl_job::job::Intake;
 use vaultctl_machine::terminal::terminal;
-use vaultctl_machine::vaults::Vaults;
+use vaultctl_machine::vaults::{FileVault, Machine, close_vault};
 use vaultctl_values::asked::AskedIntake;
 
 /// Takes in a list whose bytes were read, at the reading that is given or else at the clock's; on a terminal
@@ -75,22 +75,21 @@ fn take_in_list<K: Keeper, W: Write>(
 }
 
 /// Takes in the list, and closes the vault.
-fn take_in_vault<V: Vaults, W: Write>(
+fn take_in_vault<W: Write>(
     rt: &HostRuntime,
-    vault: V::Vault,
+    vault: FileVault,
     asked: &AskedIntake,
     job: &Intake,
     out: &mut W,
 ) -> Result<Outcome, JobFault> {
     let mut vault = vault;
     let outcome = take_in_list(rt, &mut vault, asked, job, out);
-    V::close(vault);
+    close_vault(vault);
     outcome
 }
 
-fn take_in_file<V: Vaults, W: Write, E: Write>(
-    rt: &HostRuntime,
-    vaults: &mut V,
+fn take_in_file<W: Write, E: Write>(
+    machine: &mut Machine<'_>,
     asked: &AskedIntake,
     job: &Intake,
     out: &mut W,
@@ -98,31 +97,27 @@ fn take_in_file<V: Vaults, W: Write, E: Write>(
 ) -> u8
     ensures status { result ≢ 2 }
 {
-    match vaults.open(job.file.as_str()) {
-        Ok(vault) => status(
-            err,
-            "intake",
-            take_in_vault::<V, W>(rt, vault, asked, job, out),
-        ),
+    let rt = machine.runtime();
+    match machine.open(job.file.as_str()) {
+        Ok(vault) => status(err, "intake", take_in_vault(rt, vault, asked, job, out)),
         Err(refusal) => tell_unopened(err, "open", refusal),
     }
 }
 
 /// The same as `take_in`, of what was read by another.
-fn take_in_asked<V: Vaults, W: Write, E: Write>(
-    rt: &HostRuntime,
-    vaults: &mut V,
+fn take_in_asked<W: Write, E: Write>(
+    machine: &mut Machine<'_>,
     asked: &Result<AskedIntake, LineFault>,
     job: &Intake,
     out: &mut W,
     err: &mut E,
 ) -> u8
-    ensures values { (said : Result AskedOf AnyRefusal) (r : AnyRefusal) → Gives (λ x. x) asked.now said → said ≡ Err r → (vaults.new ≡ vaults.old) × (result ≡ 1) }
+    ensures values { (said : Result AskedOf AnyRefusal) (r : AnyRefusal) → Gives (λ x. x) asked.now said → said ≡ Err r → (machine.new ≡ machine.old) × (result ≡ 1) }
     ensures status { result ≢ 2 }
 {
-    let alloc = rt.alloc();
+    let alloc = machine.runtime().alloc();
     match asked {
-        Ok(asked) => take_in_file(rt, vaults, asked, job, out, err),
+        Ok(asked) => take_in_file(machine, asked, job, out, err),
         Err(LineFault::Memory) => tell_fault(err, "intake", JobFault::Memory),
         Err(LineFault::Refused(refusal)) => tell_value(alloc, "intake", *refusal, out, err),
     }
@@ -130,18 +125,15 @@ fn take_in_asked<V: Vaults, W: Write, E: Write>(
 
 /// Takes in files of a folder by a list, where the values of the job's words are such; else prints the refusal
 /// of the first that isn't, and looks for no file.
-pub fn take_in<V: Vaults, W: Write, E: Write>(
-    rt: &HostRuntime,
-    vaults: &mut V,
+pub fn take_in<W: Write, E: Write>(
+    machine: &mut Machine<'_>,
     asked: Result<AskedIntake, LineFault>,
     job: &Intake,
     out: &mut W,
     err: &mut E,
 ) -> u8
-    ensures values { (said : Result AskedOf AnyRefusal) (r : AnyRefusal) → Gives (λ x. x) asked said → said ≡ Err r → (vaults.new ≡ vaults.old) × (result ≡ 1) }
+    ensures values { (said : Result AskedOf AnyRefusal) (r : AnyRefusal) → Gives (λ x. x) asked said → said ≡ Err r → (machine.new ≡ machine.old) × (result ≡ 1) }
     ensures status { result ≢ 2 }
 {
-    let status = take_in_asked(rt, vaults, &asked, job, out, err);
-    drop(asked);
-    status
+    take_in_asked(machine, &asked, job, out, err)
 }
