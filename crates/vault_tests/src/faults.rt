@@ -1,5 +1,6 @@
 //! What a fault of the reader, the writer or the device leaves behind.
 use std::alloc::Global;
+use std::io::BufWriter;
 use std::process::Abort;
 use std::test::Fail;
 use vault_core::fuse_keeper::FuseKeeper;
@@ -135,6 +136,30 @@ fn a_writer_that_fails(rt: HostRuntime) -> Result<(), Fail> {
     for writes in 0..=REPLIES.len() {
         cut_writer(&rt, alloc, writes)?;
     }
+    Ok(())
+}
+
+/// What a script is told whose replies are held back, up to its end, for a writer that takes none.
+fn replayed_held_back<K: Keeper>(
+    alloc: Global,
+    keeper: &mut K,
+) -> Result<Result<(), ReplayFault>, Fail> {
+    let mut reader = SCRIPT.as_bytes();
+    let full = FailingWriter {
+        written: Vec::new(alloc),
+        writes_left: 0,
+    };
+    let mut writer = BufWriter::with_capacity(alloc, 65_536, full)?;
+    Ok(replay(alloc, &mut reader, &mut writer, keeper))
+}
+
+/// What is held back is handed on before the input counts as answered, and a fault of that is told.
+#[test]
+fn a_writer_that_holds_back(rt: HostRuntime) -> Result<(), Fail> {
+    let mut keeper = ListKeeper::new(rt.alloc())?;
+    let replayed = replayed_held_back(rt.alloc(), &mut keeper);
+    drop(keeper);
+    assert!(rt; replayed? == Err(ReplayFault::Write));
     Ok(())
 }
 

@@ -39,6 +39,10 @@ impl<R: Net<Listener = TcpListener, Stream = TcpStream>> Net for Loopback<'_, R>
     type Listener = TcpListener;
 
     fn bind(&self, address: SocketAddr) -> io::Result<TcpListener> {
+        // A server that takes connections from elsewhere is refused.
+        if !address.ip().is_loopback() {
+            return Err(io::Error::from(io::ErrorKind::PermissionDenied));
+        }
         let listener = self.net.bind(address)?;
         let mut clients = Vec::new(self.alloc);
         for request in self.requests {

@@ -265,6 +265,14 @@ fn the_first_table_is_told(rt: HostRuntime) -> Result<(), Fail> {
             Table::Departments,
             "UPDATE heads SET count = 3 WHERE key = 'a'; UPDATE departments SET held = 9",
         ),
+        (
+            Table::Settings,
+            "UPDATE intake SET hold = 2; UPDATE settings SET mode = 3 WHERE id = 1",
+        ),
+        (
+            Table::Departments,
+            "DELETE FROM rules WHERE n = 1; UPDATE departments SET held = 9",
+        ),
         // A later table in the first look, and an earlier one in the second.
         (
             Table::Heads,
@@ -275,4 +283,151 @@ fn the_first_table_is_told(rt: HostRuntime) -> Result<(), Fail> {
         assert_eq!(rt; told(rt.alloc(), change)?, Err(Refusal::Damaged(*table)));
     }
     Ok(())
+}
+
+#[test]
+fn each_value_beyond_its_limits_is_told(rt: HostRuntime) -> Result<(), Fail> {
+    let changes = [
+        (
+            Table::Callers,
+            "INSERT INTO callers VALUES ('A b', NULL, 0, 0)",
+        ),
+        (
+            Table::Buckets,
+            "INSERT INTO buckets VALUES ('Papers', 'records', 0, NULL, NULL)",
+        ),
+        (Table::Buckets, "UPDATE buckets SET days = 0"),
+        (Table::Buckets, "UPDATE buckets SET years = 1"),
+        (
+            Table::Buckets,
+            "UPDATE buckets SET days = NULL, years = 101",
+        ),
+        (Table::Rules, "UPDATE rules SET id = '' WHERE n = 1"),
+        (Table::Rules, "UPDATE rules SET prefix = '\n' WHERE n = 1"),
+        (Table::Rules, "UPDATE rules SET days = 0 WHERE n = 1"),
+        (Table::Rules, "UPDATE rules SET lone = 2 WHERE n = 1"),
+        (Table::Rules, "UPDATE rules SET n = 0 WHERE n = 1"),
+        (Table::Rules, "UPDATE rules SET nc_keep = 101 WHERE n = 2"),
+        (
+            Table::Rules,
+            "UPDATE rules SET nc_days = NULL, nc_keep = 1, days = 1 WHERE n = 2",
+        ),
+        (Table::Entries, "UPDATE entries SET key = '' WHERE id = 3"),
+        (Table::Entries, "UPDATE entries SET marker = 2 WHERE id = 4"),
+        (
+            Table::Entries,
+            "UPDATE entries SET size = 1048577 WHERE id = 3",
+        ),
+        (
+            Table::Entries,
+            "UPDATE entries SET digest = x'00' WHERE id = 1",
+        ),
+        (
+            Table::Entries,
+            "UPDATE entries SET admitted = -1 WHERE id = 1",
+        ),
+        (
+            Table::Entries,
+            "UPDATE entries SET by_rule = 2 WHERE id = 4",
+        ),
+        (
+            Table::Entries,
+            "UPDATE entries SET admitted_by = '' WHERE id = 4",
+        ),
+        (
+            Table::Entries,
+            "UPDATE entries SET by_rule = 1, admitted_by = '' WHERE id = 4",
+        ),
+        (
+            Table::Entries,
+            "UPDATE entries SET cause = NULL WHERE id = 3",
+        ),
+        (
+            Table::Entries,
+            "UPDATE entries SET cause_by = '' WHERE id = 3",
+        ),
+        (
+            Table::Entries,
+            "UPDATE entries SET cause = 2, cause_by = '' WHERE id = 3",
+        ),
+        (
+            Table::Entries,
+            "UPDATE entries SET cause = 1, cause_by = '' WHERE id = 3",
+        ),
+        (
+            Table::Settings,
+            "UPDATE settings SET moment = -1 WHERE id = 1",
+        ),
+        (
+            Table::Settings,
+            "UPDATE settings SET caller = '' WHERE id = 1",
+        ),
+        (
+            Table::Settings,
+            "UPDATE settings SET until = -1 WHERE id = 2",
+        ),
+        (Table::Settings, "UPDATE settings SET hold = 2 WHERE id = 1"),
+        (
+            Table::Settings,
+            "UPDATE settings SET bypass = 2 WHERE id = 1",
+        ),
+        (Table::Settings, "UPDATE settings SET n = 0 WHERE id = 1"),
+        (Table::Intake, "UPDATE intake SET batch = ''"),
+        (Table::Intake, "UPDATE intake SET size = -1"),
+        (Table::Intake, "UPDATE intake SET digest = x'00'"),
+        (Table::Intake, "UPDATE intake SET mode = 3"),
+        (Table::Intake, "UPDATE intake SET key = ''"),
+        (Table::Heads, "UPDATE heads SET count = -1 WHERE key = 'a'"),
+    ];
+    for (table, change) in &changes {
+        assert_eq!(rt; told(rt.alloc(), change)?, Err(Refusal::Damaged(*table)));
+    }
+    Ok(())
+}
+
+// Ten versions without bytes, each at a key of its own.
+const TEN_VERSIONS: &str = "
+INSERT INTO departments VALUES ('records', 0, 0, 0, 0, 0);
+INSERT INTO callers VALUES ('clerk', 'records', 60, 0);
+INSERT INTO buckets VALUES ('docs', 'records', 0, NULL, NULL);
+INSERT INTO entries SELECT id + n, 'docs', 'k' || (id + n), 0, 0, x'e3b0c44298fc1c149afbf4c8996fb92427ae41e4649b934ca495991b7852b855', 1600000000, 0, 'clerk', NULL, NULL, NULL FROM (SELECT 1 AS id UNION ALL SELECT 2 UNION ALL SELECT 3 UNION ALL SELECT 4 UNION ALL SELECT 5), (SELECT 0 AS n UNION ALL SELECT 5)";
+
+// As many versions more as there are.
+const DOUBLED: &str =
+    "INSERT INTO entries SELECT id + (SELECT count(*) FROM entries), bucket, 'k' || (id + (SELECT count(*) FROM entries)), marker, size, digest, admitted, by_rule, admitted_by, removed, cause, cause_by FROM entries";
+
+// What goes with them.
+const WITH_ROWS: &str = "
+INSERT INTO contents SELECT id, x'' FROM entries;
+INSERT INTO settings SELECT id, 1, admitted, admitted_by, 0, NULL, 0, 0 FROM entries;
+INSERT INTO intake SELECT bucket, 'batch', id, key, size, digest, 0, NULL, NULL, id FROM entries;
+INSERT INTO heads SELECT bucket, key, id, 1 FROM entries;
+INSERT INTO callers SELECT 'c' || id, NULL, 0, 0 FROM entries;
+INSERT INTO buckets SELECT 'b-' || id, 'records', 0, NULL, NULL FROM entries;
+INSERT INTO rules SELECT 'b-' || id, 1, 'old', '', 1, 30, 0, NULL, NULL FROM entries;
+UPDATE meta SET last = 1600000000, next = 161";
+
+#[test]
+fn tables_of_many_rows_are_sound(rt: HostRuntime) -> Result<(), Fail> {
+    let mut conn = Connection::open_in_memory(rt.alloc())?;
+    let told = judged_with_many_rows(rt.alloc(), &mut conn);
+    drop(conn);
+    assert_eq!(rt; told?, Ok(()));
+    Ok(())
+}
+
+/// What is told of a vault in which each table but two has 160 rows or more.
+fn judged_with_many_rows<S: Alter>(
+    alloc: Global,
+    conn: &mut Connection<S>,
+) -> Result<Result<(), Refusal>, Fail> {
+    if made(conn).is_err() {
+        Err("made")?;
+    }
+    batch(conn, TEN_VERSIONS)?;
+    for _ in 0..4 {
+        batch(conn, DOUBLED)?;
+    }
+    batch(conn, WITH_ROWS)?;
+    Ok(judged(alloc, conn))
 }

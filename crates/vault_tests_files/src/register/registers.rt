@@ -1,6 +1,7 @@
 //! Registers of removals.
 use crate::register::texts::{EMPTY, HELLO, compare, played};
 use std::alloc::Global;
+use std::io::BufWriter;
 use std::test::Fail;
 use vault_core_list::list_keeper::ListKeeper;
 use vault_failing::FailingWriter;
@@ -89,4 +90,27 @@ fn a_failing_writer_has_a_beginning(rt: HostRuntime) -> Result<(), Fail> {
     let (written, answer) = cut(alloc, &mut keeper, 3);
     assert_eq!(rt; answer, Ok(()));
     compare_lines(alloc, written, &lines)
+}
+
+/// What an export is told whose lines are held back, up to its end, for a writer that takes none.
+fn exported_held_back(
+    alloc: Global,
+    keeper: &mut ListKeeper,
+) -> Result<Result<(), ExportFault>, Fail> {
+    let full = FailingWriter {
+        written: Vec::new(alloc),
+        writes_left: 0,
+    };
+    let mut writer = BufWriter::with_capacity(alloc, 65_536, full)?;
+    Ok(export_register(alloc, keeper, &mut writer))
+}
+
+/// What is held back is handed on before the register counts as written, and a fault of that is told.
+#[test]
+fn a_register_that_is_held_back_fails_at_its_end(rt: HostRuntime) -> Result<(), Fail> {
+    let mut keeper = played(rt.alloc(), EMPTY)?;
+    let exported = exported_held_back(rt.alloc(), &mut keeper);
+    drop(keeper);
+    assert_eq!(rt; exported?, Err(ExportFault::Write));
+    Ok(())
 }
