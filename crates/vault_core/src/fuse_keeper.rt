@@ -39,11 +39,14 @@ impl<K> FuseKeeper<K> {
 
     /// The keeper below.
     pub fn into_keeper(self) -> K
-    where
-        K: Drop,
         ensures { result ≡ self.keeper }
     {
-        self.keeper
+        let FuseKeeper {
+            keeper,
+            left: _,
+            blown: _,
+        } = self;
+        keeper
     }
 }
 

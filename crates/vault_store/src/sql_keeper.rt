@@ -49,8 +49,9 @@ use vault_tally::row::Row;
 /// Which vault it stands for is what its tables told when it was opened, with the changes made since;
 /// only proofs read that. While its disk returns what was written and no failure has shut the
 /// connection, the tables are sound and spell that vault.
-#[derive(Drop)]
-pub struct SqlKeeper<S: Alter + Drop> {
+///
+/// It can't be let go of but by `into_connection`, so a store is closed, or handed on, wherever it ends.
+pub struct SqlKeeper<S: Alter> {
     conn: Connection<S>,
     faults: u64,
     alloc: Global,
@@ -60,7 +61,7 @@ pub struct SqlKeeper<S: Alter + Drop> {
     ghost stands: { ∥ (HasCleanDisk (state S.Store conn) → StandsFor (state S.Store conn) (kept_vault S.Store opening.at.items opening.known made.items)) ∥₁ },
 }
 
-impl<S: Alter + Drop> SqlKeeper<S> {
+impl<S: Alter> SqlKeeper<S> {
     /// A keeper over a connection, outside any transaction, whose tables are sound.
     fn over(alloc: Global, conn: Connection<S>) -> SqlKeeper<S>
         requires settled { conn.in_transaction ≡ false }
@@ -169,7 +170,7 @@ impl<S: Alter + Drop> SqlKeeper<S> {
     }
 }
 
-impl<S: Alter + Drop> Keeper for SqlKeeper<S> {
+impl<S: Alter> Keeper for SqlKeeper<S> {
     ghost is_honest = { λ k. HasCleanDisk (state S.Store k.conn) };
 
     ghost vault = { λ k. kept_vault S.Store k.opening.at.items k.opening.known k.made.items };

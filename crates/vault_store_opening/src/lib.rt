@@ -13,13 +13,13 @@ use sqlite::{Alter, Connection};
 
 /// A connection as it was when its tables were found sound.
 #[derive(Drop)]
-pub struct Opening<S: Alter + Drop> {
+pub struct Opening<S: Alter> {
     pub at: Log<Connection<S>, bool>,
     pub ghost known: { IsKnown S.Store at.items } by { IsKnown-prop S.Store at.items },
 }
 
 /// The connection as it stands, whose tables are sound.
-pub fn remember<S: Alter + Drop>(conn: &Connection<S>) -> Opening<S>
+pub fn remember<S: Alter>(conn: &Connection<S>) -> Opening<S>
     requires { HasCleanDisk (state S.Store conn.now) → AreSomeVault (state S.Store conn.now).now }
     ensures { HasCleanDisk (state S.Store conn.now) → (v : Vault) → AreSound (state S.Store conn.now).now v → noted_vault S.Store result.at.items result.known ≡ v }
 {

@@ -20,7 +20,7 @@ use vault_store::sql_keeper::SqlKeeper;
 ///
 /// The errors are those of `SqlKeeper::open`, and `Memory` where there was none for the replies: then no
 /// command was carried out.
-pub fn run_in_tables<S: Alter + Drop>(
+pub fn run_in_tables<S: Alter>(
     alloc: Global,
     conn: Connection<S>,
     commands: &[Timed],

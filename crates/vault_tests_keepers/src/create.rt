@@ -1,7 +1,7 @@
 //! What a new vault's tables hold, and which stores are left as they are.
-use sqlite::{Alter, Connection, Error, FileStore, Files, Options};
-use sqlite_disk::Memory;
-use std::alloc::Global;
+use crate::keepers::{closed, connected, let_go, new_files};
+use sqlite::{Alter, Connection, Error};
+use std::process::Abort;
 use std::test::Fail;
 use vault_base::refusal::Refusal;
 use vault_store_create::create::fill;
@@ -56,67 +56,79 @@ fn other_rows<S: Alter>(conn: &mut Connection<S>) -> Result<i64, Error> {
 
 #[test]
 fn a_new_vault_has_two_rows(rt: HostRuntime) -> Result<(), Fail> {
-    let mut conn = Connection::open_in_memory(rt.alloc())?;
-    assert_eq!(rt; made(&mut conn), Ok(()));
-    assert!(rt; has_first_rows(&mut conn)?);
-    assert_eq!(rt; other_rows(&mut conn)?, 0);
+    let mut conn = new_files(rt.alloc())?;
+    let judged = look_at_new_vault(&rt, &mut conn);
+    let_go(conn);
+    judged
+}
+
+fn look_at_new_vault<S: Alter>(rt: &impl Abort, conn: &mut Connection<S>) -> Result<(), Fail> {
+    assert_eq!(rt; made(conn), Ok(()));
+    assert!(rt; has_first_rows(conn)?);
+    assert_eq!(rt; other_rows(conn)?, 0);
     Ok(())
 }
 
 #[test]
 fn a_vault_is_not_made_twice(rt: HostRuntime) -> Result<(), Fail> {
-    let mut conn = Connection::open_in_memory(rt.alloc())?;
-    assert_eq!(rt; made(&mut conn), Ok(()));
-    assert_eq!(rt; made(&mut conn), Err(Refusal::NameTaken));
-    assert!(rt; has_first_rows(&mut conn)?);
+    let mut conn = new_files(rt.alloc())?;
+    let judged = make_twice(&rt, &mut conn);
+    let_go(conn);
+    judged
+}
+
+fn make_twice<S: Alter>(rt: &impl Abort, conn: &mut Connection<S>) -> Result<(), Fail> {
+    assert_eq!(rt; made(conn), Ok(()));
+    assert_eq!(rt; made(conn), Err(Refusal::NameTaken));
+    assert!(rt; has_first_rows(conn)?);
     Ok(())
 }
 
 #[test]
 fn a_store_with_another_table_is_left_as_it_was(rt: HostRuntime) -> Result<(), Fail> {
-    let mut conn = Connection::open_in_memory(rt.alloc())?;
+    let mut conn = new_files(rt.alloc())?;
+    let judged = make_beside_a_table(&rt, &mut conn);
+    let_go(conn);
+    judged
+}
+
+fn make_beside_a_table<S: Alter>(rt: &impl Abort, conn: &mut Connection<S>) -> Result<(), Fail> {
     batch(
-        &mut conn,
+        conn,
         "CREATE TABLE shelf (id INTEGER PRIMARY KEY) STRICT; INSERT INTO shelf VALUES (7)",
     )?;
-    assert_eq!(rt; made(&mut conn), Err(Refusal::NameTaken));
-    assert_eq!(rt; number(&mut conn, "SELECT id FROM shelf")?, 7);
-    assert!(rt; number(&mut conn, "SELECT count(*) FROM meta").is_err());
+    assert_eq!(rt; made(conn), Err(Refusal::NameTaken));
+    assert_eq!(rt; number(conn, "SELECT id FROM shelf")?, 7);
+    assert!(rt; number(conn, "SELECT count(*) FROM meta").is_err());
     Ok(())
 }
 
 #[test]
 fn a_begun_transaction_is_left_as_it_was(rt: HostRuntime) -> Result<(), Fail> {
-    let mut conn = Connection::open_in_memory(rt.alloc())?;
-    batch(&mut conn, "BEGIN")?;
-    assert_eq!(rt; made(&mut conn), Err(Refusal::Device));
-    batch(&mut conn, "COMMIT")?;
-    assert_eq!(rt; made(&mut conn), Ok(()));
-    Ok(())
+    let mut conn = new_files(rt.alloc())?;
+    let judged = make_in_a_transaction(&rt, &mut conn);
+    let_go(conn);
+    judged
 }
 
-fn open(alloc: Global, files: Files<Memory>) -> Result<Connection<FileStore<Memory>>, Fail> {
-    if !files.may_be_used() {
-        Err("unusable")?;
-    }
-    Ok(
-        Connection::open_files(alloc, files, Options::new(1))
-            .ok()
-            .ok_or("opened")?,
-    )
+fn make_in_a_transaction<S: Alter>(rt: &impl Abort, conn: &mut Connection<S>) -> Result<(), Fail> {
+    batch(conn, "BEGIN")?;
+    assert_eq!(rt; made(conn), Err(Refusal::Device));
+    batch(conn, "COMMIT")?;
+    assert_eq!(rt; made(conn), Ok(()));
+    Ok(())
 }
 
 #[test]
 fn a_new_vault_stands_in_its_file(rt: HostRuntime) -> Result<(), Fail> {
-    let files = Files {
-        log: Memory::new(rt.alloc()),
-        db: Memory::new(rt.alloc()),
-    };
-    let mut conn = open(rt.alloc(), files)?;
-    assert_eq!(rt; made(&mut conn), Ok(()));
-    let files = conn.close_files().ok().ok_or("closed")?;
-    let mut again = open(rt.alloc(), files)?;
-    assert!(rt; has_first_rows(&mut again)?);
-    assert_eq!(rt; made(&mut again), Err(Refusal::NameTaken));
+    let mut conn = new_files(rt.alloc())?;
+    let made_first = made(&mut conn);
+    let mut again = connected(rt.alloc(), closed(conn)?)?;
+    let has_rows = has_first_rows(&mut again);
+    let made_again = made(&mut again);
+    let_go(again);
+    assert_eq!(rt; made_first, Ok(()));
+    assert!(rt; has_rows?);
+    assert_eq!(rt; made_again, Err(Refusal::NameTaken));
     Ok(())
 }

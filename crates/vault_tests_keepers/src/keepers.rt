@@ -1,6 +1,6 @@
-//! Scripts over each kind of keeper: the list, tables in memory, and tables in files that are closed and
-//! opened again behind each line.
-use sqlite::{Connection, FileStore, Files, MemStore, Options};
+//! Scripts over each kind of keeper: the list, tables in files, and tables in files that are closed and opened
+//! again behind each line. The files are in memory.
+use sqlite::{Connection, FileStore, Files, Options};
 use sqlite_disk::Memory;
 use std::alloc::Global;
 use std::test::Fail;
@@ -10,50 +10,162 @@ use vault_core_model::keeper::Keeper;
 use vault_store::sql_keeper::SqlKeeper;
 use vault_transcript::transcript::replies;
 
+/// The store of a vault in such files.
+pub type Store = FileStore<Memory>;
+
+/// Files that are empty.
+pub fn empty_files(alloc: Global) -> Files<Memory> {
+    Files {
+        log: Memory::new(alloc),
+        db: Memory::new(alloc),
+    }
+}
+
+/// A connection to these files.
+pub fn connected(alloc: Global, files: Files<Memory>) -> Result<Connection<Store>, Fail> {
+    if !files.may_be_used() {
+        return Err(Fail::new("the files can't be used"));
+    }
+    match Connection::open_files(alloc, files, Options::new(1)) {
+        Ok(conn) => Ok(conn),
+        Err((_, left)) => {
+            drop(left.into_files());
+            Err(Fail::new("the files can't be opened"))
+        }
+    }
+}
+
+/// The files of a connection, which is closed.
+pub fn closed(conn: Connection<Store>) -> Result<Files<Memory>, Fail> {
+    match conn.close_files() {
+        Ok(files) => Ok(files),
+        Err((_, store)) => {
+            drop(store.close());
+            Err(Fail::new("the files can't be closed"))
+        }
+    }
+}
+
+/// Closes a connection as it stands.
+pub fn let_go(conn: Connection<Store>) {
+    drop(conn.into_store().close());
+}
+
+/// A connection to empty files.
+pub fn new_files(alloc: Global) -> Result<Connection<Store>, Fail> {
+    connected(alloc, empty_files(alloc))
+}
+
+/// A vault that is made in these files.
+fn made(alloc: Global, conn: Connection<Store>) -> Result<SqlKeeper<Store>, Fail> {
+    match SqlKeeper::create(alloc, conn) {
+        Ok(keeper) => Ok(keeper),
+        Err((_, conn)) => {
+            let_go(conn);
+            Err(Fail::new("a vault can't be made"))
+        }
+    }
+}
+
+/// The vault in these files.
+fn opened(alloc: Global, conn: Connection<Store>) -> Result<SqlKeeper<Store>, Fail> {
+    match SqlKeeper::open(alloc, conn) {
+        Ok(keeper) => Ok(keeper),
+        Err((_, conn)) => {
+            let_go(conn);
+            Err(Fail::new("the vault can't be opened"))
+        }
+    }
+}
+
+fn had_no_fault(faults: u64) -> Result<(), Fail> {
+    if faults == 0 {
+        return Ok(());
+    }
+    Err(Fail::new("the device failed"))
+}
+
 /// What is written for a script over a new vault that is kept as a list.
 pub fn replies_of_list(alloc: Global, script: &str) -> Result<String, Fail> {
     let mut keeper = ListKeeper::new(alloc)?;
     replies(alloc, &mut keeper, script.as_bytes())
 }
 
-/// What is written for a script over a new vault in tables in memory. Fails where its device failed.
-pub fn replies_of_memory(alloc: Global, script: &str) -> Result<String, Fail> {
-    let conn = Connection::open_in_memory(alloc)?;
-    let mut keeper = made(alloc, conn)?;
-    let written = replies(alloc, &mut keeper, script.as_bytes())?;
-    had_no_fault(&keeper)?;
+/// What is written for a script over a new vault in files that stay open. Fails where its device failed.
+pub fn replies_of_open_files(alloc: Global, script: &str) -> Result<String, Fail> {
+    let mut keeper = made(alloc, new_files(alloc)?)?;
+    let written = replies(alloc, &mut keeper, script.as_bytes());
+    let faults = keeper.faults();
+    let_go(keeper.into_connection());
+    let written = written?;
+    had_no_fault(faults)?;
     Ok(written)
 }
 
 /// What is written for a script over a new vault in files, which are closed and opened again behind each
 /// line. Fails where they can't be opened, or their device failed.
 pub fn replies_of_files(alloc: Global, script: &str) -> Result<String, Fail> {
-    let files = Files {
-        log: Memory::new(alloc),
-        db: Memory::new(alloc),
-    };
-    let mut keeper = made_in_files(alloc, in_files(alloc, files)?)?;
+    let mut files = closed(made(alloc, new_files(alloc)?)?.into_connection())?;
     let mut written = String::new(alloc);
     for line in script.lines() {
-        let reply = replies(alloc, &mut keeper, line.as_bytes())?;
+        let (reply, left) = reply_in(alloc, files, line)?;
+        files = left;
         written.push_str(reply.as_str())?;
-        keeper = opened_again(alloc, keeper)?;
     }
     Ok(written)
 }
 
+/// What is written for a line over the vault in these files, and the files as it leaves them.
+fn reply_in(
+    alloc: Global,
+    files: Files<Memory>,
+    line: &str,
+) -> Result<(String, Files<Memory>), Fail> {
+    let mut keeper = opened(alloc, connected(alloc, files)?)?;
+    let reply = replies(alloc, &mut keeper, line.as_bytes());
+    let faults = keeper.faults();
+    let conn = keeper.into_connection();
+    match reply {
+        Ok(reply) => {
+            let files = closed(conn)?;
+            had_no_fault(faults)?;
+            Ok((reply, files))
+        }
+        Err(fail) => {
+            let_go(conn);
+            Err(fail)
+        }
+    }
+}
+
 /// What is written for a run of lines over a keeper whose device fails once after so many changes, and what
-/// for the lines behind. Fails where the device didn't fail just once.
-fn replies_of_failing<K: Keeper + Drop>(
+/// for the lines behind; and the keeper. Fails where the device didn't fail just once.
+fn replies_of_failing<K: Keeper>(
     alloc: Global,
     keeper: K,
     changes: u64,
     script: &Failing<'_>,
-) -> Result<String, Fail> {
+) -> (Result<String, Fail>, K) {
     let mut keeper = keeper;
-    let mut written = replies(alloc, &mut keeper, script.before.as_bytes())?;
-    let mut fused = FuseKeeper::new(keeper, changes);
-    let behind = replies(alloc, &mut fused, script.behind.as_bytes())?;
+    match replies(alloc, &mut keeper, script.before.as_bytes()) {
+        Ok(written) => {
+            let mut fused = FuseKeeper::new(keeper, changes);
+            let written = replies_behind(alloc, &mut fused, script, written);
+            (written, fused.into_keeper())
+        }
+        Err(fail) => (Err(fail), keeper),
+    }
+}
+
+/// What was written, and what is for the lines in which the device fails.
+fn replies_behind<K: Keeper>(
+    alloc: Global,
+    fused: &mut FuseKeeper<K>,
+    script: &Failing<'_>,
+    written: String,
+) -> Result<String, Fail> {
+    let mut written = written;
+    let behind = replies(alloc, fused, script.behind.as_bytes())?;
     if fused.faults() != 1 {
         return Err(Fail::new("the device didn't fail once"));
     }
@@ -70,59 +182,15 @@ pub struct Failing<'a> {
 
 /// What is written for it over a new vault that is kept as a list.
 pub fn failing_of_list(alloc: Global, changes: u64, script: &Failing<'_>) -> Result<String, Fail> {
-    replies_of_failing(alloc, ListKeeper::new(alloc)?, changes, script)
+    let (written, keeper) = replies_of_failing(alloc, ListKeeper::new(alloc)?, changes, script);
+    drop(keeper);
+    written
 }
 
-/// What is written for it over a new vault in tables in memory.
-pub fn failing_of_memory(
-    alloc: Global,
-    changes: u64,
-    script: &Failing<'_>,
-) -> Result<String, Fail> {
-    let keeper = made(alloc, Connection::open_in_memory(alloc)?)?;
-    replies_of_failing(alloc, keeper, changes, script)
-}
-
-type InFiles = SqlKeeper<FileStore<Memory>>;
-
-fn made(alloc: Global, conn: Connection<MemStore>) -> Result<SqlKeeper<MemStore>, Fail> {
-    match SqlKeeper::create(alloc, conn) {
-        Ok(keeper) => Ok(keeper),
-        Err(_) => Err(Fail::new("a vault can't be made")),
-    }
-}
-
-fn made_in_files(alloc: Global, conn: Connection<FileStore<Memory>>) -> Result<InFiles, Fail> {
-    match SqlKeeper::create(alloc, conn) {
-        Ok(keeper) => Ok(keeper),
-        Err(_) => Err(Fail::new("a vault can't be made")),
-    }
-}
-
-fn in_files(alloc: Global, files: Files<Memory>) -> Result<Connection<FileStore<Memory>>, Fail> {
-    if !files.may_be_used() {
-        return Err(Fail::new("the files can't be used"));
-    }
-    match Connection::open_files(alloc, files, Options::new(1)) {
-        Ok(conn) => Ok(conn),
-        Err(_) => Err(Fail::new("the files can't be opened")),
-    }
-}
-
-/// The vault of files that were closed and opened again.
-fn opened_again(alloc: Global, keeper: InFiles) -> Result<InFiles, Fail> {
-    had_no_fault(&keeper)?;
-    let conn = keeper.into_connection();
-    let files = conn.close_files().ok().ok_or("the files can't be closed")?;
-    match SqlKeeper::open(alloc, in_files(alloc, files)?) {
-        Ok(keeper) => Ok(keeper),
-        Err(_) => Err(Fail::new("the vault can't be opened")),
-    }
-}
-
-fn had_no_fault<K: Keeper>(keeper: &K) -> Result<(), Fail> {
-    if keeper.faults() == 0 {
-        return Ok(());
-    }
-    Err(Fail::new("the device failed"))
+/// What is written for it over a new vault in files.
+pub fn failing_of_files(alloc: Global, changes: u64, script: &Failing<'_>) -> Result<String, Fail> {
+    let keeper = made(alloc, new_files(alloc)?)?;
+    let (written, keeper) = replies_of_failing(alloc, keeper, changes, script);
+    let_go(keeper.into_connection());
+    written
 }

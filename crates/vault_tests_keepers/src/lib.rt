@@ -1,4 +1,5 @@
-//! Tests of vaults that are made, opened and kept: whole scripts over each kind of keeper, in memory and in files.
+//! Tests of vaults that are made, opened and kept: whole scripts over each kind of keeper, in files that stay open
+//! or are opened again.
 #![tactic(auto)]
 
 #[cfg(test)]

@@ -1,8 +1,8 @@
-//! The same script gets the same replies over each keeper; over files, which are closed and opened again
-//! behind each line, too. That the replies are the right ones is tested over the list.
+//! The same script gets the same replies over each keeper: the list, files that stay open, and files that are
+//! closed and opened again behind each line. That the replies are the right ones is tested over the list.
 use crate::keepers::{
-    Failing, failing_of_list, failing_of_memory, replies_of_files, replies_of_list,
-    replies_of_memory,
+    Failing, failing_of_files, failing_of_list, replies_of_files, replies_of_list,
+    replies_of_open_files,
 };
 use std::alloc::Global;
 use std::test::Fail;
@@ -52,6 +52,9 @@ const EVERY_COMMAND: &str =
 {"at":"2024-03-06T12:00:00Z","as":"ann","do":"get","bucket":"docs","key":"z"}
 {"at":"2024-03-06T12:00:00Z","as":"ann","do":"list-versions","bucket":"docs"}
 {"at":"2024-03-06T12:00:00Z","as":"ann","do":"report","dept":"records"}
+{"at":"2024-03-06T12:00:00Z","as":"registrar","do":"add-caller","caller":"idle","rights":[]}
+{"at":"2024-03-06T12:00:00Z","as":"ann","do":"put","bucket":"docs","key":"z/1","text":"kept","mode":"GOVERNANCE","until":"9999-12-31T23:59:59Z"}
+{"at":"2024-03-06T12:00:00Z","as":"ann","do":"get-retention","bucket":"docs","key":"z/1"}
 "#;
 
 /// A day with a refused reading, a removal and a report.
@@ -103,9 +106,9 @@ const RUNS: &str = r#"{"at":"2024-03-03T00:00:00Z","as":"ann","do":"run","bucket
 /// Whether a script gets the same replies over each keeper.
 fn agree(alloc: Global, script: &str) -> Result<bool, Fail> {
     let of_list = replies_of_list(alloc, script)?;
-    let of_memory = replies_of_memory(alloc, script)?;
+    let of_open_files = replies_of_open_files(alloc, script)?;
     let of_files = replies_of_files(alloc, script)?;
-    Ok(of_list.as_str() == of_memory.as_str() && of_list.as_str() == of_files.as_str())
+    Ok(of_list.as_str() == of_open_files.as_str() && of_list.as_str() == of_files.as_str())
 }
 
 /// Whether a run that is stopped after so many changes and given again gets the same replies over a list
@@ -116,8 +119,8 @@ fn stop_alike(alloc: Global, changes: u64, stopped: &str) -> Result<bool, Fail> 
         behind: RUNS,
     };
     let of_list = failing_of_list(alloc, changes, &script)?;
-    let of_memory = failing_of_memory(alloc, changes, &script)?;
-    Ok(of_list.as_str() == of_memory.as_str() && of_list.as_str().contains(stopped))
+    let of_files = failing_of_files(alloc, changes, &script)?;
+    Ok(of_list.as_str() == of_files.as_str() && of_list.as_str().contains(stopped))
 }
 
 #[test]

@@ -80,6 +80,12 @@ impl Left {
 /// What may be left of a file.
 pub fn leave(alloc: Global, file: Fuse<Memory>) -> Result<Left, Fail> {
     let mut file = file;
+    let left = standing_and_synced(alloc, &mut file);
+    drop(file);
+    left
+}
+
+fn standing_and_synced(alloc: Global, file: &mut Fuse<Memory>) -> Result<Left, Fail> {
     let standing = copied(alloc, file.inner().bytes())?;
     file.crash();
     let synced = copied(alloc, file.inner().bytes())?;

@@ -99,7 +99,10 @@ pub fn stopped(
         Err((Refusal::Device, conn)) => {
             Ok((before_lines(Phase::Entering), conn.into_store().close()))
         }
-        Err((refusal, _)) => Err(Fail::new(refusal.name())),
+        Err((refusal, conn)) => {
+            drop(conn.into_store().close());
+            Err(Fail::new(refusal.name()))
+        }
     }
 }
 
@@ -109,8 +112,15 @@ fn asked(
     keeper: SqlKeeper<InFiles>,
 ) -> Result<(Stop, VaultFiles), Fail> {
     let mut keeper = keeper;
-    let progress = work(alloc, &mut keeper, visit)?;
-    Ok(closed(keeper.into_connection(), progress))
+    let worked = work(alloc, &mut keeper, visit);
+    let conn = keeper.into_connection();
+    match worked {
+        Ok(progress) => Ok(closed(conn, progress)),
+        Err(fail) => {
+            drop(conn.into_store().close());
+            Err(fail)
+        }
+    }
 }
 
 /// Closes the files where no line failed.

@@ -216,6 +216,7 @@ fn whole(
 ) -> Result<(Progress, Vec<u8>, Vec<u8>), Fail> {
     let (stop, files) = stopped(alloc, visit, sound(alloc, bytes)?)?;
     if stop.phase != Phase::Over {
+        drop(files);
         return Err(Fail::new("a sound file failed"));
     }
     let (log, database) = left_of(alloc, files)?;

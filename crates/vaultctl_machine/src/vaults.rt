@@ -45,7 +45,12 @@ fn unmade(error: Error) -> Refusal {
 fn connect(rt: &HostRuntime, path: &str) -> Result<Connection<VaultStore>, Error> {
     match Connection::open_from(rt, path, false, Wary) {
         Ok(conn) => Ok(conn),
-        Err((error, _)) => Err(error),
+        Err((error, left)) => {
+            if let Some(left) = left {
+                drop(left.into_files());
+            }
+            Err(error)
+        }
     }
 }
 
