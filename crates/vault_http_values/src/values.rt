@@ -121,7 +121,8 @@ pub(crate) fn prefix_named(alloc: Global, text: &str) -> Result<KeyPrefix, LineF
     }
 }
 
-/// What a key begins with: a member that may be left out, which means any key.
+/// What keys are held against: what they begin with, or the key behind which a listing begins. A member that
+/// may be left out, which is the empty text: any key begins with it, and each comes behind it.
 #[tactic(auto, unfolding(crate::specs::Values::prefix_of))]
 pub fn prefix(alloc: Global, name: &str, value: &Value) -> Result<KeyPrefix, LineFault>
     ensures { Gives (λ x. x) result (spec.prefix_of name.now (view value.now)) }
