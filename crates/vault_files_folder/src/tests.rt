@@ -94,6 +94,20 @@ fn a_list_is_read_or_fails(rt: HostRuntime) -> Result<(), Fail> {
     compare(absent.as_str(), "device")
 }
 
+/// Of a list that is too long one byte more is read than a list may have, and no more.
+#[test]
+fn a_long_list_is_read_up_to_the_limit(rt: HostRuntime) -> Result<(), Fail> {
+    let alloc = rt.alloc();
+    fs::write(
+        &rt,
+        "long_list_of_a_test",
+        vec![in alloc; b'a'; 16_777_218]?,
+    )?;
+    let read = told(alloc, read_list(alloc, &rt, "long_list_of_a_test").map(Some));
+    fs::remove_file(&rt, "long_list_of_a_test")?;
+    compare(read?.as_str(), "16777217 of 97")
+}
+
 #[test]
 fn a_line_is_told_after_each_thousand_files(rt: HostRuntime) -> Result<(), Fail> {
     let mut told = Vec::new(rt.alloc());

@@ -1,6 +1,7 @@
 //! What a fault of the reader, the writer or the device leaves behind.
 use crate::exchange::{READING, answer, wire};
 use std::alloc::Global;
+use std::io::BufWriter;
 use std::process::Abort;
 use std::test::Fail;
 use vault_core::fuse_keeper::FuseKeeper;
@@ -75,6 +76,36 @@ fn a_writer_that_fails(rt: HostRuntime) -> Result<(), Fail> {
     serve_to(&rt, alloc, 0, Err(ServeFault::Write), false)?;
     serve_to(&rt, alloc, 1, Err(ServeFault::Write), true)?;
     serve_to(&rt, alloc, 2, Ok(()), true)
+}
+
+/// What serving a request is told whose answer is held back, for a writer that takes none.
+fn served_held_back(
+    alloc: Global,
+    keeper: &mut ListKeeper,
+    request: &str,
+) -> Result<Result<(), ServeFault>, Fail> {
+    let request = wire(alloc, request)?;
+    let mut reader = request.as_bytes();
+    let full = FailingWriter {
+        written: Vec::new(alloc),
+        writes_left: 0,
+    };
+    let mut writer = BufWriter::with_capacity(alloc, 65_536, full)?;
+    Ok(serve_one(alloc, &mut reader, &mut writer, keeper, READING))
+}
+
+/// What is held back is handed on before a request counts as served: an answer that can't be is a fault, and
+/// without 100 Continue no step is made.
+#[test]
+fn a_writer_that_holds_back(rt: HostRuntime) -> Result<(), Fail> {
+    let alloc = rt.alloc();
+    let mut keeper = opened(alloc)?;
+    assert!(rt; served_held_back(alloc, &mut keeper, PUT)? == Err(ServeFault::Write));
+    assert!(rt; !is_put(alloc, &mut keeper)?);
+    let at_once = "PUT /docs/a HTTP/1.1|x-vault-caller: ann|content-length: 5||hello";
+    assert!(rt; served_held_back(alloc, &mut keeper, at_once)? == Err(ServeFault::Write));
+    assert!(rt; is_put(alloc, &mut keeper)?);
+    Ok(())
 }
 
 /// A change that the device refuses is answered, and not made.
