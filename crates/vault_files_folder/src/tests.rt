@@ -103,7 +103,10 @@ fn a_long_list_is_read_up_to_the_limit(rt: HostRuntime) -> Result<(), Fail> {
         "long_list_of_a_test",
         vec![in alloc; b'a'; 16_777_218]?,
     )?;
-    let read = told(alloc, read_list(alloc, &rt, "long_list_of_a_test").map(Some));
+    let read = told(
+        alloc,
+        read_list(alloc, &rt, "long_list_of_a_test").map(Some),
+    );
     fs::remove_file(&rt, "long_list_of_a_test")?;
     compare(read?.as_str(), "16777217 of 97")
 }
