@@ -1,8 +1,10 @@
 //! A reader's bytes, one by one.
-ghost use Rattle.std.specs.Prelude.{◌≡◌, IfOk};
+ghost use Rattle.std.specs.Prelude.{◌≢◌, IfErr, IfOk};
+ghost use Rattle.std.specs.IoError.{error_kind};
 ghost use Rattle.vault_http_head.specs.Bytes.{NextByte};
 
-use std::io::{Error, ErrorKind, Read, Result};
+use std::io::{ErrorKind, Read, Result};
+use vault_io::retry::read_retrying;
 
 /// Why a request couldn't be read.
 #[derive(Clone, Copy, PartialEq, Eq, Debug)]
@@ -13,21 +15,15 @@ pub enum ReadFault {
     Memory,
 }
 
-/// The next byte, or none at the end. A read that a signal interrupts is tried again.
+/// The next byte, or none at the end. A read that a signal interrupts is tried again, and never told.
 pub fn next_byte<R: Read>(reader: &mut R) -> Result<Option<u8>>
-    ensures { IfOk result (λ next. NextByte (R.remaining reader.old) (R.remaining reader.new) next) }
+    ensures next { IfOk result (λ next. NextByte (R.remaining reader.old) (R.remaining reader.new) next) }
+    ensures retried { IfErr result (λ e. error_kind e ≢ ErrorKind.Interrupted) }
 {
-    for _ in 0..u64::MAX {
-        let mut one = [0u8; 1];
-        match reader.read(&mut one) {
-            Ok(0) => return Ok(None),
-            Ok(_) => return Ok(Some(one[0])),
-            Err(e) => {
-                if e.kind() != ErrorKind::Interrupted {
-                    return Err(e);
-                }
-            }
-        }
+    let mut one = [0u8; 1];
+    match read_retrying(reader, &mut one) {
+        Ok(0) => Ok(None),
+        Ok(_) => Ok(Some(one[0])),
+        Err(error) => Err(error),
     }
-    Err(Error::from(ErrorKind::Interrupted))
 }

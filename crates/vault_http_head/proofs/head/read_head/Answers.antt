@@ -22,13 +22,13 @@ returns-in-Err-parse_request-clause-front g c =
     let pushed : c.push.new.self.items ≡ c.loop-turn.buf.items ++ c.in-Ok-Some.byte ∷ [] = search rules in
     let room : length c.loop-turn.headers ≡ 64 = omega arith in
     let over : RequestOverflows 64 c.push.new.self.items = rw (c.as_slice.ensures.value, room) at c.in-Err-parse_request.ensures.no_room in
-    let next : NextByte (g.R.Read.remaining c.loop-turn.reader) (g.R.Read.remaining c.next_byte.new.reader) (Some c.in-Ok-Some.byte) = rw c.in-Ok-Some.field-0-is at c.in-Ok-Some.ensures in
+    let next : NextByte (g.R.Read.remaining c.loop-turn.reader) (g.R.Read.remaining c.next_byte.new.reader) (Some c.in-Ok-Some.byte) = rw c.in-Ok-Some.field-0-is at c.in-Ok-Some.ensures.next in
     refused _ _ _ (subst (Consumes _ _) (sym pushed) (taken_more _ _ _ _ _ c.loop-turn.invariant.taken next)) over
 
 pub loop-turn-preserved : goal.loop-turn-preserved
 loop-turn-preserved g c =
     let pushed : c.push.new.self.items ≡ c.loop-turn.buf.items ++ c.in-Ok-Some.byte ∷ [] = search rules in
-    let next : NextByte (g.R.Read.remaining c.loop-turn.reader) (g.R.Read.remaining c.next_byte.new.reader) (Some c.in-Ok-Some.byte) = rw c.in-Ok-Some.field-0-is at c.in-Ok-Some.ensures in
+    let next : NextByte (g.R.Read.remaining c.loop-turn.reader) (g.R.Read.remaining c.next_byte.new.reader) (Some c.in-Ok-Some.byte) = rw c.in-Ok-Some.field-0-is at c.in-Ok-Some.ensures.next in
     record {
       taken = subst (Consumes _ _) (sym pushed) (taken_more _ _ _ _ _ c.loop-turn.invariant.taken next);
       none = elim c.if-byte-eq10.branch [ then-byte-eq10+in-Ok-Partial w ↦ search rules | else-byte-eq10 w ↦ pushed_other _ _ _ pushed c.loop-turn.invariant.none (search rules) ];
