@@ -1,6 +1,6 @@
 -- The head at the front of what a reader gives.
-use Rattle.std.specs.Prelude.{ℕ, ◌≡◌, ◌≤◌, ◌<◌, List, [], length, Option, IfSome}
-use Rattle.httparse.specs.Grammar.{RequestHead, ReadsRequest, print_request}
+use Rattle.std.specs.Prelude.{ℕ, ◌≡◌, ◌≤◌, ◌<◌, List, [], ◌∷◌, ◌++◌, length, Option, IfSome}
+use Rattle.httparse.specs.Grammar.{RequestHead, ReadsRequest, NeverHasRequest, print_request}
 use Rattle.httparse.specs.Spans.{IsRequestAt, IsRequestWithin}
 use Rattle.httparse.specs.declared.spans.HeaderSpan.{HeaderSpan}
 use Rattle.vault_http_head.specs.declared.head.Front.{Front}
@@ -35,3 +35,7 @@ abbrev pub IsWithin : List ℕ → List HeaderSpan → Front → Type 0
 IsWithin buf headers Nothing = Unit {0}
 IsWithin buf headers NoHead = Unit {0}
 IsWithin buf headers (Head spans) = IsRequestWithin buf headers spans
+
+-- behind a line with which no head can come, of whatever length, nothing was taken
+abbrev pub IsPrompt : List ℕ → Type 0
+IsPrompt buf = (line later : List ℕ) → buf ≡ (line ++ 10 ∷ []) ++ later → NeverHasRequest (line ++ 10 ∷ []) → later ≡ []

@@ -1,7 +1,7 @@
 //! The head of a request: its first line, its headers and the blank line (RFC 9112, section 2.1).
 ghost use Rattle.std.specs.Prelude.{◌≡◌, [], IfOk, OnOk, length};
 ghost use Rattle.std.specs.Io.KnownBytes.{Consumes};
-ghost use Rattle.vault_http_head.specs.Head.{Came, HasBytes, IsWithin};
+ghost use Rattle.vault_http_head.specs.Head.{Came, HasBytes, IsPrompt, IsWithin};
 
 use crate::bytes::{ReadFault, next_byte};
 use httparse::Status;
@@ -34,6 +34,8 @@ pub fn read_head<R: Read>(
     ensures within { IfOk result (IsWithin buf.new.items headers.new) }
     ensures some { IfOk result (λ front. HasBytes front buf.new.items) }
     ensures taken { OnOk result (Consumes (R.remaining reader.old) (R.remaining reader.new) buf.new.items) }
+    // With each line but the last one that was taken, a head could still come.
+    ensures prompt { IsPrompt buf.new.items }
 {
     for turn in 0..16_384usize {
         let byte = match next_byte(reader) {
