@@ -37,8 +37,16 @@ pub(crate) fn find_access_to_put<K: Keeper>(
     ensures device { IsTrue (is_device result) → Rose (K.count keeper.old) (K.count keeper.new) }
 {
     let access = find_access(keeper, at, who, &command.bucket, Right::Put)?;
-    check_right_if(command.retention.is_some(), &access.caller, Right::Retain)?;
-    check_right_if(command.hold.is_some(), &access.caller, Right::Hold)?;
+    let may_retain = check_right_if(command.retention.is_some(), &access.caller, Right::Retain);
+    if let Err(refusal) = may_retain {
+        drop(access);
+        return Err(Halt::Refused(refusal));
+    }
+    let may_hold = check_right_if(command.hold.is_some(), &access.caller, Right::Hold);
+    if let Err(refusal) = may_hold {
+        drop(access);
+        return Err(Halt::Refused(refusal));
+    }
     Ok(access)
 }
 

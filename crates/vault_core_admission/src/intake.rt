@@ -1,6 +1,7 @@
 //! A line of an intake batch.
 ghost use Rattle.std.specs.Prelude.{◌≡◌, ◌≤◌, ◌+◌, length, IsTrue, IfOk, IfErr, OnOk, Some, None, false};
 ghost use Rattle.vault_core_model.specs.Halts.{Finds, Meets, is_device, is_device_refusal, Rose};
+ghost use Rattle.vault_core_model.specs.EntryOutcomes.{new_version};
 ghost use Rattle.vault_core_model.specs.IntakeOutcome as outcome;
 ghost use Rattle.vault_core_model.specs.Sound.{Sound};
 ghost use Rattle.vault_core_model.specs.Totals.{admitted_bytes};
@@ -38,10 +39,33 @@ pub fn intake<K: Keeper>(
     ensures device { IsTrue (is_device result) → Rose (K.count keeper.old) (K.count keeper.new) }
 {
     let access = find_access_to_put(keeper, at, who, &command.put)?;
+    let answer = take_in_once(alloc, keeper, at, who, command, &access);
+    drop(access);
+    answer
+}
+
+/// Admits the version of a line, unless a note tells that the line was accepted before.
+fn take_in_once<K: Keeper>(
+    alloc: Global,
+    keeper: &mut K,
+    at: Moment,
+    who: &CallerName,
+    command: &Intake,
+    access: &Access,
+) -> Result<Answer, Halt>
+    requires in_time { K.is_honest keeper.old → (K.vault keeper.old).last ≤ at }
+    requires there { K.is_honest keeper.old → config_of (K.vault keeper.old) command.now.put.bucket ≡ Some access.now.bucket }
+    ensures meets { K.is_honest keeper.new → Meets result (K.vault keeper.old) (K.vault keeper.new) (outcome.intake_by (K.vault keeper.old) at who.now command.now access.now (note_of (K.vault keeper.old) command.now.put.bucket command.now.batch command.now.line)) }
+    ensures honest { K.is_honest keeper.new → K.is_honest keeper.old }
+    ensures counted { K.count keeper.old ≤ K.count keeper.new }
+    ensures device { IsTrue (is_device result) → Rose (K.count keeper.old) (K.count keeper.new) }
+{
     let Some(note) = keeper.note(&command.put.bucket, &command.batch, command.line)? else {
-        return take_in(alloc, keeper, at, who, command, &access);
+        return take_in(alloc, keeper, at, who, command, access);
     };
-    let taken = taken_before(&command.put, &note)?;
+    let found = taken_before(&command.put, &note);
+    drop(note);
+    let taken = found?;
     Ok(Answer::TakenIn(taken))
 }
 
@@ -64,12 +88,34 @@ fn take_in<K: Keeper>(
 {
     let lock = find_lock_to_take_in(keeper, at, command, access)?;
     let id = find_id(keeper)?;
-    let admission = Admission {
-        history: new_version(alloc, id, at, who, &command.put, lock)?,
-        note: Some(new_note(id, command)?),
-    };
+    let admission = new_admission(alloc, id, at, who, command, lock)?;
     make_change(keeper, at, Change::Admit(admission))?;
     Ok(Answer::TakenIn(TakenIn { id, again: false }))
+}
+
+/// The version of an accepted line, and its note.
+fn new_admission(
+    alloc: Global,
+    id: VersionId,
+    at: Moment,
+    who: &CallerName,
+    command: &Intake,
+    lock: Lock,
+) -> Result<Admission, AllocError>
+    ensures history { IfOk result (λ admission. admission.history ≡ new_version id at who.now command.now.put lock) }
+    ensures note { IfOk result (λ admission. admission.note ≡ Some (outcome.new_note id command.now)) }
+{
+    let history = new_version(alloc, id, at, who, &command.put, lock)?;
+    match new_note(id, command) {
+        Ok(note) => Ok(Admission {
+            history,
+            note: Some(note),
+        }),
+        Err(error) => {
+            drop(history);
+            Err(error)
+        }
+    }
 }
 
 /// The lock that a line's version gets: the line's number, then what a put checks.

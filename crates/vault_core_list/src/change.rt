@@ -25,12 +25,19 @@ pub(crate) fn admit(
     ensures no_history { OnErr result (histories.new.items ≡ histories.old.items) }
     ensures no_note { OnErr result (notes.new.items ≡ notes.old.items) }
 {
-    let history = admission.history.clone()?;
     // With the room taken first, nothing fails once the note stands.
     histories.reserve(1)?;
-    place_note(notes, &admission.note)?;
-    histories.push(history)?;
-    Ok(())
+    let history = admission.history.clone()?;
+    match place_note(notes, &admission.note) {
+        Ok(()) => {
+            histories.push(history)?;
+            Ok(())
+        }
+        Err(error) => {
+            drop(history);
+            Err(error)
+        }
+    }
 }
 
 /// Puts the note, where there is one, at its place.
