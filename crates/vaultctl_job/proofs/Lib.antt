@@ -1,2 +1,3 @@
+pub mod AddingLemmas
 pub mod NumberLemmas
 pub mod WordsLemmas

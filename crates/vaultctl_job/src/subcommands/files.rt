@@ -1,42 +1,45 @@
 //! Subcommands on a vault's file as a whole.
-ghost use Rattle.std.specs.Prelude.{◌≡◌, IfOk};
-ghost use Rattle.clap.specs.Words.{app_of, with_subcommand};
+ghost use Rattle.std.specs.Prelude.{◌≡◌, false, IfOk};
+ghost use Rattle.clap.specs.Words.{app_of};
+ghost use Rattle.clap.specs.declared.builder.command.Command.TheViews.{out-Command};
 ghost use Rattle.vaultctl_job.specs.Words as spec;
 
 use crate::arguments::{count, named, optional_place, place, port};
+use crate::subcommands::added;
 use clap::Command;
 use std::alloc::{AllocError, Global};
 
-fn with_register<'a>(alloc: Global, parent: Command<'a>) -> Result<Command<'a>, AllocError>
-    ensures { IfOk result (λ c. app_of c ≡ with_subcommand (app_of parent.entry) spec.register_app.top) }
+fn register<'a>(alloc: Global) -> Result<Command<'a>, AllocError>
+    ensures app { IfOk result (λ c. app_of c ≡ spec.register_app) }
+    ensures local { IfOk result (λ c. (out-Command c).has_globals ≡ false) }
 {
-    let register = named(
+    named(
         alloc,
         "register",
         "Prints the register of all removals as CSV",
         "Example:\n  vaultctl register records.vault > register.csv",
     )
-    .arg(place(alloc, "FILE", "The vault's file"))?;
-    parent.subcommand(register)
+    .arg(place(alloc, "FILE", "The vault's file"))
 }
 
-fn with_verify<'a>(alloc: Global, parent: Command<'a>) -> Result<Command<'a>, AllocError>
-    ensures { IfOk result (λ c. app_of c ≡ with_subcommand (app_of parent.entry) spec.verify_app.top) }
+fn verify<'a>(alloc: Global) -> Result<Command<'a>, AllocError>
+    ensures app { IfOk result (λ c. app_of c ≡ spec.verify_app) }
+    ensures local { IfOk result (λ c. (out-Command c).has_globals ≡ false) }
 {
-    let verify = named(
+    named(
         alloc,
         "verify",
         "Audits a vault's file",
         "Prints 'sound', or 'damaged TABLE' with the first table that isn't.\n\nExample:\n  vaultctl verify records.vault",
     )
-    .arg(place(alloc, "FILE", "The vault's file"))?;
-    parent.subcommand(verify)
+    .arg(place(alloc, "FILE", "The vault's file"))
 }
 
-fn with_replay<'a>(alloc: Global, parent: Command<'a>) -> Result<Command<'a>, AllocError>
-    ensures { IfOk result (λ c. app_of c ≡ with_subcommand (app_of parent.entry) spec.replay_app.top) }
+fn replay<'a>(alloc: Global) -> Result<Command<'a>, AllocError>
+    ensures app { IfOk result (λ c. app_of c ≡ spec.replay_app) }
+    ensures local { IfOk result (λ c. (out-Command c).has_globals ≡ false) }
 {
-    let replay = named(
+    named(
         alloc,
         "replay",
         "Answers a script of commands on standard input",
@@ -46,14 +49,14 @@ fn with_replay<'a>(alloc: Global, parent: Command<'a>) -> Result<Command<'a>, Al
         alloc,
         "FILE",
         "The vault's file; left out: a new vault in memory",
-    ))?;
-    parent.subcommand(replay)
+    ))
 }
 
-fn with_serve<'a>(alloc: Global, parent: Command<'a>) -> Result<Command<'a>, AllocError>
-    ensures { IfOk result (λ c. app_of c ≡ with_subcommand (app_of parent.entry) spec.serve_app.top) }
+fn serve<'a>(alloc: Global) -> Result<Command<'a>, AllocError>
+    ensures app { IfOk result (λ c. app_of c ≡ spec.serve_app) }
+    ensures local { IfOk result (λ c. (out-Command c).has_globals ≡ false) }
 {
-    let serve = named(
+    named(
         alloc,
         "serve",
         "Serves HTTP requests on 127.0.0.1",
@@ -61,16 +64,15 @@ fn with_serve<'a>(alloc: Global, parent: Command<'a>) -> Result<Command<'a>, All
     )
     .arg(place(alloc, "FILE", "The vault's file"))?
     .arg(port(alloc))?
-    .arg(count(alloc))?;
-    parent.subcommand(serve)
+    .arg(count(alloc))
 }
 
 /// Adds the subcommands on a vault's file as a whole.
 pub fn with_files<'a>(alloc: Global, parent: Command<'a>) -> Result<Command<'a>, AllocError>
     ensures { IfOk result (λ c. app_of c ≡ spec.with_files (app_of parent.entry)) }
 {
-    let top = with_register(alloc, parent)?;
-    let top = with_verify(alloc, top)?;
-    let top = with_replay(alloc, top)?;
-    with_serve(alloc, top)
+    let top = added(parent, register(alloc))?;
+    let top = added(top, verify(alloc))?;
+    let top = added(top, replay(alloc))?;
+    added(top, serve(alloc))
 }

@@ -1,16 +1,19 @@
 //! Subcommands that make a vault and its records.
-ghost use Rattle.std.specs.Prelude.{◌≡◌, IfOk};
-ghost use Rattle.clap.specs.Words.{app_of, with_subcommand};
+ghost use Rattle.std.specs.Prelude.{◌≡◌, false, IfOk};
+ghost use Rattle.clap.specs.Words.{app_of};
+ghost use Rattle.clap.specs.declared.builder.command.Command.TheViews.{out-Command};
 ghost use Rattle.vaultctl_job.specs.Words as spec;
 
 use crate::arguments::{asker, close, home, moment, named, place, rights};
+use crate::subcommands::added;
 use clap::Command;
 use std::alloc::{AllocError, Global};
 
-fn with_init<'a>(alloc: Global, parent: Command<'a>) -> Result<Command<'a>, AllocError>
-    ensures { IfOk result (λ c. app_of c ≡ with_subcommand (app_of parent.entry) spec.init_app.top) }
+fn init<'a>(alloc: Global) -> Result<Command<'a>, AllocError>
+    ensures app { IfOk result (λ c. app_of c ≡ spec.init_app) }
+    ensures local { IfOk result (λ c. (out-Command c).has_globals ≡ false) }
 {
-    let init = named(
+    named(
         alloc,
         "init",
         "Makes a new vault in a file",
@@ -20,14 +23,14 @@ fn with_init<'a>(alloc: Global, parent: Command<'a>) -> Result<Command<'a>, Allo
         alloc,
         "FILE",
         "The file to make; it may not hold a vault yet",
-    ))?;
-    parent.subcommand(init)
+    ))
 }
 
-fn with_dept<'a>(alloc: Global, parent: Command<'a>) -> Result<Command<'a>, AllocError>
-    ensures { IfOk result (λ c. app_of c ≡ with_subcommand (app_of parent.entry) spec.dept_app.top) }
+fn dept<'a>(alloc: Global) -> Result<Command<'a>, AllocError>
+    ensures app { IfOk result (λ c. app_of c ≡ spec.dept_app) }
+    ensures local { IfOk result (λ c. (out-Command c).has_globals ≡ false) }
 {
-    let dept = named(
+    named(
         alloc,
         "dept",
         "Adds a department",
@@ -40,14 +43,14 @@ fn with_dept<'a>(alloc: Global, parent: Command<'a>) -> Result<Command<'a>, Allo
         "Its name: 1 to 64 of a-z, 0-9, '-', '_', '.'",
     ))?
     .arg(asker(alloc))?
-    .arg(moment(alloc))?;
-    parent.subcommand(dept)
+    .arg(moment(alloc))
 }
 
-fn with_caller<'a>(alloc: Global, parent: Command<'a>) -> Result<Command<'a>, AllocError>
-    ensures { IfOk result (λ c. app_of c ≡ with_subcommand (app_of parent.entry) spec.caller_app.top) }
+fn caller<'a>(alloc: Global) -> Result<Command<'a>, AllocError>
+    ensures app { IfOk result (λ c. app_of c ≡ spec.caller_app) }
+    ensures local { IfOk result (λ c. (out-Command c).has_globals ≡ false) }
 {
-    let caller = named(
+    named(
         alloc,
         "caller",
         "Adds a caller with rights, or closes one for good",
@@ -63,14 +66,14 @@ fn with_caller<'a>(alloc: Global, parent: Command<'a>) -> Result<Command<'a>, Al
     .arg(asker(alloc))?
     .arg(moment(alloc))?
     .arg(home(alloc))?
-    .arg(close(alloc))?;
-    parent.subcommand(caller)
+    .arg(close(alloc))
 }
 
-fn with_bucket<'a>(alloc: Global, parent: Command<'a>) -> Result<Command<'a>, AllocError>
-    ensures { IfOk result (λ c. app_of c ≡ with_subcommand (app_of parent.entry) spec.bucket_app.top) }
+fn bucket<'a>(alloc: Global) -> Result<Command<'a>, AllocError>
+    ensures app { IfOk result (λ c. app_of c ≡ spec.bucket_app) }
+    ensures local { IfOk result (λ c. (out-Command c).has_globals ≡ false) }
 {
-    let bucket = named(
+    named(
         alloc,
         "bucket",
         "Adds a bucket to a department",
@@ -84,16 +87,15 @@ fn with_bucket<'a>(alloc: Global, parent: Command<'a>) -> Result<Command<'a>, Al
     ))?
     .arg(place(alloc, "DEPT", "The department that it belongs to"))?
     .arg(asker(alloc))?
-    .arg(moment(alloc))?;
-    parent.subcommand(bucket)
+    .arg(moment(alloc))
 }
 
 /// Adds the subcommands that make a vault and its records.
 pub fn with_records<'a>(alloc: Global, parent: Command<'a>) -> Result<Command<'a>, AllocError>
     ensures { IfOk result (λ c. app_of c ≡ spec.with_records (app_of parent.entry)) }
 {
-    let top = with_init(alloc, parent)?;
-    let top = with_dept(alloc, top)?;
-    let top = with_caller(alloc, top)?;
-    with_bucket(alloc, top)
+    let top = added(parent, init(alloc))?;
+    let top = added(top, dept(alloc))?;
+    let top = added(top, caller(alloc))?;
+    added(top, bucket(alloc))
 }

@@ -1,16 +1,19 @@
 //! Subcommands for a day's work with buckets and departments.
-ghost use Rattle.std.specs.Prelude.{◌≡◌, IfOk};
-ghost use Rattle.clap.specs.Words.{app_of, with_subcommand};
+ghost use Rattle.std.specs.Prelude.{◌≡◌, false, IfOk};
+ghost use Rattle.clap.specs.Words.{app_of};
+ghost use Rattle.clap.specs.declared.builder.command.Command.TheViews.{out-Command};
 ghost use Rattle.vaultctl_job.specs.Words as spec;
 
 use crate::arguments::{asker, moment, named, place};
+use crate::subcommands::added;
 use clap::Command;
 use std::alloc::{AllocError, Global};
 
-fn with_intake<'a>(alloc: Global, parent: Command<'a>) -> Result<Command<'a>, AllocError>
-    ensures { IfOk result (λ c. app_of c ≡ with_subcommand (app_of parent.entry) spec.intake_app.top) }
+fn intake<'a>(alloc: Global) -> Result<Command<'a>, AllocError>
+    ensures app { IfOk result (λ c. app_of c ≡ spec.intake_app) }
+    ensures local { IfOk result (λ c. (out-Command c).has_globals ≡ false) }
 {
-    let intake = named(
+    named(
         alloc,
         "intake",
         "Takes in files of a folder by a list",
@@ -29,14 +32,14 @@ fn with_intake<'a>(alloc: Global, parent: Command<'a>) -> Result<Command<'a>, Al
     .arg(place(alloc, "LIST", "The list's file"))?
     .arg(place(alloc, "FOLDER", "The folder of the files that it names"))?
     .arg(asker(alloc))?
-    .arg(moment(alloc))?;
-    parent.subcommand(intake)
+    .arg(moment(alloc))
 }
 
-fn with_run<'a>(alloc: Global, parent: Command<'a>) -> Result<Command<'a>, AllocError>
-    ensures { IfOk result (λ c. app_of c ≡ with_subcommand (app_of parent.entry) spec.run_app.top) }
+fn run<'a>(alloc: Global) -> Result<Command<'a>, AllocError>
+    ensures app { IfOk result (λ c. app_of c ≡ spec.run_app) }
+    ensures local { IfOk result (λ c. (out-Command c).has_globals ≡ false) }
 {
-    let run = named(
+    named(
         alloc,
         "run",
         "Carries out the lifecycle rules of a bucket",
@@ -45,14 +48,14 @@ fn with_run<'a>(alloc: Global, parent: Command<'a>) -> Result<Command<'a>, Alloc
     .arg(place(alloc, "FILE", "The vault's file"))?
     .arg(place(alloc, "BUCKET", "The bucket's name"))?
     .arg(asker(alloc))?
-    .arg(moment(alloc))?;
-    parent.subcommand(run)
+    .arg(moment(alloc))
 }
 
-fn with_report<'a>(alloc: Global, parent: Command<'a>) -> Result<Command<'a>, AllocError>
-    ensures { IfOk result (λ c. app_of c ≡ with_subcommand (app_of parent.entry) spec.report_app.top) }
+fn report<'a>(alloc: Global) -> Result<Command<'a>, AllocError>
+    ensures app { IfOk result (λ c. app_of c ≡ spec.report_app) }
+    ensures local { IfOk result (λ c. (out-Command c).has_globals ≡ false) }
 {
-    let report = named(
+    named(
         alloc,
         "report",
         "Prints the sums of a department",
@@ -61,14 +64,14 @@ fn with_report<'a>(alloc: Global, parent: Command<'a>) -> Result<Command<'a>, Al
     .arg(place(alloc, "FILE", "The vault's file"))?
     .arg(place(alloc, "DEPT", "The department's name"))?
     .arg(asker(alloc))?
-    .arg(moment(alloc))?;
-    parent.subcommand(report)
+    .arg(moment(alloc))
 }
 
-fn with_certificate<'a>(alloc: Global, parent: Command<'a>) -> Result<Command<'a>, AllocError>
-    ensures { IfOk result (λ c. app_of c ≡ with_subcommand (app_of parent.entry) spec.certificate_app.top) }
+fn certificate<'a>(alloc: Global) -> Result<Command<'a>, AllocError>
+    ensures app { IfOk result (λ c. app_of c ≡ spec.certificate_app) }
+    ensures local { IfOk result (λ c. (out-Command c).has_globals ≡ false) }
 {
-    let certificate = named(
+    named(
         alloc,
         "certificate",
         "Prints the certificate of destruction of a removed version",
@@ -82,16 +85,15 @@ fn with_certificate<'a>(alloc: Global, parent: Command<'a>) -> Result<Command<'a
         "The version's id: a number from 1 to 1000000000",
     ))?
     .arg(asker(alloc))?
-    .arg(moment(alloc))?;
-    parent.subcommand(certificate)
+    .arg(moment(alloc))
 }
 
 /// Adds the subcommands for a day's work.
 pub fn with_work<'a>(alloc: Global, parent: Command<'a>) -> Result<Command<'a>, AllocError>
     ensures { IfOk result (λ c. app_of c ≡ spec.with_work (app_of parent.entry)) }
 {
-    let top = with_intake(alloc, parent)?;
-    let top = with_run(alloc, top)?;
-    let top = with_report(alloc, top)?;
-    with_certificate(alloc, top)
+    let top = added(parent, intake(alloc))?;
+    let top = added(top, run(alloc))?;
+    let top = added(top, report(alloc))?;
+    added(top, certificate(alloc))
 }
