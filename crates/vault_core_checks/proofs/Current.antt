@@ -1,16 +1,16 @@
 -- The entry that a key's head names is the current one.
 use Rattle.std.proofs.Common.{◌≡◌, ℕ, List, [], ◌∷◌, length, Bool, true, false, Option, Some, None, Result, Ok, Err, refl, sym, ◌∙◌, ap, subst}
-use Rattle.std.specs.Prelude.{IfOk, IfSome, option_map, find, is_none, if◌then◌else◌, ◌&&◌, ◌==◌}
+use Rattle.std.specs.Prelude.{IfOk, IfSome, option_map, find, if◌then◌else◌, ◌&&◌, ◌==◌}
 use Rattle.vault_core_model.specs.declared.halt.Fault.{Fault}
 use Rattle.vault_core_model.specs.declared.records.Entry.{Entry}
 use Rattle.vault_core_model.specs.declared.records.Head.{Head}
 use Rattle.vault_core_model.specs.declared.records.History.{History}
-use Rattle.vault_core_model.specs.declared.records.Removal.{Removal}
 use Rattle.vault_core_model.specs.Vault.{Vault}
 use Rattle.vault_core_model.specs.Places.{is_held, held_at, newer, is_current, current}
 use Rattle.vault_core_model.specs.Reads.{entry_of, head_of}
 use Rattle.vault_core_model.specs.Sound.{Sound}
 use Rattle.vault_core_laws.proofs.Newest.{current-head, current-no_head, entry_of-own}
+use Rattle.vault_core_laws.proofs.Tests.{none_is}
 
 pub none_found : (v : Vault) (bucket key : List ℕ) (head : Option Head) → head ≡ None → head ≡ head_of v bucket key → None ≡ option_map (λ (h : History). h.entry) (current v bucket key)
 none_found v bucket key head none is = rw (current-no_head v bucket key (sym is ∙ none)) refl
@@ -38,10 +38,6 @@ pub own_after : (v mid : Vault) (found : Result (Option Entry) Fault) → mid �
 own_after v mid found same own = let P : Vault → Type 0 = λ w. IfOk found (λ e. IfSome e (λ entry. entry_of w entry.id ≡ Some entry)) in subst P same own
 
 -- ---- the current entry is held
-
-none_is : (o : Option Removal) → is_none o ≡ true → o ≡ None
-none_is None e = refl
-none_is (Some r) e = absurd (cc e)
 
 first_held : (h : History) (rest : Option History) (held newest : Bool) → is_held h.entry ≡ held → IfSome rest (λ g. g.entry.removal ≡ None) → IfSome (if held && newest then Some h else rest) (λ g. g.entry.removal ≡ None)
 first_held h rest true true e later = none_is h.entry.removal e

@@ -8,3 +8,4 @@ pub mod Newest
 pub mod References
 pub mod Runs
 pub mod Soundness
+pub mod Tests

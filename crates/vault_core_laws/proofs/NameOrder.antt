@@ -28,16 +28,16 @@ use Rattle.vault_core_laws.proofs.Buckets.{name-with_default, name-with_rules}
 
 -- ---- in any order
 
-reversed : (o : Ordering) → ordering_reverse o ≡ Greater → o ≡ Less
+pub reversed : (o : Ordering) → ordering_reverse o ≡ Greater → o ≡ Less
 reversed Less e = refl
 reversed Equal e = absurd (cc e)
 reversed Greater e = absurd (cc e)
 
 -- x ties with none of these
-abbrev IsApart : {A : Type 0} → (A → A → Ordering) → A → List A → Type 0
+abbrev pub IsApart : {A : Type 0} → (A → A → Ordering) → A → List A → Type 0
 IsApart cmp x ys = AllByRecursion (λ y. cmp x y ≡ Equal → ⊥) ys
 
-ascending-placed : {A : Type 0} (cmp : A → A → Ordering) → IsTotalOrder cmp → (x : A) (ys : List A) → IsApart cmp x ys → IsAscending cmp ys → IsAscending cmp (placed cmp x ys)
+pub ascending-placed : {A : Type 0} (cmp : A → A → Ordering) → IsTotalOrder cmp → (x : A) (ys : List A) → IsApart cmp x ys → IsAscending cmp ys → IsAscending cmp (placed cmp x ys)
 ascending-placed cmp total x [] apart ascending = (tt, tt)
 ascending-placed cmp total x (y ∷ ys) apart ascending =
     elim (cmp x y) as (λ o. cmp x y ≡ o → IsAscending cmp (placed_by o x y ys (placed cmp x ys))) [
@@ -83,12 +83,12 @@ none_passes p P means (y ∷ ys) none =
 same_name : (a b : List ℕ) → name_cmp a b ≡ Equal → bytes_eq b a ≡ true
 same_name a b tie = (bytes_eq-Decides b a).1 (sym (slice_cmp-IsAntisymmetric nat_cmp-IsAntisymmetric a b tie))
 
-then_first : (a b : Ordering) → ordering_then a b ≡ Equal → a ≡ Equal
+pub then_first : (a b : Ordering) → ordering_then a b ≡ Equal → a ≡ Equal
 then_first Less b e = absurd (cc e)
 then_first Equal b e = refl
 then_first Greater b e = absurd (cc e)
 
-then_second : (a b : Ordering) → ordering_then a b ≡ Equal → b ≡ Equal
+pub then_second : (a b : Ordering) → ordering_then a b ≡ Equal → b ≡ Equal
 then_second Less b e = absurd (cc e)
 then_second Equal b e = e
 then_second Greater b e = absurd (cc e)
@@ -147,7 +147,7 @@ note-placed v e (Some n) first ascending =
     (not_found (λ m. bytes_eq m.bucket n.bucket && (bytes_eq m.batch n.batch && m.line == n.line)) (λ m. note_cmp n m ≡ Equal → ⊥) (λ m other tie. clash (bytes_eq m.bucket n.bucket && (bytes_eq m.batch n.batch && m.line == n.line)) (same_line n m tie) other) v.notes first.0)
     ascending
 
-name-closed : (gone : List ℕ) (c : Caller) → (closed_if gone c).name ≡ c.name
+pub name-closed : (gone : List ℕ) (c : Caller) → (closed_if gone c).name ≡ c.name
 name-closed gone c = elim (bytes_eq c.name gone) as (λ b. (if b then record c { closed = true } else c).name ≡ c.name) [ true ↦ refl | false ↦ refl ]
 
 same_order : (a b c d : List ℕ) → a ≡ b → c ≡ d → name_cmp a c ≡ name_cmp b d

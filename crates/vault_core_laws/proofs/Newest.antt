@@ -3,7 +3,7 @@ use Rattle.std.proofs.Common.{◌≡◌, ℕ, ◌+◌, ◌≤◌, ◌<◌, List,
 use Rattle.std.specs.Prelude.{if◌then◌else◌, filter, find, nat_lt, ◌&&◌, ◌==◌, option_map, IfSome}
 use Rattle.std.specs.List.{AllByRecursion}
 use Rattle.std.specs.Str.{bytes_eq}
-use Rattle.std.proofs.lemmas.Bool.{eqb-true}
+use Rattle.std.proofs.lemmas.Bool.{and_parts, eqb-true, le-ltb, lt-ltb}
 use Rattle.std.proofs.lemmas.Slice.Eq.{bytes_eq-Decides}
 use Rattle.vault_core_model.specs.declared.records.Entry.{Entry}
 use Rattle.vault_core_model.specs.declared.records.Head.{Head}
@@ -16,7 +16,7 @@ use Rattle.vault_core_laws.proofs.Lists.{All-weaker, All-filter}
 
 -- ---- ids rise
 
-IsRising : ℕ → List History → Type 0
+pub IsRising : ℕ → List History → Type 0
 IsRising n [] = Unit {0}
 IsRising n (h ∷ hs) = (n < h.entry.id) × IsRising h.entry.id hs
 
@@ -25,7 +25,7 @@ unfolding IsRising
 rising_from_lower m n [] le rising = tt
 rising_from_lower m n (h ∷ hs) le rising = (omega (arith, rising.0), rising.1)
 
-rising-filter : (p : History → Bool) (n : ℕ) (hs : List History) → IsRising n hs → IsRising n (filter p hs)
+pub rising-filter : (p : History → Bool) (n : ℕ) (hs : List History) → IsRising n hs → IsRising n (filter p hs)
 unfolding IsRising
 rising-filter p n [] rising = tt
 rising-filter p n (h ∷ hs) rising =
@@ -34,7 +34,7 @@ rising-filter p n (h ∷ hs) rising =
       | false ↦ rising_from_lower n h.entry.id (filter p hs) (omega (arith, rising.0)) (rising-filter p h.entry.id hs rising.1)
     ]
 
-rising_ids : (m n : ℕ) (hs : List History) → m < n → AreIdsFrom n hs → IsRising m hs
+pub rising_ids : (m n : ℕ) (hs : List History) → m < n → AreIdsFrom n hs → IsRising m hs
 unfolding IsRising
 rising_ids m n [] lt ids = tt
 rising_ids m n (h ∷ hs) lt ids = (omega (arith, ids.0), rising_ids h.entry.id (n + 1) hs (omega (arith, ids.0)) ids.1)
@@ -67,36 +67,26 @@ below_last n h (g ∷ gs) rising =
 
 -- ---- what is newer
 
-lt_true : (i j : ℕ) → i < j → nat_lt i j ≡ true
-lt_true i j lt = grind (arith, lt)
-
-lt_false : (i j : ℕ) → j ≤ i → nat_lt i j ≡ false
-lt_false i j le = grind (arith, le)
-
 not_empty : (h : History) (hs : List History) → (length (h ∷ hs) == 0) ≡ false
 not_empty h hs = grind arith
 
 some_newer : (i : ℕ) (h : History) (hs : List History) → i < (last_of h hs).entry.id → (length (filter (λ g. nat_lt i g.entry.id) (h ∷ hs)) == 0) ≡ false
-some_newer i h [] lt = rw (lt_true i h.entry.id lt) refl
+some_newer i h [] lt = rw (lt-ltb i h.entry.id lt) refl
 some_newer i h (g ∷ gs) lt =
     elim (nat_lt i h.entry.id) as (λ b. (length (if b then h ∷ filter (λ x. nat_lt i x.entry.id) (g ∷ gs) else filter (λ x. nat_lt i x.entry.id) (g ∷ gs)) == 0) ≡ false)
     [ true ↦ not_empty h (filter (λ x. nat_lt i x.entry.id) (g ∷ gs)) | false ↦ some_newer i g gs lt ]
 
 none_newer : (i : ℕ) (hs : List History) → AllByRecursion (λ g. g.entry.id ≤ i) hs → (length (filter (λ g. nat_lt i g.entry.id) hs) == 0) ≡ true
 none_newer i [] all = refl
-none_newer i (h ∷ hs) all = rw (lt_false i h.entry.id all.0) (none_newer i hs all.1)
+none_newer i (h ∷ hs) all = rw (le-ltb i h.entry.id all.0) (none_newer i hs all.1)
 
 -- ---- the current one
-
-both : (a b : Bool) → (a && b) ≡ true → (a ≡ true) × (b ≡ true)
-both true b e = (refl, e)
-both false b e = absurd (cc e)
 
 -- at its own key an entry is current where nothing there is newer
 is_current-at : (v : Vault) (bucket key : List ℕ) (h : History) → is_held_at bucket key h.entry ≡ true → is_current v h ≡ (length (filter (λ g. nat_lt h.entry.id g.entry.id) (held_at v bucket key)) == 0)
 is_current-at v bucket key h here =
-    let first = both (bytes_eq h.entry.bucket bucket) (bytes_eq h.entry.key key && is_held h.entry) here in
-    let second = both (bytes_eq h.entry.key key) (is_held h.entry) first.1 in
+    let first = and_parts (bytes_eq h.entry.bucket bucket) (bytes_eq h.entry.key key && is_held h.entry) here in
+    let second = and_parts (bytes_eq h.entry.key key) (is_held h.entry) first.1 in
     rw (second.1, (bytes_eq-Decides h.entry.bucket bucket).0 first.0, (bytes_eq-Decides h.entry.key key).0 second.0) refl
 
 find-current : (v : Vault) (bucket key : List ℕ) (f : History) (fs : List History) (n : ℕ) (h : History) (hs : List History)
@@ -146,7 +136,7 @@ kept_pass : (p : History → Bool) (h : History) (rest : List History) (b : Bool
 kept_pass p h rest true e all = (e, all)
 kept_pass p h rest false e all = all
 
-passes : (p : History → Bool) (hs : List History) → AllByRecursion (λ h. p h ≡ true) (filter p hs)
+pub passes : (p : History → Bool) (hs : List History) → AllByRecursion (λ h. p h ≡ true) (filter p hs)
 passes p [] = tt
 passes p (h ∷ hs) = kept_pass p h (filter p hs) (p h) refl (passes p hs)
 

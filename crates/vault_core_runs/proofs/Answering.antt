@@ -12,13 +12,11 @@ use Rattle.vault_core_model.specs.declared.reply.Reply.TheVariants.{Done, Stoppe
 use Rattle.vault_core_model.specs.Vault.{Vault}
 use Rattle.vault_core_model.specs.Plan.{plan, made, counts, with_ids}
 use Rattle.vault_core_model.specs.RunOutcome.{AnswersRun, StopsByFault}
+use Rattle.vault_core_run_laws.specs.Repeats.{no_change}
 use Rattle.vault_core_runs.specs.declared.change.BucketRun.{BucketRun}
 use Rattle.vault_core_runs.specs.Making.{plus, MakesAll, MakesFirst}
 use Rattle.vault_core_runs.specs.Replies.{Begins, stop_of}
 use Rattle.vault_core_runs.proofs.Making.{same_counts}
-
-abbrev pub no_change : Counts
-no_change = record { changes = 0; marked = 0; removed = 0; lone = 0 }
 
 from_none : (x : Counts) → plus no_change x ≡ x
 from_none x = same_counts (plus no_change x) x (zero-add x.changes) (zero-add x.marked) (zero-add x.removed) (zero-add x.lone)

@@ -9,8 +9,9 @@ use Rattle.vault_core_model.specs.declared.halt.Fault.{Fault}
 use Rattle.vault_core_model.specs.declared.reply.Counts.{Counts}
 use Rattle.vault_core_model.specs.Vault.{Vault}
 use Rattle.vault_core_model.specs.Plan.{made, counts, with_ids}
+use Rattle.vault_core_run_laws.proofs.Plain.{made-append}
 use Rattle.vault_core_runs.specs.Making.{plus, MakesAll, MakesFirst, Makes, StopsAt}
-use Rattle.vault_core_runs.proofs.Parts.{taken, made-append, length-made, ids-append, ids_le, ids_more, ids_short, counts-append, take_both}
+use Rattle.vault_core_runs.proofs.Parts.{taken, length-made, ids-append, ids_le, ids_more, ids_short, counts-append, take_both}
 
 pub same_counts : (x y : Counts) → x.changes ≡ y.changes → x.marked ≡ y.marked → x.removed ≡ y.removed → x.lone ≡ y.lone → x ≡ y
 same_counts x y a b c d =

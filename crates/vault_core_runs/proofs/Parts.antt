@@ -18,10 +18,6 @@ taken n (p ∷ ps) = taken (cond (is_mark p.step) (n + 1) n) ps
 
 -- ---- the vault after both parts
 
-pub made-append : (v : Vault) (b : List ℕ) (t : ℕ) (ps qs : List Planned) → made v b t (ps ++ qs) ≡ made (made v b t ps) b t qs
-made-append v b t [] qs = refl
-made-append v b t (p ∷ ps) qs = made-append (changed v t (change_of v b t p)) b t ps qs
-
 taken_at : (v : Vault) (b : List ℕ) (t : ℕ) (key : List ℕ) (s : Step) → length (changed v t (change_at v b t key s)).histories ≡ cond (is_mark s) (length v.histories + 1) (length v.histories)
 taken_at v b t key (Mark r) = length_push v.histories _
 taken_at v b t key (Remove id r) = length-map v.histories _

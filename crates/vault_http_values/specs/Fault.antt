@@ -2,14 +2,10 @@
 use Rattle.std.specs.Prelude.{◌≡◌, Option, Some, None, Result, Ok, Err, ⊤}
 use Rattle.vault_base.specs.declared.refusal.Refusal.{Refusal}
 use Rattle.vault_base.specs.declared.refusal.Refusal.TheVariants.{MalformedBody}
+-- the second step, if the first gave a value
+pub use Rattle.vault_core_model.specs.Checks.{◌>>=◌}
 use Rattle.vault_http_values.specs.declared.fault.LineFault.{LineFault}
 use Rattle.vault_http_values.specs.declared.fault.LineFault.TheVariants as fault
-
--- the second step, if the first gave a value
-infixl 10 ◌>>=◌
-abbrev pub ◌>>=◌ : {A B : Type 0} → Result A Refusal → (A → Result B Refusal) → Result B Refusal
-(Ok x) >>= f = f x
-(Err e) >>= f = Err e
 
 -- a value that is there, or else a malformed line
 abbrev pub or_malformed : {A : Type 0} → Option A → Result A Refusal

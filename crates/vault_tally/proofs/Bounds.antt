@@ -1,18 +1,10 @@
 -- What holds of the five sums over bounded versions.
-use Rattle.std.proofs.Common.{◌≡◌, ℕ, ◌+◌, ◌-◌, ◌*◌, ◌≤◌, Bool, true, false, ◌&&◌, nat_le, List, [], ◌∷◌, ◌++◌, Option, Some, None, IsTrue, refl, arith}
+use Rattle.std.proofs.Common.{◌≡◌, ℕ, ◌+◌, ◌-◌, ◌*◌, ◌≤◌, nat_le, List, [], ◌∷◌, ◌++◌, Option, Some, None, IsTrue, refl, arith}
 use Rattle.std.specs.List.{sum_by, list_all}
-use Rattle.std.proofs.lemmas.Bool.Decides.{nat_tests}
+use Rattle.std.proofs.lemmas.Bool.{and_parts, leb-true}
 use Rattle.std.proofs.lemmas.List.Sums.{sum_by-cons, sum_by-append}
 use Rattle.std.proofs.Math.Nat.{mul-le-mul_left, mul-sub}
 use Rattle.vault_tally.specs.Row.{Item, last_day, quota, size_of, if_held, held_size, removed_size, weight, end_day, charge, closed_byte_days, is_dated, AreAdmittedBy, AreBounded}
-
--- both tests pass
-pub both : (a b : Bool) → IsTrue (a && b) → IsTrue a × IsTrue b
-both true b h = (refl, h)
-both false b h = absurd (cc)
-
-pub le_of_test : (m n : ℕ) → IsTrue (nat_le m n) → m ≤ n
-le_of_test m n h = grind (arith, nat_tests)
 
 one_balance : (s : ℕ) (e : Option ℕ) → if_held e s 0 + if_held e 0 s ≡ s
 one_balance s None = omega arith
@@ -30,9 +22,9 @@ one_weight s a (Some e) h k = omega arith
 weight-le : (xs : List Item) → IsTrue (list_all is_dated xs) → sum_by weight xs ≤ sum_by held_size xs * last_day
 weight-le [] h = omega arith
 weight-le (x ∷ xs) h =
-    let d = both (is_dated x) (list_all is_dated xs) h in
-    let e = both (nat_le x.admitted (end_day x.removed last_day)) (nat_le (end_day x.removed last_day) last_day) d.0 in
-    omega (arith, sum_by-cons {X = Item}, one_weight x.size x.admitted x.removed (le_of_test _ _ e.0) (le_of_test _ _ e.1), weight-le xs d.1)
+    let d = and_parts (is_dated x) (list_all is_dated xs) h in
+    let e = and_parts (nat_le x.admitted (end_day x.removed last_day)) (nat_le (end_day x.removed last_day) last_day) d.0 in
+    omega (arith, sum_by-cons {X = Item}, one_weight x.size x.admitted x.removed (leb-true _ _ e.0) (leb-true _ _ e.1), weight-le xs d.1)
 
 one_closed : (s a : ℕ) (e : Option ℕ) → end_day e last_day ≤ last_day → if_held e 0 (s * (end_day e 0 - a)) ≤ if_held e 0 s * last_day
 one_closed s a None k = omega arith
@@ -41,9 +33,9 @@ one_closed s a (Some e) k = let g : e - a ≤ last_day = omega arith in mul-le-m
 closed-le : (xs : List Item) → IsTrue (list_all is_dated xs) → sum_by closed_byte_days xs ≤ sum_by removed_size xs * last_day
 closed-le [] h = omega arith
 closed-le (x ∷ xs) h =
-    let d = both (is_dated x) (list_all is_dated xs) h in
-    let e = both (nat_le x.admitted (end_day x.removed last_day)) (nat_le (end_day x.removed last_day) last_day) d.0 in
-    omega (arith, sum_by-cons {X = Item}, one_closed x.size x.admitted x.removed (le_of_test _ _ e.1), closed-le xs d.1)
+    let d = and_parts (is_dated x) (list_all is_dated xs) h in
+    let e = and_parts (nat_le x.admitted (end_day x.removed last_day)) (nat_le (end_day x.removed last_day) last_day) d.0 in
+    omega (arith, sum_by-cons {X = Item}, one_closed x.size x.admitted x.removed (leb-true _ _ e.1), closed-le xs d.1)
 
 -- the sums over bounded versions: none reaches 2^64
 pub record AreWithin (xs : List Item) : Type 0 where
@@ -68,8 +60,8 @@ one_charge s a today (Some e) h = omega arith
 pub charged_is : (today : ℕ) (xs : List Item) → AreAdmittedBy today xs → sum_by closed_byte_days xs + sum_by held_size xs * today ≡ sum_by weight xs + charge today xs
 charged_is today [] h = omega arith
 charged_is today (x ∷ xs) h =
-    let d = both (nat_le x.admitted today) (list_all (λ (i : Item). nat_le i.admitted today) xs) h in
-    rw (sum_by-cons held_size x xs) (omega (arith, sum_by-cons {X = Item}, one_charge x.size x.admitted today x.removed (le_of_test _ _ d.0), charged_is today xs d.1))
+    let d = and_parts (nat_le x.admitted today) (list_all (λ (i : Item). nat_le i.admitted today) xs) h in
+    rw (sum_by-cons held_size x xs) (omega (arith, sum_by-cons {X = Item}, one_charge x.size x.admitted today x.removed (leb-true _ _ d.0), charged_is today xs d.1))
 
 -- a sum with one version singled out
 pub sum_by-middle : (f : Item → ℕ) (before : List Item) (x : Item) (after : List Item) → sum_by f (before ++ x ∷ after) ≡ sum_by f before + (f x + sum_by f after)

@@ -11,6 +11,7 @@ use Rattle.vault_core_model.specs.Vault.{Vault}
 use Rattle.vault_core_model.specs.Change.{changed, closed_if}
 use Rattle.vault_core_model.specs.Sound.{Sound}
 use Rattle.vault_core_laws.proofs.Buckets.{find-placed}
+use Rattle.vault_core_laws.proofs.NameOrder.{name-closed}
 use Rattle.vault_worm_laws.specs.Callers.{IsStill, KeepsCallers}
 use Rattle.vault_worm_laws.specs.Chains.{MayMake}
 
@@ -45,9 +46,6 @@ find_mapped : (f : Caller → Caller) → ((c : Caller) → (f c).name ≡ c.nam
 find_mapped f same [] name = refl
 find_mapped f same (c ∷ cs) name =
     one_mapped f c (find (λ d. bytes_eq d.name name) (map f cs)) (find (λ d. bytes_eq d.name name) cs) (bytes_eq (f c).name name) (bytes_eq c.name name) (ap (λ n. bytes_eq n name) (same c)) (find_mapped f same cs name)
-
-name-closed : (gone : List ℕ) (c : Caller) → (closed_if gone c).name ≡ c.name
-name-closed gone c = elim (bytes_eq c.name gone) as (λ b. (if b then record c { closed = true } else c).name ≡ c.name) [ true ↦ refl | false ↦ refl ]
 
 still_closed : (cs : List Caller) (gone name : List ℕ) (c : Caller) → find (λ d. bytes_eq d.name name) cs ≡ Some c → Still (map (closed_if gone) cs) name c
 still_closed cs gone name c there =

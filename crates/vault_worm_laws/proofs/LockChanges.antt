@@ -1,7 +1,7 @@
 -- What the commands on retention and legal hold change.
 use Rattle.std.proofs.Common.{◌≡◌, ℕ, ◌≤◌, ◌<◌, List, Bool, true, false, Option, Some, None, Ok, refl, sym, subst, inl, inr, arith}
 use Rattle.std.specs.Prelude.{IfOk, nat_le, nat_lt, ◌&&◌, if◌then◌else◌}
-use Rattle.std.proofs.lemmas.Bool.{leb-true, ltb-true, ltb-false}
+use Rattle.std.proofs.lemmas.Bool.{leb-true, ltb-true, ltb-false, and_parts}
 use Rattle.vault_base.specs.declared.refusal.Refusal.TheVariants.{InvalidArgument, VaultFull}
 use Rattle.vault_base.specs.declared.right.Right.TheVariants as right
 use Rattle.vault_lock.specs.declared.lock.Lock.{Lock}
@@ -37,10 +37,6 @@ abbrev Retained : Option Retention → Retention → ℕ → Bool → Permit →
 Retained old new t allowed Free = KeepsRetention old new t
 Retained old new t allowed Bypass = LowersGovernance old new t × (allowed ≡ true)
 
-both : (a b : Bool) → (a && b) ≡ true → (a ≡ true) × (b ≡ true)
-both true b e = (refl, e)
-both false b e = absurd (cc e)
-
 one_mode : (m n : Mode) → is_mode m n ≡ true → n ≡ m
 one_mode Governance Governance e = refl
 one_mode Compliance Compliance e = refl
@@ -53,7 +49,7 @@ mode_itself Compliance = refl
 
 keeps-is : (old new : Retention) → keeps old new ≡ true → (new.mode ≡ old.mode) × (old.until ≤ new.until)
 keeps-is old new e =
-    let parts = both (is_mode old.mode new.mode) (nat_le old.until new.until) e in
+    let parts = and_parts (is_mode old.mode new.mode) (nat_le old.until new.until) e in
     (one_mode old.mode new.mode parts.0, leb-true old.until new.until parts.1)
 
 is-keeps : (old new : Retention) → (new.mode ≡ old.mode) × (old.until ≤ new.until) → keeps old new ≡ true

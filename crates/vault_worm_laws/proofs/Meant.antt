@@ -1,31 +1,24 @@
 -- The entry that a command means is in the vault, under its own id.
 use Rattle.std.proofs.Common.{◌≡◌, ℕ, List, [], ◌∷◌, Bool, true, false, Option, Some, None, Ok, Err, refl, sym, ap}
-use Rattle.std.specs.Prelude.{IfOk, IfSome, find, filter, is_none, option_map, ◌&&◌, ◌==◌, if◌then◌else◌}
+use Rattle.std.specs.Prelude.{IfOk, IfSome, find, filter, option_map, ◌&&◌, ◌==◌, if◌then◌else◌}
 use Rattle.std.specs.List.{AllByRecursion}
 use Rattle.std.specs.Str.{bytes_eq}
+use Rattle.std.proofs.lemmas.Bool.{and_parts}
 use Rattle.vault_base.specs.declared.refusal.Refusal.TheVariants.{NoSuchKey, NoSuchVersion, MethodNotAllowed}
 use Rattle.vault_core_model.specs.declared.records.Entry.{Entry}
 use Rattle.vault_core_model.specs.declared.records.History.{History}
-use Rattle.vault_core_model.specs.declared.records.Removal.{Removal}
 use Rattle.vault_core_model.specs.Vault.{Vault}
 use Rattle.vault_core_model.specs.Places.{is_held, is_held_at, held_at, is_current, current}
 use Rattle.vault_core_model.specs.Reads.{entry_of}
 use Rattle.vault_core_model.specs.Sound.{Sound}
 use Rattle.vault_core_model.specs.Checks.{content_on_top, held_there, held_entry, version_meant}
 use Rattle.vault_core_laws.proofs.Newest.{finds_itself, entry_of-own}
+use Rattle.vault_core_laws.proofs.Tests.{none_is}
 use Rattle.vault_worm_laws.proofs.Checked.{bind_if}
-
-both : (a b : Bool) → (a && b) ≡ true → (a ≡ true) × (b ≡ true)
-both true b e = (refl, e)
-both false b e = absurd (cc e)
-
-none_is : (o : Option Removal) → is_none o ≡ true → o ≡ None
-none_is None e = refl
-none_is (Some r) e = absurd (cc e)
 
 held_at-held : (bucket key : List ℕ) (e : Entry) → is_held_at bucket key e ≡ true → e.removal ≡ None
 held_at-held bucket key e here =
-    none_is e.removal (both (bytes_eq e.key key) (is_held e) (both (bytes_eq e.bucket bucket) (bytes_eq e.key key && is_held e) here).1).1
+    none_is e.removal (and_parts (bytes_eq e.key key) (is_held e) (and_parts (bytes_eq e.bucket bucket) (bytes_eq e.key key && is_held e) here).1).1
 
 -- ---- what is found in a list
 
