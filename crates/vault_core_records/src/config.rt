@@ -48,7 +48,9 @@ pub fn get_default<K: Keeper>(
     ensures device { IsTrue (is_device result) → Rose (K.count keeper.old) (K.count keeper.new) }
 {
     let access = find_access(keeper, at, who, &command.bucket, Right::Config)?;
-    Ok(Answer::Default(access.bucket.default))
+    let default = access.bucket.default;
+    drop(access);
+    Ok(Answer::Default(default))
 }
 
 /// Sets the lifecycle rules, in place of those that the bucket has.

@@ -51,7 +51,10 @@ pub fn add_caller<K: Keeper>(
 {
     drop(find_administrator(keeper, at, who)?);
     check_dept_if_given(keeper, &command.dept)?;
-    if keeper.caller(&command.caller)?.is_some() {
+    let found = keeper.caller(&command.caller)?;
+    let taken = found.is_some();
+    drop(found);
+    if taken {
         return Err(Halt::Refused(Refusal::NameTaken));
     }
     let caller = new_caller(command)?;
@@ -83,7 +86,10 @@ pub fn close_caller<K: Keeper>(
     ensures device { IsTrue (is_device result) → Rose (K.count keeper.old) (K.count keeper.new) }
 {
     drop(find_administrator(keeper, at, who)?);
-    if !is_open(&keeper.caller(&command.caller)?) {
+    let found = keeper.caller(&command.caller)?;
+    let open = is_open(&found);
+    drop(found);
+    if !open {
         return Err(Halt::Refused(Refusal::InvalidArgument));
     }
     make_change(keeper, at, Change::CloseCaller(command.caller.clone()?))?;
@@ -114,7 +120,10 @@ pub fn add_bucket<K: Keeper>(
 {
     drop(find_administrator(keeper, at, who)?);
     check_dept(keeper, &command.dept)?;
-    if keeper.bucket(&command.bucket)?.is_some() {
+    let found = keeper.bucket(&command.bucket)?;
+    let taken = found.is_some();
+    drop(found);
+    if taken {
         return Err(Halt::Refused(Refusal::BucketAlreadyExists));
     }
     let change = Change::AddBucket(command.bucket.clone()?, command.dept.clone()?);
