@@ -65,9 +65,11 @@ fn read_headed(row: &Row) -> Result<HeadRow, Misread>
     }
     let found = head_in(row)?;
     if found.bucket.as_str() != bucket {
+        drop(found);
         return Err(Misread::Wrong);
     }
     if found.key.as_str() != key {
+        drop(found);
         return Err(Misread::Wrong);
     }
     Ok(found)
@@ -107,6 +109,7 @@ impl Pass for HeadPass {
             Err(misread) => return refused(misread),
         };
         if !is_after(&self.last, &found) {
+            drop(found);
             return Ok(false);
         }
         self.last = Some(found);

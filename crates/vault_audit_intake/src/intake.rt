@@ -81,15 +81,19 @@ fn read_noted(row: &Row) -> Result<Note, Misread>
     let digest = bytes(row, 13).ok_or(Misread::Wrong)?;
     let note = note_in(row)?;
     if note.bucket.as_str() != bucket {
+        drop(note);
         return Err(Misread::Wrong);
     }
     if note.key.as_str() != key {
+        drop(note);
         return Err(Misread::Wrong);
     }
     if note.size != size {
+        drop(note);
         return Err(Misread::Wrong);
     }
     if note.digest.as_slice() != digest {
+        drop(note);
         return Err(Misread::Wrong);
     }
     Ok(note)
@@ -131,6 +135,7 @@ impl Pass for NotePass {
             Err(Misread::Memory) => return Err(Error::SqliteFailure(ErrorCode::OutOfMemory)),
         };
         if !is_after(&self.last, &note) {
+            drop(note);
             return Ok(false);
         }
         self.last = Some(note);

@@ -5,7 +5,8 @@ ghost use Rattle.sqlite.specs.Held.{state};
 ghost use Rattle.vault_core_model.specs.Vault.{Vault};
 ghost use Rattle.vault_audit_model.specs.Spells.{AreSound};
 ghost use Rattle.vault_audit_model.specs.Tables.{vault_schema};
-ghost use Rattle.vault_audit_names.specs.Names.{IsAfter, TellCallers};
+ghost use Rattle.vault_audit_model.specs.Relations.{IsAfter};
+ghost use Rattle.vault_audit_names.specs.Names.{TellCallers};
 
 use sqlite::{Alter, Connection, Error, Row};
 use std::marker::Model;
@@ -54,6 +55,7 @@ impl Pass for CallerPass {
             Err(misread) => return refused(misread),
         };
         if !is_after(&self.last, &found.name) {
+            drop(found);
             return Ok(false);
         }
         self.last = Some(found.name);

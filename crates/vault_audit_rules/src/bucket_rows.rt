@@ -53,6 +53,7 @@ impl Pass for BucketPass {
             Err(Misread::Memory) => return Err(Error::SqliteFailure(ErrorCode::OutOfMemory)),
         };
         if !is_after(&self.last, &bucket.name) {
+            drop(bucket);
             return Ok(false);
         }
         self.last = Some(bucket.name);

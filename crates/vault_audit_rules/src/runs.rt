@@ -76,18 +76,23 @@ impl Pass for RulePass {
             Err(Misread::Memory) => return Err(Error::SqliteFailure(ErrorCode::OutOfMemory)),
         };
         if self.goes_on(&rule) {
-            if self.rules.push(rule.rule).is_err() {
+            let RuleRow { bucket, rule, .. } = rule;
+            drop(bucket);
+            if self.rules.push(rule).is_err() {
                 return Err(Error::SqliteFailure(ErrorCode::OutOfMemory));
             }
             return Ok(true);
         }
         if rule.place != 1 || !is_after(&self.bucket, &rule.bucket) || !self.close() {
+            drop(rule);
             return Ok(false);
         }
-        if self.rules.push(rule.rule).is_err() {
+        let RuleRow { bucket, rule, .. } = rule;
+        if self.rules.push(rule).is_err() {
+            drop(bucket);
             return Err(Error::SqliteFailure(ErrorCode::OutOfMemory));
         }
-        self.bucket = Some(rule.bucket);
+        self.bucket = Some(bucket);
         Ok(true)
     }
 }

@@ -48,10 +48,12 @@ impl Pass for SettingPass {
             Err(Misread::Memory) => return Err(Error::SqliteFailure(ErrorCode::OutOfMemory)),
         };
         if !self.fits(&setting) {
+            drop(setting);
             return Ok(false);
         }
         self.id = u64::from(setting.id.number());
         self.next = u64::from(setting.place) + 1;
+        drop(setting);
         Ok(true)
     }
 }

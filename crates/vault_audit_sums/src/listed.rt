@@ -56,6 +56,7 @@ pub fn list_departments<S: Alter>(
         &mut pass,
     )?;
     if !whole {
+        drop(pass);
         return Ok(None);
     }
     Ok(Some(pass.found))

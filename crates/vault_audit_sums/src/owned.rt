@@ -9,6 +9,7 @@ ghost use Rattle.vault_audit_sums.specs.Owned.{AreOwnedBy};
 
 use sqlite::{Alter, Connection, Error, Row};
 use std::alloc::Global;
+use vault_audit_model::rows::BucketRow;
 use vault_audit_rows::records::read_bucket;
 use vault_audit_tables::row_check::refused;
 use vault_audit_walk::walk::{Pass, walk};
@@ -34,8 +35,12 @@ impl Pass for OwnedPass {
             Err(misread) => return refused(misread),
         };
         if bucket.config.dept == self.dept {
-            self.names.push(bucket.name)?;
+            let BucketRow { name, config } = bucket;
+            drop(config);
+            self.names.push(name)?;
+            return Ok(true);
         }
+        drop(bucket);
         Ok(true)
     }
 }
@@ -60,8 +65,11 @@ pub fn buckets_of<S: Alter>(
         "SELECT name, dept, mode, days, years FROM buckets",
         &mut pass,
     )?;
+    let OwnedPass { dept, names } = pass;
+    drop(dept);
     if !whole {
+        drop(names);
         return Ok(None);
     }
-    Ok(Some(pass.names))
+    Ok(Some(names))
 }

@@ -65,12 +65,15 @@ impl Pass for SumPass {
             Err(misread) => return refused(misread),
         };
         if !self.counts(&entry) {
+            drop(entry);
             return Ok(true);
         }
         if !self.sums.fits(entry.size) {
+            drop(entry);
             return Ok(false);
         }
         count_in(&mut self.sums, &entry);
+        drop(entry);
         Ok(true)
     }
 }
@@ -95,8 +98,10 @@ pub fn sum_versions<S: Alter>(
         "SELECT id, bucket, key, marker, size, digest, admitted, by_rule, admitted_by, removed, cause, cause_by FROM entries ORDER BY id",
         &mut pass,
     )?;
+    let sums = pass.sums;
+    drop(pass);
     if !whole {
         return Ok(None);
     }
-    Ok(Some(pass.sums))
+    Ok(Some(sums))
 }

@@ -48,10 +48,12 @@ impl Pass for NumberPass {
             Err(misread) => return refused(misread),
         };
         if !self.fits(&entry) {
+            drop(entry);
             return Ok(false);
         }
         self.next = u64::from(entry.id.number()) + 1;
         self.low = entry.admitted.secs();
+        drop(entry);
         Ok(true)
     }
 }
