@@ -1,11 +1,12 @@
 -- A query that puts beside each row of a table the rows of another that agree with it, or nothing where there is none.
 use Rattle.std.proofs.Common.{◌≡◌, ◌≢◌, ◌&&◌, ◌==◌, ℕ, pos, negsuc, List, [], ◌∷◌, ◌++◌, map, filter, flat_map, Bool, true, false, not, Some, None, IsPermutation, refl, sym, ap, ap₂, subst, ◌∙◌, ◌||◌, cond, arith}
-use Rattle.std.specs.List.{AllByRecursion, list_any}
+use Rattle.std.specs.List.{AllByRecursion, list_any, list_all}
 use Rattle.std.proofs.lemmas.List.Elements.{recursion_from_All, filter_passes}
 use Rattle.std.specs.Cmp.Lexicographic.{slice_cmp}
 use Rattle.std.specs.Ordering.{nat_cmp, is_eq}
 use Rattle.std.proofs.lemmas.List.Sorted.{IsPermutation-map, IsPermutation-sym, list_any-IsPermutation}
 use Rattle.std.proofs.lemmas.Bool.Decides.{nat_tests}
+use Rattle.std.proofs.lemmas.List.Concat.{flat_map_single}
 use Rattle.sqlite_trees.specs.Tree.{Trees}
 use Rattle.sqlite_trees.proofs.ListLemmas.{map-map, map-flat_map, all-permutation, all-map, all_from_map}
 use Rattle.sqlite_value.specs.declared.value.Value.{Value}
@@ -16,7 +17,7 @@ use Rattle.sqlite_value.proofs.OrderLemmas.{value_cmp-Int, value_cmp-Text}
 use Rattle.sqlite_sql.specs.declared.ops.BinaryOp.TheVariants.{Compare}
 use Rattle.sqlite_sql.specs.declared.ops.CompareOp.TheVariants.{Eq}
 use Rattle.sqlite_sql.specs.Ops.{binary, is_true, from_truth}
-use Rattle.sqlite_sql.specs.Term.{Term, lit, col, op2, eval, eval_all}
+use Rattle.sqlite_sql.specs.Term.{Term, lit, col, op2, eval, eval_all, holds}
 use Rattle.sqlite_sql.specs.Query.{Query, inner, left, end, IsAnswer, Output, output, matches, or_nulls}
 use Rattle.sqlite_sql.specs.Program.{overlay}
 use Rattle.sqlite_schema.specs.declared.schema.Schema.{Schema}
@@ -27,6 +28,7 @@ use Rattle.sqlite.specs.State.{State, Shown, IsUnchanged}
 use Rattle.sqlite.proofs.Callers.{IsPlain, command_of, reads_as}
 use Rattle.vault_audit_model.specs.Values.{number, flag}
 use Rattle.vault_audit_model.proofs.SameRows.{flag_same}
+use Rattle.vault_audit_model.proofs.ValueLemmas.{agrees, truth_back}
 use Rattle.vault_audit_walk.specs.Records.{Checked}
 use Rattle.vault_audit_walk.proofs.ScanLemmas.{goes_on_to}
 use Rattle.vault_audit_walk.proofs.RecordLemmas.{between, front}
@@ -53,9 +55,9 @@ all_to_flat P f (x ∷ xs) all = all_joined P (f x) (flat_map f xs) all.0 (all_t
 
 -- ---- SELECT shown, b.c FROM t AS a LEFT JOIN other AS b ON b.c = a.d
 
--- the two values are the same, and not NULL
-abbrev pub agrees : Value → Value → Bool
-agrees u v = is_true (binary (Compare Eq Binary) u v)
+-- with one row of the first table and one of the other the tests pass
+abbrev pub passes : List Term → Row → Row → Bool
+passes tests r s = list_all (holds ([] ∷ r ∷ s ∷ [])) tests
 
 abbrev pub beside_of : ℕ → ℕ → Term → ℕ → ℕ → Query
 beside_of t other shown c d = record {
@@ -81,10 +83,6 @@ beside_row shown c d others r = map (pair_shown shown c r) (or_nulls (filter (λ
 abbrev pub beside_rows : ℕ → ℕ → Term → ℕ → ℕ → Trees → List Row
 beside_rows t other shown c d db = flat_map (beside_row shown c d (db other)) (db t)
 
-singles : {A B : Type 0} (f : A → B) (xs : List A) → flat_map (λ x. f x ∷ []) xs ≡ map f xs
-singles f [] = refl
-singles f (x ∷ xs) = ap (λ l. f x ∷ l) (singles f xs)
-
 flat_same : {A B : Type 0} (f g : A → List B) → ((x : A) → f x ≡ g x) → (xs : List A) → flat_map f xs ≡ flat_map g xs
 flat_same f g same [] = refl
 flat_same f g same (x ∷ xs) = rw (same x, flat_same f g same xs) refl
@@ -95,7 +93,7 @@ matched t other shown c d db =
     map-flat_map (eval_all (shown ∷ col 2 c ∷ [])) (λ r. matches db [] (left other (op2 (Compare Eq Binary) (col 2 c) (col 1 d) ∷ []) end) ([] ∷ r ∷ [])) (db t)
     ∙ flat_same _ (beside_row shown c d (db other)) (λ r.
     let some = or_nulls (filter (λ s. agrees (column s c) (column r d) && true) (db other)) in
-    ap (map (eval_all (shown ∷ col 2 c ∷ []))) (singles (λ s. [] ∷ r ∷ s ∷ []) some) ∙ map-map (eval_all (shown ∷ col 2 c ∷ [])) (λ s. [] ∷ r ∷ s ∷ []) some) (db t)
+    ap (map (eval_all (shown ∷ col 2 c ∷ []))) (flat_map_single (λ s. [] ∷ r ∷ s ∷ []) some) ∙ map-map (eval_all (shown ∷ col 2 c ∷ [])) (λ s. [] ∷ r ∷ s ∷ []) some) (db t)
 
 beside_answer : (t other : ℕ) (shown : Term) (c d : ℕ) (db : Trees) (rows : List Row) → IsAnswer (beside_of t other shown c d) db [] rows → IsPermutation (beside_rows t other shown c d db) rows
 beside_answer t other shown c d db rows a =
@@ -144,10 +142,6 @@ agree_numbers a b = rw (value_cmp-Int (pos a) (pos b)) (grind (arith, nat_tests)
 null_apart : (u v : Value) → agrees u v ≡ true → u ≢ Null
 unfolding binary
 null_apart u v h e = absurd (let no : agrees Null v ≡ true = subst (λ w. agrees w v ≡ true) e h in cc)
-
-truth_back : (b : Bool) → is_true (from_truth (Some b)) ≡ b
-truth_back true = refl
-truth_back false = refl
 
 pub agree_texts : (a b : List ℕ) → agrees (Text a) (Text b) ≡ is_eq (slice_cmp nat_cmp a b)
 unfolding binary
@@ -229,11 +223,11 @@ module _ (shown : Term) (c d : ℕ) (r : Row) (b : Bool) (tells : (s : Row) → 
 
 -- ---- records
 
-any_map : {A B : Type 0} (p : B → Bool) (f : A → B) (xs : List A) → list_any p (map f xs) ≡ list_any (λ x. p (f x)) xs
+pub any_map : {A B : Type 0} (p : B → Bool) (f : A → B) (xs : List A) → list_any p (map f xs) ≡ list_any (λ x. p (f x)) xs
 any_map p f [] = refl
 any_map p f (x ∷ xs) = ap (λ b. p (f x) || b) (any_map p f xs)
 
-any_alike : {A : Type 0} (p q : A → Bool) → ((x : A) → p x ≡ q x) → (xs : List A) → list_any p xs ≡ list_any q xs
+pub any_alike : {A : Type 0} (p q : A → Bool) → ((x : A) → p x ≡ q x) → (xs : List A) → list_any p xs ≡ list_any q xs
 any_alike p q same [] = refl
 any_alike p q same (x ∷ xs) = ap₂ ◌||◌ (same x) (any_alike p q same xs)
 

@@ -1,5 +1,5 @@
 -- The walk over contents beside the entries.
-use Rattle.std.specs.Ordering.{int_cmp, is_lt}
+use Rattle.std.specs.Ordering.{is_lt}
 use Rattle.std.proofs.Common.{◌≡◌, ℕ, ◌+◌, ◌<◌, pos, List, [], ◌∷◌, ◌==◌, length, map, filter, flat_map, find, true, false, Some, None, Option, Less, IsPermutation, IsSorted, refl, sym, ap, subst, ◌∙◌, arith, add-zero}
 use Rattle.std.specs.List.{AllByRecursion}
 use Rattle.std.proofs.lemmas.List.Elements.{All-from_recursion, recursion_from_All}
@@ -27,6 +27,8 @@ use Rattle.vault_audit_model.specs.Rows.{content_row, content_columns, entry_col
 use Rattle.vault_audit_model.specs.Spells.{contents_in}
 use Rattle.vault_audit_model.specs.Tables.{vault_schema, contents_tree, entries_tree}
 use Rattle.vault_audit_model.specs.Values.{number, bytes_or_null}
+use Rattle.vault_audit_model.proofs.ValueLemmas.{int_less}
+use Rattle.vault_audit_model.proofs.SameRows.{cell}
 use Rattle.vault_audit_walk.specs.Pass.{Takes, Refuses, AllFit, after}
 use Rattle.vault_audit_walk.specs.Walk.{Walked}
 use Rattle.vault_audit_walk.proofs.ScanLemmas.{first_cmp}
@@ -58,15 +60,12 @@ counted : (p : ContentPass) (cs : List ContentRow) → (end_of p cs).count ≡ p
 counted p [] = sym (add-zero p.count)
 counted p (c ∷ cs) = let it = counted (with_content p c) cs in omega (arith, it)
 
-rises : (a b : ℕ) → a < b → int_cmp (pos a) (pos b) ≡ Less
-rises a b low = grind arith
-
 above : (p : ContentPass) (x : ContentRow) (cs : List ContentRow) → x.id < p.next → Fit p cs → AllByRecursion (λ row. first_cmp (held_row x) row ≡ Less) (map held_row cs)
 above p x [] less fit = tt
 above p x (c ∷ cs) less fit =
     let low = fit.0.1 in
     let below : x.id < c.id = omega (arith, less, low) in
-    (value_cmp-Int (pos x.id) (pos c.id) ∙ rises x.id c.id below, above (with_content p c) x cs (omega (arith, below)) fit.1)
+    (value_cmp-Int (pos x.id) (pos c.id) ∙ int_less x.id c.id below, above (with_content p c) x cs (omega (arith, below)) fit.1)
 
 rise : (p : ContentPass) (cs : List ContentRow) → Fit p cs → IsAscending (λ a b. first_cmp a b ≡ Less) (map held_row cs)
 rise p [] fit = tt
@@ -112,11 +111,11 @@ source_is db es are =
 length_same : (a b : ℕ) → number a ≡ number b → a ≡ b
 length_same a b e = cc
 
-digest_same : (a : List ℕ) (d : Option (List ℕ)) → ◌≡◌ {A = Value} (Blob a) (bytes_or_null d) → d ≡ Some a
+pub digest_same : (a : List ℕ) (d : Option (List ℕ)) → ◌≡◌ {A = Value} (Blob a) (bytes_or_null d) → d ≡ Some a
 digest_same a None e = absurd cc
 digest_same a (Some b) e = let same : b ≡ a = cc in ap Some same
 
-unremoved : (r : Option Removal) → Null ≡ removal_at r → r ≡ None
+pub unremoved : (r : Option Removal) → Null ≡ removal_at r → r ≡ None
 unremoved None e = refl
 unremoved (Some r) e = absurd cc
 
@@ -126,9 +125,6 @@ no_number n e = cc
 told_by : (o : Option Entry) (c : ContentRow) → number (length c.content) ≡ column (row_beside o) 4 → ◌≡◌ {A = Value} (Blob (sha256 c.content)) (column (row_beside o) 5) → Null ≡ column (row_beside o) 9 → IsContentOf o c
 told_by None c size digest removal = absurd (no_number (length c.content) size)
 told_by (Some e) c size digest removal = (unremoved e.removal removal, length_same (length c.content) e.size size, digest_same (sha256 c.content) e.digest digest)
-
-cell : (row other : Row) (at : ℕ) → row ≡ other → column row at ≡ column other at
-cell row other at e = ap (λ r. column r at) e
 
 is_extended : (es : List Entry) (c : ContentRow) → held_row c ≡ extended es (content_row c) → IsContentIn es c
 is_extended es c e =

@@ -1,5 +1,5 @@
 -- Bytes of rising ids are given to the entries of the same ids.
-use Rattle.std.proofs.Common.{◌≡◌, ◌⊎◌, inl, inr, ℕ, ◌+◌, ◌≤◌, ◌<◌, List, [], ◌∷◌, ◌++◌, length, map, filter, flat_map, find, Bool, true, false, not, ◌&&◌, ◌==◌, is_none, cond, Option, Some, None, IsSome, refl, sym, ap, subst, ◌∙◌, true≢false, arith}
+use Rattle.std.proofs.Common.{◌≡◌, ◌⊎◌, inl, inr, ℕ, ◌+◌, ◌≤◌, ◌<◌, List, [], ◌∷◌, ◌++◌, length, filter, flat_map, find, Bool, true, false, not, ◌&&◌, ◌==◌, is_none, cond, Option, Some, None, IsSome, refl, sym, ap, subst, ◌∙◌, true≢false, arith}
 use Rattle.std.specs.List.{AllByRecursion}
 use Rattle.sha2.specs.Sha256.{sha256}
 use Rattle.vault_core_model.specs.declared.records.Entry.{Entry}
@@ -10,7 +10,7 @@ use Rattle.vault_core_model.specs.Sound.{HasItsBytes}
 use Rattle.vault_audit_model.specs.declared.rows.ContentRow.{ContentRow}
 use Rattle.vault_audit_model.specs.Limits.{IsEntry, IsSizedAs, IsContentRow}
 use Rattle.vault_audit_model.specs.Relations.{AreNumbered, HasContent, HasContentAs}
-use Rattle.vault_audit_model.specs.Spells.{contents_in, content_if_given}
+use Rattle.vault_audit_model.specs.Spells.{contents_in, content_if_given, entries_in}
 use Rattle.vault_audit_contents.specs.Contents.{is_held, held_count, IsContentOf, IsContentIn, AreRisingFrom}
 
 -- ---- entries of other ids
@@ -83,9 +83,6 @@ has_bytes e c is h =
     subst (λ m. HasContentAs m (with_bytes e c.content)) (sym marker) its
 
 -- ---- all entries
-
-abbrev pub entries_in : List History → List Entry
-entries_in hs = map (λ h. h.entry) hs
 
 -- These bytes are given to these entries; all that are held get theirs where there are as many.
 pub record Gives (es : List Entry) (cs : List ContentRow) (hs : List History) : Type 0 where

@@ -13,10 +13,10 @@ use Rattle.vault_audit_model.specs.declared.rows.ContentRow.{ContentRow}
 use Rattle.vault_audit_model.specs.Limits.{IsHistory}
 use Rattle.vault_audit_model.specs.Relations.{AreEntries, AreNumbered, AreContents, TellContents, HasContent, HasContentAs}
 use Rattle.vault_audit_model.specs.Rows.{entry_row, entry_columns, content_row, content_columns}
-use Rattle.vault_audit_model.specs.Spells.{AreSound, contents_in}
+use Rattle.vault_audit_model.specs.Spells.{AreSound, contents_in, entries_in}
 use Rattle.vault_audit_model.specs.Tables.{entries_tree, contents_tree}
 use Rattle.vault_audit_contents.specs.Contents.{held_count, TellOfHeld}
-use Rattle.vault_audit_contents.proofs.MergeLemmas.{entries_in, given, itself, same_if}
+use Rattle.vault_audit_contents.proofs.MergeLemmas.{given, itself, same_if}
 use Rattle.vault_audit_contents.proofs.ContentLemmas.{given_of}
 
 -- ---- a sound vault

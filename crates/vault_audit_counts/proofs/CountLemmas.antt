@@ -1,12 +1,12 @@
 -- The look at each head beside the held entries of its key.
 use Rattle.std.specs.Str.{bytes_eq}
-use Rattle.std.specs.List.{list_all}
 use Rattle.std.specs.Prelude.{if◌then◌else◌, min, is_none}
 use Rattle.std.proofs.Common.{◌≡◌, ◌≤◌, ℕ, ◌+◌, ◌&&◌, pos, negsuc, codes, List, [], ◌∷◌, ◌++◌, length, map, filter, flat_map, Bool, true, false, Some, None, Option, IsTrue, IsPermutation, refl, sym, ap, subst, ◌∙◌, arith}
 use Rattle.std.proofs.lemmas.Bool.Decides.{nat_tests}
 use Rattle.std.proofs.lemmas.List.{length-map}
 use Rattle.std.proofs.lemmas.List.Sorted.{IsPermutation-map, IsPermutation-sym, length_permutation}
 use Rattle.std.proofs.lemmas.Map.Text.{is_eq-slice_cmp}
+use Rattle.std.proofs.lemmas.List.Concat.{flat_map_single}
 use Rattle.sqlite_tied.specs.Compute.{everything}
 use Rattle.sqlite_trees.specs.Tree.{Trees}
 use Rattle.sqlite_trees.proofs.ListLemmas.{map-map, filter-map, IsPermutation-filter, all-permutation, all-map, all_from_map}
@@ -16,7 +16,7 @@ use Rattle.sqlite_value.specs.Order.{Row, column, value_cmp}
 use Rattle.sqlite_sql.specs.declared.ops.BinaryOp.TheVariants.{Compare, Is}
 use Rattle.sqlite_sql.specs.declared.ops.CompareOp.TheVariants.{Eq}
 use Rattle.sqlite_sql.specs.Ops.{binary, is_true}
-use Rattle.sqlite_sql.specs.Term.{Term, Env, lit, col, op2, eval_all, holds}
+use Rattle.sqlite_sql.specs.Term.{Term, Env, lit, col, op2, eval_all}
 use Rattle.sqlite_sql.specs.Query.{Query, inner, counted, end, IsAnswer, Output, output}
 use Rattle.sqlite_sql.specs.Program.{overlay}
 use Rattle.sqlite.specs.Command.TheVariants.{Select}
@@ -37,7 +37,8 @@ use Rattle.vault_audit_model.proofs.SameRows.{number_same}
 use Rattle.vault_audit_walk.specs.Records.{Checked}
 use Rattle.vault_audit_walk.proofs.ScanLemmas.{goes_on_to}
 use Rattle.vault_audit_walk.proofs.RecordLemmas.{between, front}
-use Rattle.vault_audit_beside.proofs.BesideLemmas.{agrees, agree_texts, of_records, of_stored, each}
+use Rattle.vault_audit_model.proofs.ValueLemmas.{agrees, three}
+use Rattle.vault_audit_beside.proofs.BesideLemmas.{agree_texts, of_records, of_stored, each, passes}
 use Rattle.vault_audit_counts.specs.Counts.{IsCounted, TellCounts, ShowsCount}
 
 -- ---- the statement
@@ -76,21 +77,14 @@ counts_plain = (refl, refl)
 
 -- ---- what it shows
 
-abbrev passes : Row → Row → Bool
-passes r s = list_all (holds ([] ∷ r ∷ s ∷ [])) tests
-
 abbrev met : List Row → Row → List Env
-met entries r = flat_map (λ s. if passes r s then ([] ∷ r ∷ s ∷ []) ∷ [] else []) entries
+met entries r = flat_map (λ s. if passes tests r s then ([] ∷ r ∷ s ∷ []) ∷ [] else []) entries
 
 abbrev shown_counted : List Row → Row → Row
 shown_counted entries r = column r 4 ∷ Int (pos (min most (length (met entries r)))) ∷ []
 
 abbrev source : Trees → List Row
 source db = map (shown_counted (db 9)) (db heads_tree)
-
-singles : {A B : Type 0} (f : A → B) (xs : List A) → flat_map (λ x. f x ∷ []) xs ≡ map f xs
-singles f [] = refl
-singles f (x ∷ xs) = ap (λ l. f x ∷ l) (singles f xs)
 
 abbrev env_of : Trees → Row → Env
 env_of db r = [] ∷ r ∷ (Int (pos (min most (length (met (db 9) r)))) ∷ []) ∷ []
@@ -99,7 +93,7 @@ answered : (db : Trees) (rows : List Row) → IsAnswer counts_query db [] rows �
 answered db rows a =
     let q = counts_query in
     let kept : map (λ (o : Output). o.1) a.kept ≡ source db =
-    ap (map (λ (o : Output). o.1)) (a.distinct ∙ ap (map (output q)) (a.grouped ∙ singles (env_of db) (db heads_tree)))
+    ap (map (λ (o : Output). o.1)) (a.distinct ∙ ap (map (output q)) (a.grouped ∙ flat_map_single (env_of db) (db heads_tree)))
     ∙ map-map (λ (o : Output). o.1) (output q) (map (env_of db) (db heads_tree)) ∙ map-map (eval_all q.project) (env_of db) (db heads_tree) in
     subst (λ xs. IsPermutation xs rows) kept (subst (IsPermutation (map (λ (o : Output). o.1) a.kept)) (sym a.shown) (IsPermutation-map (λ (o : Output). o.1) a.kept a.ordered a.same))
 
@@ -130,7 +124,7 @@ abbrev Counts : List Row → Row → Type 0
 Counts entries x = column x 3 ≡ number (min most (how_many entries x))
 
 shown_number : (entries : List Row) (r : Row) → column (shown_counted entries r) 1 ≡ number (min most (how_many entries (head_columns r)))
-shown_number entries r = ap (λ n. number (min most n)) (as_many (passes r) (λ s. [] ∷ r ∷ s ∷ []) entries)
+shown_number entries r = ap (λ n. number (min most n)) (as_many (passes tests r) (λ s. [] ∷ r ∷ s ∷ []) entries)
 
 counts_if : (entries : List Row) (r : Row) → ShowsCount (shown_counted entries r) → Counts entries (head_columns r)
 counts_if entries r (n, told, shown) = told ∙ sym shown ∙ shown_number entries r
@@ -144,10 +138,6 @@ unremoved : (r : Option Removal) → is_true (binary (Is Binary) (removal_at r) 
 unfolding binary value_cmp lib.Ieee.is_nan lib.Ieee.lt
 unremoved None = refl
 unremoved (Some r) = refl
-
-three : (a b c d e f : Bool) → a ≡ d → b ≡ e → c ≡ f → (a && (b && (c && true))) ≡ (d && (e && f))
-three a b true d e f p q r = rw (p, q, sym r) refl
-three a b false d e f p q r = rw (p, q, sym r) refl
 
 tells_held : (h : HeadRow) (e : Entry) → tells (head_row h) (entry_row e) ≡ is_held_at h.bucket h.key e
 tells_held h e =

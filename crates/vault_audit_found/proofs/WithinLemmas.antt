@@ -3,6 +3,7 @@ use Rattle.std.proofs.Common.{◌≡◌, ◌≤◌, ◌&&◌, ◌||◌, not, ℕ
 use Rattle.std.specs.List.{AllByRecursion}
 use Rattle.std.specs.Str.{bytes_eq}
 use Rattle.std.proofs.lemmas.Slice.Eq.{bytes_eq-Decides}
+use Rattle.std.proofs.lemmas.Bool.{false_from_ne_true}
 use Rattle.vault_tally.specs.Row.{size_of, quota}
 use Rattle.vault_core_model.specs.declared.records.Bucket.{Bucket}
 use Rattle.vault_core_model.specs.declared.records.History.{History}
@@ -11,14 +12,10 @@ use Rattle.vault_core_model.specs.Vault.{config_in}
 use Rattle.vault_audit_model.specs.Relations.{IsWithin}
 use Rattle.vault_audit_laws.specs.Ties.{is_among}
 
-refuted : (t : Bool) → (¬ (t ≡ true)) → t ≡ false
-refuted true h = absurd (h refl)
-refuted false h = refl
-
 module _ (names : List (List ℕ)) (dept : List ℕ) (none : is_among names dept ≡ false) where
   not_its : (name : List ℕ) → IsTrue (is_among names name) → bytes_eq name dept ≡ false
   not_its name there =
-      refuted (bytes_eq name dept) (λ yes.
+      false_from_ne_true (bytes_eq name dept) (λ yes.
       let same : name ≡ dept = (bytes_eq-Decides name dept).0 yes in
       let both : ◌≡◌ {A = Bool} true false = sym there ∙ ap (is_among names) same ∙ none in absurd cc)
 

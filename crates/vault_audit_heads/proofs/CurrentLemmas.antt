@@ -1,8 +1,7 @@
 -- The heads of a vault: one for each key, each naming a held entry.
-use Rattle.std.specs.Ordering.{ordering_then}
 use Rattle.std.specs.Cmp.Lexicographic.{on_texts}
 use Rattle.std.specs.Str.{bytes_eq}
-use Rattle.std.proofs.Common.{◌≡◌, ◌<◌, ◌≤◌, ℕ, ◌+◌, ◌==◌, ◌&&◌, List, [], ◌∷◌, length, map, filter, find, cond, Bool, true, false, Some, None, Option, Ordering, Less, Equal, Greater, is_eq, refl, sym, ap, subst, ◌∙◌, arith}
+use Rattle.std.proofs.Common.{◌≡◌, ◌<◌, ◌≤◌, ℕ, ◌+◌, ◌==◌, List, [], ◌∷◌, length, map, filter, find, cond, Bool, true, false, Some, Equal, is_eq, refl, sym, ap, subst, ◌∙◌, arith}
 use Rattle.std.specs.Prelude.{is_none, if◌then◌else◌, nat_lt}
 use Rattle.std.specs.List.{AllByRecursion}
 use Rattle.std.specs.Cmp.{IsTotalOrder}
@@ -10,30 +9,29 @@ use Rattle.std.proofs.lemmas.Cmp.{then_total}
 use Rattle.std.proofs.lemmas.List.Sorted.{IsPermutation-map, IsPermutation-trans}
 use Rattle.std.proofs.lemmas.Map.Text.{is_eq-slice_cmp}
 use Rattle.std.proofs.lemmas.Slice.Eq.{bytes_eq-Decides}
+use Rattle.std.proofs.lemmas.Bool.{and_from, and_parts}
 use Rattle.sqlite.specs.Effect.{Database}
 use Rattle.vault_core_model.specs.declared.records.Entry.{Entry}
 use Rattle.vault_core_model.specs.declared.records.History.{History}
-use Rattle.vault_core_model.specs.declared.records.Removal.{Removal}
 use Rattle.vault_core_model.specs.Order.{name_cmp}
 use Rattle.vault_core_model.specs.Places.{held_at, is_held_at, is_current}
 use Rattle.vault_core_model.specs.Sound.{AreIdsFrom}
 use Rattle.vault_core_model.specs.Vault.{Vault}
 use Rattle.vault_core_laws.proofs.Lists.{All-weaker}
+use Rattle.vault_core_laws.proofs.NameOrder.{then_first, then_second}
+use Rattle.vault_core_laws.proofs.Tests.{none_is}
 use Rattle.vault_audit_model.specs.declared.rows.HeadRow.{HeadRow}
 use Rattle.vault_audit_model.specs.Limits.{IsHeadRow, IsHistory}
 use Rattle.vault_audit_model.specs.Relations.{AreEntries}
 use Rattle.vault_audit_model.specs.Rows.{head_row}
-use Rattle.vault_audit_model.specs.Spells.{AreSound, head_in, heads_in}
-use Rattle.vault_audit_contents.proofs.MergeLemmas.{entries_in, itself, same_if}
+use Rattle.vault_audit_model.specs.Spells.{AreSound, head_in, heads_in, entries_in}
+use Rattle.vault_audit_model.proofs.ListLemmas.{all_both}
+use Rattle.vault_audit_contents.proofs.MergeLemmas.{itself, same_if}
 use Rattle.vault_audit_contents.proofs.SoundLemmas.{sound_entries}
 use Rattle.vault_audit_heads.specs.Heads.{head_cmp, IsHeldFor, NamesHeld, AreHeadsByKey, TellHeadsByKey}
 use Rattle.vault_audit_heads.proofs.SortLemmas.{in_order, same_in_order, all_in_order, AreApart, ascending_in_order}
 
 -- ---- lists
-
-pub all_both : {X : Type 0} (P Q : X → Type 0) (xs : List X) → AllByRecursion P xs → AllByRecursion Q xs → AllByRecursion (λ x. P x × Q x) xs
-all_both P Q [] ps qs = tt
-all_both P Q (x ∷ xs) ps qs = ((ps.0, qs.0), all_both P Q xs ps.1 qs.1)
 
 -- what a test leaves is nothing, so nothing passes it
 none_left : {X : Type 0} (p : X → Bool) (xs : List X) → length (filter p xs) ≡ 0 → AllByRecursion (λ x. p x ≡ true → ⊥) xs
@@ -86,35 +84,10 @@ each_found next (h ∷ hs) ids =
 
 -- ---- the entry that is current
 
-and_first : (a b : Bool) → (a && b) ≡ true → a ≡ true
-and_first true b e = refl
-and_first false b e = absurd (cc e)
-
-and_second : (a b : Bool) → (a && b) ≡ true → b ≡ true
-and_second true b e = e
-and_second false b e = absurd (cc e)
-
-unremoved : (r : Option Removal) → is_none r ≡ true → r ≡ None
-unremoved None e = refl
-unremoved (Some r) e = absurd (cc e)
-
-then_first : (a b : Ordering) → ordering_then a b ≡ Equal → a ≡ Equal
-then_first Less b e = absurd (cc e)
-then_first Equal b e = refl
-then_first Greater b e = absurd (cc e)
-
-then_second : (a b : Ordering) → ordering_then a b ≡ Equal → b ≡ Equal
-then_second Less b e = absurd (cc e)
-then_second Equal b e = e
-then_second Greater b e = absurd (cc e)
-
 same_text : (a b : List ℕ) → name_cmp a b ≡ Equal → bytes_eq b a ≡ true
 same_text a b tie =
     let one : bytes_eq a b ≡ true = sym (is_eq-slice_cmp a b) ∙ ap is_eq tie in
     (bytes_eq-Decides b a).1 (sym ((bytes_eq-Decides a b).0 one))
-
-all_true : (a b c : Bool) → a ≡ true → b ≡ true → c ≡ true → (a && (b && c)) ≡ true
-all_true a b c p q r = rw (p, q, r) refl
 
 pub head_cmp_total : IsTotalOrder head_cmp
 head_cmp_total = then_total (on_texts (λ (h : HeadRow). h.bucket)) (on_texts (λ (h : HeadRow). h.key))
@@ -124,7 +97,7 @@ module _ (v : Vault) where
   none_newer : (h : History) → is_current v h ≡ true → AllByRecursion (λ g. is_held_at h.entry.bucket h.entry.key g.entry ≡ true → nat_lt h.entry.id g.entry.id ≡ true → ⊥) v.histories
   none_newer h current =
       under_filter (λ (g : History). is_held_at h.entry.bucket h.entry.key g.entry) (λ g. nat_lt h.entry.id g.entry.id ≡ true → ⊥) v.histories
-      (none_left (λ (g : History). nat_lt h.entry.id g.entry.id) (held_at v h.entry.bucket h.entry.key) (same_if _ 0 (and_second (is_none h.entry.removal) _ current)))
+      (none_left (λ (g : History). nat_lt h.entry.id g.entry.id) (held_at v h.entry.bucket h.entry.key) (same_if _ 0 ((and_parts (is_none h.entry.removal) _ current).1)))
 
   abbrev IsInFront : List History → Type 1
   IsInFront hs = (P : History → Type 0) → AllByRecursion P v.histories → AllByRecursion P hs
@@ -137,7 +110,7 @@ module _ (v : Vault) where
       let low = its.0 in
       let bucket = same_text h.entry.bucket g.entry.bucket (then_first _ _ tie) in
       let key = same_text h.entry.key g.entry.key (then_second (name_cmp h.entry.bucket g.entry.bucket) _ tie) in
-      its.1 (all_true _ _ _ bucket key (and_first (is_none g.entry.removal) _ now)) (below h.entry.id g.entry.id (omega (arith, low)))) hs
+      its.1 (and_from _ _ bucket (and_from _ _ key (and_parts (is_none g.entry.removal) _ now).0)) (below h.entry.id g.entry.id (omega (arith, low)))) hs
       (all_both _ _ hs above (part _ (none_newer h current))))
 
   all_apart : (next : ℕ) (hs : List History) → AreIdsFrom next hs → IsInFront hs → AreApart head_cmp (map (head_in v) (filter (is_current v) hs))
@@ -165,7 +138,7 @@ module _ (v : Vault) where
   heads_name ids =
       mapped_filter (is_current v) (head_in v) (NamesHeld (entries_in v.histories)) v.histories
       (All-weaker (λ h. find (λ e. e.id == h.entry.id) (entries_in v.histories) ≡ Some h.entry) (λ h. is_current v h ≡ true → NamesHeld (entries_in v.histories) (head_in v h))
-      (λ h found current. subst (IsHeldFor (head_in v h)) (sym found) (refl, refl, unremoved h.entry.removal (and_first (is_none h.entry.removal) _ current))) v.histories (each_found 1 v.histories ids))
+      (λ h found current. subst (IsHeldFor (head_in v h)) (sym found) (refl, refl, none_is h.entry.removal (and_parts (is_none h.entry.removal) _ current).0)) v.histories (each_found 1 v.histories ids))
 
 -- ---- a sound vault
 

@@ -1,11 +1,12 @@
 -- The look at each entry beside the heads of its key.
 use Rattle.std.specs.Ordering.{int_cmp, nat_cmp, is_ge}
 use Rattle.std.specs.Str.{bytes_eq}
-use Rattle.std.specs.List.{list_any, list_all}
+use Rattle.std.specs.List.{list_any}
 use Rattle.std.specs.Prelude.{if◌then◌else◌, min}
-use Rattle.std.proofs.Common.{◌≡◌, ℕ, ◌+◌, ◌&&◌, ◌||◌, pos, negsuc, codes, List, [], ◌∷◌, ◌++◌, length, map, flat_map, Bool, true, false, Some, None, Option, IsTrue, IsPermutation, refl, sym, ap, ap₂, subst, ◌∙◌, arith}
+use Rattle.std.proofs.Common.{◌≡◌, ℕ, ◌+◌, ◌&&◌, ◌||◌, pos, negsuc, codes, List, [], ◌∷◌, ◌++◌, length, map, flat_map, Bool, true, false, Some, None, Option, IsTrue, IsPermutation, refl, sym, ap, subst, ◌∙◌, arith}
 use Rattle.std.proofs.lemmas.List.Sorted.{IsPermutation-map, IsPermutation-sym, list_any-IsPermutation}
 use Rattle.std.proofs.lemmas.Map.Text.{is_eq-slice_cmp}
+use Rattle.std.proofs.lemmas.List.Concat.{flat_map_single}
 use Rattle.sqlite_tied.specs.Compute.{everything}
 use Rattle.sqlite_trees.specs.Tree.{Trees}
 use Rattle.sqlite_trees.proofs.ListLemmas.{map-map, all-permutation, all-map, all_from_map}
@@ -16,7 +17,7 @@ use Rattle.sqlite_value.proofs.OrderLemmas.{value_cmp-Int}
 use Rattle.sqlite_sql.specs.declared.ops.BinaryOp.TheVariants.{Compare}
 use Rattle.sqlite_sql.specs.declared.ops.CompareOp.TheVariants.{Eq, Ge}
 use Rattle.sqlite_sql.specs.Ops.{binary, is_true, from_truth}
-use Rattle.sqlite_sql.specs.Term.{Term, Env, lit, col, op2, eval_all, holds}
+use Rattle.sqlite_sql.specs.Term.{Term, Env, lit, col, op2, eval_all}
 use Rattle.sqlite_sql.specs.Query.{Query, inner, counted, end, IsAnswer, Output, output}
 use Rattle.sqlite_sql.specs.Program.{overlay}
 use Rattle.sqlite.specs.Command.TheVariants.{Select}
@@ -35,7 +36,8 @@ use Rattle.vault_audit_model.proofs.SameRows.{flag_same}
 use Rattle.vault_audit_walk.specs.Records.{Checked}
 use Rattle.vault_audit_walk.proofs.ScanLemmas.{goes_on_to}
 use Rattle.vault_audit_walk.proofs.RecordLemmas.{between, front}
-use Rattle.vault_audit_beside.proofs.BesideLemmas.{agrees, agree_texts, of_records, of_stored, each}
+use Rattle.vault_audit_model.proofs.ValueLemmas.{agrees, three, truth_back}
+use Rattle.vault_audit_beside.proofs.BesideLemmas.{agree_texts, of_records, of_stored, each, any_alike, any_map, passes}
 use Rattle.vault_audit_heads.specs.Newest.{is_head_over, IsHeaded, TellHeaded, ShowsHeaded}
 
 -- ---- the statement
@@ -70,27 +72,20 @@ headed_plain = (refl, refl)
 
 -- ---- what it shows
 
-abbrev passes : Row → Row → Bool
-passes r s = list_all (holds ([] ∷ r ∷ s ∷ [])) tests
-
 abbrev shown_headed : List Row → Row → Row
-shown_headed heads r = column r 10 ∷ Int (pos (min 1 (length (flat_map (λ s. if passes r s then ([] ∷ r ∷ s ∷ []) ∷ [] else []) heads)))) ∷ []
+shown_headed heads r = column r 10 ∷ Int (pos (min 1 (length (flat_map (λ s. if passes tests r s then ([] ∷ r ∷ s ∷ []) ∷ [] else []) heads)))) ∷ []
 
 abbrev source : Trees → List Row
 source db = map (shown_headed (db heads_tree)) (db 9)
 
-singles : {A B : Type 0} (f : A → B) (xs : List A) → flat_map (λ x. f x ∷ []) xs ≡ map f xs
-singles f [] = refl
-singles f (x ∷ xs) = ap (λ l. f x ∷ l) (singles f xs)
-
 abbrev env_of : Trees → Row → Env
-env_of db r = [] ∷ r ∷ (Int (pos (min 1 (length (flat_map (λ s. if passes r s then ([] ∷ r ∷ s ∷ []) ∷ [] else []) (db heads_tree))))) ∷ []) ∷ []
+env_of db r = [] ∷ r ∷ (Int (pos (min 1 (length (flat_map (λ s. if passes tests r s then ([] ∷ r ∷ s ∷ []) ∷ [] else []) (db heads_tree))))) ∷ []) ∷ []
 
 answered : (db : Trees) (rows : List Row) → IsAnswer headed_query db [] rows → IsPermutation (source db) rows
 answered db rows a =
     let q = headed_query in
     let kept : map (λ (o : Output). o.1) a.kept ≡ source db =
-    ap (map (λ (o : Output). o.1)) (a.distinct ∙ ap (map (output q)) (a.grouped ∙ singles (env_of db) (db 9)))
+    ap (map (λ (o : Output). o.1)) (a.distinct ∙ ap (map (output q)) (a.grouped ∙ flat_map_single (env_of db) (db 9)))
     ∙ map-map (λ (o : Output). o.1) (output q) (map (env_of db) (db 9)) ∙ map-map (eval_all q.project) (env_of db) (db 9) in
     subst (λ xs. IsPermutation xs rows) kept (subst (IsPermutation (map (λ (o : Output). o.1) a.kept)) (sym a.shown) (IsPermutation-map (λ (o : Output). o.1) a.kept a.ordered a.same))
 
@@ -126,8 +121,8 @@ tells x y = agrees (column y 0) (column x 1) && (agrees (column y 1) (column x 2
 abbrev Holds : List Row → Row → Type 0
 Holds heads x = column x 9 ≡ Null → IsTrue (list_any (λ s. tells x (head_columns s)) heads)
 
-flagged : (heads : List Row) (r : Row) → column (shown_headed heads r) 1 ≡ flag (list_any (passes r) heads)
-flagged heads r = ap (λ n. Int (pos n)) (some_pass (passes r) (λ s. [] ∷ r ∷ s ∷ []) heads) ∙ as_flag (list_any (passes r) heads)
+flagged : (heads : List Row) (r : Row) → column (shown_headed heads r) 1 ≡ flag (list_any (passes tests r) heads)
+flagged heads r = ap (λ n. Int (pos n)) (some_pass (passes tests r) (λ s. [] ∷ r ∷ s ∷ []) heads) ∙ as_flag (list_any (passes tests r) heads)
 
 holds_if : (heads : List Row) (r : Row) → ShowsHeaded (shown_headed heads r) → Holds heads (entry_columns r)
 holds_if heads r shows none = flag_same _ true (sym (flagged heads r) ∙ shows none)
@@ -137,10 +132,6 @@ shows_if heads r it none = flagged heads r ∙ ap flag (it none)
 
 -- ---- the entries and the heads of the rows
 
-truth_back : (b : Bool) → is_true (from_truth (Some b)) ≡ b
-truth_back true = refl
-truth_back false = refl
-
 ints : (a b : ℕ) → int_cmp (pos a) (pos b) ≡ nat_cmp a b
 ints a b = grind arith
 
@@ -148,22 +139,10 @@ at_least : (a b : ℕ) → is_true (binary (Compare Ge Binary) (number a) (numbe
 unfolding binary
 at_least a b = ap (λ o. is_true (from_truth (Some (is_ge o)))) (value_cmp-Int (pos a) (pos b) ∙ ints a b) ∙ truth_back (is_ge (nat_cmp a b))
 
-three : (a b c d e f : Bool) → a ≡ d → b ≡ e → c ≡ f → (a && (b && (c && true))) ≡ (d && (e && f))
-three a b true d e f p q r = rw (p, q, sym r) refl
-three a b false d e f p q r = rw (p, q, sym r) refl
-
 tells_head : (e : Entry) (h : HeadRow) → tells (entry_row e) (head_row h) ≡ is_head_over e h
 tells_head e h =
     three _ _ _ (bytes_eq h.bucket e.bucket) (bytes_eq h.key e.key) (is_ge (nat_cmp h.head.newest e.id))
     (agree_texts h.bucket e.bucket ∙ is_eq-slice_cmp h.bucket e.bucket) (agree_texts h.key e.key ∙ is_eq-slice_cmp h.key e.key) (at_least h.head.newest e.id)
-
-any_map : {A B : Type 0} (p : B → Bool) (f : A → B) (xs : List A) → list_any p (map f xs) ≡ list_any (λ x. p (f x)) xs
-any_map p f [] = refl
-any_map p f (x ∷ xs) = ap (λ b. p (f x) || b) (any_map p f xs)
-
-any_alike : {A : Type 0} (p q : A → Bool) → ((x : A) → p x ≡ q x) → (xs : List A) → list_any p xs ≡ list_any q xs
-any_alike p q same [] = refl
-any_alike p q same (x ∷ xs) = ap₂ ◌||◌ (same x) (any_alike p q same xs)
 
 module _ (heads : List Row) (hs : List HeadRow) (are : IsPermutation (map head_row hs) (map head_columns heads)) where
   found : (e : Entry) → list_any (λ s. tells (entry_row e) (head_columns s)) heads ≡ list_any (is_head_over e) hs

@@ -6,10 +6,10 @@ use Rattle.vault_audit_model.specs.declared.rows.HeadRow.{HeadRow}
 use Rattle.vault_audit_model.proofs.SameRows.{number_same, text_same}
 use Rattle.vault_audit_heads.specs.Heads.{headed_row}
 
-abbrev head_as : List ℕ → List ℕ → ℕ → ℕ → HeadRow
+abbrev pub head_as : List ℕ → List ℕ → ℕ → ℕ → HeadRow
 head_as bucket key newest count = record { bucket = bucket; key = key; head = record { newest = newest; count = count } }
 
-alike : (b1 b2 k1 k2 : List ℕ) (n1 n2 c1 c2 : ℕ) → b1 ≡ b2 → k1 ≡ k2 → n1 ≡ n2 → c1 ≡ c2 → head_as b1 k1 n1 c1 ≡ head_as b2 k2 n2 c2
+pub alike : (b1 b2 k1 k2 : List ℕ) (n1 n2 c1 c2 : ℕ) → b1 ≡ b2 → k1 ≡ k2 → n1 ≡ n2 → c1 ≡ c2 → head_as b1 k1 n1 c1 ≡ head_as b2 k2 n2 c2
 alike b1 b2 k1 k2 n1 n2 c1 c2 p q r s = rw (p, q, r, s) refl
 
 pub same_head : (x y : HeadRow) → headed_row x ≡ headed_row y → x ≡ y

@@ -1,11 +1,11 @@
 -- Records that are apart, put into their order.
-use Rattle.std.specs.Ordering.{ordering_reverse}
-use Rattle.std.proofs.Common.{◌≡◌, List, [], ◌∷◌, Ordering, Less, Equal, Greater, IsPermutation, refl, sym, ◌∙◌}
+use Rattle.std.proofs.Common.{◌≡◌, List, [], ◌∷◌, Ordering, Less, Equal, Greater, IsPermutation}
 use Rattle.std.specs.List.{AllByRecursion}
 use Rattle.std.specs.Cmp.{IsTotalOrder}
 use Rattle.std.proofs.lemmas.List.Sorted.{IsPermutation-refl, IsPermutation-cons, IsPermutation-trans, IsPermutation-middle}
 use Rattle.vault_core_model.specs.Order.{IsAscending, placed, placed_by}
-use Rattle.vault_core_laws.proofs.Lists.{All-placed, All-weaker}
+use Rattle.vault_core_laws.proofs.Lists.{All-placed}
+use Rattle.vault_core_laws.proofs.NameOrder.{IsApart, ascending-placed}
 
 module _ {A : Type 0} (cmp : A → A → Ordering) where
   -- the records in their order
@@ -13,14 +13,10 @@ module _ {A : Type 0} (cmp : A → A → Ordering) where
   in_order [] = []
   in_order (x ∷ xs) = placed cmp x (in_order xs)
 
-  -- x ties with none of these
-  abbrev pub IsApart : A → List A → Type 0
-  IsApart x ys = AllByRecursion (λ y. cmp x y ≡ Equal → ⊥) ys
-
   -- none of them ties with one behind it
   abbrev pub AreApart : List A → Type 0
   AreApart [] = Unit {0}
-  AreApart (x ∷ xs) = IsApart x xs × AreApart xs
+  AreApart (x ∷ xs) = IsApart cmp x xs × AreApart xs
 
   swapped : (x y : A) (ys : List A) → IsPermutation (y ∷ x ∷ ys) (x ∷ y ∷ ys)
   swapped x y ys = IsPermutation-middle (y ∷ []) x ys
@@ -42,23 +38,6 @@ module _ {A : Type 0} (cmp : A → A → Ordering) where
   all_in_order P [] all = tt
   all_in_order P (x ∷ xs) all = All-placed P cmp x (in_order xs) all.0 (all_in_order P xs all.1)
 
-  reversed : (o : Ordering) → ordering_reverse o ≡ Greater → o ≡ Less
-  reversed Less e = refl
-  reversed Equal e = absurd (cc e)
-  reversed Greater e = absurd (cc e)
-
-  ascending_placed : IsTotalOrder cmp → (x : A) (ys : List A) → IsApart x ys → IsAscending cmp ys → IsAscending cmp (placed cmp x ys)
-  ascending_placed total x [] apart ascending = (tt, tt)
-  ascending_placed total x (y ∷ ys) apart ascending =
-      elim (cmp x y) as (λ o. cmp x y ≡ o → IsAscending cmp (placed_by o x y ys (placed cmp x ys))) [
-        | Less ↦ λ before. ((before, All-weaker (λ z. cmp y z ≡ Less) (λ z. cmp x z ≡ Less) (λ z behind. total.trans x y z before behind) ys ascending.0), ascending)
-        | Equal ↦ λ tie. absurd (apart.0 tie)
-        | Greater ↦ λ behind. (
-          All-placed (λ z. cmp y z ≡ Less) cmp x ys (reversed (cmp y x) (sym (total.antisymm x y) ∙ behind)) ascending.0,
-          ascending_placed total x ys apart.1 ascending.1,
-        )
-      ] refl
-
   pub ascending_in_order : IsTotalOrder cmp → (xs : List A) → AreApart xs → IsAscending cmp (in_order xs)
   ascending_in_order total [] apart = tt
-  ascending_in_order total (x ∷ xs) apart = ascending_placed total x (in_order xs) (all_in_order (λ y. cmp x y ≡ Equal → ⊥) xs apart.0) (ascending_in_order total xs apart.1)
+  ascending_in_order total (x ∷ xs) apart = ascending-placed cmp total x (in_order xs) (all_in_order (λ y. cmp x y ≡ Equal → ⊥) xs apart.0) (ascending_in_order total xs apart.1)

@@ -18,12 +18,12 @@ use Rattle.vault_audit_model.specs.Limits.{IsHeadRow}
 use Rattle.vault_audit_model.specs.Relations.{AreEntries}
 use Rattle.vault_audit_model.specs.Rows.{head_row, head_columns, entry_columns, removal_at}
 use Rattle.vault_audit_model.specs.Tables.{vault_schema, heads_tree, entries_tree}
-use Rattle.vault_audit_model.proofs.SameRows.{text_same}
+use Rattle.vault_audit_model.proofs.SameRows.{text_same, cell}
 use Rattle.vault_audit_walk.specs.Pass.{Takes, Refuses}
 use Rattle.vault_audit_walk.specs.Walk.{Walked}
 use Rattle.vault_audit_walk.proofs.PassLemmas.{pass_yes, pass_no}
 use Rattle.vault_audit_contents.proofs.BesideLemmas.{is_of, row_beside, beside, beside_is, beside_number}
-use Rattle.vault_audit_contents.proofs.ContentLemmas.{one_each}
+use Rattle.vault_audit_contents.proofs.ContentLemmas.{one_each, unremoved}
 use Rattle.vault_audit_contents.proofs.JoinLemmas.{beside_of, shown_beside, join_rows, joined, IsOrderOf}
 use Rattle.vault_audit_heads.specs.declared.by_key.HeadPass.{HeadPass}
 use Rattle.vault_audit_heads.specs.Heads.{headed_row, head_cmp, IsHeldFor, NamesHeld, AreHeadsByKey, TellHeadsByKey}
@@ -69,16 +69,9 @@ first_four r = column r 0 ∷ column r 1 ∷ column r 2 ∷ column r 3 ∷ []
 no_text : (t : List ℕ) → ◌≡◌ {A = Value} (Text t) Null → ⊥
 no_text t e = cc
 
-unremoved : (r : Option Removal) → Null ≡ removal_at r → r ≡ None
-unremoved None e = refl
-unremoved (Some r) e = absurd cc
-
 told_by : (o : Option Entry) (h : HeadRow) → ◌≡◌ {A = Value} (Text h.bucket) (column (row_beside o) 1) → ◌≡◌ {A = Value} (Text h.key) (column (row_beside o) 2) → Null ≡ column (row_beside o) 9 → IsHeldFor h o
 told_by None h bucket key removal = no_text h.bucket bucket
 told_by (Some e) h bucket key removal = (sym (text_same h.bucket e.bucket bucket), sym (text_same h.key e.key key), unremoved e.removal removal)
-
-cell : (row other : Row) (at : ℕ) → row ≡ other → column row at ≡ column other at
-cell row other at e = ap (λ r. column r at) e
 
 is_extended : (es : List Entry) (h : HeadRow) → headed_row h ≡ extended es (head_row h) → NamesHeld es h
 is_extended es h e =

@@ -27,18 +27,17 @@ use Rattle.vault_core_laws.proofs.NameOrder.{notes_total}
 use Rattle.vault_audit_model.specs.Limits.{IsNote}
 use Rattle.vault_audit_model.specs.Relations.{AreEntries, AreNotes, TellNotes, NamesOneOf}
 use Rattle.vault_audit_model.specs.Rows.{note_row, note_columns, entry_columns}
-use Rattle.vault_audit_model.specs.Spells.{AreSound}
+use Rattle.vault_audit_model.specs.Spells.{AreSound, entries_in}
 use Rattle.vault_audit_model.specs.Tables.{vault_schema, intake_tree, entries_tree}
 use Rattle.vault_audit_model.specs.Values.{number, bytes_or_null}
-use Rattle.vault_audit_model.proofs.SameRows.{number_same, text_same}
+use Rattle.vault_audit_model.proofs.SameRows.{number_same, text_same, cell}
 use Rattle.vault_audit_parts.proofs.JoinLemmas.{entry_found}
 use Rattle.vault_audit_walk.specs.Pass.{Takes, Refuses, AllFit}
 use Rattle.vault_audit_walk.specs.Walk.{Walked}
 use Rattle.vault_audit_walk.proofs.PassLemmas.{pass_yes, pass_no}
 use Rattle.vault_audit_contents.proofs.BesideLemmas.{is_of, row_beside, beside, beside_is, beside_number}
-use Rattle.vault_audit_contents.proofs.ContentLemmas.{one_each}
+use Rattle.vault_audit_contents.proofs.ContentLemmas.{one_each, digest_same}
 use Rattle.vault_audit_contents.proofs.JoinLemmas.{beside_of, shown_beside, join_rows, joined, IsOrderOf}
-use Rattle.vault_audit_contents.proofs.MergeLemmas.{entries_in}
 use Rattle.vault_audit_contents.proofs.SoundLemmas.{sound_entries}
 use Rattle.vault_audit_intake.specs.declared.intake.NotePass.{NotePass}
 use Rattle.vault_audit_intake.specs.Notes.{noted_row, IsAfter}
@@ -132,19 +131,12 @@ source_is db es are =
 
 -- ---- notes that passed
 
-digest_same : (a : List ℕ) (d : Option (List ℕ)) → ◌≡◌ {A = Value} (Blob a) (bytes_or_null d) → d ≡ Some a
-digest_same a None e = absurd cc
-digest_same a (Some b) e = let same : b ≡ a = cc in ap Some same
-
 no_number : (n : ℕ) → number n ≡ Null → ⊥
 no_number n e = cc
 
 told_by : (o : Option Entry) (n : Note) → ◌≡◌ {A = Value} (Text n.bucket) (column (row_beside o) 1) → ◌≡◌ {A = Value} (Text n.key) (column (row_beside o) 2) → number n.size ≡ column (row_beside o) 4 → ◌≡◌ {A = Value} (Blob n.digest) (column (row_beside o) 5) → IsNoted n o
 told_by None n bucket key size digest = no_number n.size size
 told_by (Some e) n bucket key size digest = (sym (text_same n.bucket e.bucket bucket), sym (text_same n.key e.key key), sym (number_same n.size e.size size), digest_same n.digest e.digest digest)
-
-cell : (row other : Row) (at : ℕ) → row ≡ other → column row at ≡ column other at
-cell row other at e = ap (λ r. column r at) e
 
 is_extended : (es : List Entry) (n : Note) → noted_row n ≡ extended es (note_row n) → NamesOneOf es n
 is_extended es n e =

@@ -7,6 +7,7 @@ use Rattle.std.proofs.Common.{◌≡◌, ◌≤◌, ◌<◌, inl, inr, ℕ, zero
 use Rattle.std.proofs.lemmas.Bool.Decides.{nat_tests}
 use Rattle.std.proofs.lemmas.List.Sorted.{IsPermutation-map, IsPermutation-sym, IsPermutation-trans}
 use Rattle.std.proofs.lemmas.Slice.Eq.{bytes_eq-Decides}
+use Rattle.std.proofs.lemmas.Bool.{and_parts}
 use Rattle.sqlite_trees.proofs.ListLemmas.{all-permutation}
 use Rattle.sqlite.specs.Effect.{Database}
 use Rattle.vault_core_model.specs.declared.records.Entry.{Entry}
@@ -27,27 +28,17 @@ use Rattle.vault_audit_heads.specs.Heads.{head_cmp, IsHeldFor, NamesHeld, AreHea
 use Rattle.vault_audit_heads.specs.Newest.{is_head_over, IsHeaded, TellHeaded}
 use Rattle.vault_audit_heads.proofs.SortLemmas.{in_order, same_in_order, all_in_order, ascending_in_order}
 use Rattle.vault_audit_heads.proofs.CurrentLemmas.{head_cmp_total, heads_apart, heads_name}
+use Rattle.vault_audit_heads.proofs.RowLemmas.{alike}
 use Rattle.vault_audit_counts.specs.Counts.{IsCounted, TellCounts}
 use Rattle.vault_audit_counts.proofs.CountLemmas.{mapped_many}
+use Rattle.vault_core_laws.proofs.Tests.{none_is}
 use Rattle.vault_audit_keys.specs.Keys.{entries_of}
 use Rattle.vault_audit_keys.proofs.MemberLemmas.{In, at_in, all_of, none_in, no_length, one_in, filter_in, in_filter, any_in, in_any, map_in, in_map, tied, one_of, same_rising}
 
 -- ---- tests
 
-first_of : (a b : Bool) → (a && b) ≡ true → a ≡ true
-first_of true b e = refl
-first_of false b e = absurd (cc e)
-
-second_of : (a b : Bool) → (a && b) ≡ true → b ≡ true
-second_of true b e = e
-second_of false b e = absurd (cc e)
-
 both_true : (a b : Bool) → a ≡ true → b ≡ true → (a && b) ≡ true
 both_true a b p q = rw (p, q) refl
-
-unremoved : (r : Option Removal) → is_none r ≡ true → r ≡ None
-unremoved None e = refl
-unremoved (Some r) e = absurd (cc e)
 
 none_removed : (r : Option Removal) → r ≡ None → is_none r ≡ true
 none_removed r e = ap is_none e
@@ -93,16 +84,16 @@ named_in h (x ∷ es) it =
 
 held_parts : (bucket key : List ℕ) (e : Entry) → is_held_at bucket key e ≡ true → (e.bucket ≡ bucket) × (e.key ≡ key) × (e.removal ≡ None)
 held_parts bucket key e is =
-    let rest = second_of (bytes_eq e.bucket bucket) _ is in
-    (same_text e.bucket bucket (first_of (bytes_eq e.bucket bucket) _ is), same_text e.key key (first_of (bytes_eq e.key key) _ rest), unremoved e.removal (second_of (bytes_eq e.key key) _ rest))
+    let rest = (and_parts (bytes_eq e.bucket bucket) _ is).1 in
+    (same_text e.bucket bucket (and_parts (bytes_eq e.bucket bucket) _ is).0, same_text e.key key (and_parts (bytes_eq e.key key) _ rest).0, none_is e.removal (and_parts (bytes_eq e.key key) _ rest).1)
 
 parts_held : (bucket key : List ℕ) (e : Entry) → e.bucket ≡ bucket → e.key ≡ key → e.removal ≡ None → is_held_at bucket key e ≡ true
 parts_held bucket key e p q r = both_true _ _ (text_same e.bucket bucket p) (both_true _ _ (text_same e.key key q) (none_removed e.removal r))
 
 over_parts : (e : Entry) (h : HeadRow) → is_head_over e h ≡ true → (h.bucket ≡ e.bucket) × (h.key ≡ e.key) × (e.id ≤ h.head.newest)
 over_parts e h is =
-    let rest = second_of (bytes_eq h.bucket e.bucket) _ is in
-    (same_text h.bucket e.bucket (first_of (bytes_eq h.bucket e.bucket) _ is), same_text h.key e.key (first_of (bytes_eq h.key e.key) _ rest), least_if h.head.newest e.id (second_of (bytes_eq h.key e.key) _ rest))
+    let rest = (and_parts (bytes_eq h.bucket e.bucket) _ is).1 in
+    (same_text h.bucket e.bucket (and_parts (bytes_eq h.bucket e.bucket) _ is).0, same_text h.key e.key (and_parts (bytes_eq h.key e.key) _ rest).0, least_if h.head.newest e.id (and_parts (bytes_eq h.key e.key) _ rest).1)
 
 parts_over : (e : Entry) (h : HeadRow) → h.bucket ≡ e.bucket → h.key ≡ e.key → e.id ≤ h.head.newest → is_head_over e h ≡ true
 parts_over e h p q low = both_true _ _ (text_same h.bucket e.bucket p) (both_true _ _ (text_same h.key e.key q) (if_least h.head.newest e.id low))
@@ -119,12 +110,6 @@ no_less a b low never =
 
 tie_of : (g h : HeadRow) → g.bucket ≡ h.bucket → g.key ≡ h.key → head_cmp g h ≡ Equal
 tie_of g h p q = ap₂ (λ b k. ordering_then (name_cmp g.bucket b) (name_cmp g.key k)) (sym p) (sym q) ∙ tied head_cmp head_cmp_total g
-
-abbrev head_as : List ℕ → List ℕ → ℕ → ℕ → HeadRow
-head_as bucket key newest count = record { bucket = bucket; key = key; head = record { newest = newest; count = count } }
-
-alike : (b1 b2 k1 k2 : List ℕ) (n1 n2 c1 c2 : ℕ) → b1 ≡ b2 → k1 ≡ k2 → n1 ≡ n2 → c1 ≡ c2 → head_as b1 k1 n1 c1 ≡ head_as b2 k2 n2 c2
-alike b1 b2 k1 k2 n1 n2 c1 c2 p q r s = rw (p, q, r, s) refl
 
 -- ---- numbered entries
 
@@ -237,8 +222,8 @@ module _ (v : Vault) (numbered : AreNumbered 1 0 (entries_of v)) where
 
     current_found : (g : History) → In g v.histories → is_current v g ≡ true → In (head_in v g) hs
     current_found g i now =
-        let held = unremoved g.entry.removal (first_of (is_none g.entry.removal) _ now) in
-        let none = is_zero _ (second_of (is_none g.entry.removal) _ now) in
+        let held = none_is g.entry.removal (and_parts (is_none g.entry.removal) _ now).0 in
+        let none = is_zero _ (and_parts (is_none g.entry.removal) _ now).1 in
         let h = over g i held in
         let k = named_of h.0 h.1 in
         let at = parts_held g.entry.bucket g.entry.key k.0.entry (k.3 ∙ h.2) (k.4 ∙ h.3) k.5 in

@@ -109,7 +109,7 @@ settings_of_id id place (t ∷ ts) s (inr h) = settings_of_id id (place + 1) ts 
 abbrev id_of : History → ℕ
 id_of h = h.entry.id
 
-ids_numbered : (n : ℕ) (hs : List History) → AreIdsFrom n hs → AreNumberedFrom id_of n hs
+pub ids_numbered : (n : ℕ) (hs : List History) → AreIdsFrom n hs → AreNumberedFrom id_of n hs
 ids_numbered n [] ids = tt
 ids_numbered n (h ∷ hs) ids = (ids.0, ids_numbered (n + 1) hs ids.1)
 

@@ -1,2 +1,5 @@
 pub mod SameRows
 pub mod TextLemmas
+pub mod ValueLemmas
+pub mod OutcomeLemmas
+pub mod ListLemmas

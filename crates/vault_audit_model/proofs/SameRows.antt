@@ -30,7 +30,7 @@ use Rattle.vault_audit_model.specs.Values.{number, number_or_null, text_or_null,
 -- ---- values
 
 -- the values of a row, one by one
-cell : (row other : Row) (at : ℕ) → row ≡ other → column row at ≡ column other at
+pub cell : (row other : Row) (at : ℕ) → row ≡ other → column row at ≡ column other at
 cell row other at e = ap (λ r. column r at) e
 
 pub number_same : (a b : ℕ) → number a ≡ number b → a ≡ b

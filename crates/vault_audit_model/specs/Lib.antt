@@ -5,3 +5,4 @@ pub mod Rows
 pub mod Limits
 pub mod Spells
 pub mod Relations
+pub mod Faults

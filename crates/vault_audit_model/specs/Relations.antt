@@ -1,6 +1,7 @@
 -- What the rows of the tables are to each other, told of one table at a time.
-use Rattle.std.specs.Prelude.{◌≡◌, ℕ, ◌+◌, ◌≤◌, Bool, true, false, ◌==◌, List, [], ◌∷◌, length, map, find, flat_map, sum_by, Option, None, IsPermutation}
+use Rattle.std.specs.Prelude.{◌≡◌, ℕ, ◌+◌, ◌≤◌, Bool, true, false, ◌==◌, List, [], ◌∷◌, length, map, find, flat_map, sum_by, Option, None, IfSome, IsPermutation}
 use Rattle.std.specs.List.{AllByRecursion}
+use Rattle.std.specs.declared.cmp.Ordering.TheVariants.{Less}
 use Rattle.sqlite.specs.Effect.{Database}
 use Rattle.vault_tally.specs.Row.{size_of, quota}
 use Rattle.vault_core_model.specs.declared.records.Bucket.{Bucket}
@@ -8,7 +9,7 @@ use Rattle.vault_core_model.specs.declared.records.Entry.{Entry}
 use Rattle.vault_core_model.specs.declared.records.History.{History}
 use Rattle.vault_core_model.specs.declared.records.Note.{Note}
 use Rattle.vault_core_model.specs.Checks.{most_settings}
-use Rattle.vault_core_model.specs.Order.{IsAscending, bucket_cmp, note_cmp}
+use Rattle.vault_core_model.specs.Order.{IsAscending, name_cmp, bucket_cmp, note_cmp}
 use Rattle.vault_core_model.specs.Sound.{HasItsBytes, IsNoted, LiesBetween}
 use Rattle.vault_core_model.specs.Totals.{items_in}
 use Rattle.vault_core_model.specs.Vault.{Vault}
@@ -17,6 +18,12 @@ use Rattle.vault_audit_model.specs.Limits.{IsBucket, IsEntry, IsNote, IsPlainNam
 use Rattle.vault_audit_model.specs.Rows.{bucket_row, rule_row, entry_row, content_row, setting_row, note_row, department_row, head_row, bucket_columns, rule_columns, entry_columns, content_columns, setting_columns, note_columns, department_columns, head_columns}
 use Rattle.vault_audit_model.specs.Spells.{bucket_of, rules_in, contents_in, settings_in, sums_over, heads_in}
 use Rattle.vault_audit_model.specs.Tables.{departments_tree, buckets_tree, rules_tree, entries_tree, contents_tree, settings_tree, intake_tree, heads_tree}
+
+-- ---- names
+
+-- the name comes after the one before it, if there is one
+abbrev pub IsAfter : Option (List ℕ) → List ℕ → Type 0
+IsAfter before name = IfSome before (λ n. name_cmp n name ≡ Less)
 
 -- ---- entries
 

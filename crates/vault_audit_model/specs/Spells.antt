@@ -65,6 +65,9 @@ settings_from id place (s ∷ ss) = record { id = id; place = place; setting = s
 abbrev pub settings_in : History → List SettingRow
 settings_in h = settings_from h.entry.id 1 h.settings
 
+abbrev pub entries_in : List History → List Entry
+entries_in hs = map (λ h. h.entry) hs
+
 -- ---- the running numbers of a vault, taken over its entries
 
 -- the five sums over these versions

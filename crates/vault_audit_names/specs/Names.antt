@@ -1,8 +1,7 @@
 -- Departments and callers in the order of their names.
-use Rattle.std.specs.Prelude.{◌≡◌, ℕ, Bool, true, false, List, map, Option, Some, IfSome, IsPermutation}
+use Rattle.std.specs.Prelude.{ℕ, Bool, true, false, List, map, Option, Some, IsPermutation}
 use Rattle.std.specs.List.{AllByRecursion}
 use Rattle.std.specs.declared.cmp.Ordering.{Ordering}
-use Rattle.std.specs.declared.cmp.Ordering.TheVariants.{Less}
 use Rattle.sqlite.specs.Effect.{Database}
 use Rattle.vault_core_model.specs.declared.records.Caller.{Caller}
 use Rattle.vault_core_model.specs.Order.{IsAscending, name_cmp, caller_cmp}
@@ -10,10 +9,7 @@ use Rattle.vault_audit_model.specs.declared.rows.DepartmentRow.{DepartmentRow}
 use Rattle.vault_audit_model.specs.Limits.{IsCaller, IsDepartmentRow}
 use Rattle.vault_audit_model.specs.Rows.{caller_row, department_row, caller_columns, department_columns}
 use Rattle.vault_audit_model.specs.Tables.{callers_tree, departments_tree}
-
--- there is no name before it, or one that it comes after
-abbrev pub IsAfter : Option (List ℕ) → List ℕ → Type 0
-IsAfter before name = IfSome before (λ n. name_cmp n name ≡ Less)
+use Rattle.vault_audit_model.specs.Relations.{IsAfter}
 
 -- ---- callers
 

@@ -7,11 +7,8 @@ use Rattle.vault_core_model.specs.declared.records.Entry.{Entry}
 use Rattle.vault_core_model.specs.declared.records.History.{History}
 use Rattle.vault_core_model.specs.Totals.{item_of, items_in, is_version_of}
 use Rattle.vault_audit_model.specs.Relations.{HasContent, HasContentAs, HasSettings, HasSettingsAs}
-use Rattle.vault_audit_model.specs.Spells.{contents_in, settings_in}
+use Rattle.vault_audit_model.specs.Spells.{contents_in, settings_in, entries_in}
 use Rattle.vault_audit_parts.specs.Parts.{joined}
-
-abbrev pub entries_in : List History → List Entry
-entries_in hs = map (λ h. h.entry) hs
 
 pub heads_same : {A : Type 0} (x y : A) (xs ys : List A) → (x ∷ xs) ≡ (y ∷ ys) → x ≡ y
 heads_same x y xs ys e = cc

@@ -27,21 +27,13 @@ use Rattle.vault_audit_model.specs.declared.rows.MetaRow.{MetaRow}
 use Rattle.vault_audit_model.specs.Limits.{IsInLimits, IsHistory, IsEntry, IsSizedAs, IsSetting, IsBucket, AreRules, IsRule, IsNote}
 use Rattle.vault_audit_model.specs.Relations.{AreNumbered, IsPast, HasContent, HasContentAs, HasSettings, HasSettingsAs, NamesOneOf}
 use Rattle.vault_audit_model.specs.Rows.{meta_row, meta_columns, entry_row, entry_columns, content_row, content_columns, setting_row, setting_columns}
-use Rattle.vault_audit_model.specs.Spells.{Spells, IsKept, contents_in, settings_in, meta_of}
+use Rattle.vault_audit_model.specs.Spells.{Spells, IsKept, contents_in, settings_in, meta_of, entries_in}
 use Rattle.vault_audit_model.specs.Tables.{meta_tree, entries_tree, contents_tree, settings_tree}
+use Rattle.vault_audit_model.proofs.ListLemmas.{all_as, all_both}
 use Rattle.vault_audit_parts.specs.Parts.{AreParts, joined, vault_of}
-use Rattle.vault_audit_parts.proofs.JoinLemmas.{entries_in, joined_entries, joined_contents, joined_settings, items_same, entry_found, joined_contents_are, joined_settings_are}
+use Rattle.vault_audit_parts.proofs.JoinLemmas.{joined_entries, joined_contents, joined_settings, items_same, entry_found, joined_contents_are, joined_settings_are}
 
 -- ---- lists
-
-module _ {A : Type 0} where
-  all_as : {P Q : A → Type 0} → ((x : A) → P x → Q x) → (xs : List A) → AllByRecursion P xs → AllByRecursion Q xs
-  all_as f [] all = tt
-  all_as f (x ∷ xs) all = (f x all.0, all_as f xs all.1)
-
-  all_both : (P Q : A → Type 0) (xs : List A) → AllByRecursion P xs → AllByRecursion Q xs → AllByRecursion (λ x. P x × Q x) xs
-  all_both P Q [] p q = tt
-  all_both P Q (x ∷ xs) p q = ((p.0, q.0), all_both P Q xs p.1 q.1)
 
 all_of_entries : (P : Entry → Type 0) (hs : List History) → AllByRecursion P (entries_in hs) → AllByRecursion (λ (h : History). P h.entry) hs
 all_of_entries P [] all = tt

@@ -1,5 +1,5 @@
 -- Values that stand in several columns, and the digits of a caller's rights.
-use Rattle.std.proofs.Common.{◌≡◌, ◌≢◌, ◌<◌, ◌≤◌, ◌+◌, ◌*◌, ◌/◌, ◌%◌, ◌==◌, ◌^◌, ℕ, zero, suc, Bool, true, false, List, length, Option, Some, None, IfSome, arith}
+use Rattle.std.proofs.Common.{◌≡◌, ◌≢◌, ◌<◌, ◌≤◌, ◌+◌, ◌*◌, ◌/◌, ◌%◌, ◌==◌, ◌^◌, ℕ, zero, suc, Bool, true, false, List, length, Option, Some, None, IfSome, arith, [], ◌∷◌, is_none, nat_lt, IsTrue, refl}
 use Rattle.sqlite_value.specs.declared.value.Value.{Value}
 use Rattle.vault_core_model.specs.declared.rights.Rights.{Rights}
 use Rattle.vault_core_model.specs.declared.records.Author.{Author}
@@ -8,6 +8,9 @@ use Rattle.vault_audit_model.specs.Rows.{bit, rights_number, author_kind}
 use Rattle.vault_core_model.specs.Checks.{most_content}
 use Rattle.vault_audit_model.specs.Limits.{IsSizedAs}
 use Rattle.vault_audit_model.specs.Values.{flag}
+use Rattle.vault_rules.specs.Rules.{fault_where, is_rule_set}
+use Rattle.vault_rules.specs.declared.rule.Rule.{Rule}
+use Rattle.vault_rules.specs.declared.rule_set.RuleFault.{RuleFault}
 
 pub no_author : (v : Value) → ((b : Bool) → v ≢ flag b) → (a : Author) → v ≢ author_kind a
 no_author v none (author.Caller name) is = none false is
@@ -57,3 +60,17 @@ pub rights_are : (n : ℕ) → n < 4096 → bit (n / 1 % 2 == 1) 1 + bit (n / 2 
 rights_are n low =
     rw (bit_of (n / 1 % 2) 1 (two (n / 1)), bit_of (n / 2 % 2) 2 (two (n / 2)), bit_of (n / 4 % 2) 4 (two (n / 4)), bit_of (n / 8 % 2) 8 (two (n / 8)), bit_of (n / 16 % 2) 16 (two (n / 16)), bit_of (n / 32 % 2) 32 (two (n / 32)), bit_of (n / 64 % 2) 64 (two (n / 64)), bit_of (n / 128 % 2) 128 (two (n / 128)), bit_of (n / 256 % 2) 256 (two (n / 256)), bit_of (n / 512 % 2) 512 (two (n / 512)), bit_of (n / 1024 % 2) 1024 (two (n / 1024)), bit_of (n / 2048 % 2) 2048 (two (n / 2048)))
     (digits_add_up n low)
+
+-- ---- rules
+
+no_fault : (b : Bool) (fault : RuleFault) (later : Option RuleFault) → IsTrue (is_none (fault_where b fault later)) → b ≡ false
+no_fault true fault later h = absurd cc
+no_fault false fault later h = refl
+
+not_above : (n : ℕ) → nat_lt 1000 n ≡ false → n ≤ 1000
+not_above n h = grind arith
+
+-- a bucket has no more than a thousand
+pub few : (rules : List Rule) → IsTrue (is_rule_set rules) → length rules ≤ 1000
+few [] h = omega arith
+few (r ∷ rs) h = not_above (length (r ∷ rs)) (no_fault _ _ _ h)

@@ -1,5 +1,5 @@
 -- Rules at their places are those of buckets, and those of buckets are at their places.
-use Rattle.std.proofs.Common.{◌≡◌, ◌≤◌, ◌+◌, ◌||◌, ◌==◌, inl, inr, ℕ, List, [], ◌∷◌, ◌++◌, length, map, flat_map, Bool, true, false, Option, Some, None, Less, is_none, nat_lt, IsTrue, IfSome, refl, sym, ap, ap₂, subst, ◌∙◌, append_assoc, append-nil, arith}
+use Rattle.std.proofs.Common.{◌≡◌, ◌≤◌, ◌+◌, ◌||◌, ◌==◌, inl, inr, ℕ, List, [], ◌∷◌, ◌++◌, length, map, flat_map, Bool, true, false, Option, Some, None, Less, IsTrue, IfSome, refl, sym, ap, ap₂, subst, ◌∙◌, append_assoc, append-nil, arith}
 use Rattle.std.specs.List.{AllByRecursion, list_any}
 use Rattle.std.specs.Ordering.{is_eq}
 use Rattle.std.proofs.lemmas.Map.Text.{is_eq-slice_cmp}
@@ -9,13 +9,13 @@ use Rattle.std.proofs.lemmas.Cmp.{nat_list_cmp_total, tied_itself}
 use Rattle.std.proofs.lemmas.List.{length-append}
 use Rattle.vault_core_model.specs.Order.{name_cmp, IsAscending, bucket_cmp}
 use Rattle.vault_core_model.specs.declared.records.Bucket.{Bucket}
-use Rattle.vault_rules.specs.Rules.{is_rule_set, fault_where}
-use Rattle.vault_rules.specs.declared.rule_set.RuleFault.{RuleFault}
+use Rattle.vault_rules.specs.Rules.{is_rule_set}
 use Rattle.vault_rules.specs.declared.rule.Rule.{Rule}
 use Rattle.vault_audit_model.specs.declared.rows.BucketRow.{BucketRow}
 use Rattle.vault_audit_model.specs.declared.rows.RuleRow.{RuleRow}
 use Rattle.vault_audit_model.specs.Limits.{IsBucket, IsBucketRow, IsRule, IsRuleRow, AreRules, IsBucketName}
 use Rattle.vault_audit_model.specs.Spells.{bucket_of, rules_from, rules_if_given, rules_in}
+use Rattle.vault_audit_rows.proofs.PartLemmas.{few}
 use Rattle.vault_audit_rules.specs.Runs.{Run, IsAfter, IsWhole, with_rule, no_rule, AreRuns, IsOfOne}
 use Rattle.vault_audit_rules.proofs.RiseLemmas.{FitBuckets, FitRules, end_of, names_rise, later_buckets, begun}
 
@@ -233,22 +233,12 @@ run_fits name gone (r ∷ rs) rest is some few all ends =
     subst (λ q. Ends q (rules_from name (length gone + 1 + 1) rs ++ rest)) (sym state) (subst (λ n. Ends (at_rules name (gone ++ r ∷ [])) (rules_from name (n + 1) rs ++ rest)) more later) in
     (((record { bucket = is; place = (omega arith, omega (arith, few)); rule = all.0 }, inl (refl, refl)), on.0), on.1)
 
-no_fault : (b : Bool) (fault : RuleFault) (later : Option RuleFault) → IsTrue (is_none (fault_where b fault later)) → b ≡ false
-no_fault true fault later h = absurd cc
-no_fault false fault later h = refl
-
-not_above : (n : ℕ) → nat_lt 1000 n ≡ false → n ≤ 1000
-not_above n h = grind arith
-
-few : (r : Rule) (rules : List Rule) → IsTrue (is_rule_set (r ∷ rules)) → length (r ∷ rules) ≤ 1000
-few r rs h = not_above (length (r ∷ rs)) (no_fault _ _ _ h)
-
 given_fit : (p : Run) (name : List ℕ) (rules : Option (List Rule)) (rest : List RuleRow) → IsBucketName name → IsAfter p.bucket name → IsWhole p → IfSome rules AreRules → Ends p rest → ((rs : List Rule) → IsTrue (is_rule_set rs) → Ends (at_rules name rs) rest)
     → Ends p (rules_if_given name rules ++ rest)
 given_fit p name None rest is up whole are here behind = here
 given_fit p name (Some []) rest is up whole are here behind = absurd (let none = are.0 in cc)
 given_fit p name (Some (r ∷ rs)) rest is up whole are here behind =
-    let count = few r rs are.0 in
+    let count = few (r ∷ rs) are.0 in
     let later = run_fits name (r ∷ []) rs rest is (omega arith) (omega (arith, count)) are.1.1 (behind (r ∷ rs) are.0) in
     (((record { bucket = is; place = (omega arith, omega arith); rule = are.1.0 }, inr ((up, whole), refl)), later.0), later.1)
 

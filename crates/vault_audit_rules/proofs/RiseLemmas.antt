@@ -1,7 +1,6 @@
 -- The rows of buckets and of rules that come one after the other rise.
 use Rattle.std.proofs.Common.{◌≡◌, ◌<◌, ◌≤◌, ◌+◌, ◌⊎◌, ◌==◌, inl, inr, ℕ, pos, cond, List, [], ◌∷◌, ◌++◌, length, map, Bool, true, false, Option, Some, Less, Equal, refl, sym, ap, subst, ◌∙◌, arith}
 use Rattle.std.specs.List.{AllByRecursion}
-use Rattle.std.specs.Ordering.{int_cmp}
 use Rattle.std.proofs.lemmas.Bool.Decides.{nat_tests}
 use Rattle.std.proofs.lemmas.Cmp.{nat_list_cmp_total, tied_itself}
 use Rattle.std.proofs.lemmas.List.{length-append}
@@ -12,6 +11,7 @@ use Rattle.vault_rules.specs.declared.rule.Rule.{Rule}
 use Rattle.vault_audit_model.specs.declared.rows.BucketRow.{BucketRow}
 use Rattle.vault_audit_model.specs.declared.rows.RuleRow.{RuleRow}
 use Rattle.vault_audit_model.specs.Rows.{bucket_row, rule_row}
+use Rattle.vault_audit_model.proofs.ValueLemmas.{int_less}
 use Rattle.vault_audit_walk.specs.Pass.{AllFit, after}
 use Rattle.vault_audit_walk.proofs.ScanLemmas.{first_cmp}
 use Rattle.vault_audit_walk.proofs.PairLemmas.{pair_cmp}
@@ -83,9 +83,6 @@ IsBefore x name count = (name_cmp x.bucket name ≡ Less) ⊎ ((x.bucket ≡ nam
 
 abbrev IsBelow : RuleRow → RuleRow → Type 0
 IsBelow x y = (name_cmp x.bucket y.bucket ≡ Less) ⊎ ((x.bucket ≡ y.bucket) × (x.place < y.place))
-
-int_less : (a b : ℕ) → a < b → int_cmp (pos a) (pos b) ≡ Less
-int_less a b low = grind arith
 
 rules_less : (x y : RuleRow) → IsBelow x y → pair_cmp (rule_row x) (rule_row y) ≡ Less
 rules_less x y (inl low) = rw (value_cmp-Text x.bucket y.bucket, low) refl

@@ -27,7 +27,8 @@ use Rattle.vault_audit_walk.proofs.ScanLemmas.{walked, first_cmp}
 use Rattle.vault_audit_walk.proofs.PairLemmas.{pair_walked, pair_cmp, pair_cmp_total}
 use Rattle.vault_audit_walk.proofs.PassLemmas.{walk_yes, walk_no, pass_yes, pass_no}
 use Rattle.vault_audit_beside.specs.Beside.{TellsAbsence}
-use Rattle.vault_audit_beside.proofs.BesideLemmas.{agrees, agree_texts, beside_row, beside_yes, beside_no, met_yes, met_no, met_as, of_records, of_stored, each}
+use Rattle.vault_audit_model.proofs.ValueLemmas.{agrees}
+use Rattle.vault_audit_beside.proofs.BesideLemmas.{agree_texts, beside_row, beside_yes, beside_no, met_yes, met_no, met_as, of_records, of_stored, each}
 use Rattle.vault_audit_rules.specs.Runs.{Run, IsNextBucket, with_bucket, AreBucketRows, TellBucketRows, IsWhole, ComesNext, with_rule, no_rule, AreRowsOf, TellRuns, IsOfOne, TellOwners}
 use Rattle.vault_audit_rules.proofs.RiseLemmas.{buckets_rise, rules_rise}
 use Rattle.vault_audit_rules.proofs.OnlyLemmas.{pass_only}

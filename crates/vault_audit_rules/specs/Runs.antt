@@ -2,7 +2,6 @@
 use Rattle.std.specs.Prelude.{◌≡◌, ℕ, ◌+◌, ◌⊎◌, Bool, true, false, ◌==◌, if◌then◌else◌, List, [], ◌∷◌, ◌++◌, length, map, Option, Some, None, IfSome, IsTrue, IsPermutation, MatchBool}
 use Rattle.std.specs.List.{AllByRecursion, list_any}
 use Rattle.std.specs.Ordering.{is_eq}
-use Rattle.std.specs.declared.cmp.Ordering.TheVariants.{Less}
 use Rattle.sqlite.specs.Effect.{Database}
 use Rattle.vault_rules.specs.Rules.{is_rule_set}
 use Rattle.vault_rules.specs.declared.rule.Rule.{Rule}
@@ -13,12 +12,9 @@ use Rattle.vault_audit_model.specs.Limits.{IsBucketRow, IsRuleRow}
 use Rattle.vault_audit_model.specs.Rows.{bucket_row, rule_row, bucket_columns, rule_columns}
 use Rattle.vault_audit_model.specs.Tables.{buckets_tree, rules_tree}
 use Rattle.vault_audit_walk.specs.Pass.{AllFit, after}
+pub use Rattle.vault_audit_model.specs.Relations.{IsAfter}
 
 -- ---- buckets
-
--- there is no name before it, or one that it comes after
-abbrev pub IsAfter : Option (List ℕ) → List ℕ → Type 0
-IsAfter before name = IfSome before (λ n. name_cmp n name ≡ Less)
 
 -- it is a bucket in its limits, of a later name
 abbrev pub IsNextBucket : Option (List ℕ) → BucketRow → Type 0

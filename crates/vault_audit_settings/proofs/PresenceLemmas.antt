@@ -14,7 +14,8 @@ use Rattle.vault_audit_model.specs.Tables.{vault_schema, entries_tree, settings_
 use Rattle.vault_audit_model.specs.Values.{number}
 use Rattle.vault_audit_walk.specs.Records.{Checked}
 use Rattle.vault_audit_beside.specs.Beside.{TellsAbsence}
-use Rattle.vault_audit_beside.proofs.BesideLemmas.{agrees, agree_numbers, beside_row, beside_yes, beside_no, met_yes, met_no, met_as, of_records, of_stored, each}
+use Rattle.vault_audit_model.proofs.ValueLemmas.{agrees}
+use Rattle.vault_audit_beside.proofs.BesideLemmas.{agree_numbers, beside_row, beside_yes, beside_no, met_yes, met_no, met_as, of_records, of_stored, each}
 use Rattle.vault_audit_settings.specs.Places.{AreRowsOf, IsSetAs, IsOfOne, TellPresence, TellOwners}
 use Rattle.vault_audit_settings.proofs.TextLemmas.{settings_beside, settings_beside_is, entries_beside, entries_beside_is}
 

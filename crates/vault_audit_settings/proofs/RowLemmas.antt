@@ -8,6 +8,7 @@ use Rattle.sqlite_trees.specs.Tree.{IsAscending}
 use Rattle.vault_audit_model.specs.declared.rows.SettingRow.{SettingRow}
 use Rattle.vault_audit_model.specs.Rows.{setting_row}
 use Rattle.vault_audit_model.proofs.SameRows.{same_setting}
+use Rattle.vault_audit_model.proofs.ValueLemmas.{int_less}
 use Rattle.vault_audit_walk.specs.Pass.{AllFit}
 use Rattle.vault_audit_walk.proofs.PairLemmas.{pair_cmp}
 use Rattle.vault_audit_settings.specs.declared.placed.SettingPass.{SettingPass}
@@ -25,9 +26,6 @@ Fit = AllFit setting_row ComesNext with_setting
 
 abbrev IsBelow : ℕ → ℕ → ℕ → ℕ → Type 0
 IsBelow a b c d = (a < c) ⊎ ((a ≡ c) × (b < d))
-
-int_less : (a b : ℕ) → a < b → int_cmp (pos a) (pos b) ≡ Less
-int_less a b low = grind arith
 
 int_same : (a b : ℕ) → a ≡ b → int_cmp (pos a) (pos b) ≡ Equal
 int_same a b same = grind arith

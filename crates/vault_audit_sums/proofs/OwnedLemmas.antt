@@ -7,6 +7,7 @@ use Rattle.std.proofs.lemmas.List.Folds.{list_any-append}
 use Rattle.std.proofs.lemmas.List.Sorted.{IsPermutation-trans, list_any-IsPermutation}
 use Rattle.std.proofs.lemmas.Map.Text.{is_eq-slice_cmp}
 use Rattle.std.proofs.lemmas.Slice.Eq.{bytes_eq-Decides}
+use Rattle.std.proofs.lemmas.Bool.{false_from_ne_true}
 use Rattle.sqlite_value.specs.declared.value.Value.{Value}
 use Rattle.sqlite_value.specs.declared.value.Value.TheVariants.{Null, Int, Real, Text, Blob}
 use Rattle.sqlite_value.specs.Order.{Row as Values, column}
@@ -83,13 +84,9 @@ went p q (r ∷ rows) bucket (m, one, more) =
 
 -- ---- the buckets, each with a name of its own
 
-refuted : (t : Bool) → (¬ (t ≡ true)) → t ≡ false
-refuted true h = absurd (h refl)
-refuted false h = refl
-
 not_named : (name other bucket : List ℕ) → slice_cmp nat_cmp name other ≡ Less → name ≡ bucket → bytes_eq other bucket ≡ false
 not_named name other bucket less is =
-    refuted (bytes_eq other bucket) (λ yes.
+    false_from_ne_true (bytes_eq other bucket) (λ yes.
     let same : other ≡ bucket = (bytes_eq-Decides other bucket).0 yes in
     let one : bytes_eq name other ≡ true = (bytes_eq-Decides name other).1 (is ∙ sym same) in
     let two : is_eq (slice_cmp nat_cmp name other) ≡ false = ap is_eq less in

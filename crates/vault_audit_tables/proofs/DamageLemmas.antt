@@ -1,5 +1,5 @@
 -- Tables of which one look finds a fault are sound for no vault.
-use Rattle.std.proofs.Common.{◌≡◌, ℕ, ◌+◌, ◌≤◌, List, [], ◌∷◌, ◌++◌, length, map, filter, flat_map, Bool, true, false, cond, nat_lt, is_none, Some, None, Option, Ok, Err, Result, IfOk, IfSome, IsTrue, IsPermutation, refl, sym, ap, subst, ◌∙◌, arith}
+use Rattle.std.proofs.Common.{◌≡◌, ℕ, ◌+◌, ◌≤◌, List, [], ◌∷◌, ◌++◌, length, map, filter, flat_map, Bool, true, false, cond, Some, None, Option, Ok, Err, Result, IfOk, IfSome, IsTrue, IsPermutation, refl, sym, ap, subst, ◌∙◌, arith}
 use Rattle.std.specs.List.{AllByRecursion}
 use Rattle.std.proofs.lemmas.List.{length-map}
 use Rattle.std.proofs.lemmas.List.Sorted.{IsPermutation-sym, IsPermutation-trans, length_permutation}
@@ -8,9 +8,7 @@ use Rattle.sqlite_value.specs.Order.{Row}
 use Rattle.sqlite.specs.Effect.{Database}
 use Rattle.sqlite.specs.declared.error.Error.{Error}
 use Rattle.vault_base.specs.Name.{is_version_id}
-use Rattle.vault_rules.specs.Rules.{is_rule_set, fault_where}
 use Rattle.vault_rules.specs.declared.rule.Rule.{Rule}
-use Rattle.vault_rules.specs.declared.rule_set.RuleFault.{RuleFault}
 use Rattle.vault_core_model.specs.Checks.{most_content, most_settings}
 use Rattle.vault_core_model.specs.Sound.{AreIdsFrom, AreInOrder, IsInTime, HasItsBytes, IsWholeAs, IsWhole, LiesBetween}
 use Rattle.vault_core_model.specs.Places.{is_current}
@@ -26,9 +24,11 @@ use Rattle.vault_audit_model.specs.Spells.{AreSound, meta_of, bucket_of, rules_f
 use Rattle.vault_audit_model.specs.Tables.{departments_tree, callers_tree, buckets_tree, rules_tree, entries_tree, contents_tree, settings_tree, intake_tree, heads_tree}
 use Rattle.vault_audit_walk.specs.Records.{AreRecords}
 use Rattle.vault_audit_model.specs.Relations.{IsPast}
+use Rattle.vault_audit_rows.proofs.PartLemmas.{few}
 use Rattle.vault_audit_tables.specs.Entries.{IsEntryBy}
 use Rattle.vault_audit_tables.specs.Meta.{IsMetaOf}
 use Rattle.vault_audit_model.specs.Relations.{AreNumbered}
+use Rattle.vault_audit_model.proofs.ListLemmas.{all_as, all_both}
 use Rattle.vault_audit_tables.specs.Numbers.{AreEntriesUpTo}
 
 -- ---- the answer of a look
@@ -40,14 +40,6 @@ refused_if_ok Rec P f (Err x) h = tt
 -- ---- lists
 
 module _ {A : Type 0} where
-  all_as : {P Q : A → Type 0} → ((x : A) → P x → Q x) → (xs : List A) → AllByRecursion P xs → AllByRecursion Q xs
-  all_as f [] all = tt
-  all_as f (x ∷ xs) all = (f x all.0, all_as f xs all.1)
-
-  all_both : (P Q : A → Type 0) (xs : List A) → AllByRecursion P xs → AllByRecursion Q xs → AllByRecursion (λ x. P x × Q x) xs
-  all_both P Q [] p q = tt
-  all_both P Q (x ∷ xs) p q = ((p.0, q.0), all_both P Q xs p.1 q.1)
-
   all_after : (P : A → Type 0) (xs ys : List A) → AllByRecursion P xs → AllByRecursion P ys → AllByRecursion P (xs ++ ys)
   all_after P [] ys p q = q
   all_after P (x ∷ xs) ys p q = (p.0, all_after P xs ys p.1 q)
@@ -70,17 +62,6 @@ module _ {A B : Type 0} (P : B → Type 0) where
   all_flat f (x ∷ xs) all = all_after P (f x) (flat_map f xs) all.0 (all_flat f xs all.1)
 
 -- ---- rules
-
-no_fault : (b : Bool) (fault : RuleFault) (later : Option RuleFault) → IsTrue (is_none (fault_where b fault later)) → b ≡ false
-no_fault true fault later h = absurd cc
-no_fault false fault later h = refl
-
-not_above : (n : ℕ) → nat_lt 1000 n ≡ false → n ≤ 1000
-not_above n h = grind arith
-
-few : (rules : List Rule) → IsTrue (is_rule_set rules) → length rules ≤ 1000
-few [] h = omega arith
-few (r ∷ rs) h = not_above (length (r ∷ rs)) (no_fault _ _ _ h)
 
 placed_rules : (bucket : List ℕ) (place : ℕ) (rules : List Rule) → IsBucketName bucket → 1 ≤ place → place + length rules ≤ 1001 → AllByRecursion IsRule rules → AllByRecursion IsRuleRow (rules_from bucket place rules)
 placed_rules bucket place [] name low high all = tt

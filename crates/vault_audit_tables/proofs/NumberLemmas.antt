@@ -1,6 +1,5 @@
 -- The walk over the entries by their ids.
-use Rattle.std.specs.Ordering.{int_cmp}
-use Rattle.std.proofs.Common.{◌<◌, ◌≡◌, ℕ, ◌+◌, pos, List, [], ◌∷◌, length, map, true, false, Some, None, Less, IsPermutation, IsSorted, refl, sym, ap, ◌∙◌, arith, add-zero}
+use Rattle.std.proofs.Common.{◌<◌, ◌≡◌, ◌+◌, pos, List, [], ◌∷◌, length, map, true, false, Some, None, Less, IsPermutation, IsSorted, refl, sym, ap, ◌∙◌, arith, add-zero}
 use Rattle.std.specs.List.{AllByRecursion}
 use Rattle.sqlite_value.specs.Order.{Row}
 use Rattle.sqlite_value.proofs.OrderLemmas.{value_cmp-Int}
@@ -18,6 +17,7 @@ use Rattle.vault_audit_walk.proofs.ScanLemmas.{walked, first_cmp}
 use Rattle.vault_audit_walk.proofs.PassLemmas.{walk_yes, walk_no}
 use Rattle.vault_audit_tables.specs.declared.numbers.NumberPass.{NumberPass}
 use Rattle.vault_audit_model.specs.Relations.{AreNumbered}
+use Rattle.vault_audit_model.proofs.ValueLemmas.{int_less}
 use Rattle.vault_audit_tables.specs.Numbers.{ComesNext, with_entry, AreEntriesUpTo}
 use Rattle.vault_audit_tables.proofs.TextLemmas.{numbers_walk, numbers_walk_is, numbers_walk_plain}
 
@@ -39,15 +39,12 @@ counted : (p : NumberPass) (es : List Entry) → (end_of p es).next ≡ p.next +
 counted p [] = sym (add-zero p.next)
 counted p (e ∷ es) = let it = counted (with_entry p e) es in omega (arith, it)
 
-rises : (a b : ℕ) → a < b → int_cmp (pos a) (pos b) ≡ Less
-rises a b low = grind arith
-
 -- an entry is below those whose ids go on behind it
 above : (p : NumberPass) (x : Entry) (es : List Entry) → x.id < p.next → Fit p es → AllByRecursion (λ row. first_cmp (entry_row x) row ≡ Less) (map entry_row es)
 above p x [] less fit = tt
 above p x (e ∷ es) less fit =
     let below : x.id < e.id = omega (arith, fit.0.1.0) in
-    (value_cmp-Int (pos x.id) (pos e.id) ∙ rises x.id e.id below, above (with_entry p e) x es (omega arith) fit.1)
+    (value_cmp-Int (pos x.id) (pos e.id) ∙ int_less x.id e.id below, above (with_entry p e) x es (omega arith) fit.1)
 
 -- so their rows rise
 rise : (p : NumberPass) (es : List Entry) → Fit p es → IsAscending (λ a b. first_cmp a b ≡ Less) (map entry_row es)

@@ -12,6 +12,7 @@ use Rattle.std.proofs.lemmas.List.{append-nil, map-append, length-map, length-dr
 use Rattle.std.proofs.lemmas.Option.{get_or_from_slice_get, slice_get-get_or}
 use Rattle.std.proofs.lemmas.List.Elements.{filter-append}
 use Rattle.std.proofs.lemmas.Map.Text.{is_eq-slice_cmp}
+use Rattle.std.proofs.lemmas.Bool.{and_right, or_parts}
 use Rattle.vault_base.specs.Name.{is_key_prefix, is_object_key}
 use Rattle.vault_core_model.specs.declared.command.ListVersions.{ListVersions}
 use Rattle.vault_core_model.specs.declared.records.History.{History}
@@ -33,10 +34,6 @@ use Rattle.vault_core_listing.proofs.Pages.{cut_off, filled-append, from_empty}
 
 abbrev held_keys : List ℕ → List History → List (List ℕ)
 held_keys bucket hs = key_set (map (λ h. h.entry.key) (filter (λ h. is_held_in bucket h.entry) hs))
-
-or_parts : (b c : Bool) → (b || c) ≡ false → (b ≡ false) × (c ≡ false)
-or_parts true c e = absurd (cc e)
-or_parts false c e = (refl, e)
 
 -- an entry that isn't of the key
 not_at : (b k h : Bool) → k ≡ false → (b && (k && h)) ≡ false
@@ -78,11 +75,7 @@ eq_less j k e = rw (← is_eq-slice_cmp j k, e) refl
 
 nothing_before : (v : Vault) (c : ListVersions) → Sound v → (length c.after_key == 0) ≡ false → (key : List ℕ) → cmp key c.after_key ≡ Less → asked_at v c key ≡ []
 nothing_before v c sound named key less =
-    nothing_asked v c key sound (λ id. rw (named, less, eq_less key c.after_key less) (and_false (starts_with nat_eq key c.prefix)))
-  where
-    and_false : (b : Bool) → (b && false) ≡ false
-    and_false true = refl
-    and_false false = refl
+    nothing_asked v c key sound (λ id. rw (named, less, eq_less key c.after_key less) (and_right (starts_with nat_eq key c.prefix) false refl))
 
 -- ---- the listing, key by key
 
@@ -249,13 +242,9 @@ none_first v c sound absent = by_length (length c.after_key == 0) refl
     below None id e = refl
     below (Some after) id e = absurd (cc e)
 
-    and_false : (b : Bool) → (b && false) ≡ false
-    and_false true = refl
-    and_false false = refl
-
     by_length : (b : Bool) → (length c.after_key == 0) ≡ b → (if b then [] else asked_at v c c.after_key) ≡ []
     by_length true e = refl
-    by_length false e = nothing_asked v c c.after_key sound (λ id. rw (e, tied c.after_key, below c.after_id id absent, and_false (bytes_eq c.after_key c.after_key)) (and_false (starts_with nat_eq c.after_key c.prefix)))
+    by_length false e = nothing_asked v c c.after_key sound (λ id. rw (e, tied c.after_key, below c.after_id id absent, and_right (bytes_eq c.after_key c.after_key) false refl) (and_right (starts_with nat_eq c.after_key c.prefix) false refl))
 
 -- where the listing begins at no key
 pub no_first : (v : Vault) (c : ListVersions) (key : Option (List ℕ)) → key ≡ None → key ≡ (if length c.after_key == 0 then None else Some c.after_key) → asked_first v c ≡ []

@@ -11,6 +11,8 @@ use Rattle.std.proofs.lemmas.Cmp.{nat_list_cmp_total, tied_itself}
 use Rattle.std.proofs.lemmas.Map.Text.{is_eq-slice_cmp}
 use Rattle.std.proofs.lemmas.Map.Lookups.{exact_bytes}
 use Rattle.vault_core_model.specs.Places.{is_behind, key_set, with_key, with_key_by}
+use Rattle.vault_core_model.specs.Order.{IsAscending}
+use Rattle.vault_core_laws.proofs.Tests.{swapped}
 
 abbrev pub cmp : List ℕ → List ℕ → Ordering
 cmp j k = slice_cmp nat_cmp j k
@@ -28,12 +30,10 @@ greater_trans j k l e f = flip_less l j (nat_list_cmp_total.trans l k j (flip_gr
 
 -- k comes before each of these
 abbrev pub IsUnder : List ℕ → List (List ℕ) → Type 0
-IsUnder k [] = Unit {0}
-IsUnder k (j ∷ js) = (cmp k j ≡ Less) × IsUnder k js
+IsUnder k js = AllByRecursion (λ j. cmp k j ≡ Less) js
 
 abbrev pub IsRising : List (List ℕ) → Type 0
-IsRising [] = Unit {0}
-IsRising (k ∷ ks) = IsUnder k ks × IsRising ks
+IsRising ks = IsAscending cmp ks
 
 under_lower : (j k : List ℕ) (ks : List (List ℕ)) → cmp j k ≡ Less → IsUnder k ks → IsUnder j ks
 under_lower j k [] lt under = tt
@@ -185,12 +185,6 @@ among-with a k (x ∷ xs) = by_order (cmp k x) refl (among-with a k xs)
     same : (b c : Bool) → (b || c) ≡ (b || (b || c))
     same true c = refl
     same false c = refl
-
-    swapped : (b c d : Bool) → (b || (c || d)) ≡ (c || (b || d))
-    swapped true true d = refl
-    swapped true false d = refl
-    swapped false true d = refl
-    swapped false false d = refl
 
     by_order : (o : Ordering) → cmp k x ≡ o → is_among a (with_key k xs) ≡ (bytes_eq k a || is_among a xs) → is_among a (with_key_by o k x xs (with_key k xs)) ≡ (bytes_eq k a || (bytes_eq x a || is_among a xs))
     by_order Less e rest = refl

@@ -3,16 +3,16 @@ use Rattle.std.proofs.Common.{◌≡◌, ℕ, ◌+◌, ◌<◌, ◌≤◌, ◌++
 use Rattle.std.specs.Prelude.{filter, find, if◌then◌else◌, nat_lt, ◌==◌, option_map, reverse}
 use Rattle.std.specs.List.{AllByRecursion}
 use Rattle.std.specs.Str.{bytes_eq}
-use Rattle.std.proofs.lemmas.Bool.Decides.{nat_tests}
 use Rattle.std.proofs.lemmas.List.{length-reverse, reverse-append}
 use Rattle.std.proofs.lemmas.Slice.Eq.{bytes_eq-Decides}
+use Rattle.std.proofs.lemmas.Bool.{and_parts, le-ltb, lt-ltb}
 use Rattle.vault_core_model.specs.declared.records.History.{History}
 use Rattle.vault_core_model.specs.Vault.{Vault}
 use Rattle.vault_core_model.specs.Places.{is_held, is_held_at, held_at, is_current}
 use Rattle.vault_core_model.specs.Reads.{entry_of}
 use Rattle.vault_core_model.specs.Sound.{AreIdsFrom, Sound}
 use Rattle.vault_core_laws.proofs.Lists.{All-filter}
-use Rattle.vault_core_laws.proofs.Newest.{finds_itself}
+use Rattle.vault_core_laws.proofs.Newest.{finds_itself, passes}
 
 -- ---- ids rise
 
@@ -39,32 +39,22 @@ unfolding IsRising
 rising_ids m n [] lt ids = tt
 rising_ids m n (h ∷ hs) lt ids = (omega (arith, ids.0), rising_ids h.entry.id (n + 1) hs (omega (arith, ids.0)) ids.1)
 
-lt_true : (m n : ℕ) → m < n → nat_lt m n ≡ true
-lt_true m n lt = grind (arith, nat_tests)
-
-lt_false : (m n : ℕ) → n ≤ m → nat_lt m n ≡ false
-lt_false m n le = grind (arith, nat_tests)
-
 all_newer : (m n : ℕ) (hs : List History) → m ≤ n → IsRising n hs → filter (λ g. nat_lt m g.entry.id) hs ≡ hs
 unfolding IsRising
 all_newer m n [] le rising = refl
 all_newer m n (h ∷ hs) le rising =
-    rw (lt_true m h.entry.id (omega (arith, rising.0))) (ap (λ (l : List History). h ∷ l) (all_newer m h.entry.id hs (omega (arith, rising.0)) rising.1))
+    rw (lt-ltb m h.entry.id (omega (arith, rising.0))) (ap (λ (l : List History). h ∷ l) (all_newer m h.entry.id hs (omega (arith, rising.0)) rising.1))
 
 -- what is newer than one of them is what comes behind it
 newer_behind : (n : ℕ) (gs : List History) (h : History) (hs : List History) → IsRising n (gs ++ h ∷ hs) → (n < h.entry.id) × (filter (λ g. nat_lt h.entry.id g.entry.id) (gs ++ h ∷ hs) ≡ hs)
 unfolding IsRising
 newer_behind n [] h hs rising =
-    (rising.0, rw (lt_false h.entry.id h.entry.id (omega arith)) (all_newer h.entry.id h.entry.id hs (omega arith) rising.1))
+    (rising.0, rw (le-ltb h.entry.id h.entry.id (omega arith)) (all_newer h.entry.id h.entry.id hs (omega arith) rising.1))
 newer_behind n (g ∷ gs) h hs rising =
     let rest = newer_behind g.entry.id gs h hs rising.1 in
-    (omega (arith, rising.0, rest.0), rw (lt_false h.entry.id g.entry.id (omega (arith, rest.0))) rest.1)
+    (omega (arith, rising.0, rest.0), rw (le-ltb h.entry.id g.entry.id (omega (arith, rest.0))) rest.1)
 
 -- ---- the held entries of a key
-
-both : (a b : Bool) → (a && b) ≡ true → (a ≡ true) × (b ≡ true)
-both true b e = (refl, e)
-both false b e = absurd (cc e)
 
 pub record Held (bucket key : List ℕ) (h : History) : Type 0 where
   pub held : is_held h.entry ≡ true
@@ -73,17 +63,9 @@ pub record Held (bucket key : List ℕ) (h : History) : Type 0 where
 
 held_there : (bucket key : List ℕ) (h : History) → is_held_at bucket key h.entry ≡ true → Held bucket key h
 held_there bucket key h here =
-    let first = both (bytes_eq h.entry.bucket bucket) (bytes_eq h.entry.key key && is_held h.entry) here in
-    let second = both (bytes_eq h.entry.key key) (is_held h.entry) first.1 in
+    let first = and_parts (bytes_eq h.entry.bucket bucket) (bytes_eq h.entry.key key && is_held h.entry) here in
+    let second = and_parts (bytes_eq h.entry.key key) (is_held h.entry) first.1 in
     record { held = second.1; bucket_is = (bytes_eq-Decides h.entry.bucket bucket).0 first.0; key_is = (bytes_eq-Decides h.entry.key key).0 second.0 }
-
-kept_pass : (p : History → Bool) (h : History) (rest : List History) (b : Bool) → p h ≡ b → AllByRecursion (λ g. p g ≡ true) rest → AllByRecursion (λ g. p g ≡ true) (if b then h ∷ rest else rest)
-kept_pass p h rest true e all = (e, all)
-kept_pass p h rest false e all = all
-
-passes : (p : History → Bool) (hs : List History) → AllByRecursion (λ h. p h ≡ true) (filter p hs)
-passes p [] = tt
-passes p (h ∷ hs) = kept_pass p h (filter p hs) (p h) refl (passes p hs)
 
 -- each is current where nothing comes behind it, is found by its id, and has that key
 AreListedUp : Vault → List ℕ → List History → Type 0

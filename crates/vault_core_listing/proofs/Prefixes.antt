@@ -7,6 +7,7 @@ use Rattle.std.specs.declared.cmp.Ordering.{Ordering}
 use Rattle.std.specs.declared.cmp.Ordering.TheVariants.{Less, Equal, Greater}
 use Rattle.std.proofs.lemmas.Bool.Decides.{nat_tests}
 use Rattle.std.proofs.lemmas.Map.Lookups.{exact_unsigned}
+use Rattle.std.proofs.lemmas.Bool.{and_right}
 use Rattle.vault_core_listing.proofs.Keys.{cmp}
 
 abbrev begins : List ℕ → List ℕ → Bool
@@ -32,10 +33,6 @@ differs m n b lt = let e : nat_eq m n ≡ false = grind (arith, nat_tests) in ap
 same_first : (m n : ℕ) → n ≡ m → nat_eq m n ≡ true
 same_first m n e = grind (arith, nat_tests)
 
-and_false : (b c : Bool) → c ≡ false → (b && c) ≡ false
-and_false true c e = e
-and_false false c e = refl
-
 pub past : (prefix last key : List ℕ) → cmp last prefix ≡ Greater → begins last prefix ≡ false → cmp key last ≡ Greater → begins key prefix ≡ false
 past [] last key over other behind = absurd (cc other)
 past (x ∷ p) [] key over other behind = absurd (cc over)
@@ -50,4 +47,4 @@ past (x ∷ p) (y ∷ l) (z ∷ k) over other behind =
     by_first (inl a) (inl b) rest = differs x z (begins k p) (omega arith)
     by_first (inl a) (inr b) rest = differs x z (begins k p) (omega (arith, b.0))
     by_first (inr a) (inl b) rest = differs x z (begins k p) (omega (arith, a.0))
-    by_first (inr a) (inr b) rest = and_false (nat_eq x z) (begins k p) (rest a.1 (rest_other a.0 other) b.1)
+    by_first (inr a) (inr b) rest = and_right (nat_eq x z) (begins k p) (rest a.1 (rest_other a.0 other) b.1)

@@ -18,9 +18,9 @@ use Rattle.vault_core_model.specs.Totals.{items_of}
 use Rattle.vault_core_model.specs.Vault.{Vault, config_of}
 use Rattle.vault_audit_model.specs.Rows.{setting_row}
 use Rattle.vault_audit_model.specs.Spells.{settings_from, department_in}
-use Rattle.vault_store_model.specs.Edits.{changed_if}
+use Rattle.vault_store_model.specs.Edits.{changed_if, pushed}
 use Rattle.vault_store_model.specs.Tests.{is_named, every, with_last_and_next, with_sums}
-use Rattle.vault_store_changes.specs.Edits.{pushed, summed, headed, head_with}
+use Rattle.vault_store_changes.specs.Edits.{summed, headed, head_with}
 use Rattle.vault_store_changes.specs.Sums.{CountsIn}
 use Rattle.vault_store_changes.proofs.SumLemmas.{sums_admitted}
 use Rattle.vault_store_entry_parts.specs.Parts.{entry_added, first_put, summed_as}

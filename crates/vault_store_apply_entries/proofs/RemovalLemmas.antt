@@ -22,8 +22,8 @@ use Rattle.vault_core_model.specs.Totals.{items_of}
 use Rattle.vault_core_model.specs.Vault.{Vault, config_of, history_of}
 use Rattle.vault_audit_model.specs.Spells.{department_in}
 use Rattle.vault_store_model.specs.Rows.{Rows}
-use Rattle.vault_store_model.specs.Edits.{and_then}
-use Rattle.vault_store_changes.specs.Edits.{summed, headed, others_at, without_entry, at_moment}
+use Rattle.vault_store_model.specs.Edits.{and_then, at_moment}
+use Rattle.vault_store_changes.specs.Edits.{summed, headed, others_at, without_entry}
 use Rattle.vault_store_changes.specs.Sums.{CountsOut}
 use Rattle.vault_store_changes.proofs.EntryLemmas.{found_history}
 use Rattle.vault_store_changes.proofs.SumLemmas.{sums_removed}

@@ -25,9 +25,9 @@ use Rattle.vault_audit_model.specs.declared.rows.RuleRow.{RuleRow}
 use Rattle.vault_audit_model.specs.Rows.{department_row, bucket_row, rule_row}
 use Rattle.vault_audit_model.specs.Spells.{bucket_of, rules_in, rules_if_given, rules_from, department_in}
 use Rattle.vault_store_model.specs.Rows.{AreSameRows, rows_of}
-use Rattle.vault_store_model.specs.Edits.{changed_if}
+use Rattle.vault_store_model.specs.Edits.{changed_if, pushed}
 use Rattle.vault_store_model.specs.Tests.{is_named, with_default_columns}
-use Rattle.vault_store_changes.specs.Edits.{edit_of, pushed}
+use Rattle.vault_store_changes.specs.Edits.{edit_of}
 use Rattle.vault_store_changes.proofs.ListLemmas.{second_first, pushed_in_front, map_rows, map_untold, flat_map_untold, filter-append, clash}
 use Rattle.vault_store_changes.proofs.RecordLemmas.{items_same_by, sums_by_items}
 

@@ -3,7 +3,7 @@ use Rattle.std.proofs.Common.{◌≡◌, ℕ, ◌+◌, ◌<◌, ◌==◌, List, 
 use Rattle.std.specs.Prelude.{find, option_map}
 use Rattle.std.specs.List.{AllByRecursion}
 use Rattle.std.specs.Str.{bytes_eq}
-use Rattle.std.proofs.lemmas.Bool.{eqb-true}
+use Rattle.std.proofs.lemmas.Bool.{eqb-true, and_right}
 use Rattle.std.proofs.lemmas.Cmp.{nat_list_eq_equiv}
 use Rattle.std.proofs.lemmas.List.{map-append}
 use Rattle.std.proofs.lemmas.Slice.Eq.{bytes_eq-Decides}
@@ -119,8 +119,4 @@ marker_not_of false b e = absurd (cc e)
 pub not_of_other : (bs : List Bucket) (d bucket : List ℕ) (config : BucketConfig) (m : Bool) → config_in bs bucket ≡ Some config → bytes_eq d config.dept ≡ false → (not m && is_of_department d (config_in bs bucket)) ≡ false
 not_of_other bs d bucket config m there other =
     let P : Option BucketConfig → Type 0 = λ o. (not m && is_of_department d o) ≡ false in
-    subst P (sym there) (and_false (not m) (bytes_eq config.dept d) (texts_turned d config.dept false other))
-  where
-    and_false : (a b : Bool) → b ≡ false → (a && b) ≡ false
-    and_false true b e = e
-    and_false false b e = refl
+    subst P (sym there) (and_right (not m) (bytes_eq config.dept d) (texts_turned d config.dept false other))

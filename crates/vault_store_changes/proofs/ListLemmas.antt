@@ -5,7 +5,7 @@ use Rattle.std.specs.List.{AllByRecursion, list_any}
 use Rattle.std.proofs.lemmas.List.Sorted.{IsPermutation-refl, IsPermutation-sym, IsPermutation-cons, IsPermutation-trans, IsPermutation-middle, IsPermutation-append_left, IsPermutation-append_comm}
 use Rattle.sqlite_value.specs.Order.{Row}
 use Rattle.vault_core_model.specs.Order.{placed, placed_by}
-use Rattle.vault_store_changes.specs.Edits.{pushed}
+use Rattle.vault_store_model.specs.Edits.{pushed}
 
 -- ---- order
 

@@ -18,10 +18,10 @@ use Rattle.vault_core_model.specs.Vault.{Vault, config_of, next_id}
 use Rattle.vault_audit_model.specs.Rows.{caller_row, bucket_row, rule_row, entry_row, content_row, setting_row, note_row}
 use Rattle.vault_audit_model.specs.Spells.{bucket_of, rules_if_given, settings_in, department_in}
 use Rattle.vault_store_model.specs.Rows.{Rows, AreSameRows}
-use Rattle.vault_store_model.specs.Edits.{number_of, with_rows, with_row, changed_if, and_then, IgnoresOrder}
+use Rattle.vault_store_model.specs.Edits.{number_of, with_rows, with_row, changed_if, and_then, IgnoresOrder, pushed, with_each, at_moment}
 use Rattle.vault_store_model.specs.Tests.{is_named, is_numbered, is_of_key, every, with_last, with_last_and_next, with_sums, closed_row, with_default_columns, removed_row, with_head_columns}
 use Rattle.vault_store_model.proofs.EditLemmas.{with_row_ignores, with_changed_ignores, without_ignores, and_then_ignores}
-use Rattle.vault_store_changes.specs.Edits.{pushed, with_each, added_if_given, with_row_if_given, at_moment, summed, with_sums_of, headed, with_head, head_with, others_at, with_history, without_entry, edit_of}
+use Rattle.vault_store_changes.specs.Edits.{added_if_given, with_row_if_given, summed, with_sums_of, headed, with_head, head_with, others_at, with_history, without_entry, edit_of}
 
 -- ---- lists of rows
 

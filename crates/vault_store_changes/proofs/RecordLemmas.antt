@@ -1,10 +1,11 @@
 -- The edits that add departments, callers and buckets, and close callers.
-use Rattle.std.proofs.Common.{◌≡◌, ℕ, List, [], ◌∷◌, map, cond, not, ◌&&◌, Bool, true, false, Some, None, IsPermutation, refl, ap, subst}
+use Rattle.std.proofs.Common.{◌≡◌, ℕ, List, [], ◌∷◌, map, cond, not, ◌&&◌, true, false, Some, None, IsPermutation, refl, ap, subst}
 use Rattle.std.specs.Prelude.{option_map, if◌then◌else◌}
 use Rattle.std.specs.List.{AllByRecursion}
 use Rattle.std.specs.Str.{bytes_eq}
 use Rattle.std.proofs.lemmas.List.Sorted.{IsPermutation-refl, IsPermutation-map}
 use Rattle.std.proofs.lemmas.Slice.Eq.{bytes_eq-Decides}
+use Rattle.std.proofs.lemmas.Bool.{and_right}
 use Rattle.sqlite_trees.proofs.ListLemmas.{IsPermutation-same, IsPermutation-flat_map, filter_none, filter_same, all_of, all_weaker}
 use Rattle.vault_base.specs.declared.refusal.Table.TheVariants as table
 use Rattle.vault_tally.specs.Row.{Item}
@@ -44,15 +45,11 @@ none_of_department name (b ∷ bs) all bucket =
     elim (bytes_eq b.name bucket) as (λ x. is_of_department name (option_map (λ (c : Bucket). c.config) (if x then Some b else bucket_in bs bucket)) ≡ false)
     [ true ↦ all.0 | false ↦ none_of_department name bs all.1 bucket ]
 
-and_false : (a b : Bool) → b ≡ false → (a && b) ≡ false
-and_false true b e = e
-and_false false b e = refl
-
 no_items : (v : Vault) (name : List ℕ) → Sound v → has_department v name ≡ false → items_of v name ≡ []
 no_items v name sound free =
     let depts = all_weaker (IsOwned v) (λ b. bytes_eq b.config.dept name ≡ false) (other_dept v name free) v.buckets sound.owned in
     ap (map item_of) (filter_none (is_version_of v.buckets name) v.histories (all_of (λ h. is_version_of v.buckets name h ≡ false)
-    (λ h. and_false (not h.entry.marker) (is_of_department name (config_in v.buckets h.entry.bucket)) (none_of_department name v.buckets depts h.entry.bucket)) v.histories))
+    (λ h. and_right (not h.entry.marker) (is_of_department name (config_in v.buckets h.entry.bucket)) (none_of_department name v.buckets depts h.entry.bucket)) v.histories))
 
 pub dept_added : (v : Vault) (t : ℕ) (name : List ℕ) → Sound v → has_department v name ≡ false → AreSameRows (rows_of (changed v t (AddDept name))) (edit_of v t (AddDept name) (rows_of v))
 dept_added v t name sound free table.Departments =

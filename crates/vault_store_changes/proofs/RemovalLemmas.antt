@@ -22,9 +22,9 @@ use Rattle.vault_core_model.specs.Vault.{Vault, config_of, history_of}
 use Rattle.vault_audit_model.specs.Rows.{entry_row, content_row, setting_row}
 use Rattle.vault_audit_model.specs.Spells.{contents_in, settings_in, content_if_given}
 use Rattle.vault_store_model.specs.Rows.{rows_of}
-use Rattle.vault_store_model.specs.Edits.{changed_if, and_then}
+use Rattle.vault_store_model.specs.Edits.{changed_if, and_then, at_moment}
 use Rattle.vault_store_model.specs.Tests.{is_numbered, removed_row}
-use Rattle.vault_store_changes.specs.Edits.{edit_of, without_entry, at_moment}
+use Rattle.vault_store_changes.specs.Edits.{edit_of, without_entry}
 use Rattle.vault_store_changes.specs.Beside.{AreSameBesideHeads}
 use Rattle.vault_store_changes.proofs.AdmissionLemmas.{sums_changed}
 use Rattle.vault_store_changes.proofs.EntryLemmas.{found_history, each_is, items_mapped, marker_not_of, not_of_other}

@@ -1,5 +1,5 @@
 -- Which edits of the tables make a change of the vault.
-use Rattle.std.specs.Prelude.{ℕ, ◌+◌, Bool, true, false, List, [], ◌∷◌, map, filter, not, ◌==◌, Option, Some, None}
+use Rattle.std.specs.Prelude.{ℕ, ◌+◌, Bool, true, false, List, ◌∷◌, map, filter, not, ◌==◌, Option, Some, None}
 use Rattle.sqlite_value.specs.Order.{Row}
 use Rattle.vault_base.specs.declared.refusal.Table.{Table}
 use Rattle.vault_base.specs.declared.refusal.Table.TheVariants as table
@@ -17,18 +17,10 @@ use Rattle.vault_core_model.specs.Vault.{Vault, config_of, next_id}
 use Rattle.vault_audit_model.specs.Rows.{department_row, caller_row, bucket_row, rule_row, entry_row, content_row, setting_row, note_row, head_row}
 use Rattle.vault_audit_model.specs.Spells.{bucket_of, rules_if_given, settings_in, department_in}
 use Rattle.vault_store_model.specs.Rows.{Rows}
-use Rattle.vault_store_model.specs.Edits.{with_rows, with_row, changed_if, with_changed, without, and_then}
-use Rattle.vault_store_model.specs.Tests.{is_named, is_numbered, is_of_key, every, with_last, with_last_and_next, with_sums, closed_row, with_default_columns, removed_row, with_head_columns}
+use Rattle.vault_store_model.specs.Edits.{with_rows, with_row, changed_if, with_changed, without, and_then, with_each, at_moment}
+use Rattle.vault_store_model.specs.Tests.{is_named, is_numbered, is_of_key, every, with_last_and_next, with_sums, closed_row, with_default_columns, removed_row, with_head_columns}
 
 -- ---- parts of edits
-
--- these rows one after the other before those that are there
-abbrev pub pushed : List Row → List Row → List Row
-pushed [] rows = rows
-pushed (row ∷ more) rows = pushed more (row ∷ rows)
-
-abbrev pub with_each : Table → List Row → Rows → Rows
-with_each t more = with_rows t (pushed more)
 
 -- a row more, where there is what it tells
 abbrev pub added_if_given : {A : Type 0} → (A → Row) → Option A → List Row → List Row
@@ -37,10 +29,6 @@ added_if_given row (Some x) rows = row x ∷ rows
 
 abbrev pub with_row_if_given : {A : Type 0} → Table → (A → Row) → Option A → Rows → Rows
 with_row_if_given t row given = with_rows t (added_if_given row given)
-
--- the last moment
-abbrev pub at_moment : ℕ → Rows → Rows
-at_moment t = with_changed table.Meta every (with_last t)
 
 -- the sums that this vault has, in the row of the department of an entry's bucket; a marker counts in none
 abbrev pub summed : Vault → Bool → Option BucketConfig → List Row → List Row

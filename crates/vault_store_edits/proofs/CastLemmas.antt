@@ -1,24 +1,11 @@
 -- Values that a column takes as they are.
-use Rattle.std.proofs.Common.{◌≡◌, ℕ, ℤ, pos, List, Bool, true, false, cond, if◌then◌else◌, option_map, Option, Some, None, refl}
-use Rattle.sqlite_value.specs.declared.value.Value.{Value}
-use Rattle.sqlite_value.specs.declared.value.Value.TheVariants.{Null, Int}
-use Rattle.sqlite_sql.specs.Ops.{unary}
+use Rattle.std.proofs.Common.{◌≡◌, ℕ, pos, List, Bool, true, false, if◌then◌else◌, option_map, Option, Some, None, refl}
+use Rattle.sqlite_value.specs.declared.value.Value.TheVariants.{Int}
 use Rattle.sqlite_schema.specs.declared.schema.Kind.TheVariants as kind
 use Rattle.sqlite_rules.specs.Cast.{cast}
 use Rattle.sqlite.specs.Values.{bound_value, or_null}
 use Rattle.vault_audit_model.specs.Values.{number, number_or_null, text_or_null, flag, flag_or_null}
-
-either : (b : Bool) (x : Value) → cond b x x ≡ x
-either true x = refl
-either false x = refl
-
-pub cast_null : cast kind.Integer Null ≡ Null
-unfolding unary
-cast_null = either _ Null
-
-pub cast_int : (n : ℤ) → cast kind.Integer (Int n) ≡ Int n
-unfolding unary
-cast_int n = either _ (Int n)
+use Rattle.vault_audit_model.proofs.ValueLemmas.{cast_null, cast_int}
 
 pub cast_number : (n : ℕ) → cast kind.Integer (number n) ≡ number n
 cast_number n = cast_int (pos n)

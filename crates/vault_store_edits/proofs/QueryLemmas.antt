@@ -6,17 +6,12 @@ use Rattle.sqlite_schema.specs.declared.command.Returning.{Returning}
 use Rattle.sqlite_resolve.specs.declared.compiled.Compiled.{Compiled}
 use Rattle.sqlite.specs.declared.error.Error.{Error}
 use Rattle.sqlite.specs.Listing.{understood}
-use Rattle.sqlite.specs.State.{State, IsUnchanged, IsRolledBack, IsNotRun, KeepsCommit, Shown, ShowsRows, FailsToShow, FailsToQuery, IsTooLate, Survives}
+use Rattle.sqlite.specs.State.{State, IsUnchanged, IsNotRun, KeepsCommit, Shown, ShowsRows, FailsToShow, FailsToQuery, IsTooLate, Survives}
 use Rattle.vault_base.specs.declared.refusal.Table.{Table}
 use Rattle.vault_base.specs.declared.refusal.Table.TheVariants as table
+use Rattle.vault_audit_model.proofs.OutcomeLemmas.{kept_unchanged, kept_undone}
 use Rattle.vault_store_edits.specs.Trees.{tree_of}
 use Rattle.vault_store_edits.specs.Queries.{by_rowid, Finds, rowid_text}
-
-pub kept_unchanged : (old new : State) → IsUnchanged old new → KeepsCommit old new
-kept_unchanged old new same = record { was_open = λ _. same.0.was_open; committed = λ _. same.0.committed_is }
-
-kept_undone : (old new : State) → IsRolledBack old new → KeepsCommit old new
-kept_undone old new undone = record { was_open = undone.was_open; committed = λ is_open. (undone.undone is_open).1 }
 
 pub kept_itself : (s : State) → KeepsCommit s s
 kept_itself s = record { was_open = λ h. h; committed = λ _. refl }

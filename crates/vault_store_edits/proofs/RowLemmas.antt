@@ -1,5 +1,5 @@
 -- What each statement on meta, departments, callers, buckets and rules does.
-use Rattle.std.proofs.Common.{◌≡◌, ℕ, List, [], ◌∷◌, Bool, true, false, ◌&&◌, Option, None, Ok, refl, sym, subst, ◌∙◌}
+use Rattle.std.proofs.Common.{◌≡◌, ℕ, List, [], ◌∷◌, Option, None, Ok, refl, sym, subst, ◌∙◌}
 use Rattle.sqlite_value.specs.declared.value.Value.TheVariants.{Null, Text}
 use Rattle.sqlite_value.specs.Order.{Row, column}
 use Rattle.sqlite_schema.specs.declared.schema.Kind.TheVariants as kind
@@ -15,18 +15,16 @@ use Rattle.vault_audit_model.specs.Rows.{department_row, caller_row, bucket_row,
 use Rattle.vault_audit_model.specs.Tables.{vault_schema, meta, departments, callers, buckets, rules, meta_tree, departments_tree, callers_tree, buckets_tree, rules_tree}
 use Rattle.vault_audit_model.specs.Values.{number, number_or_null, text_or_null, flag}
 use Rattle.vault_store_model.specs.Edits.{with_row, with_changed, without}
+use Rattle.sqlite_tied.proofs.RuleLemmas.{and_true}
 use Rattle.vault_store_edits.specs.Apart.{IsApart}
-use Rattle.vault_store_edits.specs.Queries.{passes}
+use Rattle.vault_store_model.specs.Scans.{passes}
 use Rattle.vault_store_model.specs.Tests.{is_text, is_named, every, with_last, with_last_and_next, with_sums, closed_row, with_default_columns}
-use Rattle.vault_store_edits.proofs.CastLemmas.{cast_null, cast_int, cast_number, cast_number_or_null, cast_flag, cast_text_or_null}
+use Rattle.vault_audit_model.proofs.ValueLemmas.{cast_null, cast_int}
+use Rattle.vault_store_edits.proofs.CastLemmas.{cast_number, cast_number_or_null, cast_flag, cast_text_or_null}
 use Rattle.vault_store_edits.proofs.StatementLemmas.{Leaves, inserts, updates, deletes}
 use Rattle.vault_store_edits.proofs.TestLemmas.{text_test}
 use Rattle.vault_store_edits.proofs.TextLemmas.{department_text, department_terms, department_is, department_plain, by_name, sums_text, sums_project, sums_is, sums_plain, caller_text, caller_terms, caller_is, caller_plain, closed_text, closed_project, closed_is, closed_plain, bucket_text, bucket_terms, bucket_is, bucket_plain, default_text, default_project, default_is, default_plain, rule_text, rule_terms, rule_is, rule_plain, no_rules_text, no_rules_is, no_rules_plain, last_text, last_project, last_is, last_plain, next_text, next_project, next_is, next_plain}
 use Rattle.vault_store_edits.proofs.TypeLemmas.{column_taken}
-
-and_true : (b : Bool) → (b && true) ≡ b
-and_true true = refl
-and_true false = refl
 
 -- the name in the first column is the first parameter
 named : (name : List ℕ) (rest r : Row) → passes by_name (Text name ∷ rest) r ≡ is_text name (column r 1)

@@ -12,8 +12,7 @@ use Rattle.vault_audit_model.specs.declared.rows.RuleRow.{RuleRow}
 use Rattle.vault_audit_model.specs.Rows.{rule_row}
 use Rattle.vault_audit_model.specs.Spells.{rules_from}
 use Rattle.vault_store_model.specs.Rows.{Rows, rows_in}
-use Rattle.vault_store_model.specs.Edits.{number_of, with_row, and_then, Edits}
-use Rattle.vault_store_edits.specs.Several.{pushed, with_each}
+use Rattle.vault_store_model.specs.Edits.{number_of, with_row, and_then, Edits, pushed, with_each}
 
 pushed_one : (xs : List Row) (r : Row) (rows : List Row) → pushed (xs ++ r ∷ []) rows ≡ r ∷ pushed xs rows
 pushed_one [] r rows = refl

@@ -1,5 +1,5 @@
 -- What a statement does to the rows of its table, and that it does nothing to those of the others.
-use Rattle.std.proofs.Common.{◌≡◌, ◌≢◌, ◌==◌, ◌⊎◌, inl, inr, ℕ, ℤ, ◌/◌, List, [], ◌∷◌, ◌++◌, length, map, filter, flat_map, drop, not, Bool, true, false, None, Option, Ok, Err, Result, OnOk, OnErr, refl, sym, ap, subst, subst₂, ◌∙◌}
+use Rattle.std.proofs.Common.{◌≡◌, ◌≢◌, ◌==◌, ℕ, ℤ, ◌/◌, List, [], ◌∷◌, ◌++◌, length, map, filter, flat_map, drop, not, Bool, true, false, None, Option, Ok, Err, Result, OnOk, OnErr, refl, sym, ap, subst, subst₂, ◌∙◌}
 use Rattle.std.specs.Prelude.{IsPermutation}
 use Rattle.std.specs.List.{AllByRecursion, filter_map}
 use Rattle.std.proofs.lemmas.Bool.{and_parts, not-true}
@@ -37,31 +37,17 @@ use Rattle.sqlite.specs.State.{State, Executes, ExecutesInside, KeepsCommit, IsU
 use Rattle.sqlite.proofs.Callers.{IsPlain, command_of, statement_of, runs_as, one_step}
 use Rattle.vault_base.specs.declared.refusal.Table.{Table}
 use Rattle.vault_audit_model.specs.Tables.{vault_schema}
+use Rattle.vault_audit_model.proofs.OutcomeLemmas.{went, same_value, on_ok_then}
 use Rattle.vault_store_model.specs.Rows.{Rows, AreSameRows, rows_in}
 use Rattle.vault_store_model.specs.Edits.{with_row, with_changed, changed_if, without, IgnoresOrder, Edits}
 use Rattle.vault_store_edits.specs.Trees.{tree_of, columns_of}
 use Rattle.vault_store_edits.specs.Apart.{IsApart}
-use Rattle.vault_store_edits.specs.Queries.{scan, passes, shows}
+use Rattle.vault_store_model.specs.Scans.{scan, passes, shows}
 use Rattle.vault_store_edits.proofs.TableLemmas.{edited_alone}
 use Rattle.vault_store_edits.proofs.ListLemmas.{put_permutes, put_all_permutes, filter_alike, left_is, changed_apart}
-use Rattle.vault_store_edits.proofs.ScanLemmas.{scanned}
-
--- a part that gave a value did not stop on the way
-pub went : {B E R : Type 0} {b : B} {Stops : E → Type 0} → ((stop : E) × Stops stop × (Ok b ≡ Err stop)) ⊎ R → R
-went (inl stopped) = absurd (let e = stopped.2 in cc)
-went (inr on) = on
-
-pub same_value : {B E : Type 0} {a b : B} → ◌≡◌ {A = Result B E} (Ok a) (Ok b) → a ≡ b
-same_value e = cc
+use Rattle.vault_store_model.proofs.ScanLemmas.{scanned}
 
 -- ---- parts of a transaction
-
--- a statement that is refused leaves the last commit
-pub kept_if_refused : (text : List ℕ) (params : Row) (old new : State) (r : Result ℕ Error) → ExecutesInside 0 text params old new r → OnErr r (KeepsCommit old new)
-kept_if_refused text params old new (Ok count) h = tt
-kept_if_refused text params old new (Err e) (inl (_, inl same)) = record { was_open = λ _. same.0.was_open; committed = λ _. same.0.committed_is }
-kept_if_refused text params old new (Err e) (inl (_, inr undone)) = record { was_open = undone.was_open; committed = λ is_open. (undone.undone is_open).1 }
-kept_if_refused text params old new (Err e) (inr (_, _, same)) = record { was_open = λ _. same.0.was_open; committed = λ _. same.0.committed_is }
 
 -- what a statement leaves: the schema of a vault, and these rows
 pub record Leaves (old new : State) (edit : Rows → Rows) : Type 0 where
@@ -122,10 +108,6 @@ module _ (t : Table) (test : Row → Bool) (old mid new : State) (edit : Rows �
 
   pub updates_after : IsDatabase old.now → (IsApart test (mid.now.trees (tree_of t)) → IsDatabase mid.now → mid.now.schema ≡ vault_schema → Leaves mid new edit) → Leaves old new edit
   updates_after live does = deletes_after (λ apart known. does apart (subst IsDatabase now_is live) known)
-
-pub on_ok_then : {A E : Type 0} {P Q : Type 0} (r : Result A E) → OnOk r P → (P → Q) → OnOk r Q
-on_ok_then (Ok a) p f = f p
-on_ok_then (Err e) p f = tt
 
 pub on_err : {A E : Type 0} {Q : Type 0} (r : Result A E) → Q → OnErr r Q
 on_err (Ok a) q = tt

@@ -1,27 +1,17 @@
 -- A comparison in a statement is the test of the same value.
-use Rattle.std.proofs.Common.{◌≡◌, ◌≢◌, ℕ, ℤ, pos, negsuc, List, Bool, true, false, Some, refl, ap, ◌∙◌, arith}
+use Rattle.std.proofs.Common.{◌≡◌, ◌≢◌, ℕ, ℤ, pos, negsuc, List, Bool, true, false, refl, ap, ◌∙◌, arith}
 use Rattle.std.specs.Ordering.{is_eq}
 use Rattle.std.proofs.lemmas.Int.{ints}
 use Rattle.std.proofs.lemmas.Map.Text.{is_eq-slice_cmp}
 use Rattle.std.proofs.lemmas.Bool.Decides.{nat_tests}
 use Rattle.sqlite_value.specs.declared.value.Value.{Value}
 use Rattle.sqlite_value.specs.declared.value.Value.TheVariants.{Null, Int, Real, Text, Blob}
-use Rattle.sqlite_value.specs.declared.keys.Collation.TheVariants.{Binary}
 use Rattle.sqlite_value.specs.Order.{class, value_cmp}
 use Rattle.sqlite_value.proofs.OrderLemmas.{value_cmp-Int, value_cmp-Text, value_cmp-apart}
-use Rattle.sqlite_sql.specs.declared.ops.BinaryOp.TheVariants.{Compare}
-use Rattle.sqlite_sql.specs.declared.ops.CompareOp.TheVariants.{Eq}
-use Rattle.sqlite_sql.specs.Ops.{binary, is_true, is_null, from_truth}
+use Rattle.sqlite_sql.specs.Ops.{binary, is_null}
 use Rattle.vault_audit_model.specs.Values.{number}
+use Rattle.vault_audit_model.proofs.ValueLemmas.{agrees, truth_back}
 use Rattle.vault_store_model.specs.Tests.{is_text, is_number}
-
--- the two values are the same, and not NULL
-abbrev pub agrees : Value → Value → Bool
-agrees u v = is_true (binary (Compare Eq Binary) u v)
-
-truth_back : (b : Bool) → is_true (from_truth (Some b)) ≡ b
-truth_back true = refl
-truth_back false = refl
 
 pub agrees_as : (u v : Value) → is_null u ≡ false → is_null v ≡ false → agrees u v ≡ is_eq (value_cmp u v)
 unfolding binary

@@ -13,7 +13,7 @@ use Rattle.sqlite_schema.specs.declared.schema.Table.{Table as Columns}
 use Rattle.sqlite_schema.specs.Names.{is_key}
 use Rattle.sqlite_schema.specs.Rules.{is_of, has_affinity, suits, are_typed}
 use Rattle.sqlite_rules.specs.Cast.{cast}
-use Rattle.vault_store_edits.proofs.CastLemmas.{cast_null, cast_int}
+use Rattle.vault_audit_model.proofs.ValueLemmas.{cast_null, cast_int}
 
 abbrev pub is_simple : Kind → Bool
 is_simple kind.Integer = true

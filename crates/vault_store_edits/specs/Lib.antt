@@ -1,4 +1,3 @@
 pub mod Trees
 pub mod Apart
 pub mod Queries
-pub mod Several

@@ -1,13 +1,11 @@
 -- Queries for the rowids of the rows of one table that pass a test.
-use Rattle.std.specs.Prelude.{◌≡◌, ℕ, ℤ, Bool, false, List, [], ◌∷◌, length, filter, pos, negsuc, None, Result, Ok, Err, codes}
-use Rattle.std.specs.List.{list_all}
+use Rattle.std.specs.Prelude.{◌≡◌, ℕ, ℤ, false, List, [], ◌∷◌, length, filter, Result, Ok, Err, codes}
 use Rattle.sqlite_value.specs.declared.value.Value.TheVariants.{Int}
 use Rattle.sqlite_value.specs.declared.keys.Collation.TheVariants.{Binary}
 use Rattle.sqlite_value.specs.Order.{Row, column}
 use Rattle.sqlite_sql.specs.declared.ops.BinaryOp.TheVariants.{Compare}
 use Rattle.sqlite_sql.specs.declared.ops.CompareOp.TheVariants.{Eq}
-use Rattle.sqlite_sql.specs.Term.{Term, lit, col, op2, eval_all, holds}
-use Rattle.sqlite_sql.specs.Query.{Query, inner, end}
+use Rattle.sqlite_sql.specs.Term.{Term, col, op2}
 use Rattle.sqlite_schema.specs.declared.command.Command.{Command}
 use Rattle.sqlite_schema.specs.declared.command.Command.TheVariants.{Select, Nothing}
 use Rattle.sqlite_resolve.specs.declared.compiled.Compiled.{Compiled}
@@ -17,28 +15,7 @@ use Rattle.sqlite.specs.Listing.{understood, reads_listing}
 use Rattle.vault_base.specs.declared.refusal.Table.{Table}
 use Rattle.vault_base.specs.declared.refusal.Table.TheVariants as table
 use Rattle.vault_audit_model.specs.Tables.{vault_schema}
-
--- SELECT project FROM t WHERE tests
-abbrev pub scan : ℕ → List Term → List Term → Query
-scan t tests project = record {
-  from = inner t end;
-  filter = tests;
-  group = None;
-  project = project;
-  distinct = false;
-  collations = [];
-  order = [];
-  limit = lit (Int (negsuc 0));
-  offset = lit (Int (pos 0));
-}
-
--- the row passes WHERE, with these parameters
-abbrev pub passes : List Term → Row → Row → Bool
-passes tests params r = list_all (holds (params ∷ r ∷ [])) tests
-
--- what is shown of the row
-abbrev pub shows : List Term → Row → Row → Row
-shows project params r = eval_all project (params ∷ r ∷ [])
+use Rattle.vault_store_model.specs.Scans.{scan, passes}
 
 -- the value at this place of a row is the parameter at that place
 abbrev pub equals : ℕ → ℕ → Term

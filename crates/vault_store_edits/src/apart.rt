@@ -11,7 +11,8 @@ ghost use Rattle.sqlite.specs.Values.{bound};
 ghost use Rattle.vault_audit_model.specs.Tables.{vault_schema};
 ghost use Rattle.vault_store_edits.specs.Trees.{tree_of};
 ghost use Rattle.vault_store_edits.specs.Apart.{IsApart};
-ghost use Rattle.vault_store_edits.specs.Queries.{passes, Finds, Stands, rowid_text};
+ghost use Rattle.vault_store_model.specs.Scans.{passes};
+ghost use Rattle.vault_store_edits.specs.Queries.{Finds, Stands, rowid_text};
 
 use sqlite::types::ValueRef;
 use sqlite::{Alter, Error, ErrorCode, Row, Transaction, params};

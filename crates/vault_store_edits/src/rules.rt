@@ -7,8 +7,7 @@ ghost use Rattle.vault_base.specs.declared.refusal.Table.TheVariants as table;
 ghost use Rattle.vault_audit_model.specs.Rows.{rule_row};
 ghost use Rattle.vault_audit_model.specs.Spells.{rules_from};
 ghost use Rattle.vault_audit_model.specs.Tables.{vault_schema};
-ghost use Rattle.vault_store_model.specs.Edits.{with_row, without, Edits};
-ghost use Rattle.vault_store_edits.specs.Several.{with_each};
+ghost use Rattle.vault_store_model.specs.Edits.{with_row, without, Edits, with_each};
 ghost use Rattle.vault_store_model.specs.Tests.{is_named};
 
 use crate::apart::check_apart;

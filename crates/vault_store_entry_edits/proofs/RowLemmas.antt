@@ -1,5 +1,5 @@
 -- What each statement on entries, contents, settings, intake and heads does.
-use Rattle.std.proofs.Common.{◌≡◌, ℕ, ℤ, List, [], ◌∷◌, Bool, true, false, ◌&&◌, Some, Ok, refl, sym, ap₂, subst, ◌∙◌}
+use Rattle.std.proofs.Common.{◌≡◌, ℕ, ℤ, List, [], ◌∷◌, true, false, ◌&&◌, Some, Ok, refl, sym, ap₂, subst, ◌∙◌}
 use Rattle.sqlite_value.specs.declared.value.Value.TheVariants.{Null, Int, Text, Blob}
 use Rattle.sqlite_value.specs.Order.{Row, column}
 use Rattle.sqlite_trees.specs.Tree.{rowid}
@@ -21,17 +21,15 @@ use Rattle.vault_audit_model.specs.Tables.{vault_schema, entries, contents, sett
 use Rattle.vault_audit_model.specs.Values.{number, bytes_or_null, flag}
 use Rattle.vault_store_model.specs.Edits.{with_row, with_changed, without}
 use Rattle.vault_store_edits.specs.Apart.{IsApart}
-use Rattle.vault_store_edits.specs.Queries.{passes}
+use Rattle.vault_store_model.specs.Scans.{passes}
 use Rattle.vault_store_model.specs.Tests.{is_text, is_number, is_numbered, is_of_key, removed_row, with_head_columns}
-use Rattle.vault_store_edits.proofs.CastLemmas.{cast_null, cast_int, cast_number, cast_number_or_null, cast_flag, cast_flag_or_null, cast_text_or_null}
+use Rattle.vault_audit_model.proofs.ValueLemmas.{cast_null, cast_int}
+use Rattle.vault_store_edits.proofs.CastLemmas.{cast_number, cast_number_or_null, cast_flag, cast_flag_or_null, cast_text_or_null}
 use Rattle.vault_store_edits.proofs.StatementLemmas.{Leaves, inserts, updates, deletes}
 use Rattle.vault_store_edits.proofs.TestLemmas.{text_test, number_test}
 use Rattle.vault_store_edits.proofs.TypeLemmas.{column_taken}
+use Rattle.sqlite_tied.proofs.RuleLemmas.{and_true}
 use Rattle.vault_store_entry_edits.proofs.TextLemmas.{entry_text, entry_terms, entry_is, entry_plain, by_id, removed_text, removed_project, removed_is, removed_plain, content_text, content_terms, content_is, content_plain, no_content_text, no_content_is, no_content_plain, setting_text, setting_terms, setting_is, setting_plain, note_text, note_terms, note_is, note_plain, head_text, head_terms, head_is, head_plain, by_key, newer_text, newer_project, newer_is, newer_plain, no_head_text, no_head_is, no_head_plain}
-
-and_true : (b : Bool) → (b && true) ≡ b
-and_true true = refl
-and_true false = refl
 
 -- the id in the first column is the first parameter
 identified : (id : ℕ) (rest r : Row) → (passes by_id (number id ∷ rest) r ≡ true → (n : ℤ) × (rowid r ≡ Int n)) → passes by_id (number id ∷ rest) r ≡ is_number id (column r 0)

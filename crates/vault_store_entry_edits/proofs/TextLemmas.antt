@@ -8,7 +8,8 @@ use Rattle.sqlite.specs.Command.TheVariants.{Insert, Update, Delete}
 use Rattle.sqlite.specs.Listing.{understood}
 use Rattle.sqlite.proofs.Callers.{IsPlain, command_of}
 use Rattle.vault_audit_model.specs.Tables.{vault_schema, entries_tree, contents_tree, heads_tree}
-use Rattle.vault_store_edits.specs.Queries.{scan, equals, Finds}
+use Rattle.vault_store_model.specs.Scans.{scan}
+use Rattle.vault_store_edits.specs.Queries.{equals, Finds}
 
 -- ---- entries
 

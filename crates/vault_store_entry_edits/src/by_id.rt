@@ -6,7 +6,8 @@ ghost use Rattle.sqlite.specs.Held.{state};
 ghost use Rattle.vault_audit_model.specs.Tables.{vault_schema};
 ghost use Rattle.vault_audit_model.specs.Values.{number};
 ghost use Rattle.vault_store_edits.specs.Apart.{IsApart};
-ghost use Rattle.vault_store_edits.specs.Queries.{passes, Finds};
+ghost use Rattle.vault_store_model.specs.Scans.{passes};
+ghost use Rattle.vault_store_edits.specs.Queries.{Finds};
 ghost use Rattle.vault_store_edits.specs.Trees.{tree_of};
 
 use sqlite::{Alter, Error, Transaction, params};

@@ -12,10 +12,9 @@ use Rattle.vault_core_model.specs.declared.records.Setting.{Setting}
 use Rattle.vault_core_model.specs.declared.change.Admission.{Admission}
 use Rattle.vault_audit_model.specs.Rows.{entry_row, content_row, setting_row, note_row}
 use Rattle.vault_store_model.specs.Rows.{Rows}
-use Rattle.vault_store_model.specs.Edits.{with_rows, with_row, changed_if, with_changed, without, and_then}
+use Rattle.vault_store_model.specs.Edits.{with_rows, with_row, changed_if, with_changed, without, and_then, at_moment}
 use Rattle.vault_store_model.specs.Tests.{is_named, is_numbered, is_of_key, every, with_last_and_next, with_sums, removed_row, with_head_columns}
 use Rattle.vault_store_changes.specs.Edits.{with_row_if_given, with_head}
-use Rattle.vault_store_parts.specs.Parts.{at_moment}
 
 abbrev pub setting_added : ℕ → ℕ → Setting → ℕ → Rows → Rows
 setting_added id place setting t = and_then (with_row table.Settings (setting_row (record { id = id; place = place; setting = setting }))) (at_moment t)

@@ -13,7 +13,8 @@ use Rattle.vault_core_model.specs.Sound.{Sound}
 use Rattle.vault_core_model.specs.Vault.{Vault, history_of}
 use Rattle.vault_store_changes.specs.Edits.{others_at}
 use Rattle.vault_store_changes.proofs.EntryLemmas.{found_history}
-use Rattle.vault_store_head_changes.proofs.ByEntry.{entries_in, held_of_key, held_entries, last_of, head_over_entries, head_of_entries, head_same}
+use Rattle.vault_audit_model.specs.Spells.{entries_in}
+use Rattle.vault_store_head_changes.proofs.ByEntry.{held_of_key, held_entries, last_of, head_over_entries, head_of_entries, head_same}
 use Rattle.vault_store_head_changes.proofs.ChangeLemmas.{is_held_there}
 use Rattle.vault_store_head_changes.proofs.Newest.{IsRising, rising_ids, rising-filter}
 

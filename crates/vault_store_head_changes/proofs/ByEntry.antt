@@ -10,11 +10,8 @@ use Rattle.vault_core_model.specs.Places.{is_held, is_held_at, held_at, is_curre
 use Rattle.vault_core_model.specs.Reads.{head_over, head_of}
 use Rattle.vault_core_model.specs.Vault.{Vault}
 use Rattle.vault_audit_model.specs.declared.rows.HeadRow.{HeadRow}
-use Rattle.vault_audit_model.specs.Spells.{head_in, heads_in}
+use Rattle.vault_audit_model.specs.Spells.{head_in, heads_in, entries_in}
 use Rattle.vault_store_changes.proofs.ListLemmas.{map_each}
-
-abbrev pub entries_in : List History → List Entry
-entries_in hs = map (λ h. h.entry) hs
 
 -- the held entries of a key, oldest first
 abbrev pub held_of_key : List ℕ → List ℕ → List Entry → List Entry

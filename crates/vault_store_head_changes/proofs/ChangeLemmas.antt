@@ -26,11 +26,11 @@ use Rattle.vault_core_model.specs.Sound.{Sound}
 use Rattle.vault_core_model.specs.Vault.{Vault, history_of}
 use Rattle.vault_core_laws.proofs.Soundness.{Sound-changed}
 use Rattle.vault_audit_model.specs.Rows.{head_row}
-use Rattle.vault_audit_model.specs.Spells.{IsKept, heads_in}
+use Rattle.vault_audit_model.specs.Spells.{IsKept, heads_in, entries_in}
 use Rattle.vault_audit_model.specs.Tables.{vault_schema}
 use Rattle.vault_store_model.specs.Rows.{AreSameRows, HasRows, rows_in, rows_of}
-use Rattle.vault_store_model.specs.Edits.{and_then}
-use Rattle.vault_store_changes.specs.Edits.{edit_of, headed, head_with, others_at, without_entry, at_moment}
+use Rattle.vault_store_model.specs.Edits.{and_then, at_moment}
+use Rattle.vault_store_changes.specs.Edits.{edit_of, headed, head_with, others_at, without_entry}
 use Rattle.vault_store_changes.specs.Limits.{IsChangeInLimits}
 use Rattle.vault_store_changes.proofs.BesideLemmas.{beside_heads}
 use Rattle.vault_store_changes.proofs.ConfigLemmas.{default_set, rules_set}
@@ -39,7 +39,7 @@ use Rattle.vault_store_changes.proofs.KeptLemmas.{kept_changed}
 use Rattle.vault_store_changes.proofs.ListLemmas.{map_untold, filter-append}
 use Rattle.vault_store_changes.proofs.OrderLemmas.{edit_ignores}
 use Rattle.vault_store_changes.proofs.RecordLemmas.{dept_added, caller_added, caller_closed, bucket_added}
-use Rattle.vault_store_head_changes.proofs.ByEntry.{entries_in, held_of_key, heads_by, heads_are, last_of, head_over_entries, head_of_entries}
+use Rattle.vault_store_head_changes.proofs.ByEntry.{held_of_key, heads_by, heads_are, last_of, head_over_entries, head_of_entries}
 use Rattle.vault_store_head_changes.proofs.HeadLemmas.{heads_changed}
 use Rattle.vault_store_head_changes.proofs.Parts.{is_elsewhere}
 

@@ -12,12 +12,12 @@ use Rattle.vault_core_model.specs.Sound.{AreIdsFrom}
 use Rattle.vault_core_model.specs.Vault.{Vault}
 use Rattle.vault_audit_model.specs.declared.rows.HeadRow.{HeadRow}
 use Rattle.vault_audit_model.specs.Rows.{head_row}
-use Rattle.vault_audit_model.specs.Spells.{heads_in}
+use Rattle.vault_audit_model.specs.Spells.{heads_in, entries_in}
 use Rattle.vault_store_model.specs.Edits.{changed_if}
 use Rattle.vault_store_model.specs.Tests.{is_of_key, with_head_columns}
 use Rattle.vault_store_changes.specs.Edits.{headed}
 use Rattle.vault_store_changes.proofs.OrderLemmas.{headed_same}
-use Rattle.vault_store_head_changes.proofs.ByEntry.{entries_in, is_newest, head_row_of, heads_by, heads_are, head_of_entries}
+use Rattle.vault_store_head_changes.proofs.ByEntry.{is_newest, head_row_of, heads_by, heads_are, head_of_entries}
 use Rattle.vault_store_head_changes.proofs.Newest.{rising_ids}
 use Rattle.vault_store_head_changes.proofs.Parts.{is_at, is_elsewhere, own_head, other_heads, heads_in_parts, others_same}
 

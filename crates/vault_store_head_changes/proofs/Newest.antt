@@ -2,10 +2,12 @@
 use Rattle.std.proofs.Common.{◌≡◌, ℕ, ◌+◌, ◌≤◌, ◌<◌, ◌==◌, List, [], ◌∷◌, length, filter, cond, Bool, true, false, refl, sym, ap, subst, ◌∙◌, arith}
 use Rattle.std.specs.Prelude.{nat_lt, if◌then◌else◌}
 use Rattle.std.specs.List.{AllByRecursion}
+use Rattle.std.proofs.lemmas.Bool.{le-ltb, lt-ltb}
 use Rattle.vault_core_model.specs.declared.records.Entry.{Entry}
 use Rattle.vault_core_model.specs.declared.records.History.{History}
 use Rattle.vault_core_model.specs.Sound.{AreIdsFrom}
-use Rattle.vault_store_head_changes.proofs.ByEntry.{entries_in, is_top, last_of}
+use Rattle.vault_audit_model.specs.Spells.{entries_in}
+use Rattle.vault_store_head_changes.proofs.ByEntry.{is_top, last_of}
 
 -- each id is above those in front
 abbrev pub IsRising : ℕ → List Entry → Type 0
@@ -37,21 +39,15 @@ below_last n e (f ∷ fs) rising = let rest = below_last e.id f fs rising.1 in (
 before_last : (e f : Entry) (fs : List Entry) (n : ℕ) → IsRising n (e ∷ f ∷ fs) → e.id < (last_of f fs).id
 before_last e f fs n rising = let rest = below_last e.id f fs rising.1 in omega (arith, rest.0, rising.1.0)
 
-lt_true : (i j : ℕ) → i < j → nat_lt i j ≡ true
-lt_true i j lt = grind (arith, lt)
-
-lt_false : (i j : ℕ) → j ≤ i → nat_lt i j ≡ false
-lt_false i j le = grind (arith, le)
-
 not_empty : (e : Entry) (es : List Entry) → (length (e ∷ es) == 0) ≡ false
 not_empty e es = grind arith
 
 none_newer : (i : ℕ) (es : List Entry) → AllByRecursion (λ g. g.id ≤ i) es → (length (filter (λ g. nat_lt i g.id) es) == 0) ≡ true
 none_newer i [] all = refl
-none_newer i (e ∷ es) all = rw (lt_false i e.id all.0) (none_newer i es all.1)
+none_newer i (e ∷ es) all = rw (le-ltb i e.id all.0) (none_newer i es all.1)
 
 some_newer : (i : ℕ) (e : Entry) (es : List Entry) → i < (last_of e es).id → (length (filter (λ g. nat_lt i g.id) (e ∷ es)) == 0) ≡ false
-some_newer i e [] lt = rw (lt_true i e.id lt) refl
+some_newer i e [] lt = rw (lt-ltb i e.id lt) refl
 some_newer i e (f ∷ fs) lt =
     elim (nat_lt i e.id) as (λ b. (length (if b then e ∷ filter (λ x. nat_lt i x.id) (f ∷ fs) else filter (λ x. nat_lt i x.id) (f ∷ fs)) == 0) ≡ false)
     [ true ↦ not_empty e (filter (λ x. nat_lt i x.id) (f ∷ fs)) | false ↦ some_newer i f fs lt ]

@@ -5,6 +5,7 @@ use Rattle.std.specs.Str.{bytes_eq}
 use Rattle.std.proofs.lemmas.List.{map-append}
 use Rattle.std.proofs.lemmas.List.Sorted.{IsPermutation-refl, IsPermutation-cons, IsPermutation-map, IsPermutation-trans, IsPermutation-sym, IsPermutation-middle}
 use Rattle.std.proofs.lemmas.Slice.Eq.{bytes_eq-Decides}
+use Rattle.std.proofs.lemmas.Bool.{and_parts}
 use Rattle.sqlite_trees.proofs.ListLemmas.{IsPermutation-same, filter-filter, filter_same, all_of, all_weaker}
 use Rattle.vault_core_model.specs.declared.records.Entry.{Entry}
 use Rattle.vault_core_model.specs.declared.records.Head.{Head}
@@ -53,19 +54,11 @@ module _ {A : Type 0} where
 
 -- ---- the part of one key
 
-and_first : (a b : Bool) → (a && b) ≡ true → a ≡ true
-and_first true b e = refl
-and_first false b e = absurd (cc e)
-
-and_second : (a b : Bool) → (a && b) ≡ true → b ≡ true
-and_second true b e = e
-and_second false b e = absurd (cc e)
-
 bucket_of_key : (bucket key : List ℕ) (e : Entry) → is_held_at bucket key e ≡ true → e.bucket ≡ bucket
-bucket_of_key bucket key e here = (bytes_eq-Decides e.bucket bucket).0 (and_first (bytes_eq e.bucket bucket) _ here)
+bucket_of_key bucket key e here = (bytes_eq-Decides e.bucket bucket).0 (and_parts (bytes_eq e.bucket bucket) _ here).0
 
 key_of_key : (bucket key : List ℕ) (e : Entry) → is_held_at bucket key e ≡ true → e.key ≡ key
-key_of_key bucket key e here = (bytes_eq-Decides e.key key).0 (and_first (bytes_eq e.key key) _ (and_second (bytes_eq e.bucket bucket) _ here))
+key_of_key bucket key e here = (bytes_eq-Decides e.key key).0 (and_parts (bytes_eq e.key key) _ (and_parts (bytes_eq e.bucket bucket) _ here).1).0
 
 -- of that key and newest is held at it and newest there
 own_tests : (a b held : Bool) (bucket key : List ℕ) (e : Entry) (es : List Entry) → bytes_eq e.bucket bucket ≡ a → bytes_eq e.key key ≡ b

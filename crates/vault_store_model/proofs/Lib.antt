@@ -1,2 +1,3 @@
 pub mod RowsLemmas
 pub mod EditLemmas
+pub mod ScanLemmas

@@ -1,11 +1,12 @@
 -- What a statement makes of the rows of the tables: rows are added to one table, changed in it, or dropped from it.
-use Rattle.std.specs.Prelude.{◌≡◌, ◌==◌, ℕ, Bool, not, cond, List, ◌∷◌, map, filter, IsTrue}
+use Rattle.std.specs.Prelude.{◌≡◌, ◌==◌, ℕ, Bool, not, cond, List, [], ◌∷◌, map, filter, IsTrue}
 use Rattle.sqlite_value.specs.Order.{Row}
 use Rattle.sqlite.specs.State.{State}
 use Rattle.vault_base.specs.declared.refusal.Table.{Table}
 use Rattle.vault_base.specs.declared.refusal.Table.TheVariants as table
 use Rattle.vault_audit_model.specs.Tables.{vault_schema}
 use Rattle.vault_store_model.specs.Rows.{Rows, AreSameRows, rows_in}
+use Rattle.vault_store_model.specs.Tests.{every, with_last}
 
 abbrev pub number_of : Table → ℕ
 number_of table.Meta = 0
@@ -37,6 +38,18 @@ with_changed t test change = with_rows t (map (changed_if test change))
 -- without the rows that pass the test
 abbrev pub without : Table → (Row → Bool) → Rows → Rows
 without t test = with_rows t (filter (λ row. not (test row)))
+
+-- these rows one after the other before those that are there
+abbrev pub pushed : List Row → List Row → List Row
+pushed [] rows = rows
+pushed (row ∷ more) rows = pushed more (row ∷ rows)
+
+abbrev pub with_each : Table → List Row → Rows → Rows
+with_each t more = with_rows t (pushed more)
+
+-- the last moment
+abbrev pub at_moment : ℕ → Rows → Rows
+at_moment t = with_changed table.Meta every (with_last t)
 
 -- one edit after the other
 abbrev pub and_then : (Rows → Rows) → (Rows → Rows) → Rows → Rows

@@ -2,3 +2,4 @@ pub mod Rows
 pub mod Tests
 pub mod Edits
 pub mod Keeping
+pub mod Scans

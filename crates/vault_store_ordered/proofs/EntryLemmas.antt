@@ -22,13 +22,15 @@ use Rattle.vault_core_model.specs.Vault.{Vault}
 use Rattle.vault_audit_model.specs.Rows.{entry_row, entry_columns}
 use Rattle.vault_audit_model.specs.Values.{number}
 use Rattle.vault_store_query.specs.Queries.{Finds}
-use Rattle.vault_store_query.proofs.ScanLemmas.{passes}
+use Rattle.vault_store_model.specs.Scans.{passes}
 use Rattle.vault_store_ordered.specs.Shown.{entry_shown, id_row, newest_but}
-use Rattle.vault_store_ordered.proofs.ListLemmas.{falls, map-reverse, last, first_reversed, last-map, always, and_true, filter_twice}
+use Rattle.sqlite_tied.proofs.RuleLemmas.{and_true}
+use Rattle.vault_store_ordered.proofs.ListLemmas.{falls, map-reverse, last, first_reversed, last-map, always, filter_twice}
 use Rattle.vault_store_ordered.proofs.SelectLemmas.{select_of, of_records, answered}
 use Rattle.vault_store_ordered.proofs.SettingLemmas.{ids_rise}
 use Rattle.vault_store_ordered.proofs.TextLemmas.{entries_text, entries_tests, entries_shown, entries_order, entries_is, newest_text, newest_tests, newest_order, newest_is, removed_text, removed_tests, removed_shown, removed_is, no_limit}
-use Rattle.vault_store_ordered.proofs.ValueLemmas.{same_text, other_number, none_removed, some_removed, number_less}
+use Rattle.vault_audit_model.proofs.ValueLemmas.{same_text, three}
+use Rattle.vault_store_ordered.proofs.ValueLemmas.{other_number, none_removed, some_removed, number_less}
 
 abbrev row_of : History → Row
 row_of h = entry_row h.entry
@@ -43,10 +45,6 @@ abbrev held_test : List ℕ → List ℕ → Row → Bool
 held_test bucket key c =
     is_true (binary (Compare Eq Binary) (column c 1) (Text bucket))
     && (is_true (binary (Compare Eq Binary) (column c 2) (Text key)) && (is_true (binary (Is Binary) (column c 9) Null) && true))
-
-three : (a b c d e f : Bool) → a ≡ d → b ≡ e → c ≡ f → (a && (b && (c && true))) ≡ (d && (e && f))
-three a b true d e f p q r = rw (p, q, sym r) refl
-three a b false d e f p q r = rw (p, q, sym r) refl
 
 held_tests : (bucket key : List ℕ) (h : History) → held_test bucket key (row_of h) ≡ is_held_at bucket key h.entry
 held_tests bucket key h = three _ _ _ _ _ _ (same_text h.entry.bucket bucket) (same_text h.entry.key key) (none_removed h.entry.removal)

@@ -29,12 +29,13 @@ use Rattle.vault_audit_model.specs.Spells.{head_in, heads_in}
 use Rattle.vault_audit_model.specs.Values.{number}
 use Rattle.vault_core_laws.proofs.Lists.{All-filter}
 use Rattle.vault_store_query.specs.Queries.{Finds}
-use Rattle.vault_store_query.proofs.ScanLemmas.{passes}
+use Rattle.vault_store_model.specs.Scans.{passes}
 use Rattle.vault_store_ordered.specs.Shown.{key_row}
 use Rattle.vault_store_ordered.proofs.KeySetLemmas.{IsRising, keys_rise, now_keys, held_keys, are_now, one_each}
 use Rattle.vault_store_ordered.proofs.SelectLemmas.{select_of, of_records, answered}
 use Rattle.vault_store_ordered.proofs.TextLemmas.{keys_text, keys_tests, keys_order, keys_is}
-use Rattle.vault_store_ordered.proofs.ValueLemmas.{same_text, later_text, text_less}
+use Rattle.vault_audit_model.proofs.ValueLemmas.{same_text}
+use Rattle.vault_store_ordered.proofs.ValueLemmas.{later_text, text_less}
 
 -- ---- a key has a byte, so it comes behind the empty text
 

@@ -5,7 +5,7 @@ use Rattle.std.specs.List.{AllByRecursion, list_any}
 use Rattle.std.specs.Str.{bytes_eq}
 use Rattle.std.specs.Ordering.{nat_cmp, is_eq, ordering_reverse}
 use Rattle.std.specs.Cmp.Lexicographic.{slice_cmp}
-use Rattle.std.proofs.lemmas.Bool.{cases_Bool}
+use Rattle.std.proofs.lemmas.Bool.{cases_Bool, and_right}
 use Rattle.std.proofs.lemmas.Cmp.{nat_list_cmp_total}
 use Rattle.std.proofs.lemmas.List.Sorted.{IsPermutation-refl, IsPermutation-sym, IsPermutation-trans, IsPermutation-cons, IsPermutation-middle}
 use Rattle.std.proofs.lemmas.Map.Text.{is_eq-slice_cmp}
@@ -16,7 +16,9 @@ use Rattle.vault_core_model.specs.declared.records.History.{History}
 use Rattle.vault_core_model.specs.Places.{is_held, is_held_at, is_held_in, newer, is_current, with_key, with_key_by, key_set}
 use Rattle.vault_core_model.specs.Sound.{AreIdsFrom}
 use Rattle.vault_core_model.specs.Vault.{Vault}
-use Rattle.vault_store_ordered.proofs.ListLemmas.{filter_twice, filter-append, and_true}
+use Rattle.sqlite_tied.proofs.RuleLemmas.{and_true}
+use Rattle.vault_core_laws.proofs.Tests.{swapped}
+use Rattle.vault_store_ordered.proofs.ListLemmas.{filter_twice, filter-append}
 
 abbrev cmp : List ℕ → List ℕ → Ordering
 cmp j k = slice_cmp nat_cmp j k
@@ -62,12 +64,6 @@ among k ks = list_any (λ j. bytes_eq j k) ks
 same_first : (b c : Bool) → (b || c) ≡ (b || (b || c))
 same_first true c = refl
 same_first false c = refl
-
-swapped : (b c d : Bool) → (b || (c || d)) ≡ (c || (b || d))
-swapped true true d = refl
-swapped true false d = refl
-swapped false true d = refl
-swapped false false d = refl
 
 alike : (a k x : List ℕ) → cmp k x ≡ Equal → bytes_eq k a ≡ bytes_eq x a
 alike a k x e = ap (λ y. bytes_eq y a) ((bytes_eq-Decides k x).0 (sym (is_eq-slice_cmp k x) ∙ ap is_eq e))
@@ -129,13 +125,9 @@ lt_false i j low = grind (arith, low)
 lt_true : (i j : ℕ) → i < j → nat_lt i j ≡ true
 lt_true i j low = grind (arith, low)
 
-and_false : (b : Bool) → (b && false) ≡ false
-and_false true = refl
-and_false false = refl
-
 older_left : (p : History → Bool) (i : ℕ) (hs : List History) → AllByRecursion (λ g. g.entry.id < i + 1) hs → filter (λ g. p g && nat_lt i g.entry.id) hs ≡ []
 older_left p i [] all = refl
-older_left p i (h ∷ hs) all = rw (lt_false i h.entry.id all.0, and_false (p h)) (older_left p i hs all.1)
+older_left p i (h ∷ hs) all = rw (lt_false i h.entry.id all.0, and_right (p h) false refl) (older_left p i hs all.1)
 
 newer_kept : (p : History → Bool) (i n : ℕ) (hs : List History) → i < n → AreIdsFrom n hs → filter (λ g. p g && nat_lt i g.entry.id) hs ≡ filter p hs
 newer_kept p i n [] low ids = refl
@@ -183,7 +175,7 @@ held_among bucket key [] = refl
 held_among bucket key (g ∷ gs) = elim (cases_Bool (bytes_eq g.entry.bucket bucket)) [
   | inl here ↦ elim (cases_Bool (is_held g.entry)) [
     | inl held ↦ rw (here, held, and_true (bytes_eq g.entry.key key)) (ap (λ b. bytes_eq g.entry.key key || b) (held_among bucket key gs))
-    | inr gone ↦ rw (here, gone, and_false (bytes_eq g.entry.key key)) (held_among bucket key gs)
+    | inr gone ↦ rw (here, gone, and_right (bytes_eq g.entry.key key) false refl) (held_among bucket key gs)
   ]
   | inr elsewhere ↦ rw elsewhere (held_among bucket key gs)
 ]
@@ -192,9 +184,9 @@ held_among bucket key (g ∷ gs) = elim (cases_Bool (bytes_eq g.entry.bucket buc
 pub one_each : (v : Vault) (bucket : List ℕ) (hs : List History) → AreNow v hs → IsPermutation (key_set (held_keys bucket hs)) (now_keys v bucket hs)
 one_each v bucket [] now = IsPermutation-refl []
 one_each v bucket (h ∷ hs) now = elim (cases_Bool (is_held h.entry)) [
-  | inr gone ↦ rw (now.0, gone, and_false (bytes_eq h.entry.bucket bucket)) (one_each v bucket hs now.1)
+  | inr gone ↦ rw (now.0, gone, and_right (bytes_eq h.entry.bucket bucket) false refl) (one_each v bucket hs now.1)
   | inl held ↦ elim (cases_Bool (bytes_eq h.entry.bucket bucket)) [
-    | inr elsewhere ↦ rw (elsewhere, and_false (is_current v h)) (one_each v bucket hs now.1)
+    | inr elsewhere ↦ rw (elsewhere, and_right (is_current v h) false refl) (one_each v bucket hs now.1)
     | inl here ↦
         let ks = key_set (held_keys bucket hs) in
         let same : h.entry.bucket ≡ bucket = (bytes_eq-Decides h.entry.bucket bucket).0 here in
@@ -202,7 +194,7 @@ one_each v bucket (h ∷ hs) now = elim (cases_Bool (is_held h.entry)) [
         ap (λ b. list_any (λ (g : History). is_held_at b h.entry.key g.entry) hs) same ∙ held_among bucket h.entry.key hs ∙ sym (among_set h.entry.key (held_keys bucket hs)) in
         elim (cases_Bool (among h.entry.key ks)) [
           | inl there ↦
-              let later : is_current v h ≡ false = now.0 ∙ ap (λ b. is_held h.entry && not b) (any ∙ there) ∙ and_false (is_held h.entry) in
+              let later : is_current v h ≡ false = now.0 ∙ ap (λ b. is_held h.entry && not b) (any ∙ there) ∙ and_right (is_held h.entry) false refl in
               rw (later, held, here) (subst (λ l. IsPermutation l (now_keys v bucket hs)) (sym (known h.entry.key ks (keys_rise (held_keys bucket hs)) there)) (one_each v bucket hs now.1))
           | inr none ↦
               let current : is_current v h ≡ true = now.0 ∙ ap (λ b. is_held h.entry && not b) (any ∙ none) ∙ ap (λ b. b && true) held in

@@ -104,10 +104,6 @@ pub always : {X : Type 0} (P : X → Type 0) → ((x : X) → P x) → (xs : Lis
 always P f [] = tt
 always P f (x ∷ xs) = (f x, always P f xs)
 
-pub and_true : (b : Bool) → (b && true) ≡ b
-and_true true = refl
-and_true false = refl
-
 pub filter_twice : {X : Type 0} (p q : X → Bool) (xs : List X) → filter p (filter q xs) ≡ filter (λ x. q x && p x) xs
 filter_twice p q [] = refl
 filter_twice p q (x ∷ xs) = elim (cases_Bool (q x)) [

@@ -28,11 +28,13 @@ use Rattle.vault_audit_model.specs.Rows.{rule_row, rule_columns}
 use Rattle.vault_audit_model.specs.Spells.{rules_from, rules_in, rules_if_given}
 use Rattle.vault_store_ordered.specs.Shown.{set_of}
 use Rattle.vault_store_query.specs.Queries.{Finds}
-use Rattle.vault_store_query.proofs.ScanLemmas.{passes}
-use Rattle.vault_store_ordered.proofs.ListLemmas.{part_of, in_one_part, always, and_true}
+use Rattle.vault_store_model.specs.Scans.{passes}
+use Rattle.sqlite_tied.proofs.RuleLemmas.{and_true}
+use Rattle.vault_store_ordered.proofs.ListLemmas.{part_of, in_one_part, always}
 use Rattle.vault_store_ordered.proofs.SelectLemmas.{select_of, of_records, answered}
 use Rattle.vault_store_ordered.proofs.TextLemmas.{rules_text, rules_tests, rules_shown, rules_order, rules_is, no_limit}
-use Rattle.vault_store_ordered.proofs.ValueLemmas.{same_text, number_less}
+use Rattle.vault_audit_model.proofs.ValueLemmas.{same_text}
+use Rattle.vault_store_ordered.proofs.ValueLemmas.{number_less}
 
 -- ---- buckets have different names
 

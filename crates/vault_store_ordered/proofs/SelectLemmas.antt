@@ -14,7 +14,8 @@ use Rattle.sqlite_sql.specs.Query.{Query, inner, end, IsAnswer, Output, output, 
 use Rattle.sqlite_sql.specs.Program.{overlay}
 use Rattle.sqlite_sql.proofs.QueryLemmas.{output_cmp_total}
 use Rattle.sqlite.specs.Effect.{Database, Answers}
-use Rattle.vault_store_query.proofs.ScanLemmas.{passes, matched, uncovered}
+use Rattle.vault_store_model.specs.Scans.{passes}
+use Rattle.vault_store_model.proofs.ScanLemmas.{matched, uncovered}
 
 -- SELECT project FROM t WHERE tests ORDER BY order LIMIT limit
 abbrev pub select_of : ℕ → List Term → List Term → List (Term × Key) → Term → Query

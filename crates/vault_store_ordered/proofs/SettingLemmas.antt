@@ -26,12 +26,14 @@ use Rattle.vault_audit_model.specs.Rows.{setting_row, setting_columns}
 use Rattle.vault_audit_model.specs.Spells.{settings_from, settings_in}
 use Rattle.vault_audit_model.specs.Values.{number}
 use Rattle.vault_store_query.specs.Queries.{Finds}
-use Rattle.vault_store_query.proofs.ScanLemmas.{passes}
+use Rattle.vault_store_model.specs.Scans.{passes}
 use Rattle.vault_store_ordered.specs.Shown.{last_row}
-use Rattle.vault_store_ordered.proofs.ListLemmas.{falls, map-reverse, last, first_reversed, last-map, part_of, in_one_part, always, and_true}
+use Rattle.sqlite_tied.proofs.RuleLemmas.{and_true}
+use Rattle.vault_store_ordered.proofs.ListLemmas.{falls, map-reverse, last, first_reversed, last-map, part_of, in_one_part, always}
 use Rattle.vault_store_ordered.proofs.SelectLemmas.{select_of, of_records, answered}
 use Rattle.vault_store_ordered.proofs.TextLemmas.{setting_text, setting_tests, setting_shown, setting_order, setting_is}
-use Rattle.vault_store_ordered.proofs.ValueLemmas.{same_number, number_less}
+use Rattle.vault_audit_model.proofs.ValueLemmas.{same_number}
+use Rattle.vault_store_ordered.proofs.ValueLemmas.{number_less}
 
 -- ---- ids
 

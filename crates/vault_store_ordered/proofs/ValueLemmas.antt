@@ -3,38 +3,22 @@ use Rattle.std.proofs.Common.{◌≡◌, ◌<◌, ◌==◌, ℕ, pos, List, Bool
 use Rattle.std.specs.Prelude.{is_none}
 use Rattle.std.specs.Ordering.{int_cmp, nat_cmp, is_eq, is_ne, is_gt, ordering_then}
 use Rattle.std.specs.Cmp.Lexicographic.{slice_cmp}
-use Rattle.std.specs.Str.{bytes_eq}
-use Rattle.std.proofs.lemmas.Map.Text.{is_eq-slice_cmp}
 use Rattle.sqlite_value.specs.declared.value.Value.TheVariants.{Null, Text}
 use Rattle.sqlite_value.specs.declared.keys.Collation.TheVariants.{Binary}
 use Rattle.sqlite_value.specs.Order.{value_cmp}
 use Rattle.sqlite_value.proofs.OrderLemmas.{value_cmp-Int, value_cmp-Text, value_cmp-apart, value_cmp-Null}
 use Rattle.sqlite_sql.specs.declared.ops.BinaryOp.TheVariants.{Compare, Is}
 use Rattle.sqlite_sql.specs.declared.ops.UnaryOp.TheVariants.{Not}
-use Rattle.sqlite_sql.specs.declared.ops.CompareOp.TheVariants.{Eq, Ne, Gt}
+use Rattle.sqlite_sql.specs.declared.ops.CompareOp.TheVariants.{Ne, Gt}
 use Rattle.sqlite_sql.specs.Ops.{unary, binary, is_true, from_truth, not3, truth}
 use Rattle.vault_core_model.specs.declared.records.Removal.{Removal}
 use Rattle.vault_audit_model.specs.Rows.{removal_at}
 use Rattle.vault_audit_model.specs.Values.{number}
-
-truth_back : (b : Bool) → is_true (from_truth (Some b)) ≡ b
-truth_back true = refl
-truth_back false = refl
-
-pub same_text : (a b : List ℕ) → is_true (binary (Compare Eq Binary) (Text a) (Text b)) ≡ bytes_eq a b
-unfolding binary
-same_text a b = truth_back _ ∙ ap is_eq (value_cmp-Text a b) ∙ is_eq-slice_cmp a b
+use Rattle.vault_audit_model.proofs.ValueLemmas.{truth_back, int_less}
 
 pub later_text : (a b : List ℕ) → is_true (binary (Compare Gt Binary) (Text a) (Text b)) ≡ is_gt (slice_cmp nat_cmp a b)
 unfolding binary
 later_text a b = truth_back _ ∙ ap is_gt (value_cmp-Text a b)
-
-same_int : (a b : ℕ) → is_eq (int_cmp (pos a) (pos b)) ≡ (a == b)
-same_int a b = grind arith
-
-pub same_number : (a b : ℕ) → is_true (binary (Compare Eq Binary) (number a) (number b)) ≡ (a == b)
-unfolding binary
-same_number a b = truth_back _ ∙ ap is_eq (value_cmp-Int (pos a) (pos b)) ∙ same_int a b
 
 other_int : (a b : ℕ) → is_ne (int_cmp (pos a) (pos b)) ≡ not (a == b)
 other_int a b = grind arith
@@ -60,9 +44,6 @@ unfolding unary binary
 some_removed r = turned _ ∙ ap not (null_is r)
 
 -- ---- in order
-
-int_less : (a b : ℕ) → a < b → int_cmp (pos a) (pos b) ≡ Less
-int_less a b low = grind arith
 
 pub number_less : (a b : ℕ) → a < b → ordering_then (value_cmp (number a) (number b)) Equal ≡ Less
 number_less a b low = ap (λ o. ordering_then o Equal) (value_cmp-Int (pos a) (pos b) ∙ int_less a b low)

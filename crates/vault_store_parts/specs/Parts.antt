@@ -7,13 +7,8 @@ use Rattle.vault_core_model.specs.declared.records.Caller.{Caller}
 use Rattle.vault_audit_model.specs.Rows.{department_row, caller_row, bucket_row, rule_row}
 use Rattle.vault_audit_model.specs.Spells.{rules_from}
 use Rattle.vault_store_model.specs.Rows.{Rows}
-use Rattle.vault_store_model.specs.Edits.{with_row, with_changed, without, and_then}
-use Rattle.vault_store_model.specs.Tests.{is_named, every, with_last, closed_row, with_default_columns}
-use Rattle.vault_store_edits.specs.Several.{with_each}
-
--- the last moment
-abbrev pub at_moment : ℕ → Rows → Rows
-at_moment t = with_changed table.Meta every (with_last t)
+use Rattle.vault_store_model.specs.Edits.{with_row, with_changed, without, and_then, with_each, at_moment}
+use Rattle.vault_store_model.specs.Tests.{is_named, closed_row, with_default_columns}
 
 abbrev pub department_added : List ℕ → ℕ → Rows → Rows
 department_added name t =

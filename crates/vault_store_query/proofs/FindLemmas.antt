@@ -10,7 +10,8 @@ use Rattle.sqlite.specs.Effect.{Database, Answers}
 use Rattle.sqlite.proofs.Callers.{one_permutation}
 use Rattle.vault_core_model.specs.Order.{IsAscending}
 use Rattle.vault_store_query.specs.Queries.{select_from}
-use Rattle.vault_store_query.proofs.ScanLemmas.{passes, shows, scanned}
+use Rattle.vault_store_model.specs.Scans.{passes, shows}
+use Rattle.vault_store_model.proofs.ScanLemmas.{scanned}
 
 filter_same : {A : Type 0} (p q : A → Bool) → ((x : A) → p x ≡ q x) → (xs : List A) → filter p xs ≡ filter q xs
 filter_same p q same [] = refl

@@ -1,3 +1,2 @@
 pub mod QueryLemmas
-pub mod ScanLemmas
 pub mod FindLemmas

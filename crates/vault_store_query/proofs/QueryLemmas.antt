@@ -20,11 +20,11 @@ same_command : (r : Result Compiled CompileError) → command_of r ≡ command_i
 same_command (Ok c) = refl
 same_command (Err e) = refl
 
-shows_open : (old new : State) (sql : List ℕ) (c : Compiled) (params : Row) (rows : List Row) (o : Option Returning) → ShowsRows old new sql c params rows o → IsTrue old.is_open
+pub shows_open : (old new : State) (sql : List ℕ) (c : Compiled) (params : Row) (rows : List Row) (o : Option Returning) → ShowsRows old new sql c params rows o → IsTrue old.is_open
 shows_open old new sql c params rows None it = it.3.0.was_open
 shows_open old new sql c params rows (Some what) it = it.1.shown.was_open
 
-was_open : (sql : List ℕ) (params : Row) (old new : State) (rows : List Row) → Shown sql params old new rows → IsTrue old.is_open
+pub was_open : (sql : List ℕ) (params : Row) (old new : State) (rows : List Row) → Shown sql params old new rows → IsTrue old.is_open
 unfolding Shown
 was_open sql params old new rows h = shows_open old new sql h.0 _ rows h.0.returning h.2
 
@@ -48,7 +48,7 @@ failed sql params old new e (inl (inl (_, same))) = inl same
 failed sql params old new e (inl (inr fails)) = inr fails.3
 failed sql params old new e (inr (c, _, it)) = fails_showing old new sql c _ e c.returning it
 
-unchanged_keeps : (old new : State) (v : Vault) → IsUnchanged old new ⊎ IsRolledBack old new → Keeps old v → Keeps new v
+pub unchanged_keeps : (old new : State) (v : Vault) → IsUnchanged old new ⊎ IsRolledBack old new → Keeps old v → Keeps new v
 unchanged_keeps old new v (inl same) was is_open =
     let keeps = was same.0.was_open in
     (subst (λ db. AreSound db v) (sym same.0.now_is) keeps.0, same.0.committed_is ∙ keeps.1 ∙ sym same.0.now_is)

@@ -26,19 +26,16 @@ use Rattle.vault_audit_model.specs.Spells.{content_if_given, contents_in}
 use Rattle.vault_audit_model.specs.Tables.{entries_tree, contents_tree, intake_tree}
 use Rattle.vault_audit_model.specs.Values.{number}
 use Rattle.vault_audit_model.proofs.SameRows.{same_entry, same_content, same_note}
-use Rattle.vault_audit_laws.proofs.Members.{AreNumberedFrom, ascending_numbered}
+use Rattle.vault_audit_laws.proofs.Members.{ascending_numbered}
+use Rattle.vault_audit_laws.proofs.Uniqueness.{ids_numbered}
 use Rattle.vault_store_query.specs.Queries.{Finds}
 use Rattle.vault_store_query.proofs.FindLemmas.{records_found, at_most_one, first_found, none_found, read_found}
 use Rattle.vault_store_reads.proofs.ListLemmas.{filter_parts}
 use Rattle.vault_store_reads.proofs.TextLemmas.{where_is, entry_text, entry_shown, entry_selects, content_text, content_shown, content_selects, note_text, note_shown, note_selects}
-use Rattle.vault_store_reads.proofs.ValueLemmas.{same_text, same_number}
+use Rattle.vault_audit_model.proofs.ValueLemmas.{same_text, same_number}
 
 abbrev pub id_of : History → ℕ
 id_of h = h.entry.id
-
-ids_numbered : (n : ℕ) (hs : List History) → AreIdsFrom n hs → AreNumberedFrom id_of n hs
-ids_numbered n [] ids = tt
-ids_numbered n (h ∷ hs) ids = (ids.0, ids_numbered (n + 1) hs ids.1)
 
 pub ascending_ids : (hs : List History) → AreIdsFrom 1 hs → IsAscending (on id_of nat_cmp) hs
 ascending_ids hs ids = ascending_numbered id_of 1 hs (ids_numbered 1 hs ids)

@@ -35,7 +35,7 @@ use Rattle.vault_store_query.proofs.FindLemmas.{records_found}
 use Rattle.vault_store_reads.proofs.EntryLemmas.{id_of, ascending_ids, same_if}
 use Rattle.vault_store_reads.proofs.ListLemmas.{has_filtered, filtered_has, found_has, first_of, none_of}
 use Rattle.vault_store_reads.proofs.TextLemmas.{where_is, head_text, head_shown, head_selects}
-use Rattle.vault_store_reads.proofs.ValueLemmas.{same_text}
+use Rattle.vault_audit_model.proofs.ValueLemmas.{same_text}
 
 -- ---- the last of entries by rising id
 

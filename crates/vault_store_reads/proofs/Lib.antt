@@ -1,5 +1,4 @@
 pub mod TextLemmas
-pub mod ValueLemmas
 pub mod ListLemmas
 pub mod MetaLemmas
 pub mod NameLemmas

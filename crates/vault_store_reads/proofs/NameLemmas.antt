@@ -1,9 +1,9 @@
 -- Rows of departments, callers and buckets, by a name.
-use Rattle.std.proofs.Common.{◌≡◌, inl, inr, ℕ, suc, ◌==◌, ◌&&◌, List, [], ◌∷◌, map, filter, not, Bool, true, false, Option, None, Some, option_to_list, length, slice_get, IsPermutation, IsTrue, Equal, refl, sym, ap, subst, ◌∙◌, arith}
+use Rattle.std.proofs.Common.{◌≡◌, inl, inr, ℕ, suc, ◌==◌, List, [], ◌∷◌, map, filter, not, Bool, true, false, Option, None, Some, option_to_list, length, slice_get, IsPermutation, IsTrue, Equal, refl, sym, ap, subst, ◌∙◌, arith}
 use Rattle.std.specs.Prelude.{option_map}
 use Rattle.std.specs.List.{AllByRecursion, list_any}
 use Rattle.std.specs.Str.{bytes_eq}
-use Rattle.std.proofs.lemmas.Bool.{cases_Bool}
+use Rattle.std.proofs.lemmas.Bool.{cases_Bool, and_right}
 use Rattle.std.proofs.lemmas.Cmp.{nat_list_cmp_total, tied_itself}
 use Rattle.std.proofs.lemmas.List.{length-map}
 use Rattle.std.proofs.lemmas.List.Sorted.{length_permutation}
@@ -33,7 +33,7 @@ use Rattle.vault_store_query.specs.Queries.{Finds}
 use Rattle.vault_store_query.proofs.FindLemmas.{records_found, at_most_one, first_found, none_found, read_found}
 use Rattle.vault_store_reads.proofs.ListLemmas.{has_filtered, first_of, none_of}
 use Rattle.vault_store_reads.proofs.TextLemmas.{where_is, department_text, department_shown, department_selects, caller_text, caller_shown, caller_selects, bucket_text, bucket_shown, bucket_selects}
-use Rattle.vault_store_reads.proofs.ValueLemmas.{same_text}
+use Rattle.vault_audit_model.proofs.ValueLemmas.{same_text}
 
 -- a row whose first column is the name
 abbrev has_name : List ℕ → Row → Bool
@@ -71,10 +71,6 @@ no_bucket v name none (b ∷ bs) owned bucket = elim (cases_Bool (bytes_eq b.nam
   | inr other ↦ rw other (no_bucket v name none bs owned.1 bucket)
 ]
 
-and_false : (a b : Bool) → b ≡ false → (a && b) ≡ false
-and_false true b e = e
-and_false false b e = refl
-
 module _ (v : Vault) (name : List ℕ) (rows : List Row) (finds : Finds v department_text (Text name ∷ []) rows) where
   abbrev row_in : List ℕ → Row
   row_in d = department_row (department_in v d)
@@ -110,7 +106,7 @@ module _ (v : Vault) (name : List ℕ) (rows : List Row) (finds : Finds v depart
   no_items : has_department v name ≡ false → (hs : List History) → filter (is_version_of v.buckets name) hs ≡ []
   no_items none [] = refl
   no_items none (h ∷ hs) =
-      let other : is_version_of v.buckets name h ≡ false = and_false (not h.entry.marker) _ (no_bucket v name none v.buckets finds.1.spells.kept.sound.owned h.entry.bucket) in
+      let other : is_version_of v.buckets name h ≡ false = and_right (not h.entry.marker) _ (no_bucket v name none v.buckets finds.1.spells.kept.sound.owned h.entry.bucket) in
       rw other (no_items none hs)
 
   pub totals_of_none : ◌≡◌ {A = Option Row} None (slice_get rows 0) → IsRowFor v name (record { admitted = 0; held = 0; removed = 0; weighted = 0; closed = 0 })

@@ -11,6 +11,7 @@ use Rattle.sqlite.specs.Steps.{FailsToCommit}
 use Rattle.vault_core_model.specs.Vault.{Vault}
 use Rattle.vault_audit_model.specs.Spells.{AreSound}
 use Rattle.vault_audit_model.specs.Tables.{vault_schema}
+use Rattle.vault_audit_model.proofs.OutcomeLemmas.{kept_unchanged, kept_undone}
 use Rattle.vault_store_model.specs.Edits.{Edits}
 use Rattle.vault_store_model.specs.Keeping.{Keeps}
 use Rattle.vault_store_model.specs.Rows.{Rows, AreSameRows, rows_in}
@@ -20,12 +21,6 @@ use Rattle.vault_store_transaction.specs.Ready.{IsReady}
 committed_keeps : (last end : State) (e : Error) → IsTrue last.in_transaction → FailsToCommit last end e → IsRolledBack last end
 committed_keeps last end e inside (inl fails) = fails.3
 committed_keeps last end e inside (inr (_, ended, _)) = absurd (let both = sym inside ∙ ended in cc)
-
-kept_unchanged : (old new : State) → IsUnchanged old new → KeepsCommit old new
-kept_unchanged old new same = record { was_open = λ _. same.0.was_open; committed = λ _. same.0.committed_is }
-
-kept_undone : (old new : State) → IsRolledBack old new → KeepsCommit old new
-kept_undone old new undone = record { was_open = undone.was_open; committed = λ is_open. (undone.undone is_open).1 }
 
 -- a statement that isn't understood, or a failure, commits nothing
 pub kept_refused : (old new : State) (sql : List ℕ) (params : Row) (e : Error) → IsNotRun old new sql params e → KeepsCommit old new
@@ -90,10 +85,6 @@ module _ {S : Type 0} (g : Ghosts S) (old : Held S) where
     pub refused_keeps : (end : State) (e : Error) → FailsToCommit last end e → (v : Vault) → Keeps (state g old) v → Keeps end v
     refused_keeps end e failed v was =
         undone_keeps last end (record { was_open = λ _. parts.was_open; committed = λ _. parts.committed }) (committed_keeps last end e parts.inside failed) v was
-
-pub on_ok_then : {A E : Type 0} {P Q : Type 0} (r : Result A E) → OnOk r P → (P → Q) → OnOk r Q
-on_ok_then (Ok a) p f = f p
-on_ok_then (Err e) p f = tt
 
 pub on_err_then : {A E : Type 0} {P : E → Type 0} {Q : Type 0} (r : Result A E) → IfErr r P → ((e : E) → P e → Q) → OnErr r Q
 on_err_then (Ok a) p f = tt

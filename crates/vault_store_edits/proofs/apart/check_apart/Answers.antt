@@ -6,10 +6,12 @@ use Rattle.sqlite.specs.Held.{state}
 use Rattle.sqlite.specs.Values.{bound}
 use Rattle.sqlite.proofs.Callers.{unchanged_then}
 use Rattle.vault_store_edits.specs.Trees.{tree_of}
-use Rattle.vault_store_edits.specs.Queries.{passes, Stands}
+use Rattle.vault_store_model.specs.Scans.{passes}
+use Rattle.vault_store_edits.specs.Queries.{Stands}
 use Rattle.vault_store_edits.proofs.QueryLemmas.{failed_kept, shown_kept}
 use Rattle.vault_store_edits.proofs.ScanLemmas.{found, unchanged, stand_apart}
-use Rattle.vault_store_edits.proofs.StatementLemmas.{kept_then, on_ok_then}
+use Rattle.vault_audit_model.proofs.OutcomeLemmas.{on_ok_then}
+use Rattle.vault_store_edits.proofs.StatementLemmas.{kept_then}
 use Rattle.vault_store_edits.proofs.apart.check_apart.Goals as goal
 
 pub returns-in_err-rows-clause-kept : goal.returns-in_err-rows-clause-kept

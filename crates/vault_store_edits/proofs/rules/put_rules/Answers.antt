@@ -7,9 +7,8 @@ use Rattle.vault_base.specs.declared.refusal.Table.TheVariants as table
 use Rattle.vault_rules.specs.declared.rule.Rule.{Rule}
 use Rattle.vault_audit_model.specs.Rows.{rule_row}
 use Rattle.vault_audit_model.specs.Spells.{rules_from}
-use Rattle.vault_store_model.specs.Edits.{with_row, Edits}
+use Rattle.vault_store_model.specs.Edits.{with_row, Edits, with_each}
 use Rattle.vault_store_model.proofs.EditLemmas.{edits_then}
-use Rattle.vault_store_edits.specs.Several.{with_each}
 use Rattle.vault_store_edits.proofs.QueryLemmas.{kept_itself, survives_itself}
 use Rattle.vault_store_edits.proofs.StatementLemmas.{kept_then, on_err}
 use Rattle.vault_store_edits.proofs.RulesLemmas.{no_rows, with_first, one_rule_more, kept_edit}

@@ -4,8 +4,9 @@ use Rattle.sqlite.specs.Held.{state}
 use Rattle.vault_base.specs.declared.refusal.Table.TheVariants as table
 use Rattle.vault_store_model.specs.Edits.{with_changed}
 use Rattle.vault_store_model.proofs.EditLemmas.{with_changed_ignores}
-use Rattle.vault_store_edits.specs.Queries.{passes}
-use Rattle.vault_store_edits.proofs.StatementLemmas.{edits_checked, sound_checked, kept_if_refused, refused_after, updates_after}
+use Rattle.vault_store_model.specs.Scans.{passes}
+use Rattle.vault_audit_model.proofs.OutcomeLemmas.{kept_if_refused}
+use Rattle.vault_store_edits.proofs.StatementLemmas.{edits_checked, sound_checked, refused_after, updates_after}
 use Rattle.std.proofs.Common.{FitsSigned, w64, rules, to_z-of_z}
 use Rattle.vault_store_model.specs.Tests.{is_numbered, removed_row}
 use Rattle.vault_store_entry_edits.proofs.TextLemmas.{by_id, finds_entry}

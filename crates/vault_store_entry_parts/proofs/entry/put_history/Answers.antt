@@ -1,7 +1,8 @@
 use Rattle.std.proofs.Common.{arith}
 use Rattle.sqlite.specs.State.{HasCleanDisk}
 use Rattle.sqlite.specs.Held.{state}
-use Rattle.vault_store_transaction.proofs.TransactionLemmas.{kept_after, on_err_here, on_ok_then, on_err_all}
+use Rattle.vault_audit_model.proofs.OutcomeLemmas.{on_ok_then}
+use Rattle.vault_store_transaction.proofs.TransactionLemmas.{kept_after, on_err_here, on_err_all}
 use Rattle.vault_store_entry_parts.proofs.PartLemmas.{one_done, both_done}
 use Rattle.vault_store_entry_parts.proofs.entry.put_history.Goals as goal
 

@@ -3,7 +3,8 @@ use Rattle.sqlite.specs.State.{HasCleanDisk, KeepsCommit}
 use Rattle.sqlite.specs.Held.{state}
 use Rattle.vault_audit_model.specs.Tables.{vault_schema}
 use Rattle.vault_store_model.specs.Edits.{Edits}
-use Rattle.vault_store_transaction.proofs.TransactionLemmas.{ready_there, edits_there, kept_there, on_ok_then, on_ok_given, on_err_all, on_err_given, on_err_here}
+use Rattle.vault_audit_model.proofs.OutcomeLemmas.{on_ok_then}
+use Rattle.vault_store_transaction.proofs.TransactionLemmas.{ready_there, edits_there, kept_there, on_ok_given, on_err_all, on_err_given, on_err_here}
 use Rattle.vault_store_transaction.proofs.transaction.make_open.Goals as goal
 
 pub returns-clause-edits : goal.returns-clause-edits

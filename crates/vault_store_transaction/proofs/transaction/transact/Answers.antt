@@ -8,7 +8,8 @@ use Rattle.vault_audit_model.specs.Tables.{vault_schema}
 use Rattle.vault_store_model.specs.Keeping.{Keeps}
 use Rattle.vault_core_model.specs.Vault.{Vault}
 use Rattle.vault_store_transaction.specs.Commits.{Commits, MayCommit}
-use Rattle.vault_store_transaction.proofs.TransactionLemmas.{commit_keeps, commit_leaves, refused_keeps, on_ok_then, on_err_then, on_err_here, undone_keeps}
+use Rattle.vault_audit_model.proofs.OutcomeLemmas.{on_ok_then}
+use Rattle.vault_store_transaction.proofs.TransactionLemmas.{commit_keeps, commit_leaves, refused_keeps, on_err_then, on_err_here, undone_keeps}
 use Rattle.vault_store_transaction.proofs.transaction.transact.Goals as goal
 
 pub returns-clause-open : goal.returns-clause-open

@@ -1,25 +1,16 @@
--- A query over one table that is told to keep no order.
+-- What a query over one table finds.
 use Rattle.std.proofs.Common.{◌≡◌, inl, inr, ℕ, ◌-◌, ◌^◌, List, [], ◌∷◌, map, filter, flat_map, Bool, true, false, nat_le, if◌then◌else◌, None, unwrap_or, slice_get, cond, IsPermutation, refl, sym, ap, subst, ◌∙◌}
-use Rattle.std.specs.List.{list_all}
 use Rattle.std.proofs.lemmas.Bool.{cases_Bool}
 use Rattle.std.proofs.lemmas.List.Sorted.{IsPermutation-map}
 use Rattle.sqlite_trees.specs.Tree.{Trees}
 use Rattle.sqlite_trees.proofs.ListLemmas.{map-map}
 use Rattle.sqlite_value.specs.declared.value.Value.TheVariants.{Null}
 use Rattle.sqlite_value.specs.Order.{Row}
-use Rattle.sqlite_sql.specs.Term.{Term, eval_all, holds}
-use Rattle.sqlite_sql.specs.Query.{inner, end, IsAnswer, Output, output, matches}
-use Rattle.sqlite_sql.specs.Program.{overlay}
+use Rattle.sqlite.specs.Term.{Term}
+use Rattle.sqlite.specs.Query.{inner, end, IsAnswer, Output, output, matches}
+use Rattle.sqlite.specs.Program.{overlay}
 use Rattle.sqlite.specs.Effect.{Database, Answers}
-use Rattle.vault_store_query.specs.Queries.{select_from}
-
--- the row passes WHERE
-abbrev pub passes : List Term → Row → Row → Bool
-passes tests params r = list_all (holds (params ∷ r ∷ [])) tests
-
--- what the row shows
-abbrev pub shows : List Term → Row → Row → Row
-shows project params r = eval_all project (params ∷ r ∷ [])
+use Rattle.vault_store_model.specs.Scans.{scan, passes, shows}
 
 matched_in : (tests : List Term) (params : Row) (rows : List Row) → flat_map (λ r. cond (passes tests params r) ((params ∷ r ∷ []) ∷ []) []) rows ≡ map (λ r. params ∷ r ∷ []) (filter (passes tests params) rows)
 matched_in tests params [] = refl
@@ -32,10 +23,10 @@ pub matched : (t : ℕ) (tests : List Term) (db : Trees) (params : Row) → matc
 matched t tests db params = matched_in tests params (db t)
 
 -- the rows that pass, in some order, each as it is shown
-pub unordered : (t : ℕ) (tests project : List Term) (db : Trees) (params : Row) (rows : List Row) → IsAnswer (select_from t tests project []) db params rows
+unordered : (t : ℕ) (tests project : List Term) (db : Trees) (params : Row) (rows : List Row) → IsAnswer (scan t tests project) db params rows
     → IsPermutation (map (shows project params) (filter (passes tests params) (db t))) rows
 unordered t tests project db params rows a =
-    let q = select_from t tests project [] in
+    let q = scan t tests project in
     let found = filter (passes tests params) (db t) in
     let kept : map (λ (o : Output). o.1) a.kept ≡ map (shows project params) found =
     ap (map (λ (o : Output). o.1)) (a.distinct ∙ ap (map (output q)) (a.grouped ∙ matched t tests db params) ∙ map-map (output q) (λ r. params ∷ r ∷ []) found)
@@ -53,7 +44,7 @@ no_table false n rows = refl
 pub uncovered : (db : Trees) (t : ℕ) → overlay db [] t ≡ db t
 uncovered db t = no_table (nat_le (2 ^ 31) t) (t - 2 ^ 31) (db t)
 
-pub scanned : (db : Database) (t : ℕ) (tests project : List Term) (params : Row) (rows : List Row) → Answers db (record { lets = []; body = select_from t tests project [] }) params rows
+pub scanned : (db : Database) (t : ℕ) (tests project : List Term) (params : Row) (rows : List Row) → Answers db (record { lets = []; body = scan t tests project }) params rows
     → IsPermutation (map (shows project params) (filter (passes tests params) (db.trees t))) rows
 scanned db t tests project params rows a =
     subst (λ xs. IsPermutation (map (shows project params) (filter (passes tests params) xs)) rows) (uncovered db.trees t) (unordered t tests project (overlay db.trees []) params rows (a.answer Null))
