@@ -1,5 +1,5 @@
 -- The rules of a set have their numbers in their ranges.
-use Rattle.std.proofs.Common.{◌≡◌, ◌<◌, ◌+◌, ℕ, List, [], ◌∷◌, ◌++◌, length, take, get_or, subst, Bool, true, false, not, Option, Some, None, IsTrue, refl, sym, true≢false}
+use Rattle.std.proofs.Common.{◌≡◌, ◌<◌, ◌+◌, ℕ, List, [], ◌∷◌, ◌++◌, length, take, get_or, zero, suc, arith, subst, Bool, true, false, not, ◌↔◌, Option, Some, None, IsTrue, IsFalse, refl, sym, true≢false}
 use Rattle.std.specs.Prelude.{nat_lt, is_none}
 use Rattle.std.specs.List.{AllByRecursion}
 use Rattle.std.proofs.lemmas.List.{take_more}
@@ -42,6 +42,20 @@ each_rule (r ∷ rs) numbers names = (record { id = names.0.0; prefix = names.0.
 pub rules_of_set : (rules : List Rule) → IsTrue (is_rule_set rules) → AllByRecursion (λ r. IsRuleId r.id × IsKeyPrefix r.prefix) rules → AreRules rules
 rules_of_set rules set names = (set, each_rule rules (set_in_range rules set) names)
 
+each_name : (rules : List Rule) → AllByRecursion IsRule rules → AllByRecursion (λ r. IsRuleId r.id × IsKeyPrefix r.prefix) rules
+each_name [] all = tt
+each_name (r ∷ rs) all = ((all.0.id, all.0.prefix), each_name rs all.1)
+
+pub names_of_rules : (rules : List Rule) → AreRules rules → AllByRecursion (λ r. IsRuleId r.id × IsKeyPrefix r.prefix) rules
+names_of_rules rules all = each_name rules all.1
+
+-- ---- what isn't so
+
+-- where a part isn't in its limits, the whole isn't
+pub unmet : (b : Bool) (P Q : Type 0) → IsFalse b → (IsTrue b ↔ P) → (Q → P) → IsTrue false ↔ Q
+unmet true P Q e part whole = absurd (true≢false e)
+unmet false P Q e part whole = (λ f. absurd (true≢false (sym f)), λ q. part.1 (whole q))
+
 -- ---- loops
 
 all_and_one : {X : Type 0} (P : X → Type 0) (xs : List X) (x : X) → AllByRecursion P xs → P x → AllByRecursion P (xs ++ x ∷ [])
@@ -51,3 +65,9 @@ all_and_one P (y ∷ ys) x all p = (all.0, all_and_one P ys x all.1 p)
 -- what holds of the first so many and of the next
 pub one_more : {X : Type 0} (P : X → Type 0) (xs : List X) (n : ℕ) (x : X) → n < length xs → x ≡ get_or xs n x → AllByRecursion P (take n xs) → P x → AllByRecursion P (take (n + 1) xs)
 one_more P xs n x low is all p = subst (AllByRecursion P) (sym (take_more xs n x low)) (all_and_one P (take n xs) (get_or xs n x) all (subst P is p))
+
+-- what holds of all holds of the one at a place
+pub one_of : {X : Type 0} (P : X → Type 0) (xs : List X) (n : ℕ) (x : X) → n < length xs → x ≡ get_or xs n x → AllByRecursion P xs → P x
+one_of P [] n x low is all = absurd (omega arith)
+one_of P (y ∷ ys) zero x low is all = subst P (sym is) all.0
+one_of P (y ∷ ys) (suc n) x low is all = one_of P ys n x (omega arith) is all.1

@@ -1,5 +1,5 @@
 //! A change. The error is want of memory.
-ghost use Rattle.std.specs.Prelude.{IsTrue, IfOk, IfSome};
+ghost use Rattle.std.specs.Prelude.{◌↔◌, IsTrue, IfOk, IfSome};
 ghost use Rattle.vault_audit_model.specs.Limits.{IsPlainName, IsBucketName, IsHistory, IsNote};
 ghost use Rattle.vault_store_changes.specs.Limits.{IsChangeInLimits};
 
@@ -13,7 +13,7 @@ use vault_core_model::change::{Admission, Change};
 
 /// Whether the names of a new bucket and of its department are well spelled.
 fn is_new_bucket(alloc: Global, name: &BucketName, dept: &DeptName) -> Result<bool, AllocError>
-    ensures { IfOk result (λ holds. IsTrue holds → IsBucketName name.now × IsPlainName dept.now) }
+    ensures { IfOk result (λ holds. IsTrue holds ↔ (IsBucketName name.now × IsPlainName dept.now)) }
 {
     if !is_bucket(alloc, name.as_str())? {
         return Ok(false);
@@ -26,7 +26,7 @@ fn is_new_bucket(alloc: Global, name: &BucketName, dept: &DeptName) -> Result<bo
 
 /// Whether what an admission brings is in its limits.
 fn is_admission(alloc: Global, admission: &Admission) -> Result<bool, AllocError>
-    ensures { IfOk result (λ holds. IsTrue holds → IsHistory admission.now.history × IfSome admission.now.note IsNote) }
+    ensures { IfOk result (λ holds. IsTrue holds ↔ (IsHistory admission.now.history × IfSome admission.now.note IsNote)) }
 {
     if !is_history(alloc, &admission.history)? {
         return Ok(false);
@@ -39,7 +39,7 @@ fn is_admission(alloc: Global, admission: &Admission) -> Result<bool, AllocError
 
 /// Whether what a change brings is of its kind and in its limits.
 pub fn is_in_limits(alloc: Global, change: &Change) -> Result<bool, AllocError>
-    ensures { IfOk result (λ holds. IsTrue holds → IsChangeInLimits change.now) }
+    ensures { IfOk result (λ holds. IsTrue holds ↔ IsChangeInLimits change.now) }
 {
     match change {
         Change::AddDept(name) => is_plain(alloc, name.as_str()),

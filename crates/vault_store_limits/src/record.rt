@@ -1,5 +1,5 @@
 //! Records of a change. Each error is want of memory.
-ghost use Rattle.std.specs.Prelude.{◌≡◌, length, IsTrue, IfOk, IfSome};
+ghost use Rattle.std.specs.Prelude.{◌≡◌, length, ◌↔◌, IsTrue, IfOk, IfSome};
 ghost use Rattle.std.specs.List.{AllByRecursion};
 ghost use Rattle.vault_lock.specs.Retention.{is_period};
 ghost use Rattle.vault_audit_model.specs.Limits.{IsRetention, IsAuthor, IsCause, IsRemoval, IsCaller, AreRules, IsSizedAs, IsEntry, IsSetting, IsNote, IsHistory, IsRuleId, IsKeyPrefix};
@@ -17,7 +17,7 @@ const MOST_CONTENT: u64 = 1_048_576;
 
 /// Whether a retention ends at a moment, as it always does.
 fn is_retention(retention: Option<Retention>) -> bool
-    ensures { IsTrue result → IfSome retention IsRetention }
+    ensures { IsTrue result ↔ IfSome retention IsRetention }
 {
     match retention {
         Some(retention) => retention.until.secs() <= 253_402_300_799,
@@ -27,7 +27,7 @@ fn is_retention(retention: Option<Retention>) -> bool
 
 /// Whether a default's period is one that a default may have.
 pub fn is_default(default: Option<Default>) -> bool
-    ensures { IsTrue result → IfSome default (λ d. IsTrue (is_period d.period)) }
+    ensures { IsTrue result ↔ IfSome default (λ d. IsTrue (is_period d.period)) }
 {
     match default {
         Some(default) => default.period.is_in_range(),
@@ -37,7 +37,7 @@ pub fn is_default(default: Option<Default>) -> bool
 
 /// Whether a caller's names are well spelled.
 pub fn is_caller(alloc: Global, caller: &Caller) -> Result<bool, AllocError>
-    ensures { IfOk result (λ holds. IsTrue holds → IsCaller caller.now) }
+    ensures { IfOk result (λ holds. IsTrue holds ↔ IsCaller caller.now) }
 {
     if !is_plain(alloc, caller.name.as_str())? {
         return Ok(false);
@@ -50,7 +50,7 @@ pub fn is_caller(alloc: Global, caller: &Caller) -> Result<bool, AllocError>
 
 /// Whether the caller or the rule is well spelled.
 fn is_author(alloc: Global, author: &Author) -> Result<bool, AllocError>
-    ensures { IfOk result (λ holds. IsTrue holds → IsAuthor author.now) }
+    ensures { IfOk result (λ holds. IsTrue holds ↔ IsAuthor author.now) }
 {
     match author {
         Author::Caller(name) => is_plain(alloc, name.as_str()),
@@ -60,7 +60,7 @@ fn is_author(alloc: Global, author: &Author) -> Result<bool, AllocError>
 
 /// The same of a cause.
 fn is_cause(alloc: Global, cause: &Cause) -> Result<bool, AllocError>
-    ensures { IfOk result (λ holds. IsTrue holds → IsCause cause.now) }
+    ensures { IfOk result (λ holds. IsTrue holds ↔ IsCause cause.now) }
 {
     match cause {
         Cause::Request(name) => is_plain(alloc, name.as_str()),
@@ -71,7 +71,7 @@ fn is_cause(alloc: Global, cause: &Cause) -> Result<bool, AllocError>
 
 /// Whether a removal has a moment, as it always does, and its cause is well spelled.
 pub fn is_removal(alloc: Global, removal: &Removal) -> Result<bool, AllocError>
-    ensures { IfOk result (λ holds. IsTrue holds → IsRemoval removal.now) }
+    ensures { IfOk result (λ holds. IsTrue holds ↔ IsRemoval removal.now) }
 {
     let _ = removal.at.secs();
     if !is_cause(alloc, &removal.cause)? {
@@ -82,7 +82,7 @@ pub fn is_removal(alloc: Global, removal: &Removal) -> Result<bool, AllocError>
 
 /// The same, if there is one.
 fn is_removal_if_given(alloc: Global, removal: &Option<Removal>) -> Result<bool, AllocError>
-    ensures { IfOk result (λ holds. IsTrue holds → IfSome removal.now IsRemoval) }
+    ensures { IfOk result (λ holds. IsTrue holds ↔ IfSome removal.now IsRemoval) }
 {
     match removal {
         Some(removal) => is_removal(alloc, removal),
@@ -92,14 +92,14 @@ fn is_removal_if_given(alloc: Global, removal: &Option<Removal>) -> Result<bool,
 
 /// Whether a digest has 32 bytes, as it always does.
 fn is_digest(digest: &Digest) -> bool
-    ensures { IsTrue result → length digest.now ≡ 32 }
+    ensures { IsTrue result ↔ (length digest.now ≡ 32) }
 {
     digest.as_slice().len() == 32
 }
 
 /// Whether the size and the digest are those of a marker, or of a version in its limit.
 fn is_sized(marker: bool, size: u64, digest: &Option<Digest>) -> bool
-    ensures { IsTrue result → IsSizedAs marker size digest.now }
+    ensures { IsTrue result ↔ IsSizedAs marker size digest.now }
 {
     match (marker, digest) {
         (true, None) => size == 0,
@@ -111,7 +111,7 @@ fn is_sized(marker: bool, size: u64, digest: &Option<Digest>) -> bool
 
 /// Whether the names of an entry are well spelled, and it is sized as it may be.
 fn is_entry(alloc: Global, entry: &Entry) -> Result<bool, AllocError>
-    ensures { IfOk result (λ holds. IsTrue holds → IsEntry entry.now) }
+    ensures { IfOk result (λ holds. IsTrue holds ↔ IsEntry entry.now) }
 {
     let _ = entry.id.number();
     let _ = entry.admitted.secs();
@@ -135,7 +135,7 @@ fn is_entry(alloc: Global, entry: &Entry) -> Result<bool, AllocError>
 
 /// Whether the caller of a setting is well spelled.
 pub fn is_setting(alloc: Global, setting: &Setting) -> Result<bool, AllocError>
-    ensures { IfOk result (λ holds. IsTrue holds → IsSetting setting.now) }
+    ensures { IfOk result (λ holds. IsTrue holds ↔ IsSetting setting.now) }
 {
     let _ = setting.at.secs();
     if !is_retention(setting.lock.retention) {
@@ -149,7 +149,7 @@ pub fn is_setting(alloc: Global, setting: &Setting) -> Result<bool, AllocError>
 
 /// Whether this holds of each of them.
 fn are_settings(alloc: Global, settings: &[Setting]) -> Result<bool, AllocError>
-    ensures { IfOk result (λ holds. IsTrue holds → AllByRecursion IsSetting settings.now) }
+    ensures { IfOk result (λ holds. IsTrue holds ↔ AllByRecursion IsSetting settings.now) }
 {
     for setting in settings {
         if !is_setting(alloc, setting)? {
@@ -161,7 +161,7 @@ fn are_settings(alloc: Global, settings: &[Setting]) -> Result<bool, AllocError>
 
 /// Whether the entry and the settings of a history are in their limits.
 pub fn is_history(alloc: Global, history: &History) -> Result<bool, AllocError>
-    ensures { IfOk result (λ holds. IsTrue holds → IsHistory history.now) }
+    ensures { IfOk result (λ holds. IsTrue holds ↔ IsHistory history.now) }
 {
     if !is_entry(alloc, &history.entry)? {
         return Ok(false);
@@ -174,7 +174,7 @@ pub fn is_history(alloc: Global, history: &History) -> Result<bool, AllocError>
 
 /// Whether the names of a note are well spelled, and its numbers in their limits.
 fn is_note(alloc: Global, note: &Note) -> Result<bool, AllocError>
-    ensures { IfOk result (λ holds. IsTrue holds → IsNote note.now) }
+    ensures { IfOk result (λ holds. IsTrue holds ↔ IsNote note.now) }
 {
     let _ = note.id.number();
     if note.line == 0 || note.size > MOST_CONTENT {
@@ -197,7 +197,7 @@ fn is_note(alloc: Global, note: &Note) -> Result<bool, AllocError>
 
 /// The same, if there is one.
 pub fn is_note_if_given(alloc: Global, note: &Option<Note>) -> Result<bool, AllocError>
-    ensures { IfOk result (λ holds. IsTrue holds → IfSome note.now IsNote) }
+    ensures { IfOk result (λ holds. IsTrue holds ↔ IfSome note.now IsNote) }
 {
     match note {
         Some(note) => is_note(alloc, note),
@@ -207,7 +207,7 @@ pub fn is_note_if_given(alloc: Global, note: &Option<Note>) -> Result<bool, Allo
 
 /// Whether the id and the prefix of a rule are well spelled.
 fn is_named(alloc: Global, rule: &Rule) -> Result<bool, AllocError>
-    ensures { IfOk result (λ holds. IsTrue holds → IsRuleId rule.now.id × IsKeyPrefix rule.now.prefix) }
+    ensures { IfOk result (λ holds. IsTrue holds ↔ (IsRuleId rule.now.id × IsKeyPrefix rule.now.prefix)) }
 {
     if !is_rule_id(alloc, rule.id.as_str())? {
         return Ok(false);
@@ -220,7 +220,7 @@ fn is_named(alloc: Global, rule: &Rule) -> Result<bool, AllocError>
 
 /// Whether this holds of each of them.
 fn are_named(alloc: Global, rules: &[Rule]) -> Result<bool, AllocError>
-    ensures { IfOk result (λ holds. IsTrue holds → AllByRecursion (λ r. IsRuleId r.id × IsKeyPrefix r.prefix) rules.now) }
+    ensures { IfOk result (λ holds. IsTrue holds ↔ AllByRecursion (λ r. IsRuleId r.id × IsKeyPrefix r.prefix) rules.now) }
 {
     for rule in rules {
         if !is_named(alloc, rule)? {
@@ -231,9 +231,9 @@ fn are_named(alloc: Global, rules: &[Rule]) -> Result<bool, AllocError>
 }
 
 /// Whether the rules of a set are named well; all else the set keeps.
-#[tactic(auto, using(crate::proofs::RuleLemmas::rules_of_set))]
+#[tactic(auto, using(crate::proofs::RuleLemmas::rules_of_set, crate::proofs::RuleLemmas::names_of_rules))]
 fn are_rules(alloc: Global, rules: &RuleSet) -> Result<bool, AllocError>
-    ensures { IfOk result (λ holds. IsTrue holds → AreRules rules.now) }
+    ensures { IfOk result (λ holds. IsTrue holds ↔ AreRules rules.now) }
 {
     if !are_named(alloc, rules.as_slice())? {
         return Ok(false);
@@ -243,7 +243,7 @@ fn are_rules(alloc: Global, rules: &RuleSet) -> Result<bool, AllocError>
 
 /// The same, if there are any.
 pub fn are_rules_if_given(alloc: Global, rules: &Option<RuleSet>) -> Result<bool, AllocError>
-    ensures { IfOk result (λ holds. IsTrue holds → IfSome rules.now AreRules) }
+    ensures { IfOk result (λ holds. IsTrue holds ↔ IfSome rules.now AreRules) }
 {
     match rules {
         Some(rules) => are_rules(alloc, rules),
