@@ -1,5 +1,5 @@
 //! Checks of single rows: each tells a record of its table, with values in their limits.
-ghost use Rattle.std.specs.Prelude.{◌≡◌, false, IfOk};
+ghost use Rattle.std.specs.Prelude.{◌≡◌, false, IfErr, IfOk};
 
 use sqlite::{Error, ErrorCode, Row};
 use vault_audit_rows::misread::Misread;
@@ -9,9 +9,10 @@ use vault_audit_rows::records::{
 };
 use vault_audit_walk::check::Check;
 
-/// What an unread row is told as: a row that tells no such record doesn't pass.
+/// What an unread row is told as: a row that tells no such record doesn't pass, and want of memory is an error.
 pub fn refused(misread: Misread) -> Result<bool, Error>
-    ensures { IfOk result (λ passes. (passes ≡ false) × (misread ≡ Misread.Wrong)) }
+    ensures wrong { IfOk result (λ passes. (passes ≡ false) × (misread ≡ Misread.Wrong)) }
+    ensures memory { IfErr result (λ error. (misread ≡ Misread.Memory) × (error ≡ Error.SqliteFailure ErrorCode.OutOfMemory)) }
 {
     match misread {
         Misread::Wrong => Ok(false),
