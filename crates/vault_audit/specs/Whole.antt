@@ -1,9 +1,6 @@
 -- What the passes over all tables tell.
 use Rattle.std.specs.Prelude.{◌≡◌, ◌⊎◌, ⊤, ℕ, List, Option, None, Some, Result, Ok, Err}
 use Rattle.sqlite.specs.Effect.{Database}
-use Rattle.sqlite.specs.declared.error.Error.{Error}
-use Rattle.sqlite.specs.declared.error.Error.TheVariants.{SqliteFailure}
-use Rattle.sqlite.specs.declared.error.ErrorCode.TheVariants as code
 use Rattle.vault_base.specs.declared.refusal.Table.{Table}
 use Rattle.vault_base.specs.declared.refusal.Refusal.{Refusal}
 use Rattle.vault_base.specs.declared.refusal.Refusal.TheVariants.{Memory, Device, Damaged}
@@ -36,11 +33,6 @@ pub record AllFound (db : Database) (m : MetaRow) : Type 0 where
 abbrev pub IsAudited : Database → Option Table → Type 0
 IsAudited db None = (v : Vault) × AreSound db v
 IsAudited db (Some table) = (v : Vault) → ¬ AreSound db v
-
--- what an error of the store is told as
-abbrev pub refusal_of : Error → Refusal
-refusal_of (SqliteFailure code.OutOfMemory) = Memory
-refusal_of _ = Device
 
 -- the refusals of an audit
 abbrev pub IsTold : Refusal → Type 0

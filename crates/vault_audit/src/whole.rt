@@ -6,7 +6,8 @@ ghost use Rattle.vault_base.specs.declared.refusal.Table.{Table};
 ghost use Rattle.vault_core_model.specs.Vault.{Vault};
 ghost use Rattle.vault_audit_model.specs.Spells.{AreSound};
 ghost use Rattle.vault_audit_model.specs.Tables.{vault_schema};
-ghost use Rattle.vault_audit.specs.Whole.{IsAudited, IsJudged, IsTold, refusal_of};
+ghost use Rattle.vault_audit_model.specs.Faults.{refusal_of};
+ghost use Rattle.vault_audit.specs.Whole.{IsAudited, IsJudged, IsTold};
 
 use crate::first_pass::look_at_rows;
 use crate::second_pass::look_again;

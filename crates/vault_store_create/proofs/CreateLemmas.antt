@@ -1,5 +1,5 @@
 -- What a statement that makes a table does to the database.
-use Rattle.std.proofs.Common.{◌≡◌, ◌⊎◌, inl, inr, ℕ, ◌+◌, List, [], ◌∷◌, ◌++◌, false, None, Ok, Err, Result, OnOk, OnErr, sym, ap, subst, ◌∙◌}
+use Rattle.std.proofs.Common.{◌≡◌, ℕ, ◌+◌, List, [], ◌∷◌, ◌++◌, false, None, Ok, Err, Result, OnOk, sym, ap, subst, ◌∙◌}
 use Rattle.std.specs.List.{AllByRecursion}
 use Rattle.sqlite_value.specs.Order.{Row}
 use Rattle.sqlite_trees.specs.Tree.{Trees}
@@ -9,21 +9,14 @@ use Rattle.sqlite.specs.Does.{Tally, lacks_sequence}
 use Rattle.sqlite.specs.Schema.{Schema}
 use Rattle.sqlite.specs.Table.{Table as Columns}
 use Rattle.sqlite.specs.Command.TheVariants.{CreateTable}
-use Rattle.sqlite.specs.State.{State, Executes, ExecutesInside, Writes, KeepsCommit}
+use Rattle.sqlite.specs.State.{State, Executes, ExecutesInside, Writes}
 use Rattle.sqlite.proofs.Callers.{runs_as}
 use Rattle.sqlite_catalog.specs.Change.{created, next_tree, KeepsRows}
 use Rattle.vault_base.specs.declared.refusal.Table.{Table}
 use Rattle.vault_audit_model.specs.Texts.{creation_of}
+use Rattle.vault_audit_model.proofs.OutcomeLemmas.{went, same_value}
 use Rattle.vault_store_create.specs.Create.{Moves, HasFirst, place_of, schema_of_first}
 use Rattle.vault_store_create.proofs.TextLemmas.{Creates, creates}
-
--- a part that gave a value did not stop on the way
-pub went : {B E R : Type 0} {b : B} {Stops : E → Type 0} → ((stop : E) × Stops stop × (Ok b ≡ Err stop)) ⊎ R → R
-went (inl stopped) = absurd (let e = stopped.2 in cc)
-went (inr on) = on
-
-pub same_value : {B E : Type 0} {a b : B} → ◌≡◌ {A = Result B E} (Ok a) (Ok b) → a ≡ b
-same_value e = cc
 
 -- a statement of a transaction that runs is a part that goes from one kind of database to another
 pub moves_if : (text : List ℕ) (params : Row) (old new : State) (From To : Database → Type 0) (r : Result ℕ Error) → ((count : ℕ) → From old.now → Executes text params old new (Ok count) → To new.now)
@@ -31,13 +24,6 @@ pub moves_if : (text : List ℕ) (params : Row) (old new : State) (From To : Dat
 moves_if text params old new From To (Err e) does h = tt
 moves_if text params old new From To (Ok count) does (h, shown, _) =
     record { was_open = shown.was_open; is_open = shown.is_open; inside = shown.mode; committed = shown.committed_is; goes = λ from. does count from h }
-
--- one that is refused leaves the last commit
-pub kept_if_refused : (text : List ℕ) (params : Row) (old new : State) (r : Result ℕ Error) → ExecutesInside 0 text params old new r → OnErr r (KeepsCommit old new)
-kept_if_refused text params old new (Ok count) h = tt
-kept_if_refused text params old new (Err e) (inl (_, inl same)) = record { was_open = λ _. same.0.was_open; committed = λ _. same.0.committed_is }
-kept_if_refused text params old new (Err e) (inl (_, inr undone)) = record { was_open = undone.was_open; committed = λ is_open. (undone.undone is_open).1 }
-kept_if_refused text params old new (Err e) (inr (_, _, same)) = record { was_open = λ _. same.0.was_open; committed = λ _. same.0.committed_is }
 
 -- where the tables have no row, nor has one more, none has
 none_has_a_row : (tables : List Columns) (last : Columns) (old new : Trees) → AllByRecursion (λ t. old t.tree ≡ []) tables → KeepsRows tables old new → new last.tree ≡ []

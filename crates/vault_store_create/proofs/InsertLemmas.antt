@@ -1,14 +1,11 @@
 -- What the statements that put the first rows do to the database.
-use Rattle.std.proofs.Common.{codes, ◌≡◌, ◌≢◌, ◌==◌, ℕ, ℤ, pos, List, [], ◌∷◌, map, drop, not, true, false, cond, None, Option, Ok, Bool, refl, sym, ap, subst, ◌∙◌, arith, rules}
+use Rattle.std.proofs.Common.{codes, ◌≡◌, ◌≢◌, ◌==◌, ℕ, pos, List, [], ◌∷◌, map, drop, not, true, false, None, Option, Ok, refl, sym, ap, subst, ◌∙◌, arith, rules}
 use Rattle.std.specs.Prelude.{IsPermutation}
 use Rattle.std.specs.List.{AllByRecursion, list_all}
 use Rattle.std.proofs.lemmas.List.Sorted.{IsPermutation-refl}
-use Rattle.sqlite_value.specs.declared.value.Value.{Value}
 use Rattle.sqlite_value.specs.declared.value.Value.TheVariants.{Null, Int, Text}
 use Rattle.sqlite_value.specs.Order.{Row}
 use Rattle.sqlite_trees.specs.Tree.{Trees}
-use Rattle.sqlite_sql.specs.Ops.{unary}
-use Rattle.sqlite_rules.specs.Cast.{cast}
 use Rattle.sqlite_schema.specs.declared.schema.Schema.{Schema}
 use Rattle.sqlite_schema.specs.declared.schema.Table.{Table}
 use Rattle.sqlite_schema.specs.declared.schema.Kind.TheVariants as kind
@@ -33,19 +30,8 @@ use Rattle.vault_audit_model.specs.Spells.{Spells, AreSound}
 use Rattle.vault_store_create.specs.Create.{place_of, HasFirst, HasMetaRow, IsFilled}
 use Rattle.vault_store_create.proofs.OpeningLemmas.{is_kept}
 use Rattle.vault_store_create.proofs.TextLemmas.{meta_row_text, meta_row_terms, meta_row_is, meta_row_plain, registrar_text, registrar_terms, registrar_is, registrar_plain}
-use Rattle.vault_store_create.proofs.CreateLemmas.{went, same_value}
-
-either : (b : Bool) (x : Value) → cond b x x ≡ x
-either true x = refl
-either false x = refl
-
-cast_null : cast kind.Integer Null ≡ Null
-unfolding unary
-cast_null = either _ Null
-
-cast_int : (n : ℤ) → cast kind.Integer (Int n) ≡ Int n
-unfolding unary
-cast_int n = either _ (Int n)
+use Rattle.vault_audit_model.proofs.OutcomeLemmas.{went, same_value}
+use Rattle.vault_audit_model.proofs.ValueLemmas.{cast_null, cast_int}
 
 abbrev task_on : Option ℕ → Mode → Schema → Table → Row → Task
 task_on limit mode schema base params = record { limit = limit; keys = mode.keys; schema = schema; table = record base { is_counted = false }; params = params }

@@ -2,9 +2,6 @@
 use Rattle.std.specs.Prelude.{◌≡◌, ◌⊎◌, ◌==◌, ℕ, [], ◌∷◌, filter, map, take, drop, IsTrue}
 use Rattle.std.specs.List.{AllByRecursion, list_any}
 use Rattle.sqlite_trees.specs.Tree.{Trees}
-use Rattle.sqlite.specs.declared.error.Error.{Error}
-use Rattle.sqlite.specs.declared.error.Error.TheVariants.{SqliteFailure}
-use Rattle.sqlite.specs.declared.error.ErrorCode.TheVariants as code
 use Rattle.sqlite_catalog.specs.Listing.{IsSound}
 use Rattle.sqlite.specs.Effect.{Database, IsDatabase}
 use Rattle.sqlite.specs.Schema.{Schema}
@@ -67,11 +64,6 @@ pub record IsFilled (db : Database) : Type 0 where
 pub record AreOpening (trees : Trees) : Type 0 where
   pub opening : AreSound (record { schema = vault_schema; trees = trees }) opening
   pub listed : IsSound vault_schema trees
-
--- an error of the store is told as want of memory, or else as a failure of the device
-abbrev pub refusal_of : Error → Refusal
-refusal_of (SqliteFailure code.OutOfMemory) = Memory
-refusal_of _ = Device
 
 -- the refusals of a making that was begun
 abbrev pub IsFault : Refusal → Type 0

@@ -5,7 +5,8 @@ ghost use Rattle.sqlite.specs.Held.{state};
 ghost use Rattle.vault_core_model.specs.Vault.{opening};
 ghost use Rattle.vault_audit_model.specs.Spells.{AreSound};
 ghost use Rattle.vault_audit_model.specs.Tables.{no_schema};
-ghost use Rattle.vault_store_create.specs.Create.{Moves, HasFirst, IsFilled, AreOpening, IsFault, refusal_of};
+ghost use Rattle.vault_audit_model.specs.Faults.{refusal_of};
+ghost use Rattle.vault_store_create.specs.Create.{Moves, HasFirst, IsFilled, AreOpening, IsFault};
 
 use crate::first_rows::{put_meta, put_registrar};
 use crate::tables::make_tables;

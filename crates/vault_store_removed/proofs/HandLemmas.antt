@@ -1,5 +1,5 @@
 -- The removed entries, handed on one after another.
-use Rattle.std.proofs.Common.{◌≡◌, ◌⊎◌, inl, inr, ℕ, List, [], ◌∷◌, ◌++◌, map, length, drop, Bool, true, false, Option, None, Some, Result, Ok, Err, IfOk, OnErr, IsTrue, refl, sym, ap, subst, ◌∙◌}
+use Rattle.std.proofs.Common.{◌≡◌, ◌⊎◌, inl, inr, List, [], ◌∷◌, ◌++◌, map, length, drop, Bool, true, false, Result, Ok, Err, IfOk, OnErr, IsTrue, refl, sym, ap, subst, ◌∙◌}
 use Rattle.std.proofs.Math.Logic.{∥∥₁_elim, ∥∥₁_map}
 use Rattle.std.proofs.Math.Seq.{drop-append_seam}
 use Rattle.std.specs.Coded.{Coded-set, coded_list}
@@ -7,26 +7,23 @@ use Rattle.sqlite_value.specs.Order.{Row}
 use Rattle.sqlite_value.specs.contracts.row.Row as row
 use Rattle.sqlite_schema.specs.contracts.schema.Schema as schema
 use Rattle.sqlite.specs.declared.error.Error.{Error}
-use Rattle.sqlite_resolve.specs.declared.compiled.Compiled.{Compiled}
-use Rattle.sqlite_schema.specs.declared.command.Returning.{Returning}
 use Rattle.sqlite_trees.specs.declared.store.Store as store
 use Rattle.sqlite.specs.Given.{HasGiven, HasBegun, IsRefused}
 use Rattle.sqlite.specs.Held.{Held, state}
 use Rattle.sqlite.specs.Listing.{understood}
-use Rattle.sqlite.specs.State.{State, HasCleanDisk, Shown, ShowsRows, Begins, IsUnchanged, IsRolledBack, Fails}
+use Rattle.sqlite.specs.State.{State, HasCleanDisk, Shown, Begins, IsUnchanged, IsRolledBack, Fails}
 use Rattle.sqlite.proofs.Callers.{IsPlain, begun_plain, given_begin}
 use Rattle.vault_core_model.specs.declared.records.Entry.{Entry}
 use Rattle.vault_core_model.specs.Handing.{Taking, TakesAll, TakesSome, Refuses, Hands}
 use Rattle.vault_core_model.specs.Reads.{removed_entries}
 use Rattle.vault_core_model.specs.Vault.{Vault}
 use Rattle.vault_audit_model.specs.Rows.{entry_row}
-use Rattle.vault_audit_model.specs.Spells.{AreSound}
 use Rattle.vault_audit_model.specs.Tables.{vault_schema}
 use Rattle.vault_audit_model.proofs.SameRows.{same_entry}
 use Rattle.vault_audit_walk.specs.Walk.{Goes}
 use Rattle.vault_audit_walk.proofs.ScanLemmas.{goes_on_to}
 use Rattle.vault_store_model.specs.Keeping.{Keeps}
-use Rattle.vault_store_query.proofs.QueryLemmas.{finds, keeps_after}
+use Rattle.vault_store_query.proofs.QueryLemmas.{finds, keeps_after, unchanged_keeps, was_open}
 use Rattle.vault_store_removed.specs.Handed.{Takes, as_fault}
 use Rattle.vault_store_ordered.proofs.EntryLemmas.{found_removed, removed_query}
 use Rattle.vault_store_ordered.proofs.TextLemmas.{removed_text, removed_is, removed_command, removed_plain}
@@ -69,16 +66,6 @@ module _ {T : Type 0} (takes : Taking T) where
   none_taken s [] = refl
   none_taken s (e ∷ es) = inl refl
 
--- a connection that is unchanged, or has rolled back, stands for the same vault
-pub still_keeps : (old new : State) (v : Vault) → IsUnchanged old new ⊎ IsRolledBack old new → Keeps old v → Keeps new v
-still_keeps old new v (inl same) was is_open =
-    let keeps = was same.0.was_open in
-    (subst (λ db. AreSound db v) (sym same.0.now_is) keeps.0, same.0.committed_is ∙ keeps.1 ∙ sym same.0.now_is)
-still_keeps old new v (inr undone) was is_open =
-    let keeps = was (undone.was_open is_open) in
-    let both = undone.undone is_open in
-    (subst (λ db. AreSound db v) (sym (both.0 ∙ keeps.1)) keeps.0, both.1 ∙ sym both.0)
-
 -- rows that begin the answer begin the rows of the removed entries
 begin_removed : (s : State) (v : Vault) → Keeps s v → IsTrue s.is_open → (rows : List Row) → Begins removed_text [] s rows → (tail : List Row) × (rows ++ tail ≡ map entry_row (removed_entries v))
 begin_removed s v keeps is_open rows begins =
@@ -103,17 +90,9 @@ pub all_removed : (old new : State) (v : Vault) → ∥ Keeps old v ∥₁ → (
 all_removed old new v kept rows shown = ∥∥₁_elim kept (same_rows _ _) (λ keeps. found_removed v rows (finds removed_text [] old new v keeps rows shown))
 
 pub still_kept : (old new : State) (v : Vault) → IsUnchanged old new ⊎ IsRolledBack old new → ∥ Keeps old v ∥₁ → ∥ Keeps new v ∥₁
-still_kept old new v moved kept = ∥∥₁_map kept (still_keeps old new v moved)
+still_kept old new v moved kept = ∥∥₁_map kept (unchanged_keeps old new v moved)
 
 -- ---- a query that begins
-
-shows_open : (old new : State) (sql : List ℕ) (c : Compiled) (params : Row) (rows : List Row) (o : Option Returning) → ShowsRows old new sql c params rows o → IsTrue old.is_open
-shows_open old new sql c params rows None it = it.3.0.was_open
-shows_open old new sql c params rows (Some what) it = it.1.shown.was_open
-
-was_open : (sql : List ℕ) (params : Row) (old new : State) (rows : List Row) → Shown sql params old new rows → IsTrue old.is_open
-unfolding Shown
-was_open sql params old new rows h = shows_open old new sql h.0 _ rows h.0.returning h.2
 
 module _ {S : Type 0} (g : store.Ghosts S) where
   pub begun_removed : (old new : Held S) (v : Vault) → ∥ Keeps (state g old) v ∥₁ → HasBegun g removed_text [] old new → HasGiven g removed_text [] new [] × IsUnchanged (state g old) (state g new)

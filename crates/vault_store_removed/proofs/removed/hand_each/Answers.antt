@@ -15,8 +15,9 @@ use Rattle.vault_store_ordered.specs.Quiet.{IsQuiet}
 use Rattle.vault_store_ordered.proofs.EntryLemmas.{removed_query}
 use Rattle.vault_store_ordered.proofs.OpenLemmas.{quiet}
 use Rattle.vault_store_ordered.proofs.TextLemmas.{removed_text, removed_is}
+use Rattle.vault_store_query.proofs.QueryLemmas.{unchanged_keeps}
 use Rattle.vault_store_removed.specs.Handed.{Takes}
-use Rattle.vault_store_removed.proofs.HandLemmas.{some_err, refused_keeps, none_taken, some_taken, all_taken, one_refused, still_keeps, still_kept, undone, begun_removed, given_removed, all_removed}
+use Rattle.vault_store_removed.proofs.HandLemmas.{some_err, refused_keeps, none_taken, some_taken, all_taken, one_refused, still_kept, undone, begun_removed, given_removed, all_removed}
 use Rattle.vault_store_removed.proofs.removed.hand_each.Goals as goal
 
 -- the query doesn't begin
@@ -76,7 +77,7 @@ returns-in_default-clause-same g c clean v was =
     let late : HasCleanDisk (state g.S.Store now) = search rules in
     let it = c.rows.invariant.3 (omega (arith, moved.survives.clean)) v ∣ was ∣₁ in
     let still = rw c.in_ok-row.was at (moved.same late) in
-    subst (λ (h : Held g.row.S.Denot). Keeps (state g.S.Store h) v) same (still_keeps (state g.S.Store c.args.conn.now) (state g.S.Store now) v (inl (unchanged_then _ _ _ it.2 still)) was)
+    subst (λ (h : Held g.row.S.Denot). Keeps (state g.S.Store h) v) same (unchanged_keeps (state g.S.Store c.args.conn.now) (state g.S.Store now) v (inl (unchanged_then _ _ _ it.2 still)) was)
 
 -- the sink refuses
 
@@ -104,7 +105,7 @@ returns-then-not-branch-clause-same g c clean v was =
     let late : HasCleanDisk (state g.S.Store now) = search rules in
     let it = c.rows.invariant.3 (omega (arith, moved.survives.clean)) v ∣ was ∣₁ in
     let still = rw c.in_ok-row.was at (moved.same late) in
-    subst (λ (h : Held g.row.S.Denot). Keeps (state g.S.Store h) v) same (still_keeps (state g.S.Store c.args.conn.now) (state g.S.Store now) v (inl (unchanged_then _ _ _ it.2 still)) was)
+    subst (λ (h : Held g.row.S.Denot). Keeps (state g.S.Store h) v) same (unchanged_keeps (state g.S.Store c.args.conn.now) (state g.S.Store now) v (inl (unchanged_then _ _ _ it.2 still)) was)
 
 -- it failed at an entry
 
@@ -129,7 +130,7 @@ returns-in_err-hand-clause-same g c clean v was =
     let late : HasCleanDisk (state g.S.Store now) = search rules in
     let it = c.rows.invariant.3 (omega (arith, moved.survives.clean)) v ∣ was ∣₁ in
     let still = rw c.in_ok-row.was at (moved.same late) in
-    subst (λ (h : Held g.row.S.Denot). Keeps (state g.S.Store h) v) same (still_keeps (state g.S.Store c.args.conn.now) (state g.S.Store now) v (inl (unchanged_then _ _ _ it.2 still)) was)
+    subst (λ (h : Held g.row.S.Denot). Keeps (state g.S.Store h) v) same (unchanged_keeps (state g.S.Store c.args.conn.now) (state g.S.Store now) v (inl (unchanged_then _ _ _ it.2 still)) was)
 
 -- no row could be had
 
@@ -153,7 +154,7 @@ returns-in_err-row-clause-same g c clean v was =
     let late : HasCleanDisk (state g.S.Store now) = search rules in
     let it = c.rows.invariant.3 (omega (arith, moved.survives.clean)) v ∣ was ∣₁ in
     let kept = rw c.in_err-row.was at (moved.kept late) in
-    subst (λ (h : Held g.row.S.Denot). Keeps (state g.S.Store h) v) same (still_keeps _ (state g.S.Store now) v (undone _ _ _ kept) (still_keeps (state g.S.Store c.args.conn.now) _ v (inl it.2) was))
+    subst (λ (h : Held g.row.S.Denot). Keeps (state g.S.Store h) v) same (unchanged_keeps _ (state g.S.Store now) v (undone _ _ _ kept) (unchanged_keeps (state g.S.Store c.args.conn.now) _ v (inl it.2) was))
 
 pub returns-in_err-hand-clause-survives : goal.returns-in_err-hand-clause-survives
 returns-in_err-hand-clause-survives g c =
@@ -193,4 +194,4 @@ returns-clause-same g c clean v was =
     let same : now ≡ end = search rules in
     let late : HasCleanDisk (state g.S.Store now) = search rules in
     let it = c.rows.invariant.3 late v ∣ was ∣₁ in
-    subst (λ (h : Held g.row.S.Denot). Keeps (state g.S.Store h) v) same (still_keeps (state g.S.Store c.args.conn.now) (state g.S.Store now) v (inl it.2) was)
+    subst (λ (h : Held g.row.S.Denot). Keeps (state g.S.Store h) v) same (unchanged_keeps (state g.S.Store c.args.conn.now) (state g.S.Store now) v (inl it.2) was)
