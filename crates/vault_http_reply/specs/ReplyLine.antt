@@ -45,9 +45,13 @@ text bytes = string bytes
 abbrev pub whole : ℕ → Data
 whole n = number (unsigned n)
 
+-- a retention by its mode and the text of its moment
+abbrev pub retention_members : Mode → List ℕ → Data
+retention_members mode until = object (member (codes "mode") (text (mode_name mode)) (member (codes "until") (text until) no_members))
+
 abbrev pub retention_value : Option Retention → Data
 retention_value None = null
-retention_value (Some r) = object (member (codes "mode") (text (mode_name r.mode)) (member (codes "until") (text (moment_text r.until)) no_members))
+retention_value (Some r) = retention_members r.mode (moment_text r.until)
 
 -- what has no digest has none to print
 abbrev pub digest_value : Option (List ℕ) → Data
@@ -105,9 +109,12 @@ rule_value r = rule_members (expiration_of r.days r.lone_markers) (option_map no
 abbrev pub rules_value : List Rule → Data
 rules_value rules = object (member (codes "rules") (array (items_of (map rule_value rules))) no_members)
 
--- an entry of a listing
+-- an entry of a listing, by the text of its moment
+abbrev pub listed_members : Listed → List ℕ → Data
+listed_members l admitted = object (member (codes "admitted") (text admitted) (member (codes "current") (boolean l.current) (member (codes "delete_marker") (boolean l.entry.marker) (member (codes "key") (text l.entry.key) (member (codes "size") (whole l.entry.size) (member (codes "version_id") (whole l.entry.id) no_members))))))
+
 abbrev pub listed_value : Listed → Data
-listed_value l = object (member (codes "admitted") (text (moment_text l.entry.admitted)) (member (codes "current") (boolean l.current) (member (codes "delete_marker") (boolean l.entry.marker) (member (codes "key") (text l.entry.key) (member (codes "size") (whole l.entry.size) (member (codes "version_id") (whole l.entry.id) no_members))))))
+listed_value l = listed_members l (moment_text l.entry.admitted)
 
 abbrev pub page_value : Page → Data
 page_value p = object (member (codes "entries") (array (items_of (map listed_value p.entries))) (member (codes "more") (boolean p.more) no_members))
@@ -121,12 +128,19 @@ taken_in_value t = object (member (codes "again") (boolean t.again) (member (cod
 abbrev pub removed_value : Removed → Data
 removed_value r = object (member (codes "cause") (text (cause_name r.permit)) (member (codes "delete_marker") (boolean r.marker) (member (codes "version_id") (whole r.id) no_members)))
 
+-- a report by the text of its moment
+abbrev pub report_members : Report → List ℕ → Data
+report_members r at = object (member (codes "admitted") (whole r.admitted) (member (codes "at") (text at) (member (codes "byte_days") (whole r.byte_days) (member (codes "dept") (text r.dept) (member (codes "held") (whole r.held) (member (codes "removed") (whole r.removed) no_members))))))
+
 abbrev pub report_value : Report → Data
-report_value r = object (member (codes "admitted") (whole r.admitted) (member (codes "at") (text (moment_text r.at)) (member (codes "byte_days") (whole r.byte_days) (member (codes "dept") (text r.dept) (member (codes "held") (whole r.held) (member (codes "removed") (whole r.removed) no_members))))))
+report_value r = report_members r (moment_text r.at)
+
+abbrev pub text_member : List ℕ → Data
+text_member bytes = object (member (codes "text") (text bytes) no_members)
 
 -- a certificate of destruction, as text
 abbrev pub certificate_value : Entry → Data
-certificate_value e = object (member (codes "text") (text (certificate_text e)) no_members)
+certificate_value e = text_member (certificate_text e)
 
 abbrev pub answer_value : Answer → Data
 answer_value answer.Nothing = object no_members

@@ -2,12 +2,14 @@
 ghost use Rattle.std.specs.Prelude.{◌≡◌, IfOk, map, option_map, string_bytes};
 ghost use Rattle.serde_json.specs.View.{view};
 ghost use Rattle.vault_base.specs.declared.refusal.Refusal.TheVariants.{AccessDenied, NoSuchKey};
+ghost use Rattle.vault_core_model.specs.declared.reply.Answer.TheVariants as answer;
 ghost use Rattle.vault_http_reply.specs.ReplyLine as spec;
 
 use crate::rule_value::rules_value;
-use serde_json::{Value, json};
+use serde_json::{Map, Value, json};
 use std::alloc::{AllocError, Global};
 use vault_base::content::{Content, Digest};
+use vault_base::name::VersionId;
 use vault_base::refusal::{Reason, Refusal};
 use vault_core_model::records::Entry;
 use vault_core_model::reply::{
@@ -16,7 +18,7 @@ use vault_core_model::reply::{
 use vault_files_certificate::certificate::certificate;
 use vault_http_values::words::{hold_name, mode_name};
 use vault_lock::lock::Permit;
-use vault_lock::retention::{Default, Period, Retention};
+use vault_lock::retention::{Default, Mode, Period, Retention};
 
 fn cause_name(permit: Permit) -> &'static str
     ensures { result.now ≡ spec.cause_name permit }
@@ -34,7 +36,14 @@ fn retention_value(alloc: Global, retention: Option<Retention>) -> Result<Value,
         return Ok(Value::Null);
     };
     let until = retention.until.text(alloc)?;
-    json!(in alloc; {"mode": mode_name(retention.mode), "until": until.as_str()})
+    retention_members(alloc, retention.mode, until.as_str())
+}
+
+/// The members of a retention whose text is made.
+fn retention_members(alloc: Global, mode: Mode, until: &str) -> Result<Value, AllocError>
+    ensures { IfOk result (λ value. view value ≡ spec.retention_members mode until.now) }
+{
+    json!(in alloc; {"mode": mode_name(mode), "until": until})
 }
 
 fn digest_value(alloc: Global, digest: Option<&Digest>) -> Result<Value, AllocError>
@@ -146,9 +155,16 @@ fn report_value(alloc: Global, report: &Report) -> Result<Value, AllocError>
     ensures { IfOk result (λ value. view value ≡ spec.report_value report.now) }
 {
     let at = report.at.text(alloc)?;
+    report_members(alloc, report, at.as_str())
+}
+
+/// The members of a report whose text is made.
+fn report_members(alloc: Global, report: &Report, at: &str) -> Result<Value, AllocError>
+    ensures { IfOk result (λ value. view value ≡ spec.report_members report.now at.now) }
+{
     json!(in alloc; {
         "admitted": report.admitted,
-        "at": at.as_str(),
+        "at": at,
         "byte_days": report.byte_days,
         "dept": report.dept.as_str(),
         "held": report.held,
@@ -159,10 +175,17 @@ fn report_value(alloc: Global, report: &Report) -> Result<Value, AllocError>
 fn listed_value(alloc: Global, listed: &Listed) -> Result<Value, AllocError>
     ensures { IfOk result (λ value. view value ≡ spec.listed_value listed.now) }
 {
+    let admitted = listed.entry.admitted.text(alloc)?;
+    listed_members(alloc, listed, admitted.as_str())
+}
+
+/// The members of a listed entry whose text is made.
+fn listed_members(alloc: Global, listed: &Listed, admitted: &str) -> Result<Value, AllocError>
+    ensures { IfOk result (λ value. view value ≡ spec.listed_members listed.now admitted.now) }
+{
     let entry = &listed.entry;
-    let admitted = entry.admitted.text(alloc)?;
     json!(in alloc; {
-        "admitted": admitted.as_str(),
+        "admitted": admitted,
         "current": listed.current,
         "delete_marker": entry.marker,
         "key": entry.key.as_str(),
@@ -209,32 +232,62 @@ fn certificate_value(alloc: Global, entry: &Entry) -> Result<Value, AllocError>
     ensures { IfOk result (λ value. view value ≡ spec.certificate_value entry.now) }
 {
     let text = certificate(alloc, entry)?;
-    json!(in alloc; {"text": text.as_str()})
+    text_member(alloc, text.as_str())
+}
+
+fn text_member(alloc: Global, text: &str) -> Result<Value, AllocError>
+    ensures { IfOk result (λ value. view value ≡ spec.text_member text.now) }
+{
+    json!(in alloc; {"text": text})
+}
+
+fn default_answer(alloc: Global, default: Option<Default>) -> Result<Value, AllocError>
+    ensures { IfOk result (λ value. view value ≡ spec.answer_value (answer.Default default)) }
+{
+    let default = default_value(alloc, default)?;
+    json!(in alloc; {"default": default})
+}
+
+fn admitted_value(alloc: Global, id: VersionId) -> Result<Value, AllocError>
+    ensures { IfOk result (λ value. view value ≡ spec.answer_value (answer.Admitted id)) }
+{
+    json!(in alloc; {"version_id": id.number()})
+}
+
+fn marked_value(alloc: Global, id: VersionId) -> Result<Value, AllocError>
+    ensures { IfOk result (λ value. view value ≡ spec.answer_value (answer.Marked id)) }
+{
+    json!(in alloc; {"delete_marker": true, "version_id": id.number()})
+}
+
+fn retention_answer(alloc: Global, retention: Option<Retention>) -> Result<Value, AllocError>
+    ensures { IfOk result (λ value. view value ≡ spec.answer_value (answer.Retention retention)) }
+{
+    let retention = retention_value(alloc, retention)?;
+    json!(in alloc; {"retention": retention})
+}
+
+fn hold_value(alloc: Global, hold: bool) -> Result<Value, AllocError>
+    ensures { IfOk result (λ value. view value ≡ spec.answer_value (answer.Hold hold)) }
+{
+    json!(in alloc; {"hold": hold_name(hold)})
 }
 
 fn answer_value(alloc: Global, answer: &Answer) -> Result<Value, AllocError>
     ensures { IfOk result (λ value. view value ≡ spec.answer_value answer.now) }
 {
     match answer {
-        Answer::Nothing => json!(in alloc; {}),
-        Answer::Default(default) => {
-            let default = default_value(alloc, *default)?;
-            json!(in alloc; {"default": default})
-        }
+        Answer::Nothing => Ok(Value::Object(Map::new(alloc))),
+        Answer::Default(default) => default_answer(alloc, *default),
         Answer::Rules(rules) => rules_value(alloc, rules),
-        Answer::Admitted(id) => json!(in alloc; {"version_id": id.number()}),
+        Answer::Admitted(id) => admitted_value(alloc, *id),
         Answer::Version(version, content) => version_value(alloc, version, content),
         Answer::Head(version) => head_value(alloc, version),
         Answer::Versions(page) => page_value(alloc, page),
-        Answer::Marked(id) => {
-            json!(in alloc; {"delete_marker": true, "version_id": id.number()})
-        }
+        Answer::Marked(id) => marked_value(alloc, *id),
         Answer::Removed(removed) => removed_value(alloc, *removed),
-        Answer::Retention(retention) => {
-            let retention = retention_value(alloc, *retention)?;
-            json!(in alloc; {"retention": retention})
-        }
-        Answer::Hold(hold) => json!(in alloc; {"hold": hold_name(*hold)}),
+        Answer::Retention(retention) => retention_answer(alloc, *retention),
+        Answer::Hold(hold) => hold_value(alloc, *hold),
         Answer::Ran(counts) => counts_value(alloc, *counts),
         Answer::Report(report) => report_value(alloc, report),
         Answer::Certificate(entry) => certificate_value(alloc, entry),

@@ -1,5 +1,5 @@
 //! Lifecycle rules as S3's JSON has them (API Reference, "GetBucketLifecycleConfiguration").
-ghost use Rattle.std.specs.Prelude.{◌≡◌, IfOk, None, Some, map, option_map};
+ghost use Rattle.std.specs.Prelude.{◌≡◌, IfOk, None, Some, false, map, option_map, true};
 ghost use Rattle.serde_json.specs.View.{view};
 ghost use Rattle.vault_http_reply.specs.ReplyLine as spec;
 
@@ -108,23 +108,41 @@ fn expiration_of(
     ensures { IfOk result (λ value. option_map view value ≡ spec.expiration_of days lone_markers) }
 {
     match days {
-        Some(days) => Ok(Some(json!(in alloc; {"Days": days})?)),
-        None if lone_markers => Ok(Some(json!(in alloc; {"ExpiredObjectDeleteMarker": true})?)),
+        Some(days) => Ok(Some(days_value(alloc, days)?)),
+        None if lone_markers => Ok(Some(lone_markers_value(alloc)?)),
         None => Ok(None),
     }
+}
+
+fn days_value(alloc: Global, days: u32) -> Result<Value, AllocError>
+    ensures { IfOk result (λ value. Some (view value) ≡ spec.expiration_of (Some days) false) }
+{
+    json!(in alloc; {"Days": days})
+}
+
+fn lone_markers_value(alloc: Global) -> Result<Value, AllocError>
+    ensures { IfOk result (λ value. Some (view value) ≡ spec.expiration_of None true) }
+{
+    json!(in alloc; {"ExpiredObjectDeleteMarker": true})
 }
 
 fn noncurrent_of(alloc: Global, noncurrent: Option<Noncurrent>) -> Result<Option<Value>, AllocError>
     ensures { IfOk result (λ value. option_map view value ≡ option_map spec.noncurrent_value noncurrent) }
 {
-    let Some(noncurrent) = noncurrent else {
-        return Ok(None);
-    };
+    match noncurrent {
+        Some(noncurrent) => Ok(Some(noncurrent_value(alloc, noncurrent)?)),
+        None => Ok(None),
+    }
+}
+
+fn noncurrent_value(alloc: Global, noncurrent: Noncurrent) -> Result<Value, AllocError>
+    ensures { IfOk result (λ value. view value ≡ spec.noncurrent_value noncurrent) }
+{
     let days = noncurrent.days;
     match noncurrent.newer {
-        Some(newer) => Ok(Some(
-            json!(in alloc; {"NewerNoncurrentVersions": newer, "NoncurrentDays": days})?,
-        )),
-        None => Ok(Some(json!(in alloc; {"NoncurrentDays": days})?)),
+        Some(newer) => {
+            json!(in alloc; {"NewerNoncurrentVersions": newer, "NoncurrentDays": days})
+        }
+        None => json!(in alloc; {"NoncurrentDays": days}),
     }
 }
