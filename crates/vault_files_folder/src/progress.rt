@@ -26,6 +26,8 @@ impl<F: Drop> ToldFolder<F> {
     /// A folder of which no file was asked for yet, and the terminal that is told.
     pub fn new(folder: F, terminal: Option<Stderr>) -> ToldFolder<F>
         ensures folder { result.folder ≡ folder }
+        ensures terminal { result.terminal ≡ terminal }
+        ensures asked { result.asked ≡ 0 }
     {
         ToldFolder {
             folder,
