@@ -22,7 +22,9 @@ fn hand<T: Sink>(row: &Row, sink: &mut T) -> Result<bool, Error>
     ensures err { OnErr result (sink.new ≡ sink.old) }
 {
     let entry = read_entry(row).map_err(unread)?;
-    Ok(sink.take(&entry))
+    let taken = sink.take(&entry);
+    drop(entry);
+    Ok(taken)
 }
 
 /// Hands on each removed entry, as `walk_removed` does.
