@@ -13,6 +13,11 @@ use Rattle.vaultctl_commands.specs.declared.outcome.Outcome.TheVariants.{Done, R
 abbrev pub intake_outcome : List RowReply → Option Refusal → Outcome
 intake_outcome rows stopped = if is_accepted rows stopped then Done else Refused
 
+-- the files were taken in, whatever came of each
+abbrev pub IsTakenIn : Option (List File) → ℕ → List ℕ → List ℕ → List ℕ → List ℕ → Vault → Vault → Type 0
+IsTakenIn files at who bucket batch list v v' =
+    (rows : List RowReply) × (stopped : Option Refusal) × TakesIn files at who bucket batch list v rows stopped v'
+
 -- the files were taken in so, and that was told
 abbrev pub ToldIntake : Option (List File) → ℕ → List ℕ → List ℕ → List ℕ → List ℕ → Vault → Vault → Outcome → Option (List ℕ) → Option (List ℕ) → Type 0
 ToldIntake files at who bucket batch list v v' told before after =

@@ -1,5 +1,5 @@
 //! An intake carried out, and a line printed for each of its rows.
-ghost use Rattle.std.specs.Prelude.{◌≡◌, ◌≢◌, IfOk, Err};
+ghost use Rattle.std.specs.Prelude.{◌≡◌, ◌≢◌, IfOk, OnErr, Err};
 ghost use Rattle.std.specs.Io.KnownBytes.{Appends};
 ghost use Rattle.vault_base.specs.declared.refusal.Refusal.TheVariants.{Device as DeviceFailed};
 ghost use Rattle.vault_core_model.specs.Step.{Reached};
@@ -60,6 +60,8 @@ pub fn take_in_and_tell<K: Keeper, F: Folder, W: Write>(
     out: &mut W,
 ) -> Result<Outcome, JobFault>
     ensures ok { K.is_honest keeper.new → IfOk result (λ outcome. spec.ToldIntake (F.files folder.old) at who.now bucket.now batch.now list.now (K.vault keeper.old) (K.vault keeper.new) outcome (W.contents out.old) (W.contents out.new)) }
+    // The intake was made whole before its lines were tried.
+    ensures err { K.is_honest keeper.new → OnErr result (spec.IsTakenIn (F.files folder.old) at who.now bucket.now batch.now list.now (K.vault keeper.old) (K.vault keeper.new)) }
     ensures reached { K.is_honest keeper.new → Reached (K.vault keeper.old) → Reached (K.vault keeper.new) }
     ensures honest { K.is_honest keeper.new → K.is_honest keeper.old }
     ensures reader { result ≢ Err JobFault.Read }
