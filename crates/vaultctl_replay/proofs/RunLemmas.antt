@@ -1,5 +1,5 @@
 -- Lemmas on lines that are carried out one after another.
-use Rattle.std.proofs.Common.{◌≡◌, ℕ, List, [], ◌∷◌, ◌++◌, refl, ap, sym, ◌∙◌, append_assoc, append-nil, subst, take, Option, Some, None, Result, Ok, Err, OnOk, OnErr, inl, inr}
+use Rattle.std.proofs.Common.{◌≡◌, ℕ, List, [], ◌∷◌, ◌++◌, refl, ap, sym, ◌∙◌, append_assoc, append-nil, subst, take, Option, Some, None, Result, Ok, Err, OnOk, OnErr, inl, inr, arith}
 use Rattle.std.specs.Prelude.{IfOk, String, string_bytes}
 use Rattle.std.specs.declared.alloc.AllocError.{AllocError}
 use Rattle.std.specs.declared.alloc.Global.{Global}
@@ -18,7 +18,7 @@ use Rattle.vaultctl_replay.proofs.LineLemmas.{asked_in-append, advance-append, a
 
 -- nothing was done
 pub kept : (v v' : Vault) (w : Option (List ℕ)) (asked : List Line) → v' ≡ v → Began v w asked v' w
-kept v v' w asked same = ([], asked, [], [], refl, (refl, same), Appends-nil w)
+kept v v' w asked same = ([], [], asked, refl, omega arith, v, [], [], [], (refl, refl), (refl, same), Appends-nil w)
 
 -- one line was carried out
 one_run : (v v' : Vault) (asked : Line) (out : List ℕ) → Answers v asked out v' → Runs v (asked ∷ []) out v'
@@ -30,7 +30,7 @@ one_finished v v' w w' asked out s a = (out, one_run v v' asked out s, a)
 pub one_begun : (v v' : Vault) (w w' : Option (List ℕ)) (asked : Line) (out sent unsent : List ℕ) → Answers v asked out v' → out ≡ sent ++ unsent → Appends w w' sent → Began v w (asked ∷ []) v' w'
 one_begun v v' w w' asked out sent unsent s e a =
     let P : List ℕ → Type 0 = λ o. Answers v asked o v' in
-    (asked ∷ [], [], sent, unsent, refl, one_run v v' asked (sent ++ unsent) (subst P e s), a)
+    ([], asked ∷ [], [], refl, omega arith, v, [], sent, unsent, (refl, refl), one_run v v' asked (sent ++ unsent) (subst P e s), a)
 
 pub unwritten_begun : (v v' : Vault) (w : Option (List ℕ)) (asked : Line) → Unwritten v asked v' → Began v w (asked ∷ []) v' w
 unwritten_begun v v' w asked u =
@@ -59,16 +59,28 @@ pub Finished-then : (a b c : Vault) (u v w : Option (List ℕ)) (ls ms : List Li
 Finished-then a b c u v w ls ms r s = (r.0 ++ s.0, Runs-then a b c ls ms r.0 s.0 r.1 s.1, Appends-trans u v w r.0 s.0 r.2 s.2)
 
 pub Finished-began : (a b c : Vault) (u v w : Option (List ℕ)) (ls ms : List Line) → Finished a u ls b v → Began b v ms c w → Began a u (ls ++ ms) c w
-Finished-began a b c u v w ls ms r s =
-    (ls ++ s.0, s.1, r.0 ++ s.2, s.3, ap (λ (t : List Line). ls ++ t) s.4 ∙ sym (append_assoc ls s.0 s.1), rw append_assoc (Runs-then a b c ls s.0 r.0 (s.2 ++ s.3) r.1 s.5), Appends-trans u v w r.0 s.2 r.2 s.6)
+Finished-began a b c u v w ls ms r s = (
+  ls ++ s.0,
+  s.1,
+  s.2,
+  ap (λ (t : List Line). ls ++ t) s.3 ∙ sym (append_assoc ls (s.0 ++ s.1) s.2) ∙ ap (λ (t : List Line). t ++ s.2) (sym (append_assoc ls s.0 s.1)),
+  s.4,
+  s.5,
+  r.0 ++ s.6,
+  s.7,
+  s.8,
+  Runs-then a b s.5 ls s.0 r.0 s.6 r.1 s.9,
+  s.10,
+  rw (append_assoc r.0 s.6 s.7) (Appends-trans u v w r.0 (s.6 ++ s.7) r.2 s.11),
+)
 
 -- more lines than were begun
 pub Began-more : (a b : Vault) (u v : Option (List ℕ)) (ls ms : List Line) → Began a u ls b v → Began a u (ls ++ ms) b v
-Began-more a b u v ls ms r = (r.0, r.1 ++ ms, r.2, r.3, ap (λ (t : List Line). t ++ ms) r.4 ∙ append_assoc r.0 r.1 ms, r.5, r.6)
+Began-more a b u v ls ms r = (r.0, r.1, r.2 ++ ms, ap (λ (t : List Line). t ++ ms) r.3 ∙ append_assoc (r.0 ++ r.1) r.2 ms, r.4, r.5, r.6, r.7, r.8, r.9, r.10, r.11)
 
 -- what was finished was begun
 pub begun : (a b : Vault) (u v : Option (List ℕ)) (ls : List Line) → Finished a u ls b v → Began a u ls b v
-begun a b u v ls r = (ls, [], r.0, [], sym (append-nil ls), rw append-nil r.1, r.2)
+begun a b u v ls r = (ls, [], [], sym (append-nil (ls ++ []) ∙ append-nil ls), omega arith, b, r.0, [], [], r.1, (refl, refl), rw (append-nil r.0) r.2)
 
 -- ---- bytes after bytes
 
@@ -140,7 +152,7 @@ module _ (a b : Vault) (u v : Option (List ℕ)) (asked : List Line) where
   finished_reached r = Runs-reached a b asked r.0 r.1
 
   pub began_reached : Began a u asked b v → Reached a → Reached b
-  began_reached r = Runs-reached a b r.0 (r.2 ++ r.3) r.5
+  began_reached r q = Runs-reached r.5 b r.1 (r.7 ++ r.8) r.10 (Runs-reached a r.5 r.0 r.6 r.9 q)
 
   pub either_reached : {T E : Type 0} (r : Result T E) → OnOk r (Finished a u asked b v) → OnErr r (Began a u asked b v) → Reached a → Reached b
   either_reached (Ok x) ok err = finished_reached ok

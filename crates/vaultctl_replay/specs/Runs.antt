@@ -1,5 +1,5 @@
 -- Lines that are carried out one after another, and what is written of their replies.
-use Rattle.std.specs.Prelude.{◌≡◌, ℕ, List, [], ◌∷◌, ◌++◌, Option, ◌⊎◌}
+use Rattle.std.specs.Prelude.{◌≡◌, ◌≤◌, ℕ, List, [], ◌∷◌, ◌++◌, length, Option, ◌⊎◌}
 use Rattle.std.specs.Io.KnownBytes.{Appends}
 use Rattle.vault_core_model.specs.Step.{Step}
 use Rattle.vault_core_model.specs.Vault.{Vault}
@@ -29,9 +29,11 @@ Runs v (asked ∷ later) out v' = (mid : Vault) × (first : List ℕ) × (others
 abbrev pub Finished : Vault → Option (List ℕ) → List Line → Vault → Option (List ℕ) → Type 0
 Finished v w asked v' w' = (out : List ℕ) × Runs v asked out v' × Appends w w' out
 
--- a beginning of the lines was carried out, and a beginning of its replies written
+-- The first lines were carried out and their replies written; of one line more, or of none, a beginning of its reply. Those behind it weren't begun.
 abbrev pub Began : Vault → Option (List ℕ) → List Line → Vault → Option (List ℕ) → Type 0
-Began v w asked v' w' = (done : List Line) × (later : List Line) × (sent : List ℕ) × (unsent : List ℕ) × (asked ≡ done ++ later) × Runs v done (sent ++ unsent) v' × Appends w w' sent
+Began v w asked v' w' =
+    (answered : List Line) × (begun : List Line) × (later : List Line) × (asked ≡ answered ++ begun ++ later) × (length begun ≤ 1)
+    × (mid : Vault) × (out : List ℕ) × (sent : List ℕ) × (unsent : List ℕ) × Runs v answered out mid × Runs mid begun (sent ++ unsent) v' × Appends w w' (out ++ sent)
 
 -- all lines of the input were carried out, and their replies written
 abbrev pub AnswersAll : Vault → Option (List ℕ) → List ℕ → Vault → Option (List ℕ) → Type 0
@@ -41,6 +43,6 @@ AnswersAll v w input v' w' = (asked : List Line) × AskFor input asked × Finish
 abbrev pub AnswersEnded : Vault → Option (List ℕ) → List ℕ → Vault → Option (List ℕ) → Type 0
 AnswersEnded v w taken v' w' = (asked : List Line) × EndedAskFor taken asked × Finished v w asked v' w'
 
--- a beginning of the lines was carried out, and a beginning of its replies written
+-- the first lines were answered, and at most one more was begun
 abbrev pub AnswersSome : Vault → Option (List ℕ) → List ℕ → Vault → Option (List ℕ) → Type 0
 AnswersSome v w taken v' w' = (asked : List Line) × AskFor taken asked × Began v w asked v' w'

@@ -39,7 +39,7 @@ pub fn replay<R: Read, W: Write, K: Keeper>(
     ensures ok { K.is_honest keeper.new → OnOk result ((input : List ℕ) × Consumes (R.remaining reader.old) (R.remaining reader.new) input
         × IsAtEnd (R.remaining reader.new)
         × AnswersAll (K.vault keeper.old) (W.contents writer.old) input (K.vault keeper.new) (W.contents writer.new)) }
-    // A beginning of the lines was carried out, and a beginning of their replies written.
+    // The first lines were carried out and their replies written, and of at most one more a beginning of its reply.
     ensures err { K.is_honest keeper.new → OnErr result ((taken : List ℕ) × Consumes (R.remaining reader.old) (R.remaining reader.new) taken
         × AnswersSome (K.vault keeper.old) (W.contents writer.old) taken (K.vault keeper.new) (W.contents writer.new)) }
     // Where the reader failed, that beginning is each line whose LF was read, and all their replies are written.
