@@ -80,5 +80,7 @@ pub fn admit<S: Alter>(
         sums,
         next,
     };
-    commit_part(conn, at, &part)
+    let admitted = commit_part(conn, at, &part);
+    drop(place);
+    admitted
 }

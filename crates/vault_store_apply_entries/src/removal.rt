@@ -95,8 +95,20 @@ pub fn remove<S: Alter>(
     ensures crash { IsChangeInLimits (change.Remove id removal.now) → (v : Vault) → Keeps (state S.Store conn.old) v → Survives (state S.Store conn.old) (state S.Store conn.new) (IsChanged (state S.Store conn.old) v at (change.Remove id removal.now)) }
 {
     let entry = find_entry(conn, id)?;
-    let newest = find_newest_but(conn, &entry, id)?;
-    let place = read_place(conn, &entry.bucket, &entry.key)?;
+    let newest = match find_newest_but(conn, &entry, id) {
+        Ok(newest) => newest,
+        Err(error) => {
+            drop(entry);
+            return Err(error);
+        }
+    };
+    let place = match read_place(conn, &entry.bucket, &entry.key) {
+        Ok(place) => place,
+        Err(error) => {
+            drop(entry);
+            return Err(error);
+        }
+    };
     let left = left_head(newest, place.head);
     let sums = without_version(place.sums, &entry, at);
     let _in_range = at.secs();
@@ -109,5 +121,8 @@ pub fn remove<S: Alter>(
         dept: &place.config.dept,
         sums,
     };
-    commit_part(conn, at, &part)
+    let removed = commit_part(conn, at, &part);
+    drop(place);
+    drop(entry);
+    removed
 }
