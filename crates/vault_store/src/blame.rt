@@ -1,12 +1,14 @@
 //! What a refusal of the store is to a keeper.
 ghost use Rattle.std.specs.Prelude.{◌≡◌, ◌≤◌};
 ghost use Rattle.vault_core_model.specs.Halts.{Rose};
+ghost use Rattle.vault_store.specs.Blame.{fault_of};
 
 use sqlite::{Error, ErrorCode};
 use vault_core_model::halt::Fault;
 
 /// Want of memory is told as such; any other cause is the device's, and is counted.
 pub fn blame(faults: &mut u64, error: Error) -> Fault
+    ensures told { result ≡ fault_of error }
     ensures counted { faults.old ≤ faults.new }
     ensures device { result ≡ Fault.Device → Rose faults.old faults.new }
     ensures memory { result ≡ Fault.Memory → faults.new ≡ faults.old }
