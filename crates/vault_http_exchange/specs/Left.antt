@@ -1,5 +1,6 @@
 -- What stands after a fault, and what was read.
 use Rattle.std.specs.Prelude.{ℕ, ◌≡◌, ◌≤◌, ◌<◌, ◌⊎◌, List, [], ◌++◌, length, Bool, true, Option, Some, None, Result, Ok, Err}
+use Rattle.std.specs.Io.KnownBytes.{Appends}
 use Rattle.httparse.specs.Grammar.{RequestHead, print_request}
 use Rattle.vault_base.specs.declared.refusal.Refusal.{Refusal}
 use Rattle.vault_base.specs.declared.refusal.Refusal.TheVariants as refusal
@@ -12,11 +13,12 @@ use Rattle.vault_http_answer.specs.declared.head.Allow.{Allow}
 use Rattle.vault_http_head.specs.Head.{IsHead, HasNoHead}
 use Rattle.vault_http_head.specs.declared.bytes.ReadFault.{ReadFault}
 use Rattle.vault_http_head.specs.declared.bytes.ReadFault.TheVariants as reads
+use Rattle.vault_io.specs.Begins.{Begins}
 use Rattle.vault_http_request.specs.declared.plan.Asked.{Asked}
 use Rattle.vault_http_request.specs.declared.plan.Asked.TheVariants as asked
 use Rattle.vault_http_request.specs.declared.plan.Plan.{Plan}
 use Rattle.vault_http_exchange.specs.Body.{IsWithinLength}
-use Rattle.vault_http_exchange.specs.Exchange.{Denied, Judged, PlanServed, allow_of, head_asked, is_shown, planned_command}
+use Rattle.vault_http_exchange.specs.Exchange.{Denied, Judged, PlanServed, allow_of, go_on, head_asked, is_shown, planned_command, told}
 use Rattle.vault_http_exchange.specs.declared.fault.ServeFault.{ServeFault}
 use Rattle.vault_http_exchange.specs.declared.fault.ServeFault.TheVariants as faults
 
@@ -36,49 +38,56 @@ abbrev pub Stepped : ℕ → List ℕ → Result Command Refusal → Vault → V
 Stepped at who (Ok c) old new = (reply : Reply) × Step old at who c reply new
 Stepped at who (Err r) old new = ⊥
 
--- Behind the body nothing is read any more. Where the answer found no room at most that step was made; where writing it failed the vault is as it says.
-abbrev pub JudgedLeft : ServeFault → ℕ → Bool → List ℕ → Result Command Refusal → Vault → Vault → Type 0
-JudgedLeft faults.Read at shown who judged old new = ⊥
-JudgedLeft faults.Memory at shown who judged old new = (new ≡ old) ⊎ Stepped at who judged old new
-JudgedLeft faults.Write at shown who judged old new = (out : List ℕ) × Judged at shown who judged old out new
+-- no byte of an answer is written: nothing is, or that a client that waits was told to go on
+abbrev pub IsUnanswered : Bool → Option (List ℕ) → Option (List ℕ) → Type 0
+IsUnanswered waits before after = (after ≡ before) ⊎ Appends before after (told waits)
 
-abbrev pub DenyLeft : ServeFault → Option ℕ → Refusal → Option Allow → Bool → Type 0
-DenyLeft faults.Read moment r a shown = ⊥
-DenyLeft faults.Memory moment r a shown = Unit {0}
-DenyLeft faults.Write moment r a shown = (out : List ℕ) × AnswersRefusal moment r a shown out
+-- Behind the body nothing is read any more. Where the answer found no room nothing is written, and at most that step was made; where writing it failed a beginning of it is written, and the vault is as it says.
+abbrev pub JudgedLeft : ServeFault → ℕ → Bool → List ℕ → Result Command Refusal → Vault → Vault → Option (List ℕ) → Option (List ℕ) → Type 0
+JudgedLeft faults.Read at shown who judged old new before after = ⊥
+JudgedLeft faults.Memory at shown who judged old new before after = ((new ≡ old) ⊎ Stepped at who judged old new) × (after ≡ before)
+JudgedLeft faults.Write at shown who judged old new before after = (out : List ℕ) × Judged at shown who judged old out new × Begins before after out
 
--- After Read no step was made; after Memory at most that one. After Write 100 Continue failed, nothing of the body was read and no step was made, or an answer failed and the vault is as it says.
-abbrev pub PlanLeft : ServeFault → Bool → Plan → List ℕ → Option (List ℕ) → Vault → Vault → Type 0
-PlanLeft faults.Read shown plan rest unread old new = new ≡ old
-PlanLeft faults.Memory shown plan rest unread old new = (new ≡ old) ⊎ Stepped plan.at plan.terms.caller (planned_command plan rest) old new
-PlanLeft faults.Write shown plan rest unread old new =
-    ((plan.terms.waits ≡ true) × (unread ≡ Some rest) × (new ≡ old)) ⊎ ((out : List ℕ) × PlanServed shown plan rest old out new)
+abbrev pub DenyLeft : ServeFault → Option ℕ → Refusal → Option Allow → Bool → Option (List ℕ) → Option (List ℕ) → Type 0
+DenyLeft faults.Read moment r a shown before after = ⊥
+DenyLeft faults.Memory moment r a shown before after = after ≡ before
+DenyLeft faults.Write moment r a shown before after = (out : List ℕ) × AnswersRefusal moment r a shown out × Begins before after out
 
-abbrev pub DeniedLeft : ServeFault → Option ℕ → Bool → Refusal → Option Allow → Vault → Vault → Type 0
-DeniedLeft faults.Read moment shown r a old new = new ≡ old
-DeniedLeft faults.Memory moment shown r a old new = new ≡ old
-DeniedLeft faults.Write moment shown r a old new = (out : List ℕ) × Denied moment shown r a old out new
+-- After Read no step was made, after Memory at most that one, and no byte of an answer is written. After Write 100 Continue failed, nothing of the body was read and no step was made, or the answer failed and the vault is as it says; what is written is a beginning of that.
+abbrev pub PlanLeft : ServeFault → Bool → Plan → List ℕ → Option (List ℕ) → Vault → Vault → Option (List ℕ) → Option (List ℕ) → Type 0
+PlanLeft faults.Read shown plan rest unread old new before after = (new ≡ old) × IsUnanswered plan.terms.waits before after
+PlanLeft faults.Memory shown plan rest unread old new before after =
+    ((new ≡ old) ⊎ Stepped plan.at plan.terms.caller (planned_command plan rest) old new) × IsUnanswered plan.terms.waits before after
+PlanLeft faults.Write shown plan rest unread old new before after =
+    ((plan.terms.waits ≡ true) × (unread ≡ Some rest) × (new ≡ old) × Begins before after go_on)
+    ⊎ ((out : List ℕ) × PlanServed shown plan rest old out new × Begins before after out)
 
-abbrev pub AskedLeft : ServeFault → Option ℕ → Bool → Asked → List ℕ → Option (List ℕ) → Vault → Vault → Type 0
-AskedLeft e moment shown (asked.Plan plan) rest unread old new = PlanLeft e shown plan rest unread old new
-AskedLeft e moment shown (asked.NotAllowed r) rest unread old new =
-    DeniedLeft e moment shown refusal.MethodNotAllowed (Some (allow_of r)) old new
+abbrev pub DeniedLeft : ServeFault → Option ℕ → Bool → Refusal → Option Allow → Vault → Vault → Option (List ℕ) → Option (List ℕ) → Type 0
+DeniedLeft faults.Read moment shown r a old new before after = (new ≡ old) × (after ≡ before)
+DeniedLeft faults.Memory moment shown r a old new before after = (new ≡ old) × (after ≡ before)
+DeniedLeft faults.Write moment shown r a old new before after = (out : List ℕ) × Denied moment shown r a old out new × Begins before after out
 
-abbrev pub HeadLeft : ServeFault → Option ℕ → Bool → Result Asked Refusal → List ℕ → Option (List ℕ) → Vault → Vault → Type 0
-HeadLeft e moment shown (Ok a) rest unread old new = AskedLeft e moment shown a rest unread old new
-HeadLeft e moment shown (Err r) rest unread old new = DeniedLeft e moment shown r None old new
+abbrev pub AskedLeft : ServeFault → Option ℕ → Bool → Asked → List ℕ → Option (List ℕ) → Vault → Vault → Option (List ℕ) → Option (List ℕ) → Type 0
+AskedLeft e moment shown (asked.Plan plan) rest unread old new before after = PlanLeft e shown plan rest unread old new before after
+AskedLeft e moment shown (asked.NotAllowed r) rest unread old new before after =
+    DeniedLeft e moment shown refusal.MethodNotAllowed (Some (allow_of r)) old new before after
+
+abbrev pub HeadLeft : ServeFault → Option ℕ → Bool → Result Asked Refusal → List ℕ → Option (List ℕ) → Vault → Vault → Option (List ℕ) → Option (List ℕ) → Type 0
+HeadLeft e moment shown (Ok a) rest unread old new before after = AskedLeft e moment shown a rest unread old new before after
+HeadLeft e moment shown (Err r) rest unread old new before after = DeniedLeft e moment shown r None old new before after
 
 -- before a head was judged: writing fails only where there is none
-abbrev pub Early : ServeFault → Option ℕ → List ℕ → Vault → Vault → Type 0
-Early faults.Read moment input old new = new ≡ old
-Early faults.Memory moment input old new = new ≡ old
-Early faults.Write moment input old new = (0 < length input) × HasNoHead input × (new ≡ old)
+abbrev pub Early : ServeFault → Option ℕ → List ℕ → Vault → Vault → Option (List ℕ) → Option (List ℕ) → Type 0
+Early faults.Read moment input old new before after = (new ≡ old) × (after ≡ before)
+Early faults.Memory moment input old new before after = (new ≡ old) × (after ≡ before)
+Early faults.Write moment input old new before after =
+    (0 < length input) × HasNoHead input × DeniedLeft faults.Write moment true refusal.InvalidArgument None old new before after
 
--- of an input, of which this is unread after it
-abbrev pub Left : ServeFault → Option ℕ → List ℕ → Option (List ℕ) → Vault → Vault → Type 0
-Left e moment input unread old new =
-    Early e moment input old new
-    ⊎ ((h : RequestHead) × (rest : List ℕ) × IsHead input h rest × HeadLeft e moment (is_shown h.method) (head_asked moment h) rest unread old new)
+-- of an input, of which this is unread after it, and of what was written before it and is after it
+abbrev pub Left : ServeFault → Option ℕ → List ℕ → Option (List ℕ) → Vault → Vault → Option (List ℕ) → Option (List ℕ) → Type 0
+Left e moment input unread old new before after =
+    Early e moment input old new before after
+    ⊎ ((h : RequestHead) × (rest : List ℕ) × IsHead input h rest × HeadLeft e moment (is_shown h.method) (head_asked moment h) rest unread old new before after)
 
 -- ---- what was read
 

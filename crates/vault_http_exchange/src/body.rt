@@ -1,5 +1,5 @@
 //! The body of a request, and the command that it makes.
-ghost use Rattle.std.specs.Prelude.{◌≡◌, ℕ, List, Ok, Err, IfOk, IfSome, OnOk};
+ghost use Rattle.std.specs.Prelude.{◌≡◌, ℕ, List, Ok, Err, IfErr, IfOk, IfSome, OnOk};
 ghost use Rattle.std.specs.Io.KnownBytes.{Consumes};
 ghost use Rattle.vault_base.specs.declared.refusal.Refusal.TheVariants.{MalformedBody};
 ghost use Rattle.vault_http_exchange.specs.Body as spec;
@@ -107,6 +107,7 @@ pub fn command_after<R: Read>(
 ) -> Result<Result<Command, Refusal>, ServeFault>
     ensures command { IfOk result (λ judged. IfSome (R.remaining reader.old) (λ rest. judged ≡ spec.command_after order locks size rest)) }
     ensures told { OnOk result (told ≡ Ok tt) }
+    ensures fault { IfErr told (λ f. result ≡ Err f) }
     ensures err { result ≡ Err faults.Write → told ≡ Err faults.Write }
     ensures unread { result ≡ Err faults.Write → R.remaining reader.new ≡ R.remaining reader.old }
     ensures taken { OnOk result ((taken : List ℕ) × Consumes (R.remaining reader.old) (R.remaining reader.new) taken × spec.IsWithinLength size taken) }

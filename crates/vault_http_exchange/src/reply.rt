@@ -40,7 +40,7 @@ fn answer<W: Write, K: Keeper>(
     shown: bool,
 ) -> Result<(), ServeFault>
     ensures ok { K.is_honest keeper.new → OnOk result ((out : List ℕ) × spec.Done at shown who.now command.now (K.vault keeper.old) out (K.vault keeper.new) × Appends (W.contents writer.old) (W.contents writer.new) out) }
-    ensures err { K.is_honest keeper.new → IfErr result (λ e. left.JudgedLeft e at shown who.now (Ok command.now) (K.vault keeper.old) (K.vault keeper.new)) }
+    ensures err { K.is_honest keeper.new → IfErr result (λ e. left.JudgedLeft e at shown who.now (Ok command.now) (K.vault keeper.old) (K.vault keeper.new) (W.contents writer.old) (W.contents writer.new)) }
     ensures kind { ¬ (result ≡ Err faults.Read) }
     ensures once { K.is_honest keeper.new → left.AtMostOne (Some at) (K.vault keeper.old) (K.vault keeper.new) }
     ensures honest { K.is_honest keeper.new → K.is_honest keeper.old }
@@ -63,7 +63,7 @@ fn finish<W: Write, K: Keeper>(
     shown: bool,
 ) -> Result<(), ServeFault>
     ensures ok { K.is_honest keeper.new → OnOk result ((out : List ℕ) × spec.Done at shown who command (K.vault keeper.old) out (K.vault keeper.new) × Appends (W.contents writer.old) (W.contents writer.new) out) }
-    ensures err { K.is_honest keeper.new → IfErr result (λ e. left.JudgedLeft e at shown who (Ok command) (K.vault keeper.old) (K.vault keeper.new)) }
+    ensures err { K.is_honest keeper.new → IfErr result (λ e. left.JudgedLeft e at shown who (Ok command) (K.vault keeper.old) (K.vault keeper.new) (W.contents writer.old) (W.contents writer.new)) }
     ensures kind { ¬ (result ≡ Err faults.Read) }
     ensures once { K.is_honest keeper.new → left.AtMostOne (Some at) (K.vault keeper.old) (K.vault keeper.new) }
     ensures honest { K.is_honest keeper.new → K.is_honest keeper.old }
@@ -83,7 +83,7 @@ pub fn deny<W: Write>(
     shown: bool,
 ) -> Result<(), ServeFault>
     ensures ok { OnOk result ((out : List ℕ) × AnswersRefusal moment refusal allow shown out × Appends (W.contents writer.old) (W.contents writer.new) out) }
-    ensures err { IfErr result (λ e. left.DenyLeft e moment refusal allow shown) }
+    ensures err { IfErr result (λ e. left.DenyLeft e moment refusal allow shown (W.contents writer.old) (W.contents writer.new)) }
     ensures kind { ¬ (result ≡ Err faults.Read) }
 {
     let Ok(bytes) = refusal_bytes(alloc, moment, refusal, allow, shown) else {
@@ -103,7 +103,7 @@ pub fn conclude<W: Write, K: Keeper>(
     shown: bool,
 ) -> Result<(), ServeFault>
     ensures ok { K.is_honest keeper.new → OnOk result ((out : List ℕ) × spec.Judged at shown who judged (K.vault keeper.old) out (K.vault keeper.new) × Appends (W.contents writer.old) (W.contents writer.new) out) }
-    ensures err { K.is_honest keeper.new → IfErr result (λ e. left.JudgedLeft e at shown who judged (K.vault keeper.old) (K.vault keeper.new)) }
+    ensures err { K.is_honest keeper.new → IfErr result (λ e. left.JudgedLeft e at shown who judged (K.vault keeper.old) (K.vault keeper.new) (W.contents writer.old) (W.contents writer.new)) }
     ensures once { K.is_honest keeper.new → left.AtMostOne (Some at) (K.vault keeper.old) (K.vault keeper.new) }
     ensures kind { ¬ (result ≡ Err faults.Read) }
     ensures honest { K.is_honest keeper.new → K.is_honest keeper.old }

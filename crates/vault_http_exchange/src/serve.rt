@@ -43,7 +43,7 @@ fn serve_parts<R: Read, W: Write, K: Keeper>(
     shown: bool,
 ) -> Result<(), ServeFault>
     ensures ok { K.is_honest keeper.new → OnOk result (IfSome (R.remaining reader.old) (λ rest. (out : List ℕ) × spec.PlanServed shown (spec.plan_of at order size caller locks waits) rest (K.vault keeper.old) out (K.vault keeper.new) × Appends (W.contents writer.old) (W.contents writer.new) out)) }
-    ensures err { K.is_honest keeper.new → IfErr result (λ e. IfSome (R.remaining reader.old) (λ rest. left.PlanLeft e shown (spec.plan_of at order size caller locks waits) rest (R.remaining reader.new) (K.vault keeper.old) (K.vault keeper.new))) }
+    ensures err { K.is_honest keeper.new → IfErr result (λ e. IfSome (R.remaining reader.old) (λ rest. left.PlanLeft e shown (spec.plan_of at order size caller locks waits) rest (R.remaining reader.new) (K.vault keeper.old) (K.vault keeper.new) (W.contents writer.old) (W.contents writer.new))) }
     ensures once { K.is_honest keeper.new → left.AtMostOne (Some at) (K.vault keeper.old) (K.vault keeper.new) }
     ensures unread { result ≡ Err faults.Read → K.vault keeper.new ≡ K.vault keeper.old }
     ensures taken { OnOk result ((taken : List ℕ) × Consumes (R.remaining reader.old) (R.remaining reader.new) taken × IsWithinLength size taken) }
@@ -64,7 +64,7 @@ fn serve_plan<R: Read, W: Write, K: Keeper>(
     shown: bool,
 ) -> Result<(), ServeFault>
     ensures ok { K.is_honest keeper.new → OnOk result (IfSome (R.remaining reader.old) (λ rest. (out : List ℕ) × spec.PlanServed shown plan rest (K.vault keeper.old) out (K.vault keeper.new) × Appends (W.contents writer.old) (W.contents writer.new) out)) }
-    ensures err { K.is_honest keeper.new → IfErr result (λ e. IfSome (R.remaining reader.old) (λ rest. left.PlanLeft e shown plan rest (R.remaining reader.new) (K.vault keeper.old) (K.vault keeper.new))) }
+    ensures err { K.is_honest keeper.new → IfErr result (λ e. IfSome (R.remaining reader.old) (λ rest. left.PlanLeft e shown plan rest (R.remaining reader.new) (K.vault keeper.old) (K.vault keeper.new) (W.contents writer.old) (W.contents writer.new))) }
     ensures once { K.is_honest keeper.new → left.AtMostOne (Some plan.at) (K.vault keeper.old) (K.vault keeper.new) }
     ensures unread { result ≡ Err faults.Read → K.vault keeper.new ≡ K.vault keeper.old }
     ensures taken { OnOk result ((taken : List ℕ) × Consumes (R.remaining reader.old) (R.remaining reader.new) taken × IsWithinLength plan.terms.length taken) }
@@ -137,7 +137,7 @@ fn serve_asked<R: Read, W: Write, K: Keeper>(
 ) -> Result<(), ServeFault>
     requires { IsAt moment.now asked }
     ensures ok { K.is_honest keeper.new → OnOk result (IfSome (R.remaining reader.old) (λ rest. (out : List ℕ) × spec.AskedServed moment.now shown asked rest (K.vault keeper.old) out (K.vault keeper.new) × Appends (W.contents writer.old) (W.contents writer.new) out)) }
-    ensures err { K.is_honest keeper.new → IfErr result (λ e. IfSome (R.remaining reader.old) (λ rest. left.AskedLeft e moment.now shown asked rest (R.remaining reader.new) (K.vault keeper.old) (K.vault keeper.new))) }
+    ensures err { K.is_honest keeper.new → IfErr result (λ e. IfSome (R.remaining reader.old) (λ rest. left.AskedLeft e moment.now shown asked rest (R.remaining reader.new) (K.vault keeper.old) (K.vault keeper.new) (W.contents writer.old) (W.contents writer.new))) }
     ensures once { K.is_honest keeper.new → left.AtMostOne moment.now (K.vault keeper.old) (K.vault keeper.new) }
     ensures unread { result ≡ Err faults.Read → K.vault keeper.new ≡ K.vault keeper.old }
     ensures taken { OnOk result ((taken : List ℕ) × Consumes (R.remaining reader.old) (R.remaining reader.new) taken × left.IsAskedTaken asked taken) }
@@ -168,7 +168,7 @@ fn serve_judged<R: Read, W: Write, K: Keeper>(
 ) -> Result<(), ServeFault>
     requires { IfOk judged (IsAt moment.now) }
     ensures ok { K.is_honest keeper.new → (said : spec.Said) → Gives (λ x. x) judged said → OnOk result (IfSome (R.remaining reader.old) (λ rest. (out : List ℕ) × spec.HeadJudged moment.now shown said rest (K.vault keeper.old) out (K.vault keeper.new) × Appends (W.contents writer.old) (W.contents writer.new) out)) }
-    ensures err { K.is_honest keeper.new → (said : spec.Said) → Gives (λ x. x) judged said → IfErr result (λ e. IfSome (R.remaining reader.old) (λ rest. left.HeadLeft e moment.now shown said rest (R.remaining reader.new) (K.vault keeper.old) (K.vault keeper.new))) }
+    ensures err { K.is_honest keeper.new → (said : spec.Said) → Gives (λ x. x) judged said → IfErr result (λ e. IfSome (R.remaining reader.old) (λ rest. left.HeadLeft e moment.now shown said rest (R.remaining reader.new) (K.vault keeper.old) (K.vault keeper.new) (W.contents writer.old) (W.contents writer.new))) }
     ensures once { K.is_honest keeper.new → left.AtMostOne moment.now (K.vault keeper.old) (K.vault keeper.new) }
     ensures unread { result ≡ Err faults.Read → K.vault keeper.new ≡ K.vault keeper.old }
     ensures taken { (said : spec.Said) → Gives (λ x. x) judged said → OnOk result ((taken : List ℕ) × Consumes (R.remaining reader.old) (R.remaining reader.new) taken × left.IsBodyTaken said taken) }
@@ -195,7 +195,7 @@ fn serve_head<R: Read, W: Write, K: Keeper>(
     requires within { IsRequestWithin buf.now headers.now spans }
     requires room { length headers.now ≡ 64 }
     ensures ok { K.is_honest keeper.new → OnOk result (IfSome (R.remaining reader.old) (λ rest. (out : List ℕ) × spec.HeadJudged moment.now (spec.is_shown (span_bytes buf.now spans.method)) (spec.spans_asked moment.now buf.now headers.now spans) rest (K.vault keeper.old) out (K.vault keeper.new) × Appends (W.contents writer.old) (W.contents writer.new) out)) }
-    ensures err { K.is_honest keeper.new → IfErr result (λ e. IfSome (R.remaining reader.old) (λ rest. left.HeadLeft e moment.now (spec.is_shown (span_bytes buf.now spans.method)) (spec.spans_asked moment.now buf.now headers.now spans) rest (R.remaining reader.new) (K.vault keeper.old) (K.vault keeper.new))) }
+    ensures err { K.is_honest keeper.new → IfErr result (λ e. IfSome (R.remaining reader.old) (λ rest. left.HeadLeft e moment.now (spec.is_shown (span_bytes buf.now spans.method)) (spec.spans_asked moment.now buf.now headers.now spans) rest (R.remaining reader.new) (K.vault keeper.old) (K.vault keeper.new) (W.contents writer.old) (W.contents writer.new))) }
     ensures once { K.is_honest keeper.new → left.AtMostOne moment.now (K.vault keeper.old) (K.vault keeper.new) }
     ensures unread { result ≡ Err faults.Read → K.vault keeper.new ≡ K.vault keeper.old }
     ensures taken { OnOk result ((taken : List ℕ) × Consumes (R.remaining reader.old) (R.remaining reader.new) taken × left.IsBodyTaken (spec.spans_asked moment.now buf.now headers.now spans) taken) }
@@ -221,7 +221,7 @@ fn serve_at<R: Read, W: Write, K: Keeper>(
     moment: Option<Moment>,
 ) -> Result<(), ServeFault>
     ensures ok { K.is_honest keeper.new → OnOk result (IfSome (R.remaining reader.old) (λ input. (out : List ℕ) × spec.Served moment input (K.vault keeper.old) out (K.vault keeper.new) × Appends (W.contents writer.old) (W.contents writer.new) out)) }
-    ensures err { K.is_honest keeper.new → IfErr result (λ e. IfSome (R.remaining reader.old) (λ input. left.Left e moment input (R.remaining reader.new) (K.vault keeper.old) (K.vault keeper.new))) }
+    ensures err { K.is_honest keeper.new → IfErr result (λ e. IfSome (R.remaining reader.old) (λ input. left.Left e moment input (R.remaining reader.new) (K.vault keeper.old) (K.vault keeper.new) (W.contents writer.old) (W.contents writer.new))) }
     ensures once { K.is_honest keeper.new → left.AtMostOne moment (K.vault keeper.old) (K.vault keeper.new) }
     ensures unread { result ≡ Err faults.Read → K.vault keeper.new ≡ K.vault keeper.old }
     ensures taken { OnOk result (IfSome (R.remaining reader.old) (λ input. (taken : List ℕ) × Consumes (R.remaining reader.old) (R.remaining reader.new) taken × left.IsTaken moment input taken)) }
@@ -255,7 +255,8 @@ fn serve_at<R: Read, W: Write, K: Keeper>(
 /// `Read` comes where the reader failed: no step was made. `Write` comes where the writer failed, and
 /// `Memory` where a growth was refused: the vault is as before, or as after the one step. Where it was the
 /// answer that could not be written, the vault is as the answer says; where it was `100 Continue`, nothing of
-/// the body was read and the vault is as before.
+/// the body was read and the vault is as before. With `Read` and `Memory` no byte of an answer is written, with
+/// `Write` a beginning of it.
 pub fn serve_one<R: Read, W: Write, K: Keeper>(
     alloc: Global,
     reader: &mut R,
@@ -264,7 +265,7 @@ pub fn serve_one<R: Read, W: Write, K: Keeper>(
     reading: i64,
 ) -> Result<(), ServeFault>
     ensures ok { K.is_honest keeper.new → OnOk result (IfSome (R.remaining reader.old) (λ input. (out : List ℕ) × spec.Served (moment_at reading) input (K.vault keeper.old) out (K.vault keeper.new) × Appends (W.contents writer.old) (W.contents writer.new) out)) }
-    ensures err { K.is_honest keeper.new → IfErr result (λ e. IfSome (R.remaining reader.old) (λ input. left.Left e (moment_at reading) input (R.remaining reader.new) (K.vault keeper.old) (K.vault keeper.new))) }
+    ensures err { K.is_honest keeper.new → IfErr result (λ e. IfSome (R.remaining reader.old) (λ input. left.Left e (moment_at reading) input (R.remaining reader.new) (K.vault keeper.old) (K.vault keeper.new) (W.contents writer.old) (W.contents writer.new))) }
     ensures once { K.is_honest keeper.new → left.AtMostOne (moment_at reading) (K.vault keeper.old) (K.vault keeper.new) }
     ensures unread { result ≡ Err faults.Read → K.vault keeper.new ≡ K.vault keeper.old }
     ensures taken { OnOk result (IfSome (R.remaining reader.old) (λ input. (taken : List ℕ) × Consumes (R.remaining reader.old) (R.remaining reader.new) taken × left.IsTaken (moment_at reading) input taken)) }

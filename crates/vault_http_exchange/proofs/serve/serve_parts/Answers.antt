@@ -9,4 +9,4 @@ returns-clause-ok g c = λ h.
 
 pub returns-clause-err : goal.returns-clause-err
 returns-clause-err g c = λ h.
-    IfErr-weaker c.conclude.result _ _ (λ e d. plan_left c.args.shown (plan_of c.args.at c.args.order c.args.size c.args.caller c.args.locks c.args.waits) _ _ _ _ e c.in_ok-judged.judged c.in_ok-judged.ensures.command d) (c.conclude.ensures.err h)
+    IfErr-weaker c.conclude.result _ _ (λ e d. plan_left c.args.shown (plan_of c.args.at c.args.order c.args.size c.args.caller c.args.locks c.args.waits) _ _ _ _ _ _ _ e c.in_ok-judged.judged c.in_ok-judged.ensures.command (rw c.in_ok-judged.ensures.told at c.tell-told.ensures.ok) d) (c.conclude.ensures.err h)
