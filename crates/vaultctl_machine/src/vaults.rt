@@ -1,5 +1,11 @@
 //! Vaults in files.
-ghost use Rattle.std.specs.Prelude.{◌≡◌, ◌+◌, ◌-◌, ◌^◌, min};
+ghost use Rattle.std.specs.Prelude.{◌≡◌, ◌+◌, ◌-◌, ◌^◌, IfOk, min};
+ghost use Rattle.sqlite.specs.Files.{file_state, over_files};
+ghost use Rattle.sqlite.specs.State.{HasCleanDisk};
+ghost use Rattle.vault_audit_model.specs.Spells.{AreSound};
+ghost use Rattle.vault_core_model.specs.Vault.{opening};
+ghost use Rattle.vault_store.specs.Kept.{kept_vault};
+ghost use Rattle.vaultctl_machine.specs.Faults as spec;
 
 use sqlite::{Connection, Error, ErrorCode, FileFrom, FileStore, Wary};
 use std::fs;
@@ -21,7 +27,9 @@ pub struct Machine<'a> {
 }
 
 /// What a failure to open a file is told as, where a vault should be in it.
-fn unopened(error: Error) -> Refusal {
+fn unopened(error: Error) -> Refusal
+    ensures { result ≡ spec.unopened_of error }
+{
     match error {
         Error::SqliteFailure(ErrorCode::OutOfMemory) => Refusal::Memory,
         Error::SqliteFailure(
@@ -32,7 +40,9 @@ fn unopened(error: Error) -> Refusal {
 }
 
 /// What a failure to open a file is told as, where a new vault is to be made in it.
-fn unmade(error: Error) -> Refusal {
+fn unmade(error: Error) -> Refusal
+    ensures { result ≡ spec.unmade_of error }
+{
     match error {
         Error::SqliteFailure(ErrorCode::OutOfMemory) => Refusal::Memory,
         Error::SqliteFailure(
@@ -94,6 +104,7 @@ impl<'a> Machine<'a> {
     /// where the file can't be read or another program has it.
     pub fn open(&mut self, path: &str) -> Result<FileVault, Refusal>
         ensures looked { self.new.looked ≡ min (self.old.looked + 1) (2 ^ 64 - 1) }
+        ensures sound { IfOk result (λ vault. HasCleanDisk (file_state vault.conn) → AreSound (file_state vault.conn).now (kept_vault over_files vault.opening.at.items vault.opening.known vault.made.items)) }
     {
         let rt = self.look();
         match fs::exists(rt, path) {
@@ -120,6 +131,7 @@ impl<'a> Machine<'a> {
     /// can't be made.
     pub fn make(&mut self, path: &str) -> Result<FileVault, Refusal>
         ensures looked { self.new.looked ≡ min (self.old.looked + 1) (2 ^ 64 - 1) }
+        ensures opening { IfOk result (λ vault. HasCleanDisk (file_state vault.conn) → kept_vault over_files vault.opening.at.items vault.opening.known vault.made.items ≡ opening) }
     {
         let rt = self.look();
         let conn = match connect(rt, path) {
