@@ -1,6 +1,6 @@
 //! What a fault of the reader, the writer or the device leaves behind.
 use std::alloc::Global;
-use std::io::BufWriter;
+use std::io::{self, BufWriter, ErrorKind, Read};
 use std::process::Abort;
 use std::test::Fail;
 use vault_core::fuse_keeper::FuseKeeper;
@@ -95,6 +95,50 @@ fn a_reader_that_fails(rt: HostRuntime) -> Result<(), Fail> {
     for count in 0..=bytes.len() {
         cut_reader(&rt, alloc, bytes.split_at(count).0)?;
     }
+    Ok(())
+}
+
+/// Gives one byte at a time, with a signal that interrupts it before each.
+#[derive(Drop)]
+struct InterruptedReader<'a> {
+    bytes: &'a [u8],
+    is_interrupted: bool,
+}
+
+impl Read for InterruptedReader<'_> {
+    fn read(&mut self, buf: &mut [u8]) -> io::Result<usize> {
+        self.is_interrupted = !self.is_interrupted;
+        if self.is_interrupted {
+            return Err(io::Error::from(ErrorKind::Interrupted));
+        }
+        let size = buf.len().min(1);
+        self.bytes.read(&mut buf[..size])
+    }
+}
+
+/// The script with 1,000 empty lines behind it, in pieces of one byte: a signal is no fault of the reader.
+#[test]
+fn a_reader_that_is_interrupted(rt: HostRuntime) -> Result<(), Fail> {
+    let alloc = rt.alloc();
+    let mut input = String::new(alloc);
+    input.push_str(SCRIPT)?;
+    for _ in 0..1_000 {
+        input.push('\n')?;
+    }
+    let mut reader = InterruptedReader {
+        bytes: input.as_bytes(),
+        is_interrupted: false,
+    };
+    let mut keeper = ListKeeper::new(alloc)?;
+    let mut written = Vec::new(alloc);
+    let answered = replay(alloc, &mut reader, &mut written, &mut keeper);
+    drop(keeper);
+    assert!(rt; answered == Ok(()));
+    let text = String::from_utf8(written)?;
+    assert_eq!(rt;
+        text.as_str(),
+        first_replies(alloc, REPLIES.len())?.as_str()
+    );
     Ok(())
 }
 
