@@ -1,3 +1,4 @@
+pub mod Asked
 pub mod Replay
 pub mod Status
 pub mod Values

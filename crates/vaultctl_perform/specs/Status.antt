@@ -1,11 +1,30 @@
--- Exit statuses.
+-- Exit statuses, and what came of a job.
 use Rattle.std.specs.Prelude.{ℕ, Result, Ok, Err}
+use Rattle.vault_files_register.specs.declared.fault.ExportFault.{ExportFault}
+use Rattle.vault_files_register.specs.declared.fault.ExportFault.TheVariants as export
 use Rattle.vaultctl_commands.specs.declared.fault.JobFault.{JobFault}
+use Rattle.vaultctl_commands.specs.declared.fault.JobFault.TheVariants as fault
 use Rattle.vaultctl_commands.specs.declared.outcome.Outcome.{Outcome}
 use Rattle.vaultctl_commands.specs.declared.outcome.Outcome.TheVariants.{Done, Refused}
+use Rattle.vaultctl_replay.specs.declared.fault.ReplayFault.{ReplayFault}
+use Rattle.vaultctl_replay.specs.declared.fault.ReplayFault.TheVariants as replay
 
 -- 0 where the job was done
 abbrev pub status_of : Result Outcome JobFault → ℕ
 status_of (Ok Done) = 0
 status_of (Ok Refused) = 1
 status_of (Err fault) = 1
+
+-- a register is written or a fault is told, by its name
+abbrev pub exported : Result (Unit {0}) ExportFault → Result Outcome JobFault
+exported (Ok t) = Ok Done
+exported (Err export.Write) = Err fault.Write
+exported (Err export.Memory) = Err fault.Memory
+exported (Err export.Device) = Err fault.Device
+
+-- a script is answered or a fault is told, by its name
+abbrev pub replayed : Result (Unit {0}) ReplayFault → Result Outcome JobFault
+replayed (Ok t) = Ok Done
+replayed (Err replay.Read) = Err fault.Read
+replayed (Err replay.Write) = Err fault.Write
+replayed (Err replay.Memory) = Err fault.Memory

@@ -1,8 +1,9 @@
 //! Jobs that ask one thing of the vault in a file: their values, then the file, then the reading, then the step.
-ghost use Rattle.std.specs.Prelude.{◌≡◌, ◌≢◌, ℕ, Result, Err, Some};
+ghost use Rattle.std.specs.Prelude.{◌≡◌, ◌≢◌, ℕ, IfOk, Result, Err, Some};
 ghost use Rattle.vault_base.specs.declared.refusal.Refusal.{Refusal as AnyRefusal};
 ghost use Rattle.vault_core_model.specs.Step.{Reached};
 ghost use Rattle.vault_http_values.specs.Fault.{Gives};
+ghost use Rattle.vaultctl_perform.specs.Asked as spec;
 ghost use Rattle.vaultctl_values.specs.declared.asked.Asked.{Asked as AskedOf};
 
 use crate::telling::{status, tell_fault, tell_unopened, tell_value};
@@ -39,6 +40,8 @@ fn carry_out_asked<C: Clock, K: Keeper, W: Write>(
     asked: &Asked,
     out: &mut W,
 ) -> Result<Outcome, JobFault>
+    // It is one step, by the caller who asks and at the reading that is given, and what is printed is the reply to it.
+    ensures done { K.is_honest keeper.new → IfOk result (λ told. spec.IsDoneAt asked.now.at asked.now (K.vault keeper.old) (K.vault keeper.new) told (W.contents out.old) (W.contents out.new)) }
     ensures reached { K.is_honest keeper.new → Reached (K.vault keeper.old) → Reached (K.vault keeper.new) }
     ensures honest { K.is_honest keeper.new → K.is_honest keeper.old }
 {

@@ -1,5 +1,6 @@
 //! Jobs on a vault's file as a whole.
 ghost use Rattle.std.specs.Prelude.{◌≡◌, ◌≢◌};
+ghost use Rattle.vaultctl_perform.specs.Status as spec;
 
 use crate::telling::{status, tell_unopened};
 use std::alloc::Global;
@@ -62,7 +63,9 @@ pub fn verify<W: Write, E: Write>(
     }
 }
 
-fn done_or_fault(written: Result<(), ExportFault>) -> Result<Outcome, JobFault> {
+fn done_or_fault(written: Result<(), ExportFault>) -> Result<Outcome, JobFault>
+    ensures { result ≡ spec.exported written }
+{
     match written {
         Ok(()) => Ok(Outcome::Done),
         Err(ExportFault::Write) => Err(JobFault::Write),
@@ -99,7 +102,9 @@ pub fn register<W: Write, E: Write>(
     }
 }
 
-fn replayed(answered: Result<(), ReplayFault>) -> Result<Outcome, JobFault> {
+fn replayed(answered: Result<(), ReplayFault>) -> Result<Outcome, JobFault>
+    ensures { result ≡ spec.replayed answered }
+{
     match answered {
         Ok(()) => Ok(Outcome::Done),
         Err(ReplayFault::Read) => Err(JobFault::Read),

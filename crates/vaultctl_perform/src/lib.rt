@@ -4,6 +4,7 @@
 ghost use Rattle.std.specs.Prelude.{◌≡◌, ◌≢◌, ℕ, List, [], None, Some, map, string_bytes};
 ghost use Rattle.clap.specs.Words.{fault_of};
 ghost use Rattle.vaultctl_job.specs.Words.{job_for, vaultctl};
+ghost use Rattle.vaultctl_job.specs.declared.job.Job.{Job as AnyJob};
 ghost use Rattle.vault_base.specs.declared.refusal.Refusal.{Refusal};
 ghost use Rattle.vaultctl_perform.specs.Replay.{AnswersFromNew};
 ghost use Rattle.vaultctl_perform.specs.Values.{IsValueFault};
@@ -122,6 +123,9 @@ pub fn answer_words<R: Read, W: Write, E: Write>(
 ) -> u8
     ensures replayed { job_for (map string_bytes words.now) ≡ Some (Job.Replay (record { file = None })) → result ≡ 0 → AnswersFromNew (R.remaining reader.old) (R.remaining reader.new) (W.contents out.old) (W.contents out.new) }
     ensures refused { result ≡ 2 → fault_of vaultctl (map string_bytes words.now) ≢ [] }
+    // Words that ask for nothing, and values that aren't such, are never told as done.
+    ensures words { job_for (map string_bytes words.now) ≡ None → result ≢ 0 }
+    ensures values { (job : AnyJob) (r : Refusal) → job_for (map string_bytes words.now) ≡ Some job → IsValueFault job r → result ≢ 0 }
 {
     match job_of(rt.alloc(), words) {
         Ok(job) => perform(rt, &job, reader, out, err),
