@@ -1,5 +1,5 @@
 -- On the reading at which a thing was done.
-use Rattle.std.proofs.Common.{◌≡◌, ℕ, List, Option, None, Some, inl, inr, refl, sym, ap, subst}
+use Rattle.std.proofs.Common.{◌≡◌, ℕ, List, Option, None, Some, inl, inr, refl, subst}
 use Rattle.std.specs.Prelude.{MatchOption, ⊤}
 use Rattle.vault_core_model.specs.Vault.{Vault}
 use Rattle.vaultctl_commands.specs.declared.outcome.Outcome.{Outcome}

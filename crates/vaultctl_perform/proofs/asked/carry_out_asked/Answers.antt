@@ -12,5 +12,5 @@ returns-clause-done g c = λ h.
 pub returns-in_default-clause-done : goal.returns-in_default-clause-done
 returns-in_default-clause-done g c = λ h.
     IfOk-weaker c.tell_refusal.result _ _
-    (λ told d. unread_at c.args.asked.now _ _ told _ _ c.args.asked.now.at c.in_default.ensures (refl, d))
+    (λ told d. unread_at c.args.asked.now _ _ told _ _ c.args.asked.now.at c.in_default.ensures (refl, d.0, d.1))
     c.tell_refusal.ensures.ok
