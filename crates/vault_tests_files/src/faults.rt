@@ -1,7 +1,8 @@
-//! Bad lines, intakes whose folder, device or memory fails, and registers whose writer fails.
+//! Bad lines, intakes whose folder, device or memory fails, and registers and texts whose writer fails.
 mod growths;
 mod intakes;
 mod lines;
+mod printed;
 mod registers;
 mod taking;
 mod vault;
