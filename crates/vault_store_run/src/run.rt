@@ -1,7 +1,8 @@
 //! Commands over the tables of a connection.
-ghost use Rattle.std.specs.Prelude.{◌≡◌, IfOk, IfErr};
+ghost use Rattle.std.specs.Prelude.{◌≡◌, ◌⊎◌, IfOk, IfErr};
 ghost use Rattle.sqlite.specs.Held.{state};
-ghost use Rattle.sqlite.specs.State.{HasCleanDisk};
+ghost use Rattle.sqlite.specs.State.{HasCleanDisk, Survives};
+ghost use Rattle.vault_base.specs.declared.refusal.Table.{Table};
 ghost use Rattle.vault_core_model.specs.Step.{Run};
 ghost use Rattle.vault_core_model.specs.Vault.{Vault};
 ghost use Rattle.vault_audit_model.specs.Spells.{AreSound};
@@ -28,8 +29,16 @@ pub fn run_in_tables<S: Alter>(
     // The replies are those of the machine from the vault that the tables spelled, and while the connection is open they spell the vault that it comes to.
     ensures run { IfOk result (λ done. HasCleanDisk (state S.Store done.1) → (v : Vault) → AreSound (state S.Store conn).now v →
         ∥ ((w : Vault) × Run v commands.now done.0.items w × StandsFor (state S.Store done.1) w) ∥₁) }
+    // What is told as damaged spells no vault.
+    ensures damaged { IfErr result (λ e. HasCleanDisk (state S.Store e.1) → (t : Table) → e.0 ≡ Refusal.Damaged t → (v : Vault) → ¬ AreSound (state S.Store conn).now v) }
+    // Where it is refused, a crash leaves nothing but what it could leave before, or the tables spell the vault that they spelled.
+    ensures refused { IfErr result (λ e. HasCleanDisk (state S.Store e.1) → (v : Vault) → AreSound (state S.Store conn).now v →
+        ∥ Survives (state S.Store conn) (state S.Store e.1) (λ _. ⊥) ⊎ StandsFor (state S.Store e.1) v ∥₁) }
 {
-    let mut keeper = SqlKeeper::open(alloc, conn)?;
+    let mut keeper = match SqlKeeper::open(alloc, conn) {
+        Ok(keeper) => keeper,
+        Err(refused) => return Err(refused),
+    };
     match run(alloc, &mut keeper, commands) {
         Ok(replies) => Ok((replies, keeper.into_connection())),
         Err(_) => Err((Refusal::Memory, keeper.into_connection())),
