@@ -2,7 +2,7 @@
 use crate::disks::VaultFiles;
 use crate::expected::Progress;
 use crate::visit::{Visit, work};
-use sqlite::{Connection, FileStore, Options};
+use sqlite::{Alter, Connection, FileStore, Options};
 use sqlite_disk::{Fuse, Memory};
 use std::alloc::Global;
 use std::test::Fail;
@@ -70,10 +70,12 @@ fn connected(alloc: Global, files: VaultFiles) -> Result<Connection<InFiles>, Va
     }
 }
 
-type Entrance = Result<SqlKeeper<InFiles>, (Refusal, Connection<InFiles>)>;
+type Entrance<S> = Result<SqlKeeper<S>, (Refusal, Connection<S>)>;
+
+// This and `worked_on` are over any store, as a proof over files would carry their state through each call.
 
 /// The vault, which is made where that is to be done and was not done before.
-fn entered(alloc: Global, is_made: bool, conn: Connection<InFiles>) -> Entrance {
+fn entered<S: Alter>(alloc: Global, is_made: bool, conn: Connection<S>) -> Entrance<S> {
     if is_made {
         return SqlKeeper::open(alloc, conn);
     }
@@ -106,14 +108,23 @@ pub fn stopped(
     }
 }
 
+/// How far the lines of a visit came, and the connection as it is left then.
+fn worked_on<S: Alter>(
+    alloc: Global,
+    visit: &Visit<'_>,
+    keeper: SqlKeeper<S>,
+) -> (Result<Progress, Fail>, Connection<S>) {
+    let mut keeper = keeper;
+    let worked = work(alloc, &mut keeper, visit);
+    (worked, keeper.into_connection())
+}
+
 fn asked(
     alloc: Global,
     visit: &Visit<'_>,
     keeper: SqlKeeper<InFiles>,
 ) -> Result<(Stop, VaultFiles), Fail> {
-    let mut keeper = keeper;
-    let worked = work(alloc, &mut keeper, visit);
-    let conn = keeper.into_connection();
+    let (worked, conn) = worked_on(alloc, visit, keeper);
     match worked {
         Ok(progress) => Ok(closed(conn, progress)),
         Err(fail) => {
