@@ -1,6 +1,6 @@
 //! Scripts over each kind of keeper: the list, tables in files, and tables in files that are closed and opened
 //! again behind each line. The files are in memory.
-use sqlite::{Connection, FileStore, Files, Options};
+use sqlite::{Alter, Connection, FileStore, Files, Options};
 use sqlite_disk::Memory;
 use std::alloc::Global;
 use std::test::Fail;
@@ -56,11 +56,39 @@ pub fn new_files(alloc: Global) -> Result<Connection<Store>, Fail> {
     connected(alloc, empty_files(alloc))
 }
 
-/// A vault that is made in these files.
-fn made(alloc: Global, conn: Connection<Store>) -> Result<SqlKeeper<Store>, Fail> {
+// These are over any store, as a proof over files would carry their state through each call.
+
+fn made_in<S: Alter>(alloc: Global, conn: Connection<S>) -> Result<SqlKeeper<S>, Connection<S>> {
     match SqlKeeper::create(alloc, conn) {
         Ok(keeper) => Ok(keeper),
-        Err((_, conn)) => {
+        Err((_, conn)) => Err(conn),
+    }
+}
+
+fn opened_in<S: Alter>(alloc: Global, conn: Connection<S>) -> Result<SqlKeeper<S>, Connection<S>> {
+    match SqlKeeper::open(alloc, conn) {
+        Ok(keeper) => Ok(keeper),
+        Err((_, conn)) => Err(conn),
+    }
+}
+
+/// What is written for a script over this vault, how often its device failed, and its connection.
+fn replies_in<S: Alter>(
+    alloc: Global,
+    keeper: SqlKeeper<S>,
+    script: &str,
+) -> (Result<String, Fail>, u64, Connection<S>) {
+    let mut keeper = keeper;
+    let written = replies(alloc, &mut keeper, script.as_bytes());
+    let faults = keeper.faults();
+    (written, faults, keeper.into_connection())
+}
+
+/// A vault that is made in these files.
+fn made(alloc: Global, conn: Connection<Store>) -> Result<SqlKeeper<Store>, Fail> {
+    match made_in(alloc, conn) {
+        Ok(keeper) => Ok(keeper),
+        Err(conn) => {
             let_go(conn);
             Err(Fail::new("a vault can't be made"))
         }
@@ -69,9 +97,9 @@ fn made(alloc: Global, conn: Connection<Store>) -> Result<SqlKeeper<Store>, Fail
 
 /// The vault in these files.
 fn opened(alloc: Global, conn: Connection<Store>) -> Result<SqlKeeper<Store>, Fail> {
-    match SqlKeeper::open(alloc, conn) {
+    match opened_in(alloc, conn) {
         Ok(keeper) => Ok(keeper),
-        Err((_, conn)) => {
+        Err(conn) => {
             let_go(conn);
             Err(Fail::new("the vault can't be opened"))
         }
@@ -93,10 +121,9 @@ pub fn replies_of_list(alloc: Global, script: &str) -> Result<String, Fail> {
 
 /// What is written for a script over a new vault in files that stay open. Fails where its device failed.
 pub fn replies_of_open_files(alloc: Global, script: &str) -> Result<String, Fail> {
-    let mut keeper = made(alloc, new_files(alloc)?)?;
-    let written = replies(alloc, &mut keeper, script.as_bytes());
-    let faults = keeper.faults();
-    let_go(keeper.into_connection());
+    let keeper = made(alloc, new_files(alloc)?)?;
+    let (written, faults, conn) = replies_in(alloc, keeper, script);
+    let_go(conn);
     let written = written?;
     had_no_fault(faults)?;
     Ok(written)
@@ -121,10 +148,8 @@ fn reply_in(
     files: Files<Memory>,
     line: &str,
 ) -> Result<(String, Files<Memory>), Fail> {
-    let mut keeper = opened(alloc, connected(alloc, files)?)?;
-    let reply = replies(alloc, &mut keeper, line.as_bytes());
-    let faults = keeper.faults();
-    let conn = keeper.into_connection();
+    let keeper = opened(alloc, connected(alloc, files)?)?;
+    let (reply, faults, conn) = replies_in(alloc, keeper, line);
     match reply {
         Ok(reply) => {
             let files = closed(conn)?;
@@ -187,10 +212,21 @@ pub fn failing_of_list(alloc: Global, changes: u64, script: &Failing<'_>) -> Res
     written
 }
 
+/// The same over this vault in tables, and its connection.
+fn failing_in<S: Alter>(
+    alloc: Global,
+    keeper: SqlKeeper<S>,
+    changes: u64,
+    script: &Failing<'_>,
+) -> (Result<String, Fail>, Connection<S>) {
+    let (written, keeper) = replies_of_failing(alloc, keeper, changes, script);
+    (written, keeper.into_connection())
+}
+
 /// What is written for it over a new vault in files.
 pub fn failing_of_files(alloc: Global, changes: u64, script: &Failing<'_>) -> Result<String, Fail> {
     let keeper = made(alloc, new_files(alloc)?)?;
-    let (written, keeper) = replies_of_failing(alloc, keeper, changes, script);
-    let_go(keeper.into_connection());
+    let (written, conn) = failing_in(alloc, keeper, changes, script);
+    let_go(conn);
     written
 }

@@ -1,22 +1,23 @@
 //! Which stores are opened as a vault, and what comes back with a refusal.
-use crate::keepers::{Store, let_go, new_files};
-use sqlite::{Connection, Error};
+use crate::keepers::{let_go, new_files};
+use sqlite::{Alter, Connection, Error};
 use std::alloc::Global;
 use std::test::Fail;
 use vault_base::refusal::{Refusal, Table};
 use vault_store::sql_keeper::SqlKeeper;
 
-// These have no clause, so that the proof of a test does not carry the state of each call.
-fn batch(conn: &mut Connection<Store>, sql: &str) -> Result<(), Error> {
+// These have no clause, and are over any store, so that the proof of a test does not carry the state of each
+// call.
+fn batch<S: Alter>(conn: &mut Connection<S>, sql: &str) -> Result<(), Error> {
     conn.execute_batch(sql)
 }
 
-fn number(conn: &mut Connection<Store>, sql: &str) -> Result<i64, Error> {
+fn number<S: Alter>(conn: &mut Connection<S>, sql: &str) -> Result<i64, Error> {
     conn.query_row(sql, &[])?.get(0)
 }
 
 /// Makes a vault in this store: why not, where it is refused, and the connection.
-fn make(alloc: Global, conn: Connection<Store>) -> (Option<Refusal>, Connection<Store>) {
+fn make<S: Alter>(alloc: Global, conn: Connection<S>) -> (Option<Refusal>, Connection<S>) {
     match SqlKeeper::create(alloc, conn) {
         Ok(keeper) => (None, keeper.into_connection()),
         Err((refusal, conn)) => (Some(refusal), conn),
@@ -24,7 +25,7 @@ fn make(alloc: Global, conn: Connection<Store>) -> (Option<Refusal>, Connection<
 }
 
 /// Opens the vault in this store: why not, where it is refused, and the connection.
-fn open(alloc: Global, conn: Connection<Store>) -> (Option<Refusal>, Connection<Store>) {
+fn open<S: Alter>(alloc: Global, conn: Connection<S>) -> (Option<Refusal>, Connection<S>) {
     match SqlKeeper::open(alloc, conn) {
         Ok(keeper) => (None, keeper.into_connection()),
         Err((refusal, conn)) => (Some(refusal), conn),
