@@ -22,6 +22,20 @@ impl Clock for StandingClock {
     }
 }
 
+/// A clock that can't be read.
+#[derive(Clone, Copy)]
+pub struct StoppedClock;
+
+impl Clock for StoppedClock {
+    fn monotonic(&self) -> io::Result<Duration> {
+        Err(io::Error::from(io::ErrorKind::Unsupported))
+    }
+
+    fn since_1970(&self) -> io::Result<Duration> {
+        Err(io::Error::from(io::ErrorKind::Unsupported))
+    }
+}
+
 /// A listener each of whose connections comes from a peer that has sent these bytes and closed.
 #[derive(Drop)]
 pub struct GonePeers<'a, R: Net<Listener = TcpListener, Stream = TcpStream>> {

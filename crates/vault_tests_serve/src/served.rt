@@ -1,10 +1,13 @@
 //! Requests over loopback, with their answers byte for byte.
 use crate::loopback::{Failing, Loopback, READING, answered, send};
+use crate::peers::{StandingClock, StoppedClock};
 use std::cell::Cell;
 use std::io;
 use std::net::{Ipv4Addr, TcpListener};
 use std::test::Fail;
+use vault_base::moment::Moment;
 use vault_transcript::transcript::opened;
+use vaultctl_serve::clock::now;
 use vaultctl_serve::{PortFault, serve, serve_connections};
 
 const PUT: &str =
@@ -56,6 +59,16 @@ fn a_clock_that_cannot_be_read(rt: HostRuntime) -> Result<(), Fail> {
     };
     assert!(rt; serve(&network, alloc, &mut keeper, 0, 1).is_ok());
     answered(alloc, network.clients.replace(Vec::new(alloc)), &[NO_TIME])
+}
+
+/// The clock's whole seconds are the moment; where it can't be read, no moment is made up.
+#[test]
+fn the_moment_of_a_clock(rt: HostRuntime) -> Result<(), Fail> {
+    let shown = now(&StandingClock).map(Moment::secs);
+    let unread = now(&StoppedClock).map(Moment::secs);
+    assert_eq!(rt; shown, Some(READING));
+    assert_eq!(rt; unread, None);
+    Ok(())
 }
 
 /// A connection that can't be taken counts, and the next one is served.

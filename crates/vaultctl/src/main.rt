@@ -1,7 +1,7 @@
 //! The vault's program: reads its words, carries out what they ask for, and answers the status.
 #![tactic(auto)]
 
-use std::io::{self, BufWriter, Write};
+use std::io::{self, BufWriter, Read, Write};
 use std::process::ExitCode;
 use vaultctl_perform::answer_words;
 
@@ -20,10 +20,22 @@ fn main(rt: HostRuntime) -> ExitCode {
     }
 }
 
-/// The status of what the words ask for; an error where room for the words was refused.
+/// The status of what the words ask for. No clause stands here: one would have the call's proof carry all that the
+/// machine's reader and writer hold.
+fn answer<R: Read, W: Write, E: Write>(
+    rt: &HostRuntime,
+    words: &[String],
+    reader: &mut R,
+    out: &mut W,
+    err: &mut E,
+) -> u8 {
+    answer_words(rt, words, reader, out, err)
+}
+
+/// The same of the program's words; an error where room for them was refused.
 fn run<E: Write>(rt: &HostRuntime, err: &mut E) -> io::Result<u8> {
     let words: Vec<String> = std::env::args(rt)?.collect(rt.alloc())?;
     let mut out = BufWriter::with_capacity(rt.alloc(), HELD_BACK, io::writer(rt))?;
     let mut reader = rt.reader();
-    Ok(answer_words(rt, words.as_slice(), &mut reader, &mut out, err))
+    Ok(answer(rt, words.as_slice(), &mut reader, &mut out, err))
 }

@@ -1,5 +1,6 @@
 -- What is printed of a reply, and what came of its command.
-use Rattle.std.specs.Prelude.{ℕ, List}
+use Rattle.std.specs.Prelude.{◌≡◌, ℕ, List, Option}
+use Rattle.std.specs.Io.KnownBytes.{Appends}
 use Rattle.vault_core_model.specs.declared.reply.Answer.TheVariants as answer
 use Rattle.vault_core_model.specs.declared.reply.Reply.{Reply}
 use Rattle.vault_core_model.specs.declared.reply.Reply.TheVariants.{Done, Refused, Stopped}
@@ -19,3 +20,7 @@ abbrev pub outcome_of : Reply → Outcome
 outcome_of (Done answer) = outcome.Done
 outcome_of (Refused refusal) = outcome.Refused
 outcome_of (Stopped changes stop) = outcome.Refused
+
+-- a reply is printed, and that came of its command
+abbrev pub TellsReply : Outcome → Option (List ℕ) → Option (List ℕ) → Type 0
+TellsReply told before after = (reply : Reply) × (told ≡ outcome_of reply) × Appends before after (printed reply)

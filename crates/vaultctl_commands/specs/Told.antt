@@ -13,6 +13,11 @@ use Rattle.vaultctl_commands.specs.declared.outcome.Outcome.TheVariants.{Done, R
 abbrev pub intake_outcome : List RowReply → Option Refusal → Outcome
 intake_outcome rows stopped = if is_accepted rows stopped then Done else Refused
 
+-- the lines of an intake are printed, and that came of it
+abbrev pub TellsIntake : Outcome → Option (List ℕ) → Option (List ℕ) → Type 0
+TellsIntake told before after =
+    (rows : List RowReply) × (stopped : Option Refusal) × (told ≡ intake_outcome rows stopped) × Appends before after (lines rows stopped)
+
 -- the files were taken in, whatever came of each
 abbrev pub IsTakenIn : Option (List File) → ℕ → List ℕ → List ℕ → List ℕ → List ℕ → Vault → Vault → Type 0
 IsTakenIn files at who bucket batch list v v' =

@@ -51,6 +51,7 @@ pub fn tell_refusal<W: Write>(
     out: &mut W,
 ) -> Result<Outcome, JobFault>
     ensures ok { IfOk result (λ outcome. (outcome ≡ Outcome.Refused) × Appends (W.contents out.old) (W.contents out.new) (spec.printed (Refused refusal))) }
+    ensures told { IfOk result (λ outcome. spec.TellsReply outcome (W.contents out.old) (W.contents out.new)) }
     ensures reader { result ≢ Err JobFault.Read }
     ensures device { result ≢ Err JobFault.Device }
 {
@@ -73,6 +74,8 @@ pub fn carry_out<K: Keeper, W: Write>(
     ensures ok { K.is_honest keeper.new → IfOk result (λ outcome. (reply : AnyReply) × Step (K.vault keeper.old) at who.now command.now reply (K.vault keeper.new)
         × (outcome ≡ spec.outcome_of reply) × Appends (W.contents out.old) (W.contents out.new) (spec.printed reply)) }
     ensures err { K.is_honest keeper.new → OnErr result ((reply : AnyReply) × Step (K.vault keeper.old) at who.now command.now reply (K.vault keeper.new)) }
+    // Whatever the device does, what is answered is what the printed reply says.
+    ensures told { IfOk result (λ outcome. spec.TellsReply outcome (W.contents out.old) (W.contents out.new)) }
     ensures reached { K.is_honest keeper.new → Reached (K.vault keeper.old) → Reached (K.vault keeper.new) }
     ensures honest { K.is_honest keeper.new → K.is_honest keeper.old }
     ensures reader { result ≢ Err JobFault.Read }

@@ -8,6 +8,8 @@ use Rattle.vaultctl_commands.specs.declared.outcome.Outcome.{Outcome}
 use Rattle.vaultctl_commands.specs.declared.outcome.Outcome.TheVariants.{Done, Refused}
 use Rattle.vaultctl_replay.specs.declared.fault.ReplayFault.{ReplayFault}
 use Rattle.vaultctl_replay.specs.declared.fault.ReplayFault.TheVariants as replay
+use Rattle.vaultctl_serve.specs.declared.fault.PortFault.{PortFault}
+use Rattle.vaultctl_serve.specs.declared.fault.PortFault.TheVariants as port
 
 -- 0 where the job was done
 abbrev pub status_of : Result Outcome JobFault → ℕ
@@ -28,3 +30,8 @@ replayed (Ok t) = Ok Done
 replayed (Err replay.Read) = Err fault.Read
 replayed (Err replay.Write) = Err fault.Write
 replayed (Err replay.Memory) = Err fault.Memory
+
+-- so many requests were served, or a port can't be had
+abbrev pub served : Result (Unit {0}) PortFault → Result Outcome JobFault
+served (Ok t) = Ok Done
+served (Err port.Device) = Err fault.Device

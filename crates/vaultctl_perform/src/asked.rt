@@ -3,6 +3,7 @@ ghost use Rattle.std.specs.Prelude.{◌≡◌, ◌≢◌, ℕ, IfOk, Result, Err
 ghost use Rattle.vault_base.specs.declared.refusal.Refusal.{Refusal as AnyRefusal};
 ghost use Rattle.vault_core_model.specs.Step.{Reached};
 ghost use Rattle.vault_http_values.specs.Fault.{Gives};
+ghost use Rattle.vaultctl_commands.specs.Printed.{TellsReply};
 ghost use Rattle.vaultctl_perform.specs.Asked as spec;
 ghost use Rattle.vaultctl_values.specs.declared.asked.Asked.{Asked as AskedOf};
 
@@ -17,8 +18,8 @@ use vault_http_values::fault::LineFault;
 use vaultctl_commands::carrying::{carry_out, tell_refusal};
 use vaultctl_commands::fault::JobFault;
 use vaultctl_commands::outcome::Outcome;
-use vaultctl_machine::clock::now;
 use vaultctl_machine::vaults::{FileVault, Machine, close_vault};
+use vaultctl_serve::clock::now;
 use vaultctl_values::asked::Asked;
 
 /// The reading that is given, or else the machine's clock.
@@ -42,6 +43,8 @@ fn carry_out_asked<C: Clock, K: Keeper, W: Write>(
 ) -> Result<Outcome, JobFault>
     // It is one step, by the caller who asks and at the reading that is given, and what is printed is the reply to it.
     ensures done { K.is_honest keeper.new → IfOk result (λ told. spec.IsDoneAt asked.now.at asked.now (K.vault keeper.old) (K.vault keeper.new) told (W.contents out.old) (W.contents out.new)) }
+    // Whatever the device does, what is answered is what the printed reply says.
+    ensures told { IfOk result (λ told. TellsReply told (W.contents out.old) (W.contents out.new)) }
     ensures reached { K.is_honest keeper.new → Reached (K.vault keeper.old) → Reached (K.vault keeper.new) }
     ensures honest { K.is_honest keeper.new → K.is_honest keeper.old }
 {
@@ -51,15 +54,30 @@ fn carry_out_asked<C: Clock, K: Keeper, W: Write>(
     carry_out(alloc, keeper, at, &asked.who, &asked.command, out)
 }
 
+/// Asks it of any keeper. No clause speaks of the keeper here: one would have a call's proof carry all that the
+/// keeper of a file holds.
+fn ask_keeper<K: Keeper, W: Write>(
+    rt: &HostRuntime,
+    keeper: &mut K,
+    asked: &Asked,
+    out: &mut W,
+) -> Result<Outcome, JobFault>
+    ensures told { IfOk result (λ told. TellsReply told (W.contents out.old) (W.contents out.new)) }
+{
+    carry_out_asked(rt.alloc(), rt, keeper, asked, out)
+}
+
 /// Asks it of a vault, and closes the vault.
 fn ask_vault<W: Write>(
     rt: &HostRuntime,
     vault: FileVault,
     asked: &Asked,
     out: &mut W,
-) -> Result<Outcome, JobFault> {
+) -> Result<Outcome, JobFault>
+    ensures told { IfOk result (λ told. TellsReply told (W.contents out.old) (W.contents out.new)) }
+{
     let mut vault = vault;
-    let outcome = carry_out_asked(rt.alloc(), rt, &mut vault, asked, out);
+    let outcome = ask_keeper(rt, &mut vault, asked, out);
     close_vault(vault);
     outcome
 }
@@ -73,6 +91,7 @@ fn ask_in_file<W: Write, E: Write>(
     out: &mut W,
     err: &mut E,
 ) -> u8
+    ensures told { result ≡ 0 → TellsReply Outcome.Done (W.contents out.old) (W.contents out.new) }
     ensures status { result ≢ 2 }
 {
     let rt = machine.runtime();
@@ -92,6 +111,7 @@ fn ask_read<W: Write, E: Write>(
     err: &mut E,
 ) -> u8
     ensures values { (said : Result AskedOf AnyRefusal) (r : AnyRefusal) → Gives (λ x. x) asked.now said → said ≡ Err r → (machine.new ≡ machine.old) × (result ≡ 1) }
+    ensures told { result ≡ 0 → TellsReply Outcome.Done (W.contents out.old) (W.contents out.new) }
     ensures status { result ≢ 2 }
 {
     let alloc = machine.runtime().alloc();
@@ -113,6 +133,8 @@ pub fn ask<W: Write, E: Write>(
     err: &mut E,
 ) -> u8
     ensures values { (said : Result AskedOf AnyRefusal) (r : AnyRefusal) → Gives (λ x. x) asked said → said ≡ Err r → (machine.new ≡ machine.old) × (result ≡ 1) }
+    // Status 0 says that it was done, and that the reply which says so was printed.
+    ensures told { result ≡ 0 → TellsReply Outcome.Done (W.contents out.old) (W.contents out.new) }
     ensures status { result ≢ 2 }
 {
     ask_read(machine, subcommand, file, &asked, out, err)

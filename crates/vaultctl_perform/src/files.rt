@@ -1,19 +1,21 @@
-//! Jobs on a vault's file as a whole.
+//! Jobs on a vault's file as a whole: a new one, its register, a script, and requests.
+//!
+//! What they do over any keeper has no clause of its own: one would have a call's proof carry all that the keeper
+//! of a file holds.
 ghost use Rattle.std.specs.Prelude.{◌≡◌, ◌≢◌};
 ghost use Rattle.vaultctl_perform.specs.Status as spec;
 
 use crate::telling::{status, tell_unopened};
 use std::alloc::Global;
 use std::io::{Read, Write};
-use vault_base::refusal::{Refusal, Table};
+use vault_core_model::keeper::Keeper;
 use vault_files_register::ExportFault;
 use vault_files_register::register::export_register;
 use vaultctl_commands::fault::JobFault;
 use vaultctl_commands::outcome::Outcome;
-use vaultctl_commands::printing::print;
 use vaultctl_machine::vaults::{FileVault, Machine, close_vault};
 use vaultctl_replay::{ReplayFault, replay};
-use vaultctl_serve::serve;
+use vaultctl_serve::{PortFault, serve};
 
 /// Makes a new vault in a file, and prints nothing.
 pub fn init<E: Write>(machine: &mut Machine<'_>, file: &str, err: &mut E) -> u8
@@ -28,41 +30,6 @@ pub fn init<E: Write>(machine: &mut Machine<'_>, file: &str, err: &mut E) -> u8
     }
 }
 
-/// Prints that a table isn't sound.
-fn tell_damaged<W: Write>(out: &mut W, alloc: Global, table: Table) -> Result<Outcome, JobFault> {
-    let Ok(text) = format!(in alloc; "damaged {}\n", table.name()) else {
-        return Err(JobFault::Memory);
-    };
-    print(out, text.as_str())?;
-    Ok(Outcome::Refused)
-}
-
-/// Prints that a vault is sound.
-fn tell_sound<W: Write>(out: &mut W) -> Result<Outcome, JobFault> {
-    print(out, "sound\n")?;
-    Ok(Outcome::Done)
-}
-
-/// Opens a vault's file, and prints `sound`, or `damaged` and the first table that isn't.
-pub fn verify<W: Write, E: Write>(
-    machine: &mut Machine<'_>,
-    file: &str,
-    out: &mut W,
-    err: &mut E,
-) -> u8
-    ensures status { result ≢ 2 }
-{
-    let alloc = machine.runtime().alloc();
-    match machine.open(file) {
-        Ok(vault) => {
-            close_vault(vault);
-            status(err, "verify", tell_sound(out))
-        }
-        Err(Refusal::Damaged(table)) => status(err, "verify", tell_damaged(out, alloc, table)),
-        Err(refusal) => tell_unopened(err, "open", refusal),
-    }
-}
-
 fn done_or_fault(written: Result<(), ExportFault>) -> Result<Outcome, JobFault>
     ensures { result ≡ spec.exported written }
 {
@@ -74,6 +41,15 @@ fn done_or_fault(written: Result<(), ExportFault>) -> Result<Outcome, JobFault>
     }
 }
 
+/// Writes the register of any keeper.
+fn export<K: Keeper, W: Write>(
+    alloc: Global,
+    keeper: &mut K,
+    out: &mut W,
+) -> Result<Outcome, JobFault> {
+    done_or_fault(export_register(alloc, keeper, out))
+}
+
 /// Writes a vault's register, and closes the vault.
 fn write_register<W: Write>(
     alloc: Global,
@@ -81,9 +57,9 @@ fn write_register<W: Write>(
     out: &mut W,
 ) -> Result<Outcome, JobFault> {
     let mut vault = vault;
-    let written = export_register(alloc, &mut vault, out);
+    let outcome = export(alloc, &mut vault, out);
     close_vault(vault);
-    done_or_fault(written)
+    outcome
 }
 
 /// Prints the register of a vault's removals.
@@ -113,6 +89,16 @@ fn replayed(answered: Result<(), ReplayFault>) -> Result<Outcome, JobFault>
     }
 }
 
+/// Answers a script over any keeper.
+fn answer_over<K: Keeper, R: Read, W: Write>(
+    alloc: Global,
+    keeper: &mut K,
+    reader: &mut R,
+    out: &mut W,
+) -> Result<Outcome, JobFault> {
+    replayed(replay(alloc, reader, out, keeper))
+}
+
 /// Answers a script over a vault, and closes the vault.
 fn answer_script<R: Read, W: Write>(
     alloc: Global,
@@ -121,9 +107,9 @@ fn answer_script<R: Read, W: Write>(
     out: &mut W,
 ) -> Result<Outcome, JobFault> {
     let mut vault = vault;
-    let answered = replay(alloc, reader, out, &mut vault);
+    let outcome = answer_over(alloc, &mut vault, reader, out);
     close_vault(vault);
-    replayed(answered)
+    outcome
 }
 
 /// Answers the script that the reader gives over the vault in a file.
@@ -143,6 +129,25 @@ pub fn replay_file<R: Read, W: Write, E: Write>(
     }
 }
 
+fn served(ended: Result<(), PortFault>) -> Result<Outcome, JobFault>
+    ensures { result ≡ spec.served ended }
+{
+    match ended {
+        Ok(()) => Ok(Outcome::Done),
+        Err(PortFault::Device) => Err(JobFault::Device),
+    }
+}
+
+/// Serves requests over any keeper.
+fn serve_over<K: Keeper>(
+    rt: &HostRuntime,
+    keeper: &mut K,
+    port: u16,
+    count: u32,
+) -> Result<Outcome, JobFault> {
+    served(serve(rt, rt.alloc(), keeper, port, count))
+}
+
 /// Serves requests over a vault, and closes the vault.
 fn serve_vault(
     rt: &HostRuntime,
@@ -151,12 +156,9 @@ fn serve_vault(
     count: u32,
 ) -> Result<Outcome, JobFault> {
     let mut vault = vault;
-    let served = serve(rt, rt.alloc(), &mut vault, port, count);
+    let outcome = serve_over(rt, &mut vault, port, count);
     close_vault(vault);
-    match served {
-        Ok(()) => Ok(Outcome::Done),
-        Err(_) => Err(JobFault::Device),
-    }
+    outcome
 }
 
 /// Serves requests over the vault in a file, at a port of 127.0.0.1.

@@ -1,8 +1,9 @@
 //! The intake of a list into the vault in a file.
-ghost use Rattle.std.specs.Prelude.{◌≡◌, ◌≢◌, Result, Err};
+ghost use Rattle.std.specs.Prelude.{◌≡◌, ◌≢◌, IfOk, Result, Err};
 ghost use Rattle.vault_base.specs.declared.refusal.Refusal.{Refusal as AnyRefusal};
 ghost use Rattle.vault_core_model.specs.Step.{Reached};
 ghost use Rattle.vault_http_values.specs.Fault.{Gives};
+ghost use Rattle.vaultctl_commands.specs.Told.{TellsIntake};
 ghost use Rattle.vaultctl_values.specs.declared.asked.AskedIntake.{AskedIntake as AskedOf};
 
 use crate::asked::reading;
@@ -35,6 +36,8 @@ fn take_in_read<K: Keeper, W: Write>(
     folder: &str,
     out: &mut W,
 ) -> Result<Outcome, JobFault>
+    // Done is answered only behind the lines that say so.
+    ensures told { IfOk result (λ told. told ≡ Outcome.Done → TellsIntake Outcome.Done (W.contents out.old) (W.contents out.new)) }
     ensures reached { K.is_honest keeper.new → Reached (K.vault keeper.old) → Reached (K.vault keeper.new) }
     ensures honest { K.is_honest keeper.new → K.is_honest keeper.old }
 {
@@ -64,6 +67,7 @@ fn take_in_list<K: Keeper, W: Write>(
     job: &Intake,
     out: &mut W,
 ) -> Result<Outcome, JobFault>
+    ensures told { IfOk result (λ told. told ≡ Outcome.Done → TellsIntake Outcome.Done (W.contents out.old) (W.contents out.new)) }
     ensures reached { K.is_honest keeper.new → Reached (K.vault keeper.old) → Reached (K.vault keeper.new) }
     ensures honest { K.is_honest keeper.new → K.is_honest keeper.old }
 {
@@ -74,6 +78,20 @@ fn take_in_list<K: Keeper, W: Write>(
     }
 }
 
+/// Takes in the list to any keeper. No clause speaks of the keeper here: one would have a call's proof carry all
+/// that the keeper of a file holds.
+fn take_in_keeper<K: Keeper, W: Write>(
+    rt: &HostRuntime,
+    keeper: &mut K,
+    asked: &AskedIntake,
+    job: &Intake,
+    out: &mut W,
+) -> Result<Outcome, JobFault>
+    ensures told { IfOk result (λ told. told ≡ Outcome.Done → TellsIntake Outcome.Done (W.contents out.old) (W.contents out.new)) }
+{
+    take_in_list(rt, keeper, asked, job, out)
+}
+
 /// Takes in the list, and closes the vault.
 fn take_in_vault<W: Write>(
     rt: &HostRuntime,
@@ -81,9 +99,11 @@ fn take_in_vault<W: Write>(
     asked: &AskedIntake,
     job: &Intake,
     out: &mut W,
-) -> Result<Outcome, JobFault> {
+) -> Result<Outcome, JobFault>
+    ensures told { IfOk result (λ told. told ≡ Outcome.Done → TellsIntake Outcome.Done (W.contents out.old) (W.contents out.new)) }
+{
     let mut vault = vault;
-    let outcome = take_in_list(rt, &mut vault, asked, job, out);
+    let outcome = take_in_keeper(rt, &mut vault, asked, job, out);
     close_vault(vault);
     outcome
 }
@@ -95,6 +115,7 @@ fn take_in_file<W: Write, E: Write>(
     out: &mut W,
     err: &mut E,
 ) -> u8
+    ensures told { result ≡ 0 → TellsIntake Outcome.Done (W.contents out.old) (W.contents out.new) }
     ensures status { result ≢ 2 }
 {
     let rt = machine.runtime();
@@ -113,6 +134,7 @@ fn take_in_asked<W: Write, E: Write>(
     err: &mut E,
 ) -> u8
     ensures values { (said : Result AskedOf AnyRefusal) (r : AnyRefusal) → Gives (λ x. x) asked.now said → said ≡ Err r → (machine.new ≡ machine.old) × (result ≡ 1) }
+    ensures told { result ≡ 0 → TellsIntake Outcome.Done (W.contents out.old) (W.contents out.new) }
     ensures status { result ≢ 2 }
 {
     let alloc = machine.runtime().alloc();
@@ -133,6 +155,8 @@ pub fn take_in<W: Write, E: Write>(
     err: &mut E,
 ) -> u8
     ensures values { (said : Result AskedOf AnyRefusal) (r : AnyRefusal) → Gives (λ x. x) asked said → said ≡ Err r → (machine.new ≡ machine.old) × (result ≡ 1) }
+    // Status 0 says that each row was taken in, and that the lines which say so were printed.
+    ensures told { result ≡ 0 → TellsIntake Outcome.Done (W.contents out.old) (W.contents out.new) }
     ensures status { result ≢ 2 }
 {
     take_in_asked(machine, &asked, job, out, err)

@@ -7,6 +7,7 @@ ghost use Rattle.vaultctl_job.specs.Words.{job_for, vaultctl};
 ghost use Rattle.vaultctl_job.specs.declared.job.Job.{Job as AnyJob};
 ghost use Rattle.vault_base.specs.declared.refusal.Refusal.{Refusal};
 ghost use Rattle.vaultctl_perform.specs.Replay.{AnswersFromNew};
+ghost use Rattle.vaultctl_perform.specs.Told.{IsTold};
 ghost use Rattle.vaultctl_perform.specs.Values.{IsValueFault};
 
 mod asked;
@@ -14,6 +15,7 @@ mod files;
 mod intake;
 mod replay;
 mod telling;
+mod verify;
 
 use std::io::{Read, Write};
 use vaultctl_job::fault::WordsFault;
@@ -48,6 +50,7 @@ fn carry_out<R: Read, W: Write, E: Write>(
 ) -> u8
     ensures replayed { job.now ≡ Job.Replay (record { file = None }) → result ≡ 0 → AnswersFromNew (R.remaining reader.old) (R.remaining reader.new) (W.contents out.old) (W.contents out.new) }
     ensures values { (r : Refusal) → IsValueFault job.now r → (machine.new ≡ machine.old) × (result ≡ 1) }
+    ensures told { result ≡ 0 → IsTold job.now (W.contents out.old) (W.contents out.new) }
     ensures status { result ≢ 2 }
 {
     let alloc = machine.runtime().alloc();
@@ -79,7 +82,7 @@ fn carry_out<R: Read, W: Write, E: Write>(
             asked::ask(machine, "certificate", job.file.as_str(), asked, out, err)
         }
         Job::Register(job) => files::register(machine, job.file.as_str(), out, err),
-        Job::Verify(job) => files::verify(machine, job.file.as_str(), out, err),
+        Job::Verify(job) => verify::verify(machine, job.file.as_str(), out, err),
         Job::Replay(job) => replay_script(machine, job, reader, out, err),
         Job::Serve(job) => {
             files::serve_file(machine, job.file.as_str(), job.port, job.count, err)
@@ -104,6 +107,8 @@ pub fn perform<R: Read, W: Write, E: Write>(
     ensures replayed { job.now ≡ Job.Replay (record { file = None }) → result ≡ 0 → AnswersFromNew (R.remaining reader.old) (R.remaining reader.new) (W.contents out.old) (W.contents out.new) }
     // A value that isn't such is never told as done.
     ensures values { (r : Refusal) → IsValueFault job.now r → result ≡ 1 }
+    // Status 0 is never answered without what the job has to print for it.
+    ensures told { result ≡ 0 → IsTold job.now (W.contents out.old) (W.contents out.new) }
     ensures status { result ≢ 2 }
 {
     let mut machine = Machine::new(rt);
@@ -126,6 +131,7 @@ pub fn answer_words<R: Read, W: Write, E: Write>(
     // Words that ask for nothing, and values that aren't such, are never told as done.
     ensures words { job_for (map string_bytes words.now) ≡ None → result ≢ 0 }
     ensures values { (job : AnyJob) (r : Refusal) → job_for (map string_bytes words.now) ≡ Some job → IsValueFault job r → result ≢ 0 }
+    ensures told { (job : AnyJob) → job_for (map string_bytes words.now) ≡ Some job → result ≡ 0 → IsTold job (W.contents out.old) (W.contents out.new) }
 {
     match job_of(rt.alloc(), words) {
         Ok(job) => perform(rt, &job, reader, out, err),

@@ -1,5 +1,5 @@
 //! The lines of an input, whatever pieces it comes in.
-ghost use Rattle.std.specs.Prelude.{◌≡◌, ◌≤◌, [], ◌∷◌, ◌++◌, take, OnOk, OnErr, vec_len};
+ghost use Rattle.std.specs.Prelude.{◌≡◌, ◌≤◌, [], ◌∷◌, ◌++◌, take, IfErr, OnOk, OnErr, vec_len};
 ghost use Rattle.vaultctl_replay.specs.Lines.{advance, asked_in, last_of};
 ghost use Rattle.vaultctl_replay.specs.Runs.{Began, Finished};
 
@@ -16,6 +16,7 @@ fn push_within(part: &mut Vec<u8>, byte: u8, most: usize) -> Result<(), ReplayFa
     ensures ok { OnOk result (part.new.items ≡ take most (part.old.items ++ byte ∷ [])) }
     ensures bound { vec_len part.new ≤ most }
     ensures kind { ¬ (result ≡ Err ReplayFault.Read) }
+    ensures memory { IfErr result (λ e. e ≡ ReplayFault.Memory) }
 {
     if part.len() < most && part.push(byte).is_err() {
         return Err(ReplayFault::Memory);

@@ -1,9 +1,10 @@
-//! The machine's clock, as the reading of a request.
+//! The machine's clock.
 ghost use Rattle.std.specs.Prelude.{◌≡◌, ◌/◌};
 ghost use Rattle.std.specs.Time.{system_time_nanos};
 ghost use Rattle.vault_base.specs.Days.{as_moment, moment_at};
 
 use std::time::{Clock, SystemTime, UNIX_EPOCH};
+use vault_base::moment::Moment;
 
 /// A reading that is no moment.
 const NO_MOMENT: i64 = -1;
@@ -25,4 +26,9 @@ pub fn reading<C: Clock>(clock: &C) -> i64 {
         Ok(time) => seconds_of(time),
         Err(_) => NO_MOMENT,
     }
+}
+
+/// The moment that the clock shows: whole seconds since 1970. None where it can't be read, or shows no moment.
+pub fn now<C: Clock>(clock: &C) -> Option<Moment> {
+    Moment::from_secs(reading(clock))
 }

@@ -1,7 +1,7 @@
 //! The vault over HTTP on a port of this machine: one request a connection, one connection after another.
 #![tactic(auto)]
 
-mod clock;
+pub mod clock;
 mod connection;
 mod fault;
 mod server;

@@ -1,0 +1,65 @@
+//! Whether the vault in a file is sound.
+ghost use Rattle.std.specs.Prelude.{◌≡◌, ◌≢◌, IfOk, string_bytes};
+ghost use Rattle.std.specs.Io.KnownBytes.{Appends};
+ghost use Rattle.vaultctl_perform.specs.Told as spec;
+
+use crate::telling::{status, tell_unopened};
+use std::alloc::{AllocError, Global};
+use std::io::Write;
+use vault_base::refusal::{Refusal, Table};
+use vaultctl_commands::fault::JobFault;
+use vaultctl_commands::outcome::Outcome;
+use vaultctl_commands::printing::print;
+use vaultctl_machine::vaults::{Machine, close_vault};
+
+/// The line that names a table which isn't sound. The error is want of memory.
+fn damaged_line(alloc: Global, table: Table) -> Result<String, AllocError>
+    ensures { IfOk result (λ line. string_bytes line ≡ spec.damaged_line table) }
+{
+    let mut line = String::new(alloc);
+    line.push_str("damaged ")?;
+    line.push_str(table.name())?;
+    line.push_str("\n")?;
+    Ok(line)
+}
+
+/// Prints that a table isn't sound.
+fn tell_damaged<W: Write>(alloc: Global, table: Table, out: &mut W) -> Result<Outcome, JobFault>
+    ensures { IfOk result (λ told. (told ≡ Outcome.Refused) × Appends (W.contents out.old) (W.contents out.new) (spec.damaged_line table)) }
+{
+    let Ok(line) = damaged_line(alloc, table) else {
+        return Err(JobFault::Memory);
+    };
+    print(out, line.as_str())?;
+    Ok(Outcome::Refused)
+}
+
+/// Prints that a vault is sound.
+fn tell_sound<W: Write>(out: &mut W) -> Result<Outcome, JobFault>
+    ensures { IfOk result (λ told. (told ≡ Outcome.Done) × Appends (W.contents out.old) (W.contents out.new) spec.sound_line) }
+{
+    print(out, "sound\n")?;
+    Ok(Outcome::Done)
+}
+
+/// Opens a vault's file, and prints `sound`, or `damaged` and the first table that isn't.
+pub fn verify<W: Write, E: Write>(
+    machine: &mut Machine<'_>,
+    file: &str,
+    out: &mut W,
+    err: &mut E,
+) -> u8
+    // Status 0 says that `sound` was printed.
+    ensures told { result ≡ 0 → Appends (W.contents out.old) (W.contents out.new) spec.sound_line }
+    ensures status { result ≢ 2 }
+{
+    let alloc = machine.runtime().alloc();
+    match machine.open(file) {
+        Ok(vault) => {
+            close_vault(vault);
+            status(err, "verify", tell_sound(out))
+        }
+        Err(Refusal::Damaged(table)) => status(err, "verify", tell_damaged(alloc, table, out)),
+        Err(refusal) => tell_unopened(err, "open", refusal),
+    }
+}
