@@ -3,8 +3,12 @@
 #![tactic(auto)]
 
 #[cfg(test)]
+mod batch;
+#[cfg(test)]
 mod faults;
 #[cfg(test)]
 mod intake;
 #[cfg(test)]
 mod register;
+#[cfg(test)]
+mod trial;

@@ -1,27 +1,69 @@
 //! Intakes that a folder, a device or a list stops.
 use crate::faults::taking::{list_of, resumed, stopped_behind, take, take_first, take_list};
-use crate::faults::vault::{compare, told};
+use crate::faults::vault::{tells_still, told};
+use crate::trial::{Trial, compare, try_on_failing, try_on_new};
 use std::alloc::Global;
 use std::test::Fail;
-use vault_core::fuse_keeper::FuseKeeper;
-use vault_core_list::list_keeper::ListKeeper;
 use vault_core_model::keeper::Keeper;
-use vault_transcript::transcript::opened;
 
-/// What replies tell of a vault that has taken in the first so many rows.
-fn told_behind(alloc: Global, count: usize) -> Result<String, Fail> {
-    let mut keeper = opened(alloc)?;
-    take_first(alloc, &mut keeper, count)?;
-    told(alloc, &mut keeper)
+/// What is to be told of a vault that has taken in the first so many rows.
+#[derive(Clone, Copy)]
+struct Behind<'a> {
+    count: usize,
+    told: &'a str,
+}
+
+impl Trial for Behind<'_> {
+    fn carry_out<K: Keeper>(&self, alloc: Global, keeper: &mut K) -> Result<(), Fail> {
+        take_first(alloc, keeper, self.count)?;
+        let wanted = told(alloc, keeper)?;
+        compare("the vault behind its intake", self.told, wanted.as_str())
+    }
+}
+
+/// Fails unless replies tell of the vault what they tell of one that has taken in the first so many rows.
+pub fn tells_as_behind<K: Keeper>(alloc: Global, keeper: &mut K, count: usize) -> Result<(), Fail> {
+    let told = told(alloc, keeper)?;
+    try_on_new(
+        alloc,
+        &Behind {
+            count,
+            told: told.as_str(),
+        },
+    )
 }
 
 /// The device stopped an intake behind so many rows. They stand, and the list given again is taken in to its end.
 fn resume<K: Keeper>(alloc: Global, keeper: &mut K, count: usize) -> Result<(), Fail> {
-    let wanted = told_behind(alloc, count)?;
-    compare(told(alloc, keeper)?.as_str(), wanted.as_str())?;
+    tells_as_behind(alloc, keeper, count)?;
     take(alloc, keeper, None, resumed(alloc, count)?.as_str())?;
-    let whole = told_behind(alloc, 3)?;
-    compare(told(alloc, keeper)?.as_str(), whole.as_str())
+    tells_as_behind(alloc, keeper, 3)
+}
+
+/// A device stops an intake behind so many rows, that of the folder, which takes so many reads, or the vault's.
+#[derive(Clone, Copy)]
+struct Stopped {
+    left: Option<u64>,
+    count: usize,
+}
+
+impl Trial for Stopped {
+    fn carry_out<K: Keeper>(&self, alloc: Global, keeper: &mut K) -> Result<(), Fail> {
+        let wanted = stopped_behind(alloc, self.count, "stopped Device\n")?;
+        take(alloc, keeper, self.left, wanted.as_str())?;
+        resume(alloc, keeper, self.count)
+    }
+}
+
+/// A folder that takes a read for each row stops no intake.
+#[derive(Clone, Copy)]
+struct NotStopped;
+
+impl Trial for NotStopped {
+    fn carry_out<K: Keeper>(&self, alloc: Global, keeper: &mut K) -> Result<(), Fail> {
+        let wanted = stopped_behind(alloc, 3, "")?;
+        take(alloc, keeper, Some(3), wanted.as_str())
+    }
 }
 
 /// The folder refuses the read of each row in turn: what `take_in` says in `taken`.
@@ -29,26 +71,15 @@ fn resume<K: Keeper>(alloc: Global, keeper: &mut K, count: usize) -> Result<(), 
 fn a_folder_that_fails_stops_an_intake(rt: HostRuntime) -> Result<(), Fail> {
     let alloc = rt.alloc();
     for count in 0..3usize {
-        let mut keeper = opened(alloc)?;
-        let wanted = stopped_behind(alloc, count, "stopped Device\n")?;
-        take(alloc, &mut keeper, Some(count as u64), wanted.as_str())?;
-        resume(alloc, &mut keeper, count)?;
+        let left = Some(count as u64);
+        try_on_new(alloc, &Stopped { left, count })?;
     }
-    let mut keeper = opened(alloc)?;
-    take(
-        alloc,
-        &mut keeper,
-        Some(3),
-        stopped_behind(alloc, 3, "")?.as_str(),
-    )
+    try_on_new(alloc, &NotStopped)
 }
 
 /// The vault's device refuses a change: the first, so no row stands, or the second, that of the third row.
 fn stopped_by_device(alloc: Global, changes: u64, count: usize) -> Result<(), Fail> {
-    let mut keeper: FuseKeeper<ListKeeper> = FuseKeeper::new(opened(alloc)?, changes);
-    let wanted = stopped_behind(alloc, count, "stopped Device\n")?;
-    take(alloc, &mut keeper, None, wanted.as_str())?;
-    resume(alloc, &mut keeper, count)
+    try_on_failing(alloc, changes, &Stopped { left: None, count })
 }
 
 #[test]
@@ -71,18 +102,27 @@ fn take_long<K: Keeper>(
     take_list(alloc, keeper, list.as_slice(), None, wanted)
 }
 
+/// A list that is a byte too long changes nothing.
+fn refuse_too_long<K: Keeper>(alloc: Global, keeper: &mut K) -> Result<(), Fail> {
+    let before = told(alloc, keeper)?;
+    take_long(alloc, keeper, 16_777_217, "stopped EntityTooLarge\n")?;
+    tells_still(alloc, keeper, before.as_str())
+}
+
+/// A list that is too long, and then one that just isn't.
+#[derive(Clone, Copy)]
+struct TooLong;
+
+impl Trial for TooLong {
+    fn carry_out<K: Keeper>(&self, alloc: Global, keeper: &mut K) -> Result<(), Fail> {
+        refuse_too_long(alloc, keeper)?;
+        let wanted = stopped_behind(alloc, 3, "")?;
+        take_long(alloc, keeper, 16_777_216, wanted.as_str())
+    }
+}
+
 /// A byte more than a list may have stops it before its first row, and without that byte it is taken in.
 #[test]
 fn a_list_that_is_too_long_changes_nothing(rt: HostRuntime) -> Result<(), Fail> {
-    let alloc = rt.alloc();
-    let mut keeper = opened(alloc)?;
-    let before = told(alloc, &mut keeper)?;
-    take_long(alloc, &mut keeper, 16_777_217, "stopped EntityTooLarge\n")?;
-    compare(told(alloc, &mut keeper)?.as_str(), before.as_str())?;
-    take_long(
-        alloc,
-        &mut keeper,
-        16_777_216,
-        stopped_behind(alloc, 3, "")?.as_str(),
-    )
+    try_on_new(rt.alloc(), &TooLong)
 }

@@ -1,18 +1,18 @@
 //! Script lines that are no command: one MalformedBody each, nothing is changed, and the next line is answered.
-use crate::faults::vault::{compare, edge, told};
+use crate::faults::vault::{edge, tells_still, told};
+use crate::trial::{Trial, compare, try_on_new};
 use std::alloc::Global;
 use std::test::Fail;
 use vault_core_model::keeper::Keeper;
-use vault_transcript::transcript::{opened, play, replies};
-
-const MALFORMED: &str = "{\"error\":{\"code\":\"MalformedBody\",\"n\":12}}\n";
+use vault_transcript::transcript::{play, replies};
 
 /// A line that is answered in any case.
 const NEXT: &str =
     "\n{\"at\":\"2014-01-01T00:00:00Z\",\"as\":\"registrar\",\"do\":\"report\",\"dept\":\"records\"}\n";
 
-const EMPTY: &str =
-    "{\"ok\":{\"admitted\":0,\"at\":\"2014-01-01T00:00:00Z\",\"byte_days\":0,\"dept\":\"records\",\"held\":0,\"removed\":0}}\n";
+/// What a bad line is answered, and the line behind it.
+const ANSWERS: &str =
+    "{\"error\":{\"code\":\"MalformedBody\",\"n\":12}}\n{\"ok\":{\"admitted\":0,\"at\":\"2014-01-01T00:00:00Z\",\"byte_days\":0,\"dept\":\"records\",\"held\":0,\"removed\":0}}\n";
 
 /// What stands in front of the text of a put, and what behind it.
 const FRONT: &str =
@@ -20,19 +20,17 @@ const FRONT: &str =
 
 const BACK: &str = "\"text\":\"x\"}";
 
-/// Carries a bad line out, and a good one behind it.
-fn refused<K: Keeper>(alloc: Global, keeper: &mut K, line: &[u8]) -> Result<(), Fail> {
-    let mut input = Vec::from_slice(alloc, line)?;
-    input.extend_from_slice(NEXT.as_bytes())?;
-    let before = edge(keeper)?;
-    let given = replies(alloc, keeper, input.as_slice())?;
-    let (first, second) = given.as_str().split_once('\n').ok_or("a reply")?;
-    compare(first, MALFORMED.trim_end())?;
-    compare(second, EMPTY)?;
-    if edge(keeper)? == before {
-        return Ok(());
-    }
-    Err(Fail::new("a bad line makes a step"))
+/// What a line is made of.
+#[derive(Clone, Copy)]
+enum Line<'a> {
+    /// A put of that text, which stands in the line as it is.
+    Put(&'a [u8]),
+    /// A put behind which blanks stand, so that the line has that many bytes.
+    Padded(usize),
+    /// A put of so many brackets, and of a text that would count in their place.
+    Nested(usize),
+    /// So many brackets alone.
+    Brackets(usize),
 }
 
 /// A put of that text, which stands in the line as it is.
@@ -60,48 +58,137 @@ fn nested(alloc: Global, levels: usize) -> Result<Vec<u8>, Fail> {
     Ok(line)
 }
 
+fn bytes_of(alloc: Global, line: Line<'_>) -> Result<Vec<u8>, Fail> {
+    match line {
+        Line::Put(text) => put_of(alloc, text),
+        Line::Padded(length) => padded(alloc, length),
+        Line::Nested(levels) => nested(alloc, levels),
+        Line::Brackets(count) => Ok(b"[".repeat(alloc, count)?),
+    }
+}
+
+/// Carries a line out, and a good one behind it, and fails unless those are the replies.
+fn answered<K: Keeper>(
+    alloc: Global,
+    keeper: &mut K,
+    name: &str,
+    line: Line<'_>,
+    wanted: &str,
+    behind: &str,
+) -> Result<(), Fail> {
+    let mut input = bytes_of(alloc, line)?;
+    input.extend_from_slice(behind.as_bytes())?;
+    let given = replies(alloc, keeper, input.as_slice())?;
+    compare(name, given.as_str(), wanted)
+}
+
+/// Carries a bad line out, and a good one behind it.
+fn refused<K: Keeper>(
+    alloc: Global,
+    keeper: &mut K,
+    name: &str,
+    line: Line<'_>,
+) -> Result<(), Fail> {
+    let before = edge(keeper)?;
+    answered(alloc, keeper, name, line, ANSWERS, NEXT)?;
+    if edge(keeper)? == before {
+        return Ok(());
+    }
+    Err(Fail::new(format_args!("{name}: a bad line makes a step")))
+}
+
+/// Bad lines, each with its name.
+#[derive(Clone, Copy)]
+struct BadLines<'a> {
+    lines: &'a [(&'a str, Line<'a>)],
+}
+
+impl Trial for BadLines<'_> {
+    fn carry_out<K: Keeper>(&self, alloc: Global, keeper: &mut K) -> Result<(), Fail> {
+        let before = told(alloc, keeper)?;
+        for (name, line) in self.lines {
+            refused(alloc, keeper, name, *line)?;
+        }
+        tells_still(alloc, keeper, before.as_str())
+    }
+}
+
 /// A byte more than a line may have; a byte that is no UTF-8; nesting one and a million levels too deep; and
 /// brackets alone, as many as a line may have.
 #[test]
 fn bad_lines_change_nothing(rt: HostRuntime) -> Result<(), Fail> {
-    let alloc = rt.alloc();
-    let mut keeper = opened(alloc)?;
-    let before = told(alloc, &mut keeper)?;
-    refused(alloc, &mut keeper, padded(alloc, 4_194_305)?.as_slice())?;
-    refused(alloc, &mut keeper, put_of(alloc, b"\"\xFF\"}")?.as_slice())?;
-    refused(alloc, &mut keeper, nested(alloc, 127)?.as_slice())?;
-    refused(alloc, &mut keeper, nested(alloc, 1_000_000)?.as_slice())?;
-    refused(
-        alloc,
-        &mut keeper,
-        b"[".repeat(alloc, 4_194_304)?.as_slice(),
-    )?;
-    compare(told(alloc, &mut keeper)?.as_str(), before.as_str())
+    try_on_new(
+        rt.alloc(),
+        &BadLines {
+            lines: &[
+                ("a byte too long", Line::Padded(4_194_305)),
+                ("no UTF-8", Line::Put(b"\"\xFF\"}")),
+                ("a level too deep", Line::Nested(127)),
+                ("a million levels", Line::Nested(1_000_000)),
+                ("brackets alone", Line::Brackets(4_194_304)),
+            ],
+        },
+    )
+}
+
+/// Lines with their names and replies.
+#[derive(Clone, Copy)]
+struct GoodLines<'a> {
+    lines: &'a [(&'a str, Line<'a>, &'a str)],
+}
+
+impl Trial for GoodLines<'_> {
+    fn carry_out<K: Keeper>(&self, alloc: Global, keeper: &mut K) -> Result<(), Fail> {
+        for (name, line, wanted) in self.lines {
+            answered(alloc, keeper, name, *line, wanted, "")?;
+        }
+        Ok(())
+    }
 }
 
 /// What is wrong with those lines alone: a line of the limit and one that is nested up to it are carried out.
 #[test]
 fn lines_up_to_the_limits_are_answered(rt: HostRuntime) -> Result<(), Fail> {
-    let alloc = rt.alloc();
-    let mut keeper = opened(alloc)?;
-    let longest = padded(alloc, 4_194_304)?;
-    let given = replies(alloc, &mut keeper, longest.as_slice())?;
-    compare(given.as_str(), "{\"ok\":{\"version_id\":1}}\n")?;
-    let deepest = nested(alloc, 126)?;
-    let given = replies(alloc, &mut keeper, deepest.as_slice())?;
-    compare(given.as_str(), "{\"ok\":{\"version_id\":2}}\n")
+    try_on_new(
+        rt.alloc(),
+        &GoodLines {
+            lines: &[
+                (
+                    "the longest",
+                    Line::Padded(4_194_304),
+                    "{\"ok\":{\"version_id\":1}}\n",
+                ),
+                (
+                    "the deepest",
+                    Line::Nested(126),
+                    "{\"ok\":{\"version_id\":2}}\n",
+                ),
+            ],
+        },
+    )
+}
+
+/// A transcript that changes nothing.
+#[derive(Clone, Copy)]
+struct Unchanged<'a> {
+    transcript: &'a str,
+}
+
+impl Trial for Unchanged<'_> {
+    fn carry_out<K: Keeper>(&self, alloc: Global, keeper: &mut K) -> Result<(), Fail> {
+        let before = told(alloc, keeper)?;
+        play(alloc, keeper, self.transcript)?;
+        tells_still(alloc, keeper, before.as_str())
+    }
 }
 
 /// Wherever a whole number is asked for.
 #[test]
 fn a_number_and_a_half_is_malformed(rt: HostRuntime) -> Result<(), Fail> {
-    let alloc = rt.alloc();
-    let mut keeper = opened(alloc)?;
-    let before = told(alloc, &mut keeper)?;
-    play(
-        alloc,
-        &mut keeper,
-        r#"
+    try_on_new(
+        rt.alloc(),
+        &Unchanged {
+            transcript: r#"
 {"at":"2024-01-15T10:30:00Z","as":"ann","do":"get","bucket":"docs","key":"a","id":1.5}
   {"error":{"code":"MalformedBody","n":12}}
 {"at":"2024-01-15T10:30:00Z","as":"ann","do":"delete-version","bucket":"docs","key":"a","id":1.5}
@@ -123,6 +210,6 @@ fn a_number_and_a_half_is_malformed(rt: HostRuntime) -> Result<(), Fail> {
 {"at":"2024-01-15T10:30:00Z","as":"ann","do":"set-rules","bucket":"docs","rules":[{"ID":"r1","Status":"Enabled","NoncurrentVersionExpiration":{"NoncurrentDays":1,"NewerNoncurrentVersions":1.5}}]}
   {"error":{"code":"MalformedBody","n":12}}
 "#,
-    )?;
-    compare(told(alloc, &mut keeper)?.as_str(), before.as_str())
+        },
+    )
 }

@@ -1,12 +1,11 @@
 //! Registers that a writer cuts.
-use crate::faults::vault::{compare, told};
+use crate::faults::vault::{tells_still, told};
+use crate::register::export::written;
+use crate::trial::{Trial, try_behind};
 use std::alloc::Global;
 use std::test::Fail;
 use vault_core_model::keeper::Keeper;
-use vault_failing::FailingWriter;
 use vault_files_register::ExportFault;
-use vault_files_register::register::export_register;
-use vault_transcript::transcript::{opened, play};
 
 /// Three entries are removed.
 const REMOVALS: &str = r#"
@@ -24,38 +23,54 @@ const REMOVALS: &str = r#"
   {"ok":{"cause":"request","delete_marker":true,"version_id":3}}
 "#;
 
-/// What a writer took that takes so many writes.
-fn written<K: Keeper>(
+/// How many writes are taken, and what the register is called then.
+const ROWS: [(usize, &str); 4] = [
+    (0, "no write"),
+    (1, "one write"),
+    (2, "two writes"),
+    (3, "three writes"),
+];
+
+/// Fails unless this is the beginning of the whole register, of so many lines.
+fn is_front(name: &str, cut: &str, whole: &str, count: usize) -> Result<(), Fail> {
+    if whole.starts_with(cut) && cut.lines().count() == count {
+        return Ok(());
+    }
+    Err(Fail::new(format_args!("{name}: got {cut}, wanted {count} lines of {whole}")))
+}
+
+/// Fails unless a register that is cut behind so many writes has as many lines, and the vault is as before.
+fn cut<K: Keeper>(
     alloc: Global,
     keeper: &mut K,
-    writes_left: u64,
-    wanted: Result<(), ExportFault>,
-) -> Result<String, Fail> {
-    let mut writer = FailingWriter {
-        written: Vec::new(alloc),
-        writes_left,
-    };
-    let answer = export_register(alloc, keeper, &mut writer);
-    if answer != wanted {
-        return Err(Fail::new(format_args!("wanted {wanted:?}, got {answer:?}")));
+    row: (usize, &str),
+    whole: &str,
+    before: &str,
+) -> Result<(), Fail> {
+    let (writes, name) = row;
+    let cut = written(alloc, keeper, name, writes as u64, Err(ExportFault::Write))?;
+    is_front(name, cut.as_str(), whole, writes)?;
+    tells_still(alloc, keeper, before)
+}
+
+/// The register is written, and then cut behind each of its writes.
+#[derive(Clone, Copy)]
+struct EachCut;
+
+impl Trial for EachCut {
+    fn carry_out<K: Keeper>(&self, alloc: Global, keeper: &mut K) -> Result<(), Fail> {
+        let before = told(alloc, keeper)?;
+        let whole = written(alloc, keeper, "four writes", 4, Ok(()))?;
+        for row in ROWS {
+            cut(alloc, keeper, row, whole.as_str(), before.as_str())?;
+        }
+        Ok(())
     }
-    Ok(String::from_utf8(writer.written)?)
 }
 
 /// The header and three records are four writes. What stands is a beginning of the register, of one line for
 /// each write that was taken, and the vault is as it was: what `export_register` says in `err` and `same`.
 #[test]
 fn a_register_that_is_cut_changes_nothing(rt: HostRuntime) -> Result<(), Fail> {
-    let alloc = rt.alloc();
-    let mut keeper = opened(alloc)?;
-    play(alloc, &mut keeper, REMOVALS)?;
-    let before = told(alloc, &mut keeper)?;
-    let whole = written(alloc, &mut keeper, 4, Ok(()))?;
-    for writes in 0..4usize {
-        let cut = written(alloc, &mut keeper, writes as u64, Err(ExportFault::Write))?;
-        let is_front = whole.as_str().starts_with(cut.as_str());
-        assert!(rt; is_front && cut.as_str().lines().count() == writes);
-        compare(told(alloc, &mut keeper)?.as_str(), before.as_str())?;
-    }
-    Ok(())
+    try_behind(rt.alloc(), REMOVALS, &EachCut)
 }

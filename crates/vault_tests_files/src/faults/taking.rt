@@ -1,19 +1,15 @@
 //! A list of three rows, the files of two, and what is printed of them.
-use crate::faults::vault::compare;
+use crate::batch;
+use crate::batch::Listed;
 use std::alloc::Global;
 use std::test::Fail;
-use vault_base::content::Content;
-use vault_base::moment::Moment;
-use vault_base::name::{BatchName, BucketName, CallerName};
 use vault_core_model::keeper::Keeper;
-use vault_files_intake::folder::File;
-use vault_files_intake::intake::take_in;
 use vault_files_intake::list_folder::ListFolder;
-use vault_files_intake::report::IntakeReport;
-use vault_files_lines::lines::intake_lines;
-use vault_files_rows::file_name::FileName;
 
 const HEADER: &str = "file,key,mode,until,hold\n";
+
+/// The files of the first row and the third.
+const FILES: [(&str, &str); 2] = [("a.txt", "first"), ("b.txt", "second")];
 
 /// The second file isn't there.
 const ROWS: [&str; 3] = [
@@ -62,58 +58,9 @@ pub fn resumed(alloc: Global, count: usize) -> Result<String, Fail> {
     Ok(lines)
 }
 
-fn file(alloc: Global, name: &str, bytes: &[u8]) -> Result<File, Fail> {
-    let name = FileName::read(alloc, name)?.ok_or("a name of a file")?;
-    let bytes = Content::new(Vec::from_slice(alloc, bytes)?);
-    Ok(File { name, bytes })
-}
-
-/// The two files. With a number the folder refuses the read behind so many.
+/// With a number the folder refuses the read behind so many.
 pub fn folder(alloc: Global, left: Option<u64>) -> Result<ListFolder, Fail> {
-    let mut folder = ListFolder::new(alloc, left);
-    folder.push(file(alloc, "a.txt", b"first")?)?;
-    folder.push(file(alloc, "b.txt", b"second")?)?;
-    Ok(folder)
-}
-
-/// Who takes in, when, and as what.
-#[derive(Drop)]
-pub struct Batch {
-    at: Moment,
-    who: CallerName,
-    bucket: BucketName,
-    batch: BatchName,
-}
-
-impl Batch {
-    /// By ann, as batch b1 of docs, at half past ten.
-    pub fn new(alloc: Global) -> Result<Batch, Fail> {
-        Ok(Batch {
-            at: Moment::read("2024-01-15T10:30:00Z").ok().ok_or("at")?,
-            who: CallerName::read(alloc, "ann")?.ok().ok_or("who")?,
-            bucket: BucketName::read(alloc, "docs")?.ok().ok_or("bucket")?,
-            batch: BatchName::read(alloc, "b1")?.ok().ok_or("batch")?,
-        })
-    }
-
-    pub fn take<K: Keeper>(
-        &self,
-        alloc: Global,
-        keeper: &mut K,
-        list: &[u8],
-        folder: &mut ListFolder,
-    ) -> IntakeReport {
-        take_in(
-            alloc,
-            keeper,
-            self.at,
-            &self.who,
-            &self.bucket,
-            &self.batch,
-            list,
-            folder,
-        )
-    }
+    batch::folder(alloc, &FILES, left)
 }
 
 /// Takes a list in, and compares what is printed of it.
@@ -124,9 +71,13 @@ pub fn take_list<K: Keeper>(
     left: Option<u64>,
     wanted: &str,
 ) -> Result<(), Fail> {
-    let mut folder = folder(alloc, left)?;
-    let report = Batch::new(alloc)?.take(alloc, keeper, list, &mut folder);
-    compare(intake_lines(alloc, &report)?.as_str(), wanted)
+    let listed = Listed {
+        files: &FILES,
+        left,
+        list,
+        wanted,
+    };
+    batch::take(alloc, keeper, "the list", &listed)
 }
 
 /// The same of the whole list.

@@ -1,4 +1,5 @@
-//! What can be asked of a vault, and texts that are compared.
+//! What can be asked of a vault.
+use crate::trial::compare;
 use std::alloc::Global;
 use std::test::Fail;
 use vault_core_model::keeper::Keeper;
@@ -23,10 +24,8 @@ pub fn edge<K: Keeper>(keeper: &mut K) -> Result<(u64, u64), Fail> {
     Ok((keeper.last()?.secs(), keeper.next_id()?))
 }
 
-/// Fails unless both are the same.
-pub fn compare(given: &str, wanted: &str) -> Result<(), Fail> {
-    if given == wanted {
-        return Ok(());
-    }
-    Err(Fail::new(format_args!("wanted {wanted}, got {given}")))
+/// Fails unless replies still tell of the vault what they told before.
+pub fn tells_still<K: Keeper>(alloc: Global, keeper: &mut K, before: &str) -> Result<(), Fail> {
+    let told = told(alloc, keeper)?;
+    compare("the vault", told.as_str(), before)
 }

@@ -1,14 +1,20 @@
 //! Lists that stop an intake, and what stands in front of a list.
-use crate::intake::taking::{LIST, folder, take};
+use crate::batch::Listed;
+use crate::intake::taking::{FILES, LIST, take_in_new};
 use std::alloc::Global;
 use std::test::Fail;
-use vault_transcript::transcript::opened;
 
 /// The lines that are printed of a list in a new vault, where a read of the folder may be refused.
 fn take_new(alloc: Global, left: Option<u64>, list: &[u8], wanted: &str) -> Result<(), Fail> {
-    let mut keeper = opened(alloc)?;
-    let files = folder(alloc, "a", left)?;
-    take(alloc, &mut keeper, files, list, wanted)
+    take_in_new(
+        alloc,
+        Listed {
+            files: &FILES,
+            left,
+            list,
+            wanted,
+        },
+    )
 }
 
 #[test]

@@ -1,8 +1,8 @@
 //! Names of files that a list may have, and others.
-use crate::intake::taking::{folder_of, take};
+use crate::batch::Listed;
+use crate::intake::taking::take_in_new;
 use std::alloc::Global;
 use std::test::Fail;
-use vault_transcript::transcript::opened;
 
 /// A name of so many bytes.
 fn long(alloc: Global, length: usize) -> Result<String, Fail> {
@@ -25,17 +25,27 @@ fn list_of(alloc: Global, names: &[&str], last: &str) -> Result<String, Fail> {
     Ok(list)
 }
 
+/// Takes a list of these names in, the last of which is the one file's.
+fn take_names(alloc: Global, names: &[&str], last: &str, wanted: &str) -> Result<(), Fail> {
+    let list = list_of(alloc, names, last)?;
+    take_in_new(
+        alloc,
+        Listed {
+            files: &[(last, "x")],
+            left: None,
+            list: list.as_bytes(),
+            wanted,
+        },
+    )
+}
+
 /// With a `/`, with a NUL, the folder itself and the one above it, and no name: none is read.
 #[test]
 fn names_of_no_file_are_refused(rt: HostRuntime) -> Result<(), Fail> {
-    let alloc = rt.alloc();
-    let mut keeper = opened(alloc)?;
-    let list = list_of(alloc, &["in/x", "x\0", ".", "..", ""], "x")?;
-    take(
-        alloc,
-        &mut keeper,
-        folder_of(alloc, "x")?,
-        list.as_bytes(),
+    take_names(
+        rt.alloc(),
+        &["in/x", "x\0", ".", "..", ""],
+        "x",
         "1 refused InvalidArgument\n2 refused InvalidArgument\n3 refused InvalidArgument\n4 refused InvalidArgument\n5 refused InvalidArgument\n6 admitted 1\n",
     )
 }
@@ -44,15 +54,12 @@ fn names_of_no_file_are_refused(rt: HostRuntime) -> Result<(), Fail> {
 #[test]
 fn long_names_are_refused(rt: HostRuntime) -> Result<(), Fail> {
     let alloc = rt.alloc();
-    let mut keeper = opened(alloc)?;
     let fitting = long(alloc, 255)?;
     let too_long = long(alloc, 256)?;
-    let list = list_of(alloc, &[too_long.as_str()], fitting.as_str())?;
-    take(
+    take_names(
         alloc,
-        &mut keeper,
-        folder_of(alloc, fitting.as_str())?,
-        list.as_bytes(),
+        &[too_long.as_str()],
+        fitting.as_str(),
         "1 refused InvalidArgument\n2 admitted 1\n",
     )
 }

@@ -1,39 +1,51 @@
 //! Certificates of destruction.
-use crate::register::texts::{EMPTY, HELLO, asking, compare, played};
+use crate::register::texts::{EMPTY, HELLO, asking};
+use crate::trial::{Trial, compare, try_behind};
 use sha2::{Digest, Sha256};
 use std::alloc::Global;
 use std::test::Fail;
-use vault_base::name::{BucketName, VersionId};
-use vault_core_list::list_keeper::ListKeeper;
+use vault_base::moment::Moment;
+use vault_base::name::{BucketName, CallerName, VersionId};
 use vault_core_listing::certificates::certificate;
 use vault_core_model::command::Certificate;
 use vault_core_model::halt::Halt;
+use vault_core_model::keeper::Keeper;
 use vault_core_model::reply::Answer;
 use vault_files_certificate::certificate as text;
 
 fn command(alloc: Global, number: u32) -> Result<Certificate, Fail> {
-    Ok(Certificate {
-        bucket: BucketName::read(alloc, "docs")?.ok().ok_or("bucket")?,
-        id: VersionId::new(number).ok_or("id")?,
-    })
+    let id = VersionId::new(number).ok_or("id")?;
+    let bucket = BucketName::read(alloc, "docs")?.ok().ok_or("bucket")?;
+    Ok(Certificate { bucket, id })
 }
 
 /// The certificate that is answered, or the name of the refusal.
-fn told(alloc: Global, answer: Result<Answer, Halt>) -> Result<String, Fail> {
+fn told(alloc: Global, answer: &Result<Answer, Halt>) -> Result<String, Fail> {
     match answer {
-        Ok(Answer::Certificate(entry)) => Ok(text::certificate(alloc, &entry)?),
+        Ok(Answer::Certificate(entry)) => Ok(text::certificate(alloc, entry)?),
         Ok(_) => Err(Fail::new("an answer to another command")),
         Err(Halt::Refused(refusal)) => Ok(String::from_str(alloc, refusal.name())?),
         Err(Halt::Fault(_)) => Err(Fail::new("a fault")),
     }
 }
 
-/// The certificate of that id, asked for in 2025.
-fn certified(alloc: Global, keeper: ListKeeper, number: u32) -> Result<String, Fail> {
-    let mut keeper = keeper;
-    let (at, who) = asking(alloc, "2025-01-01T00:00:00Z")?;
+fn answered<K: Keeper>(
+    keeper: &mut K,
+    at: Moment,
+    who: &CallerName,
+    command: &Certificate,
+) -> Result<Answer, Halt> {
+    certificate(keeper, at, who, command)
+}
+
+/// What is told of that id, asked for in 2025.
+fn told_of<K: Keeper>(alloc: Global, keeper: &mut K, number: u32) -> Result<String, Fail> {
     let command = command(alloc, number)?;
-    told(alloc, certificate(&mut keeper, at, &who, &command))
+    let (at, who) = asking(alloc, "2025-01-01T00:00:00Z")?;
+    let answer = answered(keeper, at, &who, &command);
+    let told = told(alloc, &answer);
+    drop(answer);
+    told
 }
 
 /// The digits of the SHA-256 digest of all that stands above the seal's line.
@@ -42,20 +54,33 @@ fn seal_of(alloc: Global, certificate: &str) -> Result<String, Fail> {
     Ok(hex::encode(alloc, Sha256::digest(above.as_bytes()).as_slice())?)
 }
 
-/// Fails unless the certificate is that text, whose last line has the seal of what stands above it.
-fn is_certified(alloc: Global, certificate: &str, wanted: &str, seal: &str) -> Result<(), Fail> {
-    compare(certificate, wanted)?;
-    compare(seal_of(alloc, certificate)?.as_str(), seal)
+/// What is to be told of an id: a certificate whose last line has that seal of what stands above it, or a refusal.
+#[derive(Clone, Copy)]
+struct Certified<'a> {
+    number: u32,
+    wanted: &'a str,
+    seal: Option<&'a str>,
+}
+
+impl Trial for Certified<'_> {
+    fn carry_out<K: Keeper>(&self, alloc: Global, keeper: &mut K) -> Result<(), Fail> {
+        let told = told_of(alloc, keeper, self.number)?;
+        compare("the certificate", told.as_str(), self.wanted)?;
+        match self.seal {
+            None => Ok(()),
+            Some(seal) => compare("its seal", seal_of(alloc, told.as_str())?.as_str(), seal),
+        }
+    }
 }
 
 #[test]
 fn a_removed_version_has_a_certificate(rt: HostRuntime) -> Result<(), Fail> {
-    let alloc = rt.alloc();
-    let certificate = certified(alloc, played(alloc, HELLO)?, 1)?;
-    is_certified(
-        alloc,
-        certificate.as_str(),
-        "CERTIFICATE OF DESTRUCTION
+    try_behind(
+        rt.alloc(),
+        HELLO,
+        &Certified {
+            number: 1,
+            wanted: "CERTIFICATE OF DESTRUCTION
 version: 1
 bucket: docs
 key: a
@@ -67,18 +92,19 @@ cause: request ann
 days held: 1
 seal: babe1fbf67fe33f09a389d035a2f9f8d338e2a540880ba7c25bf8434d06237cb
 ",
-        "babe1fbf67fe33f09a389d035a2f9f8d338e2a540880ba7c25bf8434d06237cb",
+            seal: Some("babe1fbf67fe33f09a389d035a2f9f8d338e2a540880ba7c25bf8434d06237cb"),
+        },
     )
 }
 
 #[test]
 fn a_version_without_bytes_has_one(rt: HostRuntime) -> Result<(), Fail> {
-    let alloc = rt.alloc();
-    let certificate = certified(alloc, played(alloc, EMPTY)?, 1)?;
-    is_certified(
-        alloc,
-        certificate.as_str(),
-        "CERTIFICATE OF DESTRUCTION
+    try_behind(
+        rt.alloc(),
+        EMPTY,
+        &Certified {
+            number: 1,
+            wanted: "CERTIFICATE OF DESTRUCTION
 version: 1
 bucket: docs
 key: k
@@ -90,13 +116,20 @@ cause: request ann
 days held: 0
 seal: 89f9808aa4fda5e26cb1ec8bf9df72ee4301848af177a916afa86d7c31b3b7f7
 ",
-        "89f9808aa4fda5e26cb1ec8bf9df72ee4301848af177a916afa86d7c31b3b7f7",
+            seal: Some("89f9808aa4fda5e26cb1ec8bf9df72ee4301848af177a916afa86d7c31b3b7f7"),
+        },
     )
 }
 
 #[test]
 fn a_removed_marker_has_none(rt: HostRuntime) -> Result<(), Fail> {
-    let alloc = rt.alloc();
-    let refusal = certified(alloc, played(alloc, EMPTY)?, 2)?;
-    compare(refusal.as_str(), "MethodNotAllowed")
+    try_behind(
+        rt.alloc(),
+        EMPTY,
+        &Certified {
+            number: 2,
+            wanted: "MethodNotAllowed",
+            seal: None,
+        },
+    )
 }

@@ -1,13 +1,13 @@
 //! Registers of removals.
-use crate::register::texts::{EMPTY, HELLO, compare, played};
+use crate::register::export::{compare_answers, export, written};
+use crate::register::texts::{EMPTY, HELLO};
+use crate::trial::{Trial, compare, try_behind, try_on_new};
 use std::alloc::Global;
 use std::io::BufWriter;
 use std::test::Fail;
-use vault_core_list::list_keeper::ListKeeper;
+use vault_core_model::keeper::Keeper;
 use vault_failing::FailingWriter;
 use vault_files_register::ExportFault;
-use vault_files_register::register::export_register;
-use vault_transcript::transcript::opened;
 
 const HEADER: &str =
     "version,bucket,key,kind,size,sha256,admitted,admitted_by,removed,cause,cause_by,days\n";
@@ -18,99 +18,141 @@ const REMOVED: &str =
 const BY_RULE: &str =
     "2,docs,k,marker,0,,2024-03-01T08:00:01Z,ann,2024-03-01T08:00:03Z,rule,r1,0\n";
 
-/// Fails unless the register of the vault is the header and these lines.
-fn register(alloc: Global, keeper: ListKeeper, wanted: &[&str]) -> Result<(), Fail> {
-    let mut keeper = keeper;
-    let mut written = Vec::new(alloc);
-    export_register(alloc, &mut keeper, &mut written)?;
-    compare_lines(alloc, written, wanted)
+/// Fails unless just these lines were written.
+fn compare_lines(alloc: Global, name: &str, given: &str, lines: &[&str]) -> Result<(), Fail> {
+    let mut wanted = String::new(alloc);
+    for line in lines {
+        wanted.push_str(line)?;
+    }
+    compare(name, given, wanted.as_str())
 }
 
-/// Fails unless these lines are written behind the header.
-fn compare_lines(alloc: Global, written: Vec<u8>, wanted: &[&str]) -> Result<(), Fail> {
-    let mut all = String::from_str(alloc, HEADER)?;
-    for line in wanted {
-        all.push_str(line)?;
+/// The lines of the register.
+#[derive(Clone, Copy)]
+struct Registered<'a> {
+    lines: &'a [&'a str],
+}
+
+impl Trial for Registered<'_> {
+    fn carry_out<K: Keeper>(&self, alloc: Global, keeper: &mut K) -> Result<(), Fail> {
+        let mut written = Vec::new(alloc);
+        let answer = export(alloc, keeper, &mut written);
+        let written = String::from_utf8(written)?;
+        compare_answers("the register", answer, Ok(()))?;
+        compare_lines(alloc, "the register", written.as_str(), self.lines)
     }
-    let written = String::from_utf8(written)?;
-    compare(written.as_str(), all.as_str())
 }
 
 #[test]
 fn a_new_vault_has_the_header_alone(rt: HostRuntime) -> Result<(), Fail> {
-    let alloc = rt.alloc();
-    register(alloc, opened(alloc)?, &[])
+    try_on_new(rt.alloc(), &Registered { lines: &[HEADER] })
 }
 
 #[test]
 fn a_removed_version_is_registered(rt: HostRuntime) -> Result<(), Fail> {
-    let alloc = rt.alloc();
-    register(
-        alloc,
-        played(alloc, HELLO)?,
-        &[
-            "1,docs,a,version,5,2cf24dba5fb0a30e26e83b2ac5b9e29e1b161e5c1fa7425e73043362938b9824,2024-01-15T10:30:00Z,ann,2024-01-16T00:00:00Z,request,ann,1\n",
-        ],
+    try_behind(
+        rt.alloc(),
+        HELLO,
+        &Registered {
+            lines: &[
+                HEADER,
+                "1,docs,a,version,5,2cf24dba5fb0a30e26e83b2ac5b9e29e1b161e5c1fa7425e73043362938b9824,2024-01-15T10:30:00Z,ann,2024-01-16T00:00:00Z,request,ann,1\n",
+            ],
+        },
     )
 }
 
 #[test]
 fn a_version_without_bytes_and_a_marker_are_registered(rt: HostRuntime) -> Result<(), Fail> {
-    let alloc = rt.alloc();
-    register(alloc, played(alloc, EMPTY)?, &[REMOVED, BY_RULE])
+    try_behind(
+        rt.alloc(),
+        EMPTY,
+        &Registered {
+            lines: &[HEADER, REMOVED, BY_RULE],
+        },
+    )
 }
 
-/// What a writer got that takes so many writes, and what was answered.
-fn cut(
-    alloc: Global,
-    keeper: &mut ListKeeper,
+/// What a writer gets that takes so many writes, and what is answered.
+#[derive(Clone, Copy)]
+struct Cut<'a> {
+    name: &'a str,
     writes_left: u64,
-) -> (Vec<u8>, Result<(), ExportFault>) {
-    let mut writer = FailingWriter {
-        written: Vec::new(alloc),
-        writes_left,
-    };
-    let answer = export_register(alloc, keeper, &mut writer);
-    (writer.written, answer)
+    answer: Result<(), ExportFault>,
+    lines: &'a [&'a str],
+}
+
+fn write_cut<K: Keeper>(alloc: Global, keeper: &mut K, row: &Cut<'_>) -> Result<(), Fail> {
+    let written = written(alloc, keeper, row.name, row.writes_left, row.answer)?;
+    compare_lines(alloc, row.name, written.as_str(), row.lines)
+}
+
+/// Registers that are written one after another.
+#[derive(Clone, Copy)]
+struct Cuts<'a> {
+    rows: &'a [Cut<'a>],
+}
+
+impl Trial for Cuts<'_> {
+    fn carry_out<K: Keeper>(&self, alloc: Global, keeper: &mut K) -> Result<(), Fail> {
+        for row in self.rows {
+            write_cut(alloc, keeper, row)?;
+        }
+        Ok(())
+    }
 }
 
 /// A write for the header and one for each record: what was written before the first that fails stands.
 #[test]
 fn a_failing_writer_has_a_beginning(rt: HostRuntime) -> Result<(), Fail> {
-    let alloc = rt.alloc();
-    let mut keeper = played(alloc, EMPTY)?;
-    let lines = [REMOVED, BY_RULE];
-    let (none, answer) = cut(alloc, &mut keeper, 0);
-    assert!(rt; none.is_empty() && answer == Err(ExportFault::Write));
-    for n in 0..2usize {
-        let (written, answer) = cut(alloc, &mut keeper, n as u64 + 1);
-        assert_eq!(rt; answer, Err(ExportFault::Write));
-        compare_lines(alloc, written, lines.get(..n).ok_or("lines")?)?;
-    }
-    let (written, answer) = cut(alloc, &mut keeper, 3);
-    assert_eq!(rt; answer, Ok(()));
-    compare_lines(alloc, written, &lines)
+    let rows = [
+        Cut {
+            name: "no write",
+            writes_left: 0,
+            answer: Err(ExportFault::Write),
+            lines: &[],
+        },
+        Cut {
+            name: "one write",
+            writes_left: 1,
+            answer: Err(ExportFault::Write),
+            lines: &[HEADER],
+        },
+        Cut {
+            name: "two writes",
+            writes_left: 2,
+            answer: Err(ExportFault::Write),
+            lines: &[HEADER, REMOVED],
+        },
+        Cut {
+            name: "three writes",
+            writes_left: 3,
+            answer: Ok(()),
+            lines: &[HEADER, REMOVED, BY_RULE],
+        },
+    ];
+    try_behind(rt.alloc(), EMPTY, &Cuts { rows: &rows })
 }
 
-/// What an export is told whose lines are held back, up to its end, for a writer that takes none.
-fn exported_held_back(
-    alloc: Global,
-    keeper: &mut ListKeeper,
-) -> Result<Result<(), ExportFault>, Fail> {
-    let full = FailingWriter {
-        written: Vec::new(alloc),
-        writes_left: 0,
-    };
-    let mut writer = BufWriter::with_capacity(alloc, 65_536, full)?;
-    Ok(export_register(alloc, keeper, &mut writer))
+/// An export whose lines are held back, up to its end, for a writer that takes none.
+#[derive(Clone, Copy)]
+struct HeldBack;
+
+impl Trial for HeldBack {
+    fn carry_out<K: Keeper>(&self, alloc: Global, keeper: &mut K) -> Result<(), Fail> {
+        let full = FailingWriter {
+            written: Vec::new(alloc),
+            writes_left: 0,
+        };
+        let mut writer = BufWriter::with_capacity(alloc, 65_536, full)?;
+        let answer = export(alloc, keeper, &mut writer);
+        drop(writer);
+        compare_answers("the register", answer, Err(ExportFault::Write))
+    }
 }
 
 /// What is held back is handed on before the register counts as written, and a fault of that is told.
 #[test]
 fn a_register_that_is_held_back_fails_at_its_end(rt: HostRuntime) -> Result<(), Fail> {
-    let mut keeper = played(rt.alloc(), EMPTY)?;
-    let exported = exported_held_back(rt.alloc(), &mut keeper);
-    drop(keeper);
-    assert_eq!(rt; exported?, Err(ExportFault::Write));
-    Ok(())
+    try_behind(rt.alloc(), EMPTY, &HeldBack)
 }

@@ -1,11 +1,13 @@
 //! Reports as texts.
-use crate::register::texts::{asking, compare, played};
+use crate::register::texts::asking;
+use crate::trial::{Trial, compare, try_behind};
 use std::alloc::Global;
 use std::test::Fail;
-use vault_base::name::DeptName;
-use vault_core_list::list_keeper::ListKeeper;
+use vault_base::moment::Moment;
+use vault_base::name::{CallerName, DeptName};
 use vault_core_model::command::Report;
 use vault_core_model::halt::Halt;
+use vault_core_model::keeper::Keeper;
 use vault_core_model::reply::Answer;
 use vault_core_records::records::report;
 use vault_files_certificate::report_text::report_text;
@@ -18,32 +20,57 @@ const HUNDRED: &str = r#"
   {"ok":{"cause":"request","delete_marker":false,"version_id":1}}
 "#;
 
-fn told(alloc: Global, answer: Result<Answer, Halt>) -> Result<String, Fail> {
+fn told(alloc: Global, answer: &Result<Answer, Halt>) -> Result<String, Fail> {
     match answer {
-        Ok(Answer::Report(sums)) => Ok(report_text(alloc, &sums)?),
+        Ok(Answer::Report(sums)) => Ok(report_text(alloc, sums)?),
         _ => Err(Fail::new("no report")),
     }
 }
 
-fn reported(alloc: Global, keeper: ListKeeper) -> Result<String, Fail> {
-    let mut keeper = keeper;
+fn answered<K: Keeper>(
+    keeper: &mut K,
+    at: Moment,
+    who: &CallerName,
+    command: &Report,
+) -> Result<Answer, Halt> {
+    report(keeper, at, who, command)
+}
+
+fn text_of<K: Keeper>(alloc: Global, keeper: &mut K) -> Result<String, Fail> {
     let (at, who) = asking(alloc, "2024-01-16T00:00:00Z")?;
     let dept = DeptName::read(alloc, "records")?.ok().ok_or("dept")?;
-    told(alloc, report(&mut keeper, at, &who, &Report { dept }))
+    let answer = answered(keeper, at, &who, &Report { dept });
+    let told = told(alloc, &answer);
+    drop(answer);
+    told
+}
+
+/// The text of the report of `records`.
+#[derive(Clone, Copy)]
+struct Reported<'a> {
+    wanted: &'a str,
+}
+
+impl Trial for Reported<'_> {
+    fn carry_out<K: Keeper>(&self, alloc: Global, keeper: &mut K) -> Result<(), Fail> {
+        let text = text_of(alloc, keeper)?;
+        compare("the report", text.as_str(), self.wanted)
+    }
 }
 
 #[test]
 fn labels_stand_left_and_numbers_right(rt: HostRuntime) -> Result<(), Fail> {
-    let alloc = rt.alloc();
-    let text = reported(alloc, played(alloc, HUNDRED)?)?;
-    compare(
-        text.as_str(),
-        "department  records
+    try_behind(
+        rt.alloc(),
+        HUNDRED,
+        &Reported {
+            wanted: "department  records
 at          2024-01-16T00:00:00Z
 admitted                     100
 held                           0
 removed                      100
 byte-days                    100
 ",
+        },
     )
 }

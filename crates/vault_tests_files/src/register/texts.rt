@@ -1,10 +1,8 @@
-//! The texts that a vault has printed.
+//! Vaults with removed entries, and who asks them.
 use std::alloc::Global;
 use std::test::Fail;
 use vault_base::moment::Moment;
 use vault_base::name::CallerName;
-use vault_core_list::list_keeper::ListKeeper;
-use vault_transcript::transcript::{opened, play};
 
 /// A version that is removed after a day.
 pub const HELLO: &str = r#"
@@ -28,23 +26,9 @@ pub const EMPTY: &str = r#"
   {"ok":{"changes":1,"lone":1,"marked":0,"removed":0}}
 "#;
 
-/// A vault in which a transcript was carried out.
-pub fn played(alloc: Global, transcript: &str) -> Result<ListKeeper, Fail> {
-    let mut keeper = opened(alloc)?;
-    play(alloc, &mut keeper, transcript)?;
-    Ok(keeper)
-}
-
 /// A reading, and ann.
 pub fn asking(alloc: Global, at: &str) -> Result<(Moment, CallerName), Fail> {
     let at = Moment::read(at).ok().ok_or("at")?;
     let who = CallerName::read(alloc, "ann")?.ok().ok_or("who")?;
     Ok((at, who))
-}
-
-pub fn compare(given: &str, wanted: &str) -> Result<(), Fail> {
-    if given == wanted {
-        return Ok(());
-    }
-    Err(Fail::new(format_args!("wanted {wanted}, got {given}")))
 }

@@ -1,0 +1,110 @@
+//! Files in memory, and a list over them that is taken in.
+use crate::trial::compare;
+use std::alloc::Global;
+use std::test::Fail;
+use vault_base::content::Content;
+use vault_base::moment::Moment;
+use vault_base::name::{BatchName, BucketName, CallerName};
+use vault_core_model::keeper::Keeper;
+use vault_files_intake::folder::{File, Folder};
+use vault_files_intake::intake::take_in;
+use vault_files_intake::list_folder::ListFolder;
+use vault_files_intake::report::IntakeReport;
+use vault_files_lines::lines::intake_lines;
+use vault_files_rows::file_name::FileName;
+
+fn file(alloc: Global, name: &str, bytes: &str) -> Result<File, Fail> {
+    let name = FileName::read(alloc, name)?.ok_or("a name of a file")?;
+    let bytes = Content::new(Vec::from_slice(alloc, bytes.as_bytes())?);
+    Ok(File { name, bytes })
+}
+
+/// Files by name and bytes. With a number the folder refuses the read behind so many.
+pub fn folder(
+    alloc: Global,
+    files: &[(&str, &str)],
+    left: Option<u64>,
+) -> Result<ListFolder, Fail> {
+    let mut folder = ListFolder::new(alloc, left);
+    for (name, bytes) in files {
+        folder.push(file(alloc, name, bytes)?)?;
+    }
+    Ok(folder)
+}
+
+/// Who takes in, when, and as what.
+#[derive(Drop)]
+pub struct Batch {
+    at: Moment,
+    who: CallerName,
+    bucket: BucketName,
+    batch: BatchName,
+}
+
+impl Batch {
+    /// By ann, as batch b1 of docs, at half past ten.
+    pub fn new(alloc: Global) -> Result<Batch, Fail> {
+        Ok(Batch {
+            at: Moment::read("2024-01-15T10:30:00Z").ok().ok_or("at")?,
+            who: CallerName::read(alloc, "ann")?.ok().ok_or("who")?,
+            bucket: BucketName::read(alloc, "docs")?.ok().ok_or("bucket")?,
+            batch: BatchName::read(alloc, "b1")?.ok().ok_or("batch")?,
+        })
+    }
+
+    pub fn take<K: Keeper, F: Folder>(
+        &self,
+        alloc: Global,
+        keeper: &mut K,
+        list: &[u8],
+        folder: &mut F,
+    ) -> IntakeReport {
+        take_in(
+            alloc,
+            keeper,
+            self.at,
+            &self.who,
+            &self.bucket,
+            &self.batch,
+            list,
+            folder,
+        )
+    }
+}
+
+/// What is printed of a list that is taken in.
+fn printed<K: Keeper, F: Folder>(
+    alloc: Global,
+    keeper: &mut K,
+    list: &[u8],
+    folder: &mut F,
+) -> Result<String, Fail> {
+    let batch = Batch::new(alloc)?;
+    let report = batch.take(alloc, keeper, list, folder);
+    let lines = intake_lines(alloc, &report);
+    drop(report);
+    Ok(lines?)
+}
+
+/// A list over files, and the lines that are to be printed of it.
+#[derive(Clone, Copy)]
+pub struct Listed<'a> {
+    /// Each file's name and bytes.
+    pub files: &'a [(&'a str, &'a str)],
+    /// With a number the folder refuses the read behind so many.
+    pub left: Option<u64>,
+    pub list: &'a [u8],
+    pub wanted: &'a str,
+}
+
+/// Takes a list in, and fails unless those lines are printed of it. The failure has the step's name.
+pub fn take<K: Keeper>(
+    alloc: Global,
+    keeper: &mut K,
+    name: &str,
+    listed: &Listed<'_>,
+) -> Result<(), Fail> {
+    let mut folder = folder(alloc, listed.files, listed.left)?;
+    let printed = printed(alloc, keeper, listed.list, &mut folder)?;
+    compare(name, printed.as_str(), listed.wanted)
+}
