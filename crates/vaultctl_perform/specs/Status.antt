@@ -1,5 +1,6 @@
 -- Exit statuses, and what came of a job.
 use Rattle.std.specs.Prelude.{ℕ, Result, Ok, Err}
+use Rattle.vault_base.specs.declared.refusal.Refusal.{Refusal}
 use Rattle.vault_files_register.specs.declared.fault.ExportFault.{ExportFault}
 use Rattle.vault_files_register.specs.declared.fault.ExportFault.TheVariants as export
 use Rattle.vaultctl_commands.specs.declared.fault.JobFault.{JobFault}
@@ -16,6 +17,11 @@ abbrev pub status_of : Result Outcome JobFault → ℕ
 status_of (Ok Done) = 0
 status_of (Ok Refused) = 1
 status_of (Err fault) = 1
+
+-- 0 where a vault was made
+abbrev pub made_status : Result (Unit {0}) Refusal → ℕ
+made_status (Ok t) = 0
+made_status (Err refusal) = 1
 
 -- a register is written or a fault is told, by its name
 abbrev pub exported : Result (Unit {0}) ExportFault → Result Outcome JobFault

@@ -8,6 +8,7 @@ ghost use Rattle.vaultctl_perform.specs.Status as spec;
 use crate::telling::{status, tell_unopened};
 use std::alloc::Global;
 use std::io::{Read, Write};
+use vault_base::refusal::Refusal;
 use vault_core_model::keeper::Keeper;
 use vault_files_register::ExportFault;
 use vault_files_register::register::export_register;
@@ -17,17 +18,28 @@ use vaultctl_machine::vaults::{FileVault, Machine, close_vault};
 use vaultctl_replay::{ReplayFault, replay};
 use vaultctl_serve::{PortFault, serve};
 
+/// Makes the vault in a file and closes it.
+fn make(machine: &mut Machine<'_>, file: &str) -> Result<(), Refusal> {
+    close_vault(machine.make(file)?);
+    Ok(())
+}
+
+/// Tells why a vault wasn't made, and answers the status.
+fn tell_made<E: Write>(err: &mut E, made: Result<(), Refusal>) -> u8
+    ensures { result ≡ spec.made_status made }
+{
+    match made {
+        Ok(()) => 0,
+        Err(refusal) => tell_unopened(err, "init", refusal),
+    }
+}
+
 /// Makes a new vault in a file, and prints nothing.
 pub fn init<E: Write>(machine: &mut Machine<'_>, file: &str, err: &mut E) -> u8
     ensures status { result ≢ 2 }
 {
-    match machine.make(file) {
-        Ok(vault) => {
-            close_vault(vault);
-            0
-        }
-        Err(refusal) => tell_unopened(err, "init", refusal),
-    }
+    let made = make(machine, file);
+    tell_made(err, made)
 }
 
 fn done_or_fault(written: Result<(), ExportFault>) -> Result<Outcome, JobFault>

@@ -1,5 +1,5 @@
 //! Whether the vault in a file is sound.
-ghost use Rattle.std.specs.Prelude.{◌≡◌, ◌≢◌, IfOk, string_bytes};
+ghost use Rattle.std.specs.Prelude.{◌≡◌, ◌≢◌, IfOk, Ok, string_bytes};
 ghost use Rattle.std.specs.Io.KnownBytes.{Appends};
 ghost use Rattle.vaultctl_perform.specs.Told as spec;
 
@@ -42,6 +42,29 @@ fn tell_sound<W: Write>(out: &mut W) -> Result<Outcome, JobFault>
     Ok(Outcome::Done)
 }
 
+/// Prints `sound` of a vault that was opened, `damaged` and the table that isn't, or why else it wasn't opened.
+fn tell_opened<W: Write, E: Write>(
+    alloc: Global,
+    opened: Result<(), Refusal>,
+    out: &mut W,
+    err: &mut E,
+) -> u8
+    ensures sound { result ≡ 0 → (opened ≡ Ok tt) × Appends (W.contents out.old) (W.contents out.new) spec.sound_line }
+    ensures status { result ≢ 2 }
+{
+    match opened {
+        Ok(()) => status(err, "verify", tell_sound(out)),
+        Err(Refusal::Damaged(table)) => status(err, "verify", tell_damaged(alloc, table, out)),
+        Err(refusal) => tell_unopened(err, "open", refusal),
+    }
+}
+
+/// Opens the vault in a file and closes it.
+fn look(machine: &mut Machine<'_>, file: &str) -> Result<(), Refusal> {
+    close_vault(machine.open(file)?);
+    Ok(())
+}
+
 /// Opens a vault's file, and prints `sound`, or `damaged` and the first table that isn't.
 pub fn verify<W: Write, E: Write>(
     machine: &mut Machine<'_>,
@@ -53,13 +76,6 @@ pub fn verify<W: Write, E: Write>(
     ensures told { result ≡ 0 → Appends (W.contents out.old) (W.contents out.new) spec.sound_line }
     ensures status { result ≢ 2 }
 {
-    let alloc = machine.runtime().alloc();
-    match machine.open(file) {
-        Ok(vault) => {
-            close_vault(vault);
-            status(err, "verify", tell_sound(out))
-        }
-        Err(Refusal::Damaged(table)) => status(err, "verify", tell_damaged(alloc, table, out)),
-        Err(refusal) => tell_unopened(err, "open", refusal),
-    }
+    let opened = look(machine, file);
+    tell_opened(machine.runtime().alloc(), opened, out, err)
 }
