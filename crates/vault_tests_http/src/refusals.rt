@@ -1,9 +1,10 @@
 //! Refusals of requests, in the order of their points, and the status of each.
-use crate::exchange::refused;
-use std::alloc::Global;
+use crate::exchange::{Row, exchange, exchanges};
+use std::alloc::{AllocError, Global};
 use std::test::Fail;
 use vault_base::refusal::{Reason, Refusal, Table};
 use vault_base::right::Right;
+use vault_core_model::keeper::Keeper;
 use vault_http_answer::reply::refusal_bytes;
 use vault_transcript::transcript::opened;
 
@@ -16,12 +17,25 @@ const NOT_IMPLEMENTED: &str = "{\"code\":\"NotImplemented\",\"n\":17}";
 const UNKNOWN: &str = "{\"code\":\"AccessDenied\",\"n\":3,\"reason\":\"unknown-caller\"}";
 
 /// Sends requests that all are refused so.
-fn all_refused(alloc: Global, requests: &[&str], status: &str, body: &str) -> Result<(), Fail> {
-    let mut keeper = opened(alloc)?;
-    for request in requests {
-        refused(alloc, &mut keeper, request, status, body)?;
+fn refuse<K: Keeper>(
+    alloc: Global,
+    keeper: &mut K,
+    requests: &[&str],
+    status: &str,
+    body: &str,
+) -> Result<(), Fail> {
+    for (index, request) in requests.iter().enumerate() {
+        exchange(alloc, keeper, index, Row::Ends(request, status, body))?;
     }
     Ok(())
+}
+
+/// The same over a new vault.
+fn all_refused(alloc: Global, requests: &[&str], status: &str, body: &str) -> Result<(), Fail> {
+    let mut keeper = opened(alloc)?;
+    let told = refuse(alloc, &mut keeper, requests, status, body);
+    drop(keeper);
+    told
 }
 
 /// Headers, also where another fault is there too; names of a query that belong to another target.
@@ -75,21 +89,28 @@ fn names(rt: HostRuntime) -> Result<(), Fail> {
         "HTTP/1.1 400 Bad Request",
         no_bucket,
     )?;
-    let mut long = String::from_str(alloc, "GET /docs/")?;
-    for _ in 0..1_025u32 {
-        long.push('k')?;
-    }
-    let mut listed = String::from_str(alloc, "GET /docs?versions&version-id-marker=x&prefix=")?;
-    for _ in 0..1_025u32 {
-        listed.push('k')?;
-    }
-    long.push_str("?what HTTP/1.1||")?;
-    listed.push_str(" HTTP/1.1||")?;
-    all_refused(
+    let status = "HTTP/1.1 400 Bad Request";
+    let body = "{\"code\":\"KeyTooLongError\",\"n\":14}";
+    exchanges(
         alloc,
-        &[long.as_str(), listed.as_str()],
-        "HTTP/1.1 400 Bad Request",
-        "{\"code\":\"KeyTooLongError\",\"n\":14}",
+        &[
+            Row::Long {
+                front: "GET /docs/",
+                part: "k",
+                count: 1_025,
+                behind: "?what HTTP/1.1||",
+                status,
+                body,
+            },
+            Row::Long {
+                front: "GET /docs?versions&version-id-marker=x&prefix=",
+                part: "k",
+                count: 1_025,
+                behind: " HTTP/1.1||",
+                status,
+                body,
+            },
+        ],
     )
 }
 
@@ -181,34 +202,75 @@ fn callers_and_bodies(rt: HostRuntime) -> Result<(), Fail> {
     )
 }
 
+/// Sends a request whose method isn't allowed, and which are.
+fn deny<K: Keeper>(
+    alloc: Global,
+    keeper: &mut K,
+    index: usize,
+    first: &str,
+    allow: &str,
+) -> Result<(), Fail> {
+    let request = format!(in alloc; "{first} HTTP/1.1||")?;
+    let end = format!(in alloc;
+        "content-length: 33\r\n{allow}\r\n\r\n{{\"code\":\"MethodNotAllowed\",\"n\":7}}"
+    )?;
+    let row = Row::Ends(
+        request.as_str(),
+        "HTTP/1.1 405 Method Not Allowed\r\ndate: ",
+        end.as_str(),
+    );
+    exchange(alloc, keeper, index, row)
+}
+
+fn deny_all<K: Keeper>(alloc: Global, keeper: &mut K, rows: &[(&str, &str)]) -> Result<(), Fail> {
+    for (index, (first, allow)) in rows.iter().enumerate() {
+        deny(alloc, keeper, index, first, allow)?;
+    }
+    Ok(())
+}
+
 /// Each target tells its own methods; letter case matters.
 #[test]
 fn methods(rt: HostRuntime) -> Result<(), Fail> {
     let alloc = rt.alloc();
     let mut keeper = opened(alloc)?;
-    for (first, allow) in [
-        ("POST /docs/a", "allow: DELETE, GET, HEAD, PUT"),
-        ("get /docs/a", "allow: DELETE, GET, HEAD, PUT"),
-        ("DELETE /docs/a?retention", "allow: GET, PUT"),
-        ("DELETE /docs/a?legal-hold", "allow: GET, PUT"),
-        ("PUT /docs?versions", "allow: GET"),
-        ("DELETE /docs?object-lock", "allow: GET, PUT"),
-        ("POST /docs?lifecycle", "allow: DELETE, GET, PUT"),
-        ("GET /docs", "allow: "),
-        ("PUT /docs/", "allow: "),
-    ] {
-        let mut request = String::from_str(alloc, first)?;
-        request.push_str(" HTTP/1.1||")?;
-        let mut end = String::from_str(alloc, "content-length: 33\r\n")?;
-        end.push_str(allow)?;
-        end.push_str("\r\n\r\n{\"code\":\"MethodNotAllowed\",\"n\":7}")?;
-        refused(
-            alloc,
-            &mut keeper,
-            request.as_str(),
-            "HTTP/1.1 405 Method Not Allowed\r\ndate: ",
-            end.as_str(),
-        )?;
+    let told = deny_all(
+        alloc,
+        &mut keeper,
+        &[
+            ("POST /docs/a", "allow: DELETE, GET, HEAD, PUT"),
+            ("get /docs/a", "allow: DELETE, GET, HEAD, PUT"),
+            ("DELETE /docs/a?retention", "allow: GET, PUT"),
+            ("DELETE /docs/a?legal-hold", "allow: GET, PUT"),
+            ("PUT /docs?versions", "allow: GET"),
+            ("DELETE /docs?object-lock", "allow: GET, PUT"),
+            ("POST /docs?lifecycle", "allow: DELETE, GET, PUT"),
+            ("GET /docs", "allow: "),
+            ("PUT /docs/", "allow: "),
+        ],
+    );
+    drop(keeper);
+    told
+}
+
+/// The bytes of the answer to a refusal, at no moment. This has no clause, as `exchange::serve`.
+fn bytes_of(alloc: Global, refusal: Refusal) -> Result<Vec<u8>, AllocError> {
+    refusal_bytes(alloc, None, refusal, None, true)
+}
+
+/// Fails unless the answer to a refusal begins with that status.
+fn compare_status(alloc: Global, refusal: Refusal, status: &str) -> Result<(), Fail> {
+    let text = String::from_utf8(bytes_of(alloc, refusal)?)?;
+    let line = format!(in alloc; "HTTP/1.1 {status}\r\nconnection: close\r\n")?;
+    if text.as_str().starts_with(line.as_str()) {
+        return Ok(());
+    }
+    Err(Fail::new(format_args!("wanted {status}, got {text}")))
+}
+
+fn compare_statuses(alloc: Global, rows: &[(Refusal, &str)]) -> Result<(), Fail> {
+    for (refusal, status) in rows {
+        compare_status(alloc, *refusal, status)?;
     }
     Ok(())
 }
@@ -216,44 +278,36 @@ fn methods(rt: HostRuntime) -> Result<(), Fail> {
 /// The status of each refusal is its own.
 #[test]
 fn statuses(rt: HostRuntime) -> Result<(), Fail> {
-    let alloc = rt.alloc();
-    for (refusal, status) in [
-        (Refusal::ClockBack, "503 Service Unavailable"),
-        (Refusal::ClockOutOfRange, "503 Service Unavailable"),
-        (
-            Refusal::AccessDenied(Reason::Right(Right::Put)),
-            "403 Forbidden",
-        ),
-        (Refusal::NoSuchBucket, "404 Not Found"),
-        (Refusal::NoSuchKey(false), "404 Not Found"),
-        (Refusal::NoSuchVersion, "404 Not Found"),
-        (Refusal::MethodNotAllowed, "405 Method Not Allowed"),
-        (Refusal::BucketAlreadyExists, "409 Conflict"),
-        (Refusal::NameTaken, "409 Conflict"),
-        (Refusal::InvalidArgument, "400 Bad Request"),
-        (Refusal::RetentionOutOfRange, "400 Bad Request"),
-        (Refusal::MalformedBody, "400 Bad Request"),
-        (Refusal::EntityTooLarge, "400 Bad Request"),
-        (Refusal::KeyTooLongError, "400 Bad Request"),
-        (Refusal::InvalidBucketName, "400 Bad Request"),
-        (Refusal::MissingContentLength, "411 Length Required"),
-        (Refusal::NotImplemented, "501 Not Implemented"),
-        (Refusal::NoSuchLifecycleConfiguration, "404 Not Found"),
-        (Refusal::QuotaExceeded, "403 Forbidden"),
-        (Refusal::VaultFull, "503 Service Unavailable"),
-        (Refusal::IntakeConflict, "409 Conflict"),
-        (Refusal::Memory, "503 Service Unavailable"),
-        (Refusal::Device, "500 Internal Server Error"),
-        (Refusal::Damaged(Table::Heads), "500 Internal Server Error"),
-    ] {
-        let bytes = refusal_bytes(alloc, None, refusal, None, true)?;
-        let text = String::from_utf8(bytes)?;
-        let mut line = String::from_str(alloc, "HTTP/1.1 ")?;
-        line.push_str(status)?;
-        line.push_str("\r\nconnection: close\r\n")?;
-        if !text.as_str().starts_with(line.as_str()) {
-            return Err(Fail::new(format_args!("wanted {status}, got {text}")));
-        }
-    }
-    Ok(())
+    compare_statuses(
+        rt.alloc(),
+        &[
+            (Refusal::ClockBack, "503 Service Unavailable"),
+            (Refusal::ClockOutOfRange, "503 Service Unavailable"),
+            (
+                Refusal::AccessDenied(Reason::Right(Right::Put)),
+                "403 Forbidden",
+            ),
+            (Refusal::NoSuchBucket, "404 Not Found"),
+            (Refusal::NoSuchKey(false), "404 Not Found"),
+            (Refusal::NoSuchVersion, "404 Not Found"),
+            (Refusal::MethodNotAllowed, "405 Method Not Allowed"),
+            (Refusal::BucketAlreadyExists, "409 Conflict"),
+            (Refusal::NameTaken, "409 Conflict"),
+            (Refusal::InvalidArgument, "400 Bad Request"),
+            (Refusal::RetentionOutOfRange, "400 Bad Request"),
+            (Refusal::MalformedBody, "400 Bad Request"),
+            (Refusal::EntityTooLarge, "400 Bad Request"),
+            (Refusal::KeyTooLongError, "400 Bad Request"),
+            (Refusal::InvalidBucketName, "400 Bad Request"),
+            (Refusal::MissingContentLength, "411 Length Required"),
+            (Refusal::NotImplemented, "501 Not Implemented"),
+            (Refusal::NoSuchLifecycleConfiguration, "404 Not Found"),
+            (Refusal::QuotaExceeded, "403 Forbidden"),
+            (Refusal::VaultFull, "503 Service Unavailable"),
+            (Refusal::IntakeConflict, "409 Conflict"),
+            (Refusal::Memory, "503 Service Unavailable"),
+            (Refusal::Device, "500 Internal Server Error"),
+            (Refusal::Damaged(Table::Heads), "500 Internal Server Error"),
+        ],
+    )
 }
