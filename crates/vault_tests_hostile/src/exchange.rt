@@ -1,20 +1,25 @@
 //! A row as bytes: its request, and what is answered to each beginning of it.
 use crate::rows::{Deed, Row};
 use std::alloc::Global;
+use std::io::{Read, Write};
 use std::test::Fail;
 use vault_core_model::keeper::Keeper;
-use vault_http_exchange::serve_one;
+use vault_http_exchange::{ServeFault, serve_one};
 
 /// 2024-01-15T10:30:00Z, a minute after the last change of the vault.
-pub const READING: i64 = 1_705_314_600;
+const READING: i64 = 1_705_314_600;
 
 pub const GO_ON: &str = "HTTP/1.1 100 Continue\r\n\r\n";
 
 const NO_HEAD: &str =
-    "HTTP/1.1 400 Bad Request|~|content-type: application/json|content-length: 33||{\"code\":\"InvalidArgument\",\"n\":10}";
+    "HTTP/1.1 400 Bad Request\r\ndate: Mon, 15 Jan 2024 10:30:00 GMT\r\nconnection: close\r\ncontent-type: application/json\r\ncontent-length: 33\r\n\r\n{\"code\":\"InvalidArgument\",\"n\":10}";
 
 const NO_BODY: &str =
-    "HTTP/1.1 400 Bad Request|~|content-type: application/json|content-length: 31||{\"code\":\"MalformedBody\",\"n\":12}";
+    "HTTP/1.1 400 Bad Request\r\ndate: Mon, 15 Jan 2024 10:30:00 GMT\r\nconnection: close\r\ncontent-type: application/json\r\ncontent-length: 31\r\n\r\n{\"code\":\"MalformedBody\",\"n\":12}";
+
+/// The same behind `GO_ON`.
+const GO_ON_NO_BODY: &str =
+    "HTTP/1.1 100 Continue\r\n\r\nHTTP/1.1 400 Bad Request\r\ndate: Mon, 15 Jan 2024 10:30:00 GMT\r\nconnection: close\r\ncontent-type: application/json\r\ncontent-length: 31\r\n\r\n{\"code\":\"MalformedBody\",\"n\":12}";
 
 /// Adds a text, with CR LF for each `|` and two headers for each `~`.
 fn push_wire(out: &mut String, text: &str) -> Result<(), Fail> {
@@ -34,7 +39,7 @@ fn wire(alloc: Global, text: &str) -> Result<String, Fail> {
     Ok(out)
 }
 
-/// A request and its answers.
+/// A request and its answer.
 #[derive(Drop)]
 pub struct Exchange {
     pub request: String,
@@ -45,9 +50,7 @@ pub struct Exchange {
     pub read: usize,
     /// Whether the client waits for 100 Continue before it sends the body.
     pub waits: bool,
-    /// The answers to a cut head, to a cut body, and to the whole.
-    pub no_head: String,
-    pub no_body: String,
+    /// The answer to the whole.
     pub whole: String,
 }
 
@@ -57,18 +60,11 @@ fn head_of(request: &str) -> Result<usize, Fail> {
     Ok(request.len().saturating_sub(body.len()))
 }
 
-/// What is written to a client that waits, or to one that doesn't, where its body is cut.
-fn no_body(alloc: Global, waits: bool) -> Result<String, Fail> {
-    let mut out = String::from_str(alloc, if waits { GO_ON } else { "" })?;
-    push_wire(&mut out, NO_BODY)?;
-    Ok(out)
-}
-
 impl Exchange {
     pub fn of(alloc: Global, row: Row) -> Result<Exchange, Fail> {
         let request = wire(alloc, row.request)?;
-        let whole = wire(alloc, row.answer)?;
         let head = head_of(request.as_str())?;
+        let whole = wire(alloc, row.answer)?;
         let waits = whole.as_str().starts_with(GO_ON);
         let all = request.len();
         Ok(Exchange {
@@ -77,8 +73,6 @@ impl Exchange {
             head,
             read: if row.deed == Deed::Left { head } else { all },
             waits,
-            no_head: wire(alloc, NO_HEAD)?,
-            no_body: no_body(alloc, waits)?,
             whole,
         })
     }
@@ -88,11 +82,13 @@ impl Exchange {
         if size == 0 {
             ""
         } else if size < self.head {
-            self.no_head.as_str()
-        } else if size < self.read {
-            self.no_body.as_str()
-        } else {
+            NO_HEAD
+        } else if size >= self.read {
             self.whole.as_str()
+        } else if self.waits {
+            GO_ON_NO_BODY
+        } else {
+            NO_BODY
         }
     }
 
@@ -111,12 +107,32 @@ impl Exchange {
     }
 }
 
+/// Serves one request. It has no clause, so that no proof of a test carries what `serve_one` promises.
+pub fn serve<R: Read, W: Write, K: Keeper>(
+    alloc: Global,
+    reader: &mut R,
+    writer: &mut W,
+    keeper: &mut K,
+) -> Result<(), ServeFault> {
+    serve_one(alloc, reader, writer, keeper, READING)
+}
+
 /// What is answered to these bytes, behind which nothing comes.
 pub fn answer<K: Keeper>(alloc: Global, keeper: &mut K, front: &[u8]) -> Result<String, Fail> {
     let mut reader = front;
     let mut written = Vec::new(alloc);
-    serve_one(alloc, &mut reader, &mut written, keeper, READING)?;
+    serve(alloc, &mut reader, &mut written, keeper)?;
     Ok(String::from_utf8(written)?)
+}
+
+/// Fails unless the whole request is answered as it should be.
+pub fn answer_whole<K: Keeper>(
+    alloc: Global,
+    keeper: &mut K,
+    exchange: &Exchange,
+) -> Result<(), Fail> {
+    let given = answer(alloc, keeper, exchange.request.as_bytes())?;
+    compare(given.as_str(), exchange.whole.as_str())
 }
 
 /// Fails unless both are the same.

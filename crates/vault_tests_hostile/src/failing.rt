@@ -1,14 +1,27 @@
 //! Readers that fail behind each byte of each row's request, and writers that fail at each of its writes.
-use crate::exchange::{Exchange, READING, compare};
-use crate::rows::{Deed, Row, rows};
-use crate::vault::{edge, filled, told};
+use crate::exchange::{Exchange, compare, serve};
+use crate::rows::{Deed, rows};
+use crate::vault::{Filled, edge, told};
 use std::alloc::Global;
 use std::test::Fail;
+use vault_core_list::list_keeper::ListKeeper;
 use vault_core_model::keeper::Keeper;
 use vault_failing::{FailingReader, FailingWriter};
-use vault_http_exchange::{ServeFault, serve_one};
+use vault_http_exchange::ServeFault;
 
-/// Serves what a reader gives before it fails, and compares what is written and answered.
+/// Serves what a reader gives before it fails: what is written, and what is answered.
+fn serve_from<K: Keeper>(
+    alloc: Global,
+    keeper: &mut K,
+    front: &[u8],
+) -> Result<(String, Result<(), ServeFault>), Fail> {
+    let mut reader = FailingReader { bytes: front };
+    let mut written = Vec::new(alloc);
+    let served = serve(alloc, &mut reader, &mut written, keeper);
+    Ok((String::from_utf8(written)?, served))
+}
+
+/// Fails unless this is written and answered where the reader fails behind so many bytes.
 fn serve_failing<K: Keeper>(
     alloc: Global,
     keeper: &mut K,
@@ -16,40 +29,86 @@ fn serve_failing<K: Keeper>(
     wanted: &str,
     fault: Result<(), ServeFault>,
 ) -> Result<(), Fail> {
-    let mut reader = FailingReader { bytes: front };
-    let mut written = Vec::new(alloc);
-    let served = serve_one(alloc, &mut reader, &mut written, keeper, READING);
-    let text = String::from_utf8(written)?;
-    compare(text.as_str(), wanted)?;
+    let (written, served) = serve_from(alloc, keeper, front)?;
+    compare(written.as_str(), wanted)?;
     if served == fault {
         return Ok(());
     }
     Err(Fail::new(format_args!("wanted {fault:?}, got {served:?}")))
 }
 
-/// The reader fails before the last byte that is read: the answer is `Read`, nothing but 100 Continue is written,
-/// and the vault is as before. Where it fails behind that byte, nothing is asked of it any more.
-fn read_in_part(alloc: Global, row: Row) -> Result<(), Fail> {
-    let exchange = Exchange::of(alloc, row)?;
-    let mut keeper = filled(alloc)?;
-    let before = told(alloc, &mut keeper)?;
-    let edge_before = edge(&mut keeper)?;
-    for size in 0..exchange.read {
-        let front = exchange.front(size)?;
-        let wanted = exchange.told_at(size);
-        serve_failing(alloc, &mut keeper, front, wanted, Err(ServeFault::Read))?;
-        if edge(&mut keeper)? != edge_before {
-            return Err(Fail::new(format_args!("{size} bytes of {} make a step", exchange.request)));
-        }
+/// The reader fails behind so many bytes, fewer than are read: the answer is `Read`, and no step is made.
+fn read_less<K: Keeper>(
+    alloc: Global,
+    keeper: &mut K,
+    exchange: &Exchange,
+    size: usize,
+) -> Result<(), Fail> {
+    let before = edge(keeper)?;
+    let front = exchange.front(size)?;
+    serve_failing(
+        alloc,
+        keeper,
+        front,
+        exchange.told_at(size),
+        Err(ServeFault::Read),
+    )?;
+    if edge(keeper)? == before {
+        return Ok(());
     }
-    compare(told(alloc, &mut keeper)?.as_str(), before.as_str())?;
-    let front = exchange.front(exchange.read)?;
-    serve_failing(alloc, &mut keeper, front, exchange.whole.as_str(), Ok(()))?;
-    let after = told(alloc, &mut keeper)?;
-    if (after.as_str() != before.as_str()) == (exchange.deed == Deed::Made) {
+    Err(Fail::new(format_args!("{size} bytes of {} make a step", exchange.request)))
+}
+
+fn read_each_less<K: Keeper>(
+    alloc: Global,
+    keeper: &mut K,
+    exchange: &Exchange,
+) -> Result<(), Fail> {
+    for size in 0..exchange.read {
+        read_less(alloc, keeper, exchange, size)?;
+    }
+    Ok(())
+}
+
+/// Fails unless this is what is told of the vault.
+fn compare_told<K: Keeper>(alloc: Global, keeper: &mut K, wanted: &str) -> Result<(), Fail> {
+    let given = told(alloc, keeper)?;
+    compare(given.as_str(), wanted)
+}
+
+/// Fails unless the vault is another than it was exactly where it should be.
+fn compare_deed<K: Keeper>(
+    alloc: Global,
+    keeper: &mut K,
+    exchange: &Exchange,
+    before: &str,
+) -> Result<(), Fail> {
+    let after = told(alloc, keeper)?;
+    if (after.as_str() != before) == (exchange.deed == Deed::Made) {
         return Ok(());
     }
     Err(Fail::new(format_args!("{} doesn't do what it should", exchange.request)))
+}
+
+/// The reader fails before the last byte that is read: the answer is `Read`, nothing but 100 Continue is written,
+/// and the vault is as before. Where it fails behind that byte, nothing is asked of it any more.
+fn read_in_part<K: Keeper>(
+    alloc: Global,
+    keeper: &mut K,
+    exchange: &Exchange,
+    before: &str,
+) -> Result<(), Fail> {
+    read_each_less(alloc, keeper, exchange)?;
+    compare_told(alloc, keeper, before)?;
+    let front = exchange.front(exchange.read)?;
+    serve_failing(alloc, keeper, front, exchange.whole.as_str(), Ok(()))?;
+    compare_deed(alloc, keeper, exchange, before)
+}
+
+fn read_of_filled<K: Filled>(alloc: Global, exchange: &Exchange) -> Result<(), Fail> {
+    let mut keeper = K::filled(alloc)?;
+    let before = told(alloc, &mut keeper)?;
+    read_in_part(alloc, &mut keeper, exchange, before.as_str())
 }
 
 /// What `serve_one` says in `unread`, `err` and `taken`.
@@ -57,9 +116,19 @@ fn read_in_part(alloc: Global, row: Row) -> Result<(), Fail> {
 fn a_reader_that_fails_makes_no_step(rt: HostRuntime) -> Result<(), Fail> {
     let alloc = rt.alloc();
     for row in rows(alloc)?.as_slice() {
-        read_in_part(alloc, *row)?;
+        let exchange = Exchange::of(alloc, *row)?;
+        read_of_filled::<ListKeeper>(alloc, &exchange)?;
     }
     Ok(())
+}
+
+/// So many bytes of a request are served to a writer that takes so many writes.
+#[derive(Clone, Copy)]
+struct Stop {
+    size: usize,
+    writes_left: u64,
+    /// Whether the request's step is made all the same.
+    is_made: bool,
 }
 
 /// Serves bytes to a writer that takes so many writes: what it took, and what was answered.
@@ -74,57 +143,85 @@ fn serve_to<K: Keeper>(
         written: Vec::new(alloc),
         writes_left,
     };
-    let served = serve_one(alloc, &mut reader, &mut writer, keeper, READING);
+    let served = serve(alloc, &mut reader, &mut writer, keeper);
     Ok((String::from_utf8(writer.written)?, served))
+}
+
+/// What the writer takes before it fails.
+fn taken_before<'a>(exchange: &'a Exchange, stop: Stop) -> &'a str {
+    if stop.writes_left == 0 {
+        ""
+    } else {
+        exchange.told_at(stop.size)
+    }
+}
+
+/// Fails unless the writer takes what was to be written before its fault: what is answered.
+fn serve_stopped<K: Keeper>(
+    alloc: Global,
+    keeper: &mut K,
+    exchange: &Exchange,
+    stop: Stop,
+) -> Result<Result<(), ServeFault>, Fail> {
+    let front = exchange.front(stop.size)?;
+    let (written, served) = serve_to(alloc, keeper, front, stop.writes_left)?;
+    compare(written.as_str(), taken_before(exchange, stop))?;
+    Ok(served)
 }
 
 /// Fails unless the writer's fault is answered, with what was to be written before it, and the vault is as it
 /// was, or as the answer that wasn't written says.
-fn refuse_write(
+fn refuse_write<K: Filled>(alloc: Global, exchange: &Exchange, stop: Stop) -> Result<(), Fail> {
+    let mut keeper = K::filled(alloc)?;
+    let before = told(alloc, &mut keeper)?;
+    let served = serve_stopped(alloc, &mut keeper, exchange, stop)?;
+    let after = told(alloc, &mut keeper)?;
+    if served == Err(ServeFault::Write) && (after.as_str() != before.as_str()) == stop.is_made {
+        return Ok(());
+    }
+    Err(Fail::new(format_args!(
+        "{} bytes of {}, {} writes: {served:?}",
+        stop.size, exchange.request, stop.writes_left
+    )))
+}
+
+/// Nothing is changed where a write fails behind so many, while so many bytes are served.
+fn refuse_unmade<K: Filled>(
     alloc: Global,
     exchange: &Exchange,
     size: usize,
     writes_left: u64,
-    is_made: bool,
 ) -> Result<(), Fail> {
-    let mut keeper = filled(alloc)?;
-    let before = told(alloc, &mut keeper)?;
-    let (written, served) = serve_to(alloc, &mut keeper, exchange.front(size)?, writes_left)?;
-    let wanted = if writes_left == 0 {
-        ""
-    } else {
-        exchange.told_at(size)
+    let stop = Stop {
+        size,
+        writes_left,
+        is_made: false,
     };
-    compare(written.as_str(), wanted)?;
-    let after = told(alloc, &mut keeper)?;
-    if served == Err(ServeFault::Write) && (after.as_str() != before.as_str()) == is_made {
-        return Ok(());
-    }
-    Err(Fail::new(format_args!(
-        "{size} bytes of {}, {writes_left} writes: {served:?}",
-        exchange.request
-    )))
+    refuse_write::<K>(alloc, exchange, stop)
 }
 
 /// The whole request: each write fails in turn. Where 100 Continue fails no step is made, else it is.
-fn refuse_each_write(alloc: Global, exchange: &Exchange) -> Result<(), Fail> {
-    let is_made = exchange.deed == Deed::Made;
+fn refuse_each_write<K: Filled>(alloc: Global, exchange: &Exchange) -> Result<(), Fail> {
     let size = exchange.request.len();
-    if !exchange.waits {
-        return refuse_write(alloc, exchange, size, 0, is_made);
+    if exchange.waits {
+        refuse_unmade::<K>(alloc, exchange, size, 0)?;
     }
-    refuse_write(alloc, exchange, size, 0, false)?;
-    refuse_write(alloc, exchange, size, 1, is_made)
+    let last = Stop {
+        size,
+        writes_left: if exchange.waits { 1 } else { 0 },
+        is_made: exchange.deed == Deed::Made,
+    };
+    refuse_write::<K>(alloc, exchange, last)
 }
 
 /// A cut head and a cut body: the answer to them fails, and nothing is changed.
-fn refuse_writes_to_cuts(alloc: Global, exchange: &Exchange) -> Result<(), Fail> {
-    refuse_write(alloc, exchange, 1, 0, false)?;
+fn refuse_writes_to_cuts<K: Filled>(alloc: Global, exchange: &Exchange) -> Result<(), Fail> {
+    refuse_unmade::<K>(alloc, exchange, 1, 0)?;
     if exchange.head < exchange.read {
-        refuse_write(alloc, exchange, exchange.head, 0, false)?;
+        refuse_unmade::<K>(alloc, exchange, exchange.head, 0)?;
     }
     if exchange.waits {
-        refuse_write(alloc, exchange, exchange.head, 1, false)?;
+        refuse_unmade::<K>(alloc, exchange, exchange.head, 1)?;
     }
     Ok(())
 }
@@ -135,8 +232,8 @@ fn a_writer_that_fails_undoes_no_step(rt: HostRuntime) -> Result<(), Fail> {
     let alloc = rt.alloc();
     for row in rows(alloc)?.as_slice() {
         let exchange = Exchange::of(alloc, *row)?;
-        refuse_each_write(alloc, &exchange)?;
-        refuse_writes_to_cuts(alloc, &exchange)?;
+        refuse_each_write::<ListKeeper>(alloc, &exchange)?;
+        refuse_writes_to_cuts::<ListKeeper>(alloc, &exchange)?;
     }
     Ok(())
 }

@@ -1,12 +1,11 @@
 //! Each row with ample memory, and with a growth refused.
-use crate::exchange::{Exchange, GO_ON, READING, answer, compare};
-use crate::rows::{Deed, rows};
-use crate::vault::{filled, told};
+use crate::exchange::{Exchange, GO_ON, answer_whole, serve};
+use crate::rows::{Deed, Row, rows};
+use crate::vault::{Filled, told};
 use std::alloc::Global;
 use std::test::Fail;
 use vault_core_list::list_keeper::ListKeeper;
-use vault_core_model::keeper::Keeper;
-use vault_http_exchange::{ServeFault, serve_one};
+use vault_http_exchange::ServeFault;
 
 /// How a request ended.
 #[derive(Clone, Copy, PartialEq, Eq)]
@@ -21,21 +20,33 @@ enum Ending {
 
 /// A row, and a vault of its own.
 #[derive(Drop)]
-struct Case {
+struct Case<K> {
     exchange: Exchange,
-    keeper: ListKeeper,
+    keeper: K,
     ending: Ending,
 }
 
+impl<K: Filled> Case<K> {
+    fn of(alloc: Global, row: Row) -> Result<Case<K>, Fail> {
+        let keeper = K::filled(alloc)?;
+        Ok(Case {
+            exchange: Exchange::of(alloc, row)?,
+            keeper,
+            ending: Ending::Answered,
+        })
+    }
+}
+
+fn push_case<K: Filled>(alloc: Global, cases: &mut Vec<Case<K>>, row: Row) -> Result<(), Fail> {
+    cases.push(Case::of(alloc, row)?)?;
+    Ok(())
+}
+
 /// All that the test itself needs, so that behind it only serving takes memory.
-fn cases(alloc: Global) -> Result<Vec<Case>, Fail> {
+fn cases<K: Filled>(alloc: Global) -> Result<Vec<Case<K>>, Fail> {
     let mut cases = Vec::new(alloc);
     for row in rows(alloc)?.as_slice() {
-        cases.push(Case {
-            exchange: Exchange::of(alloc, *row)?,
-            keeper: filled(alloc)?,
-            ending: Ending::Answered,
-        })?;
+        push_case(alloc, &mut cases, *row)?;
     }
     Ok(cases)
 }
@@ -73,28 +84,35 @@ fn ending_of(
 }
 
 /// Serves a case. The room for what is written is there.
-fn serve_case(alloc: Global, case: &mut Case, written: &mut Vec<u8>) -> Result<(), Fail> {
+fn serve_case<K: Filled>(
+    alloc: Global,
+    case: &mut Case<K>,
+    written: &mut Vec<u8>,
+) -> Result<(), Fail> {
     written.clear();
     let mut reader = case.exchange.request.as_bytes();
-    let served = serve_one(alloc, &mut reader, written, &mut case.keeper, READING);
+    let served = serve(alloc, &mut reader, written, &mut case.keeper);
     case.ending = ending_of(&case.exchange, served, written.as_slice())?;
     Ok(())
 }
 
 /// Serves each case in turn.
-fn serve_cases(alloc: Global) -> Result<Vec<Case>, Fail> {
-    let mut cases = cases(alloc)?;
+fn serve_cases<K: Filled>(alloc: Global, cases: &mut [Case<K>]) -> Result<(), Fail> {
     let mut written = Vec::with_capacity(alloc, 4096)?;
     for case in cases.iter_mut() {
         serve_case(alloc, case, &mut written)?;
     }
+    Ok(())
+}
+
+fn served_cases<K: Filled>(alloc: Global) -> Result<Vec<Case<K>>, Fail> {
+    let mut cases = cases(alloc)?;
+    serve_cases(alloc, cases.as_mut_slice())?;
     Ok(cases)
 }
 
-#[test]
-fn each_row_is_answered(rt: HostRuntime) -> Result<(), Fail> {
-    let alloc = rt.alloc();
-    for case in serve_cases(alloc)?.as_slice() {
+fn are_answered<K: Filled>(cases: &[Case<K>]) -> Result<(), Fail> {
+    for case in cases {
         if case.ending != Ending::Answered {
             return Err(Fail::new(format_args!("no answer to {}", case.exchange.request)));
         }
@@ -102,11 +120,26 @@ fn each_row_is_answered(rt: HostRuntime) -> Result<(), Fail> {
     Ok(())
 }
 
+fn answer_rows<K: Filled>(alloc: Global) -> Result<(), Fail> {
+    let cases: Vec<Case<K>> = served_cases(alloc)?;
+    are_answered(cases.as_slice())
+}
+
+#[test]
+fn each_row_is_answered(rt: HostRuntime) -> Result<(), Fail> {
+    answer_rows::<ListKeeper>(rt.alloc())
+}
+
+/// What replies tell of the vault before a request.
+fn told_before<K: Filled>(alloc: Global) -> Result<String, Fail> {
+    let mut keeper = K::filled(alloc)?;
+    told(alloc, &mut keeper)
+}
+
 /// What replies tell of the vault once a request was answered.
-fn told_behind(alloc: Global, exchange: &Exchange) -> Result<String, Fail> {
-    let mut keeper = filled(alloc)?;
-    let given = answer(alloc, &mut keeper, exchange.request.as_bytes())?;
-    compare(given.as_str(), exchange.whole.as_str())?;
+fn told_behind<K: Filled>(alloc: Global, exchange: &Exchange) -> Result<String, Fail> {
+    let mut keeper = K::filled(alloc)?;
+    answer_whole(alloc, &mut keeper, exchange)?;
     told(alloc, &mut keeper)
 }
 
@@ -120,31 +153,35 @@ fn is_promised(ending: Ending, left: &str, before: &str, behind: &str) -> bool {
     }
 }
 
-fn judge<K: Keeper>(
-    alloc: Global,
-    exchange: &Exchange,
-    ending: Ending,
-    keeper: &mut K,
-) -> Result<(), Fail> {
-    let before = told(alloc, &mut filled(alloc)?)?;
-    let behind = told_behind(alloc, exchange)?;
-    if (before.as_str() == behind.as_str()) == (exchange.deed == Deed::Made) {
-        return Err(Fail::new(format_args!("{} doesn't do what it should", exchange.request)));
+fn judge<K: Filled>(alloc: Global, case: &mut Case<K>) -> Result<(), Fail> {
+    let before = told_before::<K>(alloc)?;
+    let behind = told_behind::<K>(alloc, &case.exchange)?;
+    let request = case.exchange.request.as_str();
+    if (before.as_str() == behind.as_str()) == (case.exchange.deed == Deed::Made) {
+        return Err(Fail::new(format_args!("{request} doesn't do what it should")));
     }
-    let left = told(alloc, keeper)?;
-    if is_promised(ending, left.as_str(), before.as_str(), behind.as_str()) {
+    let left = told(alloc, &mut case.keeper)?;
+    if is_promised(case.ending, left.as_str(), before.as_str(), behind.as_str()) {
         return Ok(());
     }
-    Err(Fail::new(format_args!("{} leaves another vault", exchange.request)))
+    Err(Fail::new(format_args!("{request} leaves another vault")))
+}
+
+fn judge_each<K: Filled>(alloc: Global, cases: &mut [Case<K>]) -> Result<(), Fail> {
+    for case in cases.iter_mut() {
+        judge(alloc, case)?;
+    }
+    Ok(())
+}
+
+fn judge_rows<K: Filled>(alloc: Global) -> Result<(), Fail> {
+    let mut cases: Vec<Case<K>> = served_cases(alloc)?;
+    judge_each(alloc, cases.as_mut_slice())
 }
 
 /// Holds with ample memory, and with any one growth refused while a request is served: what `serve_one` says
 /// in `ok` and `err`.
 #[test]
 fn a_refused_growth_is_no_other_answer(rt: HostRuntime) -> Result<(), Fail> {
-    let alloc = rt.alloc();
-    for case in serve_cases(alloc)?.iter_mut() {
-        judge(alloc, &case.exchange, case.ending, &mut case.keeper)?;
-    }
-    Ok(())
+    judge_rows::<ListKeeper>(rt.alloc())
 }

@@ -33,10 +33,22 @@ const READS: &str = r#"
 {"at":"2024-01-16T00:00:00Z","as":"ann","do":"get","bucket":"docs","key":"n"}
 "#;
 
-/// The vault that the rows are asked of.
-pub fn filled(alloc: Global) -> Result<ListKeeper, Fail> {
-    let mut keeper = opened(alloc)?;
-    play(alloc, &mut keeper, FILLING)?;
+/// A keeper that can be made with the vault that the rows are asked of. The tests are over any such keeper, as
+/// a proof over one kind would look at all its parts on each way out.
+pub trait Filled: Keeper + Drop {
+    fn filled(alloc: Global) -> Result<Self, Fail>;
+}
+
+impl Filled for ListKeeper {
+    fn filled(alloc: Global) -> Result<ListKeeper, Fail> {
+        played(alloc, opened(alloc)?, FILLING)
+    }
+}
+
+/// The keeper as a transcript leaves it.
+fn played<K: Keeper + Drop>(alloc: Global, keeper: K, transcript: &str) -> Result<K, Fail> {
+    let mut keeper = keeper;
+    play(alloc, &mut keeper, transcript)?;
     Ok(keeper)
 }
 

@@ -1,11 +1,11 @@
 //! A sound vault, and the same with one thing changed in its file.
-use sqlite::{Alter, Connection, Error};
+use crate::calls::made_with;
+use sqlite::{Alter, Connection};
 use std::alloc::Global;
 use std::process::Abort;
 use std::test::Fail;
 use vault_audit::audit;
 use vault_base::refusal::{Refusal, Table};
-use vault_store_create::create::fill;
 
 // A department with a bucket of four entries: two held versions of one key, a removed one, and a marker. Its
 // sums are of days 10, 20 and 30.
@@ -30,97 +30,81 @@ INSERT INTO heads VALUES ('papers', 'a', 2, 2);
 INSERT INTO heads VALUES ('papers', 'c', 4, 1);
 UPDATE meta SET last = 2592000, next = 5";
 
-// These have no clause, so that the proof of a test does not carry the state of each call.
-fn batch<S: Alter>(conn: &mut Connection<S>, sql: &str) -> Result<(), Error> {
-    conn.execute_batch(sql)
-}
-
-fn made<S: Alter>(conn: &mut Connection<S>) -> Result<(), Refusal> {
-    fill(conn)
-}
-
+// It has no clause, so that the proof of a test does not carry the state of the call.
 fn judged<S: Alter>(alloc: Global, conn: &mut Connection<S>) -> Result<(), Refusal> {
     audit(alloc, conn)
 }
 
-/// What is told of the vault with this change in its file.
-fn told(alloc: Global, change: &str) -> Result<Result<(), Refusal>, Fail> {
+/// What is told of the vault with these changes in its file.
+fn told(rt: &impl Abort, alloc: Global, changes: &[&str]) -> Result<Result<(), Refusal>, Fail> {
     let mut conn = Connection::open_in_memory(alloc)?;
-    let told = told_with(alloc, &mut conn, change);
+    let told = told_with(rt, alloc, &mut conn, changes);
     drop(conn);
     told
 }
 
 /// The same, in that store, where nothing is yet.
 fn told_with<S: Alter>(
+    rt: &impl Abort,
     alloc: Global,
     conn: &mut Connection<S>,
-    change: &str,
+    changes: &[&str],
 ) -> Result<Result<(), Refusal>, Fail> {
-    if made(conn).is_err() {
-        Err("made")?;
-    }
-    batch(conn, ROWS)?;
-    batch(conn, change)?;
+    made_with(rt, conn, changes)?;
     Ok(judged(alloc, conn))
+}
+
+/// Fails where the sound vault with this change is not told by that table.
+fn is_told(rt: &impl Abort, alloc: Global, change: &str, table: Table) -> Result<(), Fail> {
+    let told = told(rt, alloc, &[ROWS, change])?;
+    assert_eq!(rt; told, Err(Refusal::Damaged(table)), "with {change}");
+    Ok(())
 }
 
 /// Fails where not each of these changes is told by that table.
 fn are_told(rt: &impl Abort, alloc: Global, changes: &[&str], table: Table) -> Result<(), Fail> {
     for change in changes {
-        assert_eq!(rt; told(alloc, change)?, Err(Refusal::Damaged(table)));
+        is_told(rt, alloc, change, table)?;
     }
+    Ok(())
+}
+
+/// Fails where not each of these changes is told by its table.
+fn each_is_told(rt: &impl Abort, alloc: Global, changes: &[(Table, &str)]) -> Result<(), Fail> {
+    for (table, change) in changes {
+        is_told(rt, alloc, change, *table)?;
+    }
+    Ok(())
+}
+
+/// Fails where the vault with these changes is not sound.
+fn is_sound(rt: &impl Abort, alloc: Global, changes: &[&str]) -> Result<(), Fail> {
+    assert_eq!(rt; told(rt, alloc, changes)?, Ok(()));
     Ok(())
 }
 
 #[test]
 fn a_store_without_tables_is_no_vault(rt: HostRuntime) -> Result<(), Fail> {
     let mut conn = Connection::open_in_memory(rt.alloc())?;
-    let judged = judge_no_tables(&rt, rt.alloc(), &mut conn);
+    let told = judged(rt.alloc(), &mut conn);
     drop(conn);
-    judged
-}
-
-fn judge_no_tables<S: Alter>(
-    rt: &impl Abort,
-    alloc: Global,
-    conn: &mut Connection<S>,
-) -> Result<(), Fail> {
-    assert_eq!(rt; judged(alloc, conn), Err(Refusal::Damaged(Table::Meta)));
+    assert_eq!(rt; told, Err(Refusal::Damaged(Table::Meta)));
     Ok(())
 }
 
 #[test]
 fn a_new_vault_is_sound(rt: HostRuntime) -> Result<(), Fail> {
-    let mut conn = Connection::open_in_memory(rt.alloc())?;
-    let judged = judge_new_vault(&rt, rt.alloc(), &mut conn);
-    drop(conn);
-    judged
-}
-
-fn judge_new_vault<S: Alter>(
-    rt: &impl Abort,
-    alloc: Global,
-    conn: &mut Connection<S>,
-) -> Result<(), Fail> {
-    assert_eq!(rt; made(conn), Ok(()));
-    assert_eq!(rt; judged(alloc, conn), Ok(()));
-    Ok(())
+    is_sound(&rt, rt.alloc(), &[])
 }
 
 #[test]
 fn a_vault_with_entries_is_sound(rt: HostRuntime) -> Result<(), Fail> {
-    assert_eq!(rt; told(rt.alloc(), "")?, Ok(()));
-    Ok(())
+    is_sound(&rt, rt.alloc(), &[ROWS, ""])
 }
 
 #[test]
 fn a_table_that_is_missing_is_told(rt: HostRuntime) -> Result<(), Fail> {
-    assert_eq!(rt;
-        told(rt.alloc(), "DROP TABLE heads")?,
-        Err(Refusal::Damaged(Table::Heads))
-    );
-    Ok(())
+    is_told(&rt, rt.alloc(), "DROP TABLE heads", Table::Heads)
 }
 
 #[test]
@@ -162,10 +146,7 @@ fn faults_of_callers_and_buckets_are_told(rt: HostRuntime) -> Result<(), Fail> {
         (Table::Buckets, "UPDATE buckets SET mode = 0"),
         (Table::Buckets, "UPDATE buckets SET days = NULL"),
     ];
-    for (table, change) in &changes {
-        assert_eq!(rt; told(rt.alloc(), change)?, Err(Refusal::Damaged(*table)));
-    }
-    Ok(())
+    each_is_told(&rt, rt.alloc(), &changes)
 }
 
 #[test]
@@ -279,110 +260,84 @@ fn the_first_table_is_told(rt: HostRuntime) -> Result<(), Fail> {
             "UPDATE heads SET key = '' WHERE key = 'c'; UPDATE meta SET next = 6",
         ),
     ];
-    for (table, change) in &changes {
-        assert_eq!(rt; told(rt.alloc(), change)?, Err(Refusal::Damaged(*table)));
-    }
-    Ok(())
+    each_is_told(&rt, rt.alloc(), &changes)
 }
 
 #[test]
 fn each_value_beyond_its_limits_is_told(rt: HostRuntime) -> Result<(), Fail> {
-    let changes = [
-        (
-            Table::Callers,
-            "INSERT INTO callers VALUES ('A b', NULL, 0, 0)",
-        ),
-        (
-            Table::Buckets,
-            "INSERT INTO buckets VALUES ('Papers', 'records', 0, NULL, NULL)",
-        ),
-        (Table::Buckets, "UPDATE buckets SET days = 0"),
-        (Table::Buckets, "UPDATE buckets SET years = 1"),
-        (
-            Table::Buckets,
-            "UPDATE buckets SET days = NULL, years = 101",
-        ),
-        (Table::Rules, "UPDATE rules SET id = '' WHERE n = 1"),
-        (Table::Rules, "UPDATE rules SET prefix = '\n' WHERE n = 1"),
-        (Table::Rules, "UPDATE rules SET days = 0 WHERE n = 1"),
-        (Table::Rules, "UPDATE rules SET lone = 2 WHERE n = 1"),
-        (Table::Rules, "UPDATE rules SET n = 0 WHERE n = 1"),
-        (Table::Rules, "UPDATE rules SET nc_keep = 101 WHERE n = 2"),
-        (
-            Table::Rules,
-            "UPDATE rules SET nc_days = NULL, nc_keep = 1, days = 1 WHERE n = 2",
-        ),
-        (Table::Entries, "UPDATE entries SET key = '' WHERE id = 3"),
-        (Table::Entries, "UPDATE entries SET marker = 2 WHERE id = 4"),
-        (
-            Table::Entries,
-            "UPDATE entries SET size = 1048577 WHERE id = 3",
-        ),
-        (
-            Table::Entries,
-            "UPDATE entries SET digest = x'00' WHERE id = 1",
-        ),
-        (
-            Table::Entries,
-            "UPDATE entries SET admitted = -1 WHERE id = 1",
-        ),
-        (
-            Table::Entries,
-            "UPDATE entries SET by_rule = 2 WHERE id = 4",
-        ),
-        (
-            Table::Entries,
-            "UPDATE entries SET admitted_by = '' WHERE id = 4",
-        ),
-        (
-            Table::Entries,
-            "UPDATE entries SET by_rule = 1, admitted_by = '' WHERE id = 4",
-        ),
-        (
-            Table::Entries,
-            "UPDATE entries SET cause = NULL WHERE id = 3",
-        ),
-        (
-            Table::Entries,
-            "UPDATE entries SET cause_by = '' WHERE id = 3",
-        ),
-        (
-            Table::Entries,
-            "UPDATE entries SET cause = 2, cause_by = '' WHERE id = 3",
-        ),
-        (
-            Table::Entries,
-            "UPDATE entries SET cause = 1, cause_by = '' WHERE id = 3",
-        ),
-        (
-            Table::Settings,
-            "UPDATE settings SET moment = -1 WHERE id = 1",
-        ),
-        (
-            Table::Settings,
-            "UPDATE settings SET caller = '' WHERE id = 1",
-        ),
-        (
-            Table::Settings,
-            "UPDATE settings SET until = -1 WHERE id = 2",
-        ),
-        (Table::Settings, "UPDATE settings SET hold = 2 WHERE id = 1"),
-        (
-            Table::Settings,
-            "UPDATE settings SET bypass = 2 WHERE id = 1",
-        ),
-        (Table::Settings, "UPDATE settings SET n = 0 WHERE id = 1"),
-        (Table::Intake, "UPDATE intake SET batch = ''"),
-        (Table::Intake, "UPDATE intake SET size = -1"),
-        (Table::Intake, "UPDATE intake SET digest = x'00'"),
-        (Table::Intake, "UPDATE intake SET mode = 3"),
-        (Table::Intake, "UPDATE intake SET key = ''"),
-        (Table::Heads, "UPDATE heads SET count = -1 WHERE key = 'a'"),
+    names_beyond_are_told(&rt, rt.alloc())?;
+    entries_beyond_are_told(&rt, rt.alloc())?;
+    rest_beyond_is_told(&rt, rt.alloc())
+}
+
+fn names_beyond_are_told(rt: &impl Abort, alloc: Global) -> Result<(), Fail> {
+    let buckets = [
+        "INSERT INTO buckets VALUES ('Papers', 'records', 0, NULL, NULL)",
+        "UPDATE buckets SET days = 0",
+        "UPDATE buckets SET years = 1",
+        "UPDATE buckets SET days = NULL, years = 101",
     ];
-    for (table, change) in &changes {
-        assert_eq!(rt; told(rt.alloc(), change)?, Err(Refusal::Damaged(*table)));
-    }
-    Ok(())
+    let rules = [
+        "UPDATE rules SET id = '' WHERE n = 1",
+        "UPDATE rules SET prefix = '\n' WHERE n = 1",
+        "UPDATE rules SET days = 0 WHERE n = 1",
+        "UPDATE rules SET lone = 2 WHERE n = 1",
+        "UPDATE rules SET n = 0 WHERE n = 1",
+        "UPDATE rules SET nc_keep = 101 WHERE n = 2",
+        "UPDATE rules SET nc_days = NULL, nc_keep = 1, days = 1 WHERE n = 2",
+    ];
+    is_told(
+        rt,
+        alloc,
+        "INSERT INTO callers VALUES ('A b', NULL, 0, 0)",
+        Table::Callers,
+    )?;
+    are_told(rt, alloc, &buckets, Table::Buckets)?;
+    are_told(rt, alloc, &rules, Table::Rules)
+}
+
+fn entries_beyond_are_told(rt: &impl Abort, alloc: Global) -> Result<(), Fail> {
+    let changes = [
+        "UPDATE entries SET key = '' WHERE id = 3",
+        "UPDATE entries SET marker = 2 WHERE id = 4",
+        "UPDATE entries SET size = 1048577 WHERE id = 3",
+        "UPDATE entries SET digest = x'00' WHERE id = 1",
+        "UPDATE entries SET admitted = -1 WHERE id = 1",
+        "UPDATE entries SET by_rule = 2 WHERE id = 4",
+        "UPDATE entries SET admitted_by = '' WHERE id = 4",
+        "UPDATE entries SET by_rule = 1, admitted_by = '' WHERE id = 4",
+        "UPDATE entries SET cause = NULL WHERE id = 3",
+        "UPDATE entries SET cause_by = '' WHERE id = 3",
+        "UPDATE entries SET cause = 2, cause_by = '' WHERE id = 3",
+        "UPDATE entries SET cause = 1, cause_by = '' WHERE id = 3",
+    ];
+    are_told(rt, alloc, &changes, Table::Entries)
+}
+
+fn rest_beyond_is_told(rt: &impl Abort, alloc: Global) -> Result<(), Fail> {
+    let settings = [
+        "UPDATE settings SET moment = -1 WHERE id = 1",
+        "UPDATE settings SET caller = '' WHERE id = 1",
+        "UPDATE settings SET until = -1 WHERE id = 2",
+        "UPDATE settings SET hold = 2 WHERE id = 1",
+        "UPDATE settings SET bypass = 2 WHERE id = 1",
+        "UPDATE settings SET n = 0 WHERE id = 1",
+    ];
+    let intake = [
+        "UPDATE intake SET batch = ''",
+        "UPDATE intake SET size = -1",
+        "UPDATE intake SET digest = x'00'",
+        "UPDATE intake SET mode = 3",
+        "UPDATE intake SET key = ''",
+    ];
+    are_told(rt, alloc, &settings, Table::Settings)?;
+    are_told(rt, alloc, &intake, Table::Intake)?;
+    is_told(
+        rt,
+        alloc,
+        "UPDATE heads SET count = -1 WHERE key = 'a'",
+        Table::Heads,
+    )
 }
 
 // Ten versions without bytes, each at a key of its own.
@@ -407,27 +362,9 @@ INSERT INTO buckets SELECT 'b-' || id, 'records', 0, NULL, NULL FROM entries;
 INSERT INTO rules SELECT 'b-' || id, 1, 'old', '', 1, 30, 0, NULL, NULL FROM entries;
 UPDATE meta SET last = 1600000000, next = 161";
 
+/// Each table but two has 160 rows or more.
 #[test]
 fn tables_of_many_rows_are_sound(rt: HostRuntime) -> Result<(), Fail> {
-    let mut conn = Connection::open_in_memory(rt.alloc())?;
-    let told = judged_with_many_rows(rt.alloc(), &mut conn);
-    drop(conn);
-    assert_eq!(rt; told?, Ok(()));
-    Ok(())
-}
-
-/// What is told of a vault in which each table but two has 160 rows or more.
-fn judged_with_many_rows<S: Alter>(
-    alloc: Global,
-    conn: &mut Connection<S>,
-) -> Result<Result<(), Refusal>, Fail> {
-    if made(conn).is_err() {
-        Err("made")?;
-    }
-    batch(conn, TEN_VERSIONS)?;
-    for _ in 0..4 {
-        batch(conn, DOUBLED)?;
-    }
-    batch(conn, WITH_ROWS)?;
-    Ok(judged(alloc, conn))
+    let changes = [TEN_VERSIONS, DOUBLED, DOUBLED, DOUBLED, DOUBLED, WITH_ROWS];
+    is_sound(&rt, rt.alloc(), &changes)
 }

@@ -1,4 +1,7 @@
 //! Each read once where it finds its row, and once where there is none.
+use crate::calls::{
+    batch_name, batches, bucket_name, caller_name, dept_name, made_new, object_key, version_id,
+};
 use sqlite::{Alter, Connection, Error};
 use std::alloc::Global;
 use std::process::Abort;
@@ -6,9 +9,7 @@ use std::test::Fail;
 use vault_base::content::Content;
 use vault_base::moment::Moment;
 use vault_base::name::{BatchName, BucketName, CallerName, DeptName, ObjectKey, VersionId};
-use vault_base::refusal::Refusal;
 use vault_core_model::records::{BucketConfig, Caller, Entry, Head, Note};
-use vault_store_create::create::fill;
 use vault_store_reads::entries::{read_content, read_entry};
 use vault_store_reads::heads::read_head;
 use vault_store_reads::meta::{read_last, read_next_id};
@@ -16,15 +17,7 @@ use vault_store_reads::names::{has_department, read_bucket, read_caller, read_to
 use vault_store_reads::notes::read_note;
 use vault_tally::row::Row;
 
-// These have no clause, so that the proof of a test does not carry the state of each call.
-fn made<S: Alter>(conn: &mut Connection<S>) -> Result<(), Refusal> {
-    fill(conn)
-}
-
-fn batch<S: Alter>(conn: &mut Connection<S>, sql: &str) -> Result<(), Error> {
-    conn.execute_batch(sql)
-}
-
+// These have no clause either.
 fn last<S: Alter>(conn: &mut Connection<S>) -> Result<Moment, Error> {
     read_last(conn)
 }
@@ -77,70 +70,84 @@ fn head<S: Alter>(
     read_head(conn, bucket, key)
 }
 
-fn dept_name(alloc: Global, text: &str) -> Result<DeptName, Fail> {
-    Ok(DeptName::read(alloc, text)?.ok().ok_or("a name")?)
+/// What makes a vault one with a version, which an intake batch admitted.
+const ROWS: [&str; 3] = [
+    "UPDATE meta SET last = 1700000000, next = 2; INSERT INTO departments VALUES ('records', 3, 2, 1, 59028, 19676); INSERT INTO callers VALUES ('ada', 'records', 4, 1); INSERT INTO buckets VALUES ('records-2024', 'records', 1, 30, NULL)",
+    "INSERT INTO entries VALUES (1, 'records-2024', 'a.txt', 0, 3, x'0000000000000000000000000000000000000000000000000000000000000000', 1600000000, 0, 'ada', NULL, NULL, NULL); INSERT INTO contents VALUES (1, x'010203'); INSERT INTO heads VALUES ('records-2024', 'a.txt', 1, 1)",
+    "INSERT INTO intake VALUES ('records-2024', 'first', 7, 'a.txt', 3, x'0000000000000000000000000000000000000000000000000000000000000000', 0, NULL, NULL, 1)",
+];
+
+/// What is looked at.
+#[derive(Clone, Copy)]
+enum Subject {
+    Meta,
+    Departments,
+    Callers,
+    Buckets,
+    Heads,
+    Entries,
+    Notes,
 }
 
-fn caller_name(alloc: Global, text: &str) -> Result<CallerName, Fail> {
-    Ok(CallerName::read(alloc, text)?.ok().ok_or("a name")?)
-}
-
-fn bucket_name(alloc: Global, text: &str) -> Result<BucketName, Fail> {
-    Ok(BucketName::read(alloc, text)?.ok().ok_or("a name")?)
-}
-
-fn batch_name(alloc: Global, text: &str) -> Result<BatchName, Fail> {
-    Ok(BatchName::read(alloc, text)?.ok().ok_or("a name")?)
-}
-
-fn key(alloc: Global, text: &str) -> Result<ObjectKey, Fail> {
-    Ok(ObjectKey::read(alloc, text)?.ok().ok_or("a key")?)
-}
-
-fn id(number: u32) -> Result<VersionId, Fail> {
-    Ok(VersionId::new(number).ok_or("an id")?)
-}
-
-/// The tables of a vault with one version, which an intake batch admitted.
-fn put_rows<S: Alter>(conn: &mut Connection<S>) -> Result<(), Error> {
-    batch(
-        conn,
-        "UPDATE meta SET last = 1700000000, next = 2; INSERT INTO departments VALUES ('records', 3, 2, 1, 59028, 19676); INSERT INTO callers VALUES ('ada', 'records', 4, 1); INSERT INTO buckets VALUES ('records-2024', 'records', 1, 30, NULL)",
-    )?;
-    batch(
-        conn,
-        "INSERT INTO entries VALUES (1, 'records-2024', 'a.txt', 0, 3, x'0000000000000000000000000000000000000000000000000000000000000000', 1600000000, 0, 'ada', NULL, NULL, NULL); INSERT INTO contents VALUES (1, x'010203'); INSERT INTO heads VALUES ('records-2024', 'a.txt', 1, 1)",
-    )?;
-    batch(
-        conn,
-        "INSERT INTO intake VALUES ('records-2024', 'first', 7, 'a.txt', 3, x'0000000000000000000000000000000000000000000000000000000000000000', 0, NULL, NULL, 1)",
-    )
-}
-
-#[test]
-fn meta_is_read(rt: HostRuntime) -> Result<(), Fail> {
-    let mut conn = Connection::open_in_memory(rt.alloc())?;
-    let judged = look_at_meta(&rt, &mut conn);
+/// Fails where a look finds something else than what is there.
+fn look(rt: &impl Abort, alloc: Global, subject: Subject) -> Result<(), Fail> {
+    let mut conn = Connection::open_in_memory(alloc)?;
+    let judged = look_from_new(rt, alloc, &mut conn, subject);
     drop(conn);
     judged
 }
 
-fn look_at_meta<S: Alter>(rt: &impl Abort, conn: &mut Connection<S>) -> Result<(), Fail> {
-    assert_eq!(rt; made(conn), Ok(()));
-    assert_eq!(rt; last(conn)?.secs(), 0);
-    assert_eq!(rt; next_id(conn)?, 1);
-    put_rows(conn)?;
-    assert_eq!(rt; last(conn)?.secs(), 1_700_000_000);
-    assert_eq!(rt; next_id(conn)?, 2);
+/// The same, in that store, where nothing is yet.
+fn look_from_new<S: Alter>(
+    rt: &impl Abort,
+    alloc: Global,
+    conn: &mut Connection<S>,
+    subject: Subject,
+) -> Result<(), Fail> {
+    made_new(rt, conn);
+    if let Subject::Meta = subject {
+        look_at_meta(rt, conn, 0, 1)?;
+    }
+    batches(conn, &ROWS)?;
+    look_at(rt, alloc, conn, subject)
+}
+
+fn look_at<S: Alter>(
+    rt: &impl Abort,
+    alloc: Global,
+    conn: &mut Connection<S>,
+    subject: Subject,
+) -> Result<(), Fail> {
+    match subject {
+        Subject::Meta => look_at_meta(rt, conn, 1_700_000_000, 2),
+        Subject::Departments => look_at_departments(rt, alloc, conn),
+        Subject::Callers => look_at_callers(rt, alloc, conn),
+        Subject::Buckets => look_at_buckets(rt, alloc, conn),
+        Subject::Heads => look_at_heads(rt, alloc, conn),
+        Subject::Entries => look_at_entries(rt, conn),
+        Subject::Notes => look_at_notes(rt, alloc, conn),
+    }
+}
+
+#[test]
+fn meta_is_read(rt: HostRuntime) -> Result<(), Fail> {
+    look(&rt, rt.alloc(), Subject::Meta)
+}
+
+fn look_at_meta<S: Alter>(
+    rt: &impl Abort,
+    conn: &mut Connection<S>,
+    moment: u64,
+    next: u64,
+) -> Result<(), Fail> {
+    assert_eq!(rt; last(conn)?.secs(), moment);
+    assert_eq!(rt; next_id(conn)?, next);
     Ok(())
 }
 
 #[test]
 fn departments_and_their_sums_are_read(rt: HostRuntime) -> Result<(), Fail> {
-    let mut conn = Connection::open_in_memory(rt.alloc())?;
-    let judged = look_at_departments(&rt, rt.alloc(), &mut conn);
-    drop(conn);
-    judged
+    look(&rt, rt.alloc(), Subject::Departments)
 }
 
 fn look_at_departments<S: Alter>(
@@ -148,25 +155,30 @@ fn look_at_departments<S: Alter>(
     alloc: Global,
     conn: &mut Connection<S>,
 ) -> Result<(), Fail> {
-    assert_eq!(rt; made(conn), Ok(()));
-    put_rows(conn)?;
-    let records = dept_name(alloc, "records")?;
-    let other = dept_name(alloc, "other")?;
-    assert!(rt; department(conn, &records)?);
-    assert!(rt; !department(conn, &other)?);
-    let sums = totals(conn, &records)?;
+    let (is_there, sums) = department_and_sums(conn, alloc, "records")?;
+    assert!(rt; is_there);
     assert_eq!(rt; (sums.admitted, sums.held, sums.removed), (3, 2, 1));
     assert_eq!(rt; (sums.weighted, sums.closed), (59_028, 19_676));
-    assert_eq!(rt; totals(conn, &other)?.admitted, 0);
+    let (is_there, sums) = department_and_sums(conn, alloc, "other")?;
+    assert!(rt; !is_there);
+    assert_eq!(rt; sums.admitted, 0);
     Ok(())
+}
+
+/// Whether that department is there, and its sums.
+fn department_and_sums<S: Alter>(
+    conn: &mut Connection<S>,
+    alloc: Global,
+    text: &str,
+) -> Result<(bool, Row), Fail> {
+    let name = dept_name(alloc, text)?;
+    let is_there = department(conn, &name)?;
+    Ok((is_there, totals(conn, &name)?))
 }
 
 #[test]
 fn callers_are_read(rt: HostRuntime) -> Result<(), Fail> {
-    let mut conn = Connection::open_in_memory(rt.alloc())?;
-    let judged = look_at_callers(&rt, rt.alloc(), &mut conn);
-    drop(conn);
-    judged
+    look(&rt, rt.alloc(), Subject::Callers)
 }
 
 fn look_at_callers<S: Alter>(
@@ -174,23 +186,34 @@ fn look_at_callers<S: Alter>(
     alloc: Global,
     conn: &mut Connection<S>,
 ) -> Result<(), Fail> {
-    assert_eq!(rt; made(conn), Ok(()));
-    put_rows(conn)?;
-    let found = caller(conn, &caller_name(alloc, "ada")?)?;
-    let ada = found.as_ref().ok_or("a caller")?;
+    let found = caller_named(conn, alloc, "ada")?;
+    let judged = judge_ada(rt, found.as_ref());
+    drop(found);
+    judged?;
+    let none = caller_named(conn, alloc, "bob")?;
+    assert!(rt; none.is_none());
+    Ok(())
+}
+
+fn caller_named<S: Alter>(
+    conn: &mut Connection<S>,
+    alloc: Global,
+    text: &str,
+) -> Result<Option<Caller>, Fail> {
+    let name = caller_name(alloc, text)?;
+    Ok(caller(conn, &name)?)
+}
+
+fn judge_ada(rt: &impl Abort, found: Option<&Caller>) -> Result<(), Fail> {
+    let ada = found.ok_or("a caller")?;
     assert_eq!(rt; ada.name.as_str(), "ada");
     assert!(rt; ada.closed && ada.rights.put && !ada.rights.admin);
-    let none = caller(conn, &caller_name(alloc, "bob")?)?;
-    assert!(rt; none.is_none());
     Ok(())
 }
 
 #[test]
 fn buckets_are_read(rt: HostRuntime) -> Result<(), Fail> {
-    let mut conn = Connection::open_in_memory(rt.alloc())?;
-    let judged = look_at_buckets(&rt, rt.alloc(), &mut conn);
-    drop(conn);
-    judged
+    look(&rt, rt.alloc(), Subject::Buckets)
 }
 
 fn look_at_buckets<S: Alter>(
@@ -198,24 +221,34 @@ fn look_at_buckets<S: Alter>(
     alloc: Global,
     conn: &mut Connection<S>,
 ) -> Result<(), Fail> {
-    assert_eq!(rt; made(conn), Ok(()));
-    put_rows(conn)?;
-    let name = bucket_name(alloc, "records-2024")?;
-    let found = bucket(conn, &name)?;
-    let config = found.as_ref().ok_or("a bucket")?;
+    let found = bucket_named(conn, alloc, "records-2024")?;
+    let judged = judge_bucket(rt, found.as_ref());
+    drop(found);
+    judged?;
+    let none = bucket_named(conn, alloc, "records-2025")?;
+    assert!(rt; none.is_none());
+    Ok(())
+}
+
+fn bucket_named<S: Alter>(
+    conn: &mut Connection<S>,
+    alloc: Global,
+    text: &str,
+) -> Result<Option<BucketConfig>, Fail> {
+    let name = bucket_name(alloc, text)?;
+    Ok(bucket(conn, &name)?)
+}
+
+fn judge_bucket(rt: &impl Abort, found: Option<&BucketConfig>) -> Result<(), Fail> {
+    let config = found.ok_or("a bucket")?;
     assert_eq!(rt; config.dept.as_str(), "records");
     assert!(rt; config.default.is_some());
-    let none = bucket(conn, &bucket_name(alloc, "records-2025")?)?;
-    assert!(rt; none.is_none());
     Ok(())
 }
 
 #[test]
 fn heads_are_read(rt: HostRuntime) -> Result<(), Fail> {
-    let mut conn = Connection::open_in_memory(rt.alloc())?;
-    let judged = look_at_heads(&rt, rt.alloc(), &mut conn);
-    drop(conn);
-    judged
+    look(&rt, rt.alloc(), Subject::Heads)
 }
 
 fn look_at_heads<S: Alter>(
@@ -223,20 +256,28 @@ fn look_at_heads<S: Alter>(
     alloc: Global,
     conn: &mut Connection<S>,
 ) -> Result<(), Fail> {
-    assert_eq!(rt; made(conn), Ok(()));
-    put_rows(conn)?;
-    let name = bucket_name(alloc, "records-2024")?;
-    let newest = head(conn, &name, &key(alloc, "a.txt")?)?;
+    let first = version_id(1)?;
+    let found = head_of(conn, alloc, "a.txt")?;
     assert!(rt;
-        newest
+        found
             == Some(Head {
-                newest: id(1)?,
+                newest: first,
                 count: 1
             })
     );
-    let no_head = head(conn, &name, &key(alloc, "b.txt")?)?;
-    assert!(rt; no_head.is_none());
+    let none = head_of(conn, alloc, "b.txt")?;
+    assert!(rt; none.is_none());
     Ok(())
+}
+
+fn head_of<S: Alter>(
+    conn: &mut Connection<S>,
+    alloc: Global,
+    text: &str,
+) -> Result<Option<Head>, Fail> {
+    let name = bucket_name(alloc, "records-2024")?;
+    let key = object_key(alloc, text)?;
+    Ok(head(conn, &name, &key)?)
 }
 
 /// Whether it is the version of these rows.
@@ -268,10 +309,10 @@ fn is_note(found: &Option<Note>) -> bool {
 
 /// Whether version 1 is read, and none by the id behind it.
 fn reads_entries<S: Alter>(conn: &mut Connection<S>) -> Result<bool, Fail> {
-    let found = entry(conn, id(1)?)?;
+    let found = entry(conn, version_id(1)?)?;
     let is_first = is_version(&found);
     drop(found);
-    let none = entry(conn, id(2)?)?;
+    let none = entry(conn, version_id(2)?)?;
     let is_none = none.is_none();
     drop(none);
     Ok(is_first && is_none)
@@ -279,13 +320,13 @@ fn reads_entries<S: Alter>(conn: &mut Connection<S>) -> Result<bool, Fail> {
 
 /// Whether the bytes of version 1 are read, and none by the id behind it.
 fn reads_contents<S: Alter>(conn: &mut Connection<S>) -> Result<bool, Fail> {
-    let found = content(conn, id(1)?)?;
+    let found = content(conn, version_id(1)?)?;
     let are_first = match &found {
         Some(bytes) => bytes.as_slice() == b"\x01\x02\x03".as_slice(),
         None => false,
     };
     drop(found);
-    let none = content(conn, id(2)?)?;
+    let none = content(conn, version_id(2)?)?;
     let is_none = none.is_none();
     drop(none);
     Ok(are_first && is_none)
@@ -293,28 +334,31 @@ fn reads_contents<S: Alter>(conn: &mut Connection<S>) -> Result<bool, Fail> {
 
 /// Whether the note of line 7 is read, and none of the line behind it.
 fn reads_notes<S: Alter>(conn: &mut Connection<S>, alloc: Global) -> Result<bool, Fail> {
-    let name = bucket_name(alloc, "records-2024")?;
-    let first = batch_name(alloc, "first")?;
-    let found = note(conn, &name, &first, 7)?;
+    let found = note_of(conn, alloc, 7)?;
     let is_first = is_note(&found);
     drop(found);
-    let none = note(conn, &name, &first, 8)?;
+    let none = note_of(conn, alloc, 8)?;
     let is_none = none.is_none();
     drop(none);
     Ok(is_first && is_none)
 }
 
+fn note_of<S: Alter>(
+    conn: &mut Connection<S>,
+    alloc: Global,
+    line: u32,
+) -> Result<Option<Note>, Fail> {
+    let name = bucket_name(alloc, "records-2024")?;
+    let first = batch_name(alloc, "first")?;
+    Ok(note(conn, &name, &first, line)?)
+}
+
 #[test]
 fn entries_and_their_bytes_are_read(rt: HostRuntime) -> Result<(), Fail> {
-    let mut conn = Connection::open_in_memory(rt.alloc())?;
-    let judged = look_at_entries(&rt, &mut conn);
-    drop(conn);
-    judged
+    look(&rt, rt.alloc(), Subject::Entries)
 }
 
 fn look_at_entries<S: Alter>(rt: &impl Abort, conn: &mut Connection<S>) -> Result<(), Fail> {
-    assert_eq!(rt; made(conn), Ok(()));
-    put_rows(conn)?;
     assert!(rt; reads_entries(conn)?);
     assert!(rt; reads_contents(conn)?);
     Ok(())
@@ -322,10 +366,7 @@ fn look_at_entries<S: Alter>(rt: &impl Abort, conn: &mut Connection<S>) -> Resul
 
 #[test]
 fn notes_are_read(rt: HostRuntime) -> Result<(), Fail> {
-    let mut conn = Connection::open_in_memory(rt.alloc())?;
-    let judged = look_at_notes(&rt, rt.alloc(), &mut conn);
-    drop(conn);
-    judged
+    look(&rt, rt.alloc(), Subject::Notes)
 }
 
 fn look_at_notes<S: Alter>(
@@ -333,8 +374,6 @@ fn look_at_notes<S: Alter>(
     alloc: Global,
     conn: &mut Connection<S>,
 ) -> Result<(), Fail> {
-    assert_eq!(rt; made(conn), Ok(()));
-    put_rows(conn)?;
     assert!(rt; reads_notes(conn, alloc)?);
     Ok(())
 }

@@ -1,7 +1,9 @@
 //! Schemas that differ from the vault's in one place, and the table that is told of each.
 
+use crate::calls::batch;
 use sqlite::{Alter, Connection, Error};
 use std::alloc::Global;
+use std::process::Abort;
 use std::test::Fail;
 use vault_audit_model::schema::creation;
 use vault_audit_schema::{check_schema, first_difference};
@@ -35,20 +37,34 @@ fn told_with<S: Alter>(
     text: &str,
     more: &[&str],
 ) -> Result<Option<Table>, Error> {
+    make_tables(conn, changed, text)?;
+    for text in more {
+        batch(conn, text)?;
+    }
+    Ok(difference(conn))
+}
+
+fn make_tables<S: Alter>(
+    conn: &mut Connection<S>,
+    changed: Table,
+    text: &str,
+) -> Result<(), Error> {
     for table in &TABLES {
-        let text = if *table == changed {
+        let made_by = if *table == changed {
             text
         } else {
             creation(*table)
         };
-        if !text.is_empty() {
-            conn.execute_batch(text)?;
+        if !made_by.is_empty() {
+            batch(conn, made_by)?;
         }
     }
-    for text in more {
-        conn.execute_batch(text)?;
-    }
-    Ok(check_schema(conn))
+    Ok(())
+}
+
+// It has no clause, so that the proof of a test does not carry the state of the call.
+fn difference<S: Alter>(conn: &mut Connection<S>) -> Option<Table> {
+    check_schema(conn)
 }
 
 /// What is told of the vault's tables with this beside them.
@@ -59,7 +75,9 @@ fn told_beside(alloc: Global, more: &[&str]) -> Result<Option<Table>, Error> {
 #[test]
 fn no_table_is_meta(rt: HostRuntime) -> Result<(), Fail> {
     let conn = Connection::open_in_memory(rt.alloc())?;
-    assert_eq!(rt; first_difference(conn.schema()), Some(Table::Meta));
+    let told = first_difference(conn.schema());
+    drop(conn);
+    assert_eq!(rt; told, Some(Table::Meta));
     Ok(())
 }
 
@@ -122,24 +140,21 @@ fn a_changed_table_is_told(rt: HostRuntime) -> Result<(), Fail> {
     Ok(())
 }
 
+/// Fails where the vault's tables with this beside them are not told by that table.
+fn is_told_beside(rt: &impl Abort, alloc: Global, more: &[&str], table: Table) -> Result<(), Fail> {
+    assert_eq!(rt; told_beside(alloc, more)?, Some(table));
+    Ok(())
+}
+
 #[test]
 fn what_stands_beside_the_tables_is_told(rt: HostRuntime) -> Result<(), Fail> {
+    let alloc = rt.alloc();
     let other = "CREATE TABLE other (x INTEGER) STRICT";
-    assert_eq!(rt; told_beside(rt.alloc(), &[other])?, Some(Table::Meta));
-    assert_eq!(rt;
-        told_beside(rt.alloc(), &[other, "CREATE INDEX by_x ON other (x)"])?,
-        Some(Table::Meta)
-    );
-    assert_eq!(rt;
-        told_beside(rt.alloc(), &["CREATE INDEX by_size ON entries (size)"])?,
-        Some(Table::Entries)
-    );
-    assert_eq!(rt;
-        told_beside(
-            rt.alloc(),
-            &["CREATE VIEW sizes AS SELECT size FROM entries"]
-        )?,
-        Some(Table::Meta)
-    );
-    Ok(())
+    let index = "CREATE INDEX by_x ON other (x)";
+    let index_of_ours = "CREATE INDEX by_size ON entries (size)";
+    let view = "CREATE VIEW sizes AS SELECT size FROM entries";
+    is_told_beside(&rt, alloc, &[other], Table::Meta)?;
+    is_told_beside(&rt, alloc, &[other, index], Table::Meta)?;
+    is_told_beside(&rt, alloc, &[index_of_ours], Table::Entries)?;
+    is_told_beside(&rt, alloc, &[view], Table::Meta)
 }

@@ -1,11 +1,10 @@
 //! What a report reads, and what is read of one key, takes as many steps in a large vault as in a small one.
+use crate::calls::{bucket_name, dept_name, key_prefix, made_with, object_key};
 use sqlite::{Alter, Connection, Error, params};
 use std::alloc::Global;
 use std::process::Abort;
 use std::test::Fail;
 use vault_base::name::{BucketName, DeptName, KeyPrefix, ObjectKey};
-use vault_base::refusal::Refusal;
-use vault_store_create::create::fill;
 use vault_store_ordered::reads::{read_entries, read_keys};
 use vault_store_reads::heads::read_head;
 use vault_store_reads::meta::read_last;
@@ -30,14 +29,6 @@ enum Reading {
 }
 
 // These have no clause, so that the proof of a test does not carry the state of each call.
-fn made<S: Alter>(conn: &mut Connection<S>) -> Result<(), Refusal> {
-    fill(conn)
-}
-
-fn batch<S: Alter>(conn: &mut Connection<S>, sql: &str) -> Result<(), Error> {
-    conn.execute_batch(sql)
-}
-
 fn entries<S: Alter>(conn: &mut Connection<S>) -> Result<i64, Error> {
     conn.query_row("SELECT count(*) FROM entries", &[])?.get(0)
 }
@@ -98,20 +89,6 @@ fn enough_steps<S: Alter>(
     1024
 }
 
-/// Whether these are still the least numbers of steps that are enough, one for each reading.
-fn is_steady<S: Alter>(
-    conn: &mut Connection<S>,
-    alloc: Global,
-    names: &Names,
-    wanted: [u64; 4],
-) -> bool {
-    let [report, head, entries, keys] = wanted;
-    enough_steps(conn, alloc, names, Reading::Report) == report
-        && enough_steps(conn, alloc, names, Reading::Head) == head
-        && enough_steps(conn, alloc, names, Reading::Entries) == entries
-        && enough_steps(conn, alloc, names, Reading::Keys) == keys
-}
-
 /// Puts as many versions more as there are, each at a key of its own.
 fn double<S: Alter>(conn: &mut Connection<S>, present: i64) -> Result<(), Error> {
     conn.execute(MORE_ENTRIES, params![present])?;
@@ -137,15 +114,15 @@ const MORE_HEADS: &str = "INSERT INTO heads SELECT bucket, key, id, 1 FROM entri
 
 fn read_names(alloc: Global) -> Result<Names, Fail> {
     Ok(Names {
-        dept: DeptName::read(alloc, "records")?.ok().ok_or("a name")?,
-        bucket: BucketName::read(alloc, "docs")?.ok().ok_or("a name")?,
-        key: ObjectKey::read(alloc, "k7")?.ok().ok_or("a key")?,
-        start: KeyPrefix::read(alloc, "")?.ok().ok_or("a prefix")?,
+        dept: dept_name(alloc, "records")?,
+        bucket: bucket_name(alloc, "docs")?,
+        key: object_key(alloc, "k7")?,
+        start: key_prefix(alloc, "")?,
     })
 }
 
-/// The steps that are enough for each reading in a vault of ten versions.
-fn steps_among_ten<S: Alter>(conn: &mut Connection<S>, alloc: Global, names: &Names) -> [u64; 4] {
+/// The steps that are enough for each reading.
+fn enough_for_each<S: Alter>(conn: &mut Connection<S>, alloc: Global, names: &Names) -> [u64; 4] {
     [
         enough_steps(conn, alloc, names, Reading::Report),
         enough_steps(conn, alloc, names, Reading::Head),
@@ -167,14 +144,25 @@ fn read_in_small_and_large<S: Alter>(
     alloc: Global,
     conn: &mut Connection<S>,
 ) -> Result<(), Fail> {
-    assert_eq!(rt; made(conn), Ok(()));
-    batch(conn, TEN_VERSIONS)?;
+    made_with(rt, conn, &[TEN_VERSIONS])?;
     let names = read_names(alloc)?;
-    let among_ten = steps_among_ten(conn, alloc, &names);
+    let judged = judge_steps(rt, alloc, conn, &names);
+    drop(names);
+    judged
+}
+
+/// The steps that are enough among ten versions are few, and are enough among 10,240.
+fn judge_steps<S: Alter>(
+    rt: &impl Abort,
+    alloc: Global,
+    conn: &mut Connection<S>,
+    names: &Names,
+) -> Result<(), Fail> {
+    let among_ten = enough_for_each(conn, alloc, names);
     assert!(rt; among_ten[0] < 64 && among_ten[1] < 64 && among_ten[2] < 64 && among_ten[3] < 64);
     grow(conn)?;
     assert_eq!(rt; entries(conn)?, 10_240);
-    assert!(rt; is_steady(conn, alloc, &names, among_ten));
+    assert_eq!(rt; enough_for_each(conn, alloc, names), among_ten);
     assert!(rt; entries(conn).is_err());
     Ok(())
 }
