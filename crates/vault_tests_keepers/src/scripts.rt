@@ -52,6 +52,8 @@ const EVERY_COMMAND: &str =
 {"at":"2024-03-06T12:00:00Z","as":"ann","do":"get","bucket":"docs","key":"z"}
 {"at":"2024-03-06T12:00:00Z","as":"ann","do":"list-versions","bucket":"docs"}
 {"at":"2024-03-06T12:00:00Z","as":"ann","do":"report","dept":"records"}
+{"at":"2024-03-06T12:00:00Z","as":"ann","do":"certificate","bucket":"docs","id":5}
+{"at":"2024-03-06T12:00:00Z","as":"ann","do":"certificate","bucket":"docs","id":8}
 {"at":"2024-03-06T12:00:00Z","as":"registrar","do":"add-caller","caller":"idle","rights":[]}
 {"at":"2024-03-06T12:00:00Z","as":"ann","do":"put","bucket":"docs","key":"z/1","text":"kept","mode":"GOVERNANCE","until":"9999-12-31T23:59:59Z"}
 {"at":"2024-03-06T12:00:00Z","as":"ann","do":"get-retention","bucket":"docs","key":"z/1"}
