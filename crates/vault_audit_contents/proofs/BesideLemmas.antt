@@ -19,6 +19,7 @@ use Rattle.vault_core_model.specs.declared.records.Entry.{Entry}
 use Rattle.vault_audit_model.specs.Rows.{entry_row, entry_columns}
 use Rattle.vault_audit_model.specs.Relations.{AreNumbered}
 use Rattle.vault_audit_model.specs.Values.{number}
+use Rattle.vault_audit_model.proofs.ValueLemmas.{same_number}
 
 -- ---- the entry of an id
 
@@ -29,16 +30,8 @@ is_of v row = is_true (binary (Compare Eq Binary) (column row 0) v)
 abbrev pub is_id : Value → Entry → Bool
 is_id v e = is_of v (entry_row e)
 
-same_truth : (b : Bool) → is_true (from_truth (Some b)) ≡ b
-same_truth true = refl
-same_truth false = refl
-
-int_alike : (a b : ℕ) → is_eq (int_cmp (pos a) (pos b)) ≡ (a == b)
-int_alike a b = grind arith
-
 pub is_id_number : (k : ℕ) (e : Entry) → is_id (number k) e ≡ (e.id == k)
-unfolding binary
-is_id_number k e = same_truth (is_eq (value_cmp (number e.id) (number k))) ∙ ap is_eq (value_cmp-Int (pos e.id) (pos k)) ∙ int_alike e.id k
+is_id_number k e = same_number e.id k
 
 equal_if : (o : Ordering) → is_true (from_truth (Some (is_eq o))) ≡ true → o ≡ Equal
 equal_if Less h = absurd cc

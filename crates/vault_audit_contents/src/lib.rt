@@ -1,4 +1,6 @@
 //! The bytes of the held versions, beside their entries.
+//!
+//! An error is want of memory, told as `ErrorCode::OutOfMemory`, or a failure of the store.
 #![tactic(auto)]
 
 pub mod contents;

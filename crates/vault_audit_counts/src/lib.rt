@@ -1,4 +1,6 @@
 //! A part of the second look at `heads`: each counts the held entries of its key.
+//!
+//! An error is want of memory, told as `ErrorCode::OutOfMemory`, or a failure of the store.
 #![tactic(auto)]
 
 ghost use Rattle.std.specs.Prelude.{◌≡◌, List, map, IsPermutation, IfOk, OnOk};

@@ -1,4 +1,6 @@
 //! The second look at `heads`: its rows are the heads of the vault's keys.
+//!
+//! An error is want of memory, told as `ErrorCode::OutOfMemory`, or a failure of the store.
 #![tactic(auto)]
 
 ghost use Rattle.std.specs.Prelude.{◌≡◌, false, IfOk, OnOk};

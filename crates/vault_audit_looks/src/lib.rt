@@ -1,4 +1,6 @@
 //! Looks at the tables, one after the other.
+//!
+//! An error is want of memory, told as `ErrorCode::OutOfMemory`, or a failure of the store.
 #![tactic(auto)]
 
 pub mod departments;

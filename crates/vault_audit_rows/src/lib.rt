@@ -1,4 +1,6 @@
 //! Rows of the tables, read as what they tell.
+//!
+//! `Misread::Wrong`: the columns tell no such value in its limits. `Misread::Memory`: there was no memory for it.
 #![tactic(auto)]
 
 pub mod cell;

@@ -255,6 +255,7 @@ pub fn rights(row: &Row, at: usize) -> Option<Rights>
 /// Whether an entry is a delete marker, its size and its digest.
 pub struct Extent {
     pub marker: bool,
+    /// In bytes; a marker has 0.
     pub size: u64,
     pub digest: Option<Digest>,
 }

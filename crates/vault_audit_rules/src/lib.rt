@@ -1,4 +1,6 @@
 //! The second look at `buckets` and `rules`: each bucket has no rules or a set that it may have.
+//!
+//! An error is want of memory, told as `ErrorCode::OutOfMemory`, or a failure of the store.
 #![tactic(auto)]
 
 pub mod bucket_rows;

@@ -1,4 +1,6 @@
 //! The running rows of the departments, beside the sums over their versions.
+//!
+//! An error is want of memory, told as `ErrorCode::OutOfMemory`, or a failure of the store.
 #![tactic(auto)]
 
 pub mod department;

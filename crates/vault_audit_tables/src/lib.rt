@@ -1,4 +1,6 @@
 //! The audit of a vault's tables.
+//!
+//! An error is want of memory, told as `ErrorCode::OutOfMemory`, or a failure of the store.
 #![tactic(auto)]
 
 pub mod entries;

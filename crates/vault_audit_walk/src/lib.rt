@@ -1,4 +1,6 @@
 //! Walks over the rows of a query, one row at a time.
+//!
+//! An error is want of memory, told as `ErrorCode::OutOfMemory`, or a failure of the store.
 #![tactic(auto)]
 
 pub mod check;

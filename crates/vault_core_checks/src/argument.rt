@@ -17,7 +17,7 @@ use vault_lock::retention::{Default, Period, Retention};
 /// The greatest content of one version, in bytes.
 pub const MOST_CONTENT: usize = 1_048_576;
 
-/// The content is within the limit of one version.
+/// The content is within the limit of one version; else EntityTooLarge.
 pub fn check_size(content: &Content) -> Result<(), Refusal>
     ensures exact { result ≡ small_enough content.now }
     ensures small { OnOk result (length content.now ≤ 1048576) }
@@ -30,7 +30,7 @@ pub fn check_size(content: &Content) -> Result<(), Refusal>
     }
 }
 
-/// A new retention, where one is given, ends after the reading.
+/// A new retention, where one is given, ends after the reading; else InvalidArgument.
 pub fn check_end(at: Moment, retention: Option<Retention>) -> Result<(), Refusal>
     ensures exact { result ≡ ends_later_if_given at retention }
     ensures device { IfErr result (λ refusal. is_device_refusal refusal ≡ false) }
@@ -42,7 +42,7 @@ pub fn check_end(at: Moment, retention: Option<Retention>) -> Result<(), Refusal
     }
 }
 
-/// The department is there.
+/// The department is there; else InvalidArgument.
 pub fn check_dept<K: Keeper>(keeper: &mut K, dept: &DeptName) -> Result<(), Halt>
     ensures found { K.is_honest keeper.new → Finds result (known_department (K.vault keeper.old) dept.now) }
     ensures there { K.is_honest keeper.new → OnOk result (IsTrue (has_department (K.vault keeper.old) dept.now)) }
@@ -58,7 +58,7 @@ pub fn check_dept<K: Keeper>(keeper: &mut K, dept: &DeptName) -> Result<(), Halt
     }
 }
 
-/// The department, where one is given, is there.
+/// The department, where one is given, is there; else InvalidArgument.
 pub fn check_dept_if_given<K: Keeper>(keeper: &mut K, dept: &Option<DeptName>) -> Result<(), Halt>
     ensures found { K.is_honest keeper.new → Finds result (known_department_if_given (K.vault keeper.old) dept.now) }
     ensures there { K.is_honest keeper.new → OnOk result (IsTrue (passes_if_given (has_department (K.vault keeper.old)) dept.now)) }
@@ -73,7 +73,8 @@ pub fn check_dept_if_given<K: Keeper>(keeper: &mut K, dept: &Option<DeptName>) -
     }
 }
 
-/// A default's period, where there is a default, is in its range: 1 to 36,500 days or 1 to 100 years.
+/// A default's period, where there is a default, is in its range, 1 to 36,500 days or 1 to 100 years; else
+/// InvalidArgument (Amazon S3 User Guide, "Locking objects with Object Lock").
 pub fn check_default(default: Option<Default>) -> Result<(), Refusal>
     ensures exact { result ≡ allowed_default default }
     ensures period { OnOk result (IsTrue (has_period default)) }

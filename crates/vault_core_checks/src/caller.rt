@@ -39,6 +39,8 @@ fn check_clock<K: Keeper>(keeper: &mut K, at: Moment) -> Result<(), Halt>
 }
 
 /// The clock, and then the caller, who is there and isn't closed.
+///
+/// ClockBack; AccessDenied `unknown-caller`.
 pub fn find_caller<K: Keeper>(keeper: &mut K, at: Moment, who: &CallerName) -> Result<Caller, Halt>
     ensures found { K.is_honest keeper.new → Finds result (asking (K.vault keeper.old) at who.now) }
     ensures in_time { K.is_honest keeper.new → OnOk result ((K.vault keeper.old).last ≤ at) }
@@ -59,7 +61,7 @@ pub fn find_caller<K: Keeper>(keeper: &mut K, at: Moment, who: &CallerName) -> R
     Ok(caller)
 }
 
-/// The caller has the right.
+/// The caller has the right; else AccessDenied with its name.
 pub fn check_right(caller: &Caller, right: Right) -> Result<(), Refusal>
     ensures exact { result ≡ needs caller.now right }
     ensures device { IfErr result (λ refusal. is_device_refusal refusal ≡ false) }
@@ -71,7 +73,7 @@ pub fn check_right(caller: &Caller, right: Right) -> Result<(), Refusal>
     }
 }
 
-/// The caller has the right, where what needs it is asked for.
+/// The caller has the right, where what needs it is asked for; else AccessDenied with its name.
 pub fn check_right_if(asked: bool, caller: &Caller, right: Right) -> Result<(), Refusal>
     ensures exact { result ≡ needs_if asked caller.now right }
     ensures device { IfErr result (λ refusal. is_device_refusal refusal ≡ false) }
@@ -84,6 +86,8 @@ pub fn check_right_if(asked: bool, caller: &Caller, right: Right) -> Result<(), 
 }
 
 /// The clock, and then a caller with the right to administer.
+///
+/// As `find_caller`; AccessDenied `right:admin`.
 pub fn find_administrator<K: Keeper>(
     keeper: &mut K,
     at: Moment,
@@ -112,6 +116,8 @@ fn is_own(own: &Option<DeptName>, dept: &DeptName) -> bool
 }
 
 /// The clock, the caller, the bucket, its department, the right.
+///
+/// As `find_caller`; NoSuchBucket; AccessDenied `department`, or with the name of the right.
 pub fn find_access<K: Keeper>(
     keeper: &mut K,
     at: Moment,
@@ -139,7 +145,8 @@ pub fn find_access<K: Keeper>(
     Ok(Access { caller, bucket })
 }
 
-/// A report is for administrators, and of the own department for those with the right.
+/// A report is for administrators, and of the own department for those with the right; else AccessDenied
+/// `department` or `right:report`.
 pub fn check_report(caller: &Caller, dept: &DeptName) -> Result<(), Refusal>
     ensures exact { result ≡ may_report caller.now dept.now }
     ensures device { IfErr result (λ refusal. is_device_refusal refusal ≡ false) }

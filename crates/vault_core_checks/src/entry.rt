@@ -35,7 +35,7 @@ fn read_entry<K: Keeper>(keeper: &mut K, id: VersionId) -> Result<Option<Entry>,
     keeper.entry(id)
 }
 
-/// The held entry of that id, in that bucket and under that key.
+/// The held entry of that id, in that bucket and under that key; else NoSuchVersion.
 pub fn find_held<K: Keeper>(
     keeper: &mut K,
     bucket: &BucketName,
@@ -125,6 +125,9 @@ fn find_current<K: Keeper>(
 }
 
 /// The content version that is meant: the current one, or that of the id.
+///
+/// Without an id NoSuchKey, which tells whether a marker is on top; with one NoSuchVersion, and
+/// MethodNotAllowed for a marker.
 pub fn find_version<K: Keeper>(
     keeper: &mut K,
     bucket: &BucketName,
@@ -148,7 +151,7 @@ pub fn find_version<K: Keeper>(
     Ok(check_version(entry)?)
 }
 
-/// The last setting of the entry of that id; a delete marker has none and is not locked.
+/// The last setting of the entry of that id; a delete marker has none and is not locked. It refuses nothing.
 pub fn find_setting<K: Keeper>(keeper: &mut K, id: VersionId) -> Result<LastSetting, Halt>
     ensures lock { K.is_honest keeper.new → IfOk result (λ last. last.lock ≡ lock_of (K.vault keeper.old) id) }
     ensures settings { K.is_honest keeper.new → IfOk result (λ last. last.count ≡ count_by (setting_of (K.vault keeper.old) id)) }
@@ -180,7 +183,8 @@ fn denial(denial: Denial) -> Refusal
     }
 }
 
-/// The lock permits the removal: freely, or by a bypass that is asked for and allowed.
+/// The lock permits the removal: freely, or by a bypass that is asked for and allowed; else AccessDenied with
+/// what guards the version.
 pub fn check_removal(
     lock: &Lock,
     at: Moment,
@@ -197,7 +201,8 @@ pub fn check_removal(
 }
 
 /// The first lock of a version placed in a bucket: the retention that is asked for, else the bucket's
-/// default, else none; a hold is on only where ON was asked.
+/// default, else none; a hold is on only where ON was asked. RetentionOutOfRange where the default ends after
+/// the last moment.
 pub fn find_first_lock(
     bucket: &BucketConfig,
     retention: Option<Retention>,
@@ -211,7 +216,8 @@ pub fn find_first_lock(
     first_lock(bucket.default.as_ref(), retention, hold, at).ok_or(Refusal::RetentionOutOfRange)
 }
 
-/// The lock permits the new retention: freely, or by a bypass that is asked for and allowed.
+/// The lock permits the new retention: freely, or by a bypass that is asked for and allowed; else AccessDenied
+/// with the mode in force.
 pub fn check_retention(
     lock: &Lock,
     retention: Retention,

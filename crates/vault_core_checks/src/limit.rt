@@ -16,7 +16,7 @@ use vault_core_model::keeper::Keeper;
 /// The settings of one version at most.
 pub const MOST_SETTINGS: u64 = 1_000_000_000;
 
-/// The department may admit so many bytes more.
+/// The department may admit so many bytes more; else QuotaExceeded.
 pub fn check_quota<K: Keeper>(keeper: &mut K, dept: &DeptName, size: u64) -> Result<(), Halt>
     ensures found { K.is_honest keeper.new → Finds result (within_quota (K.vault keeper.old) dept.now size) }
     ensures fits { K.is_honest keeper.new → OnOk result (admitted_bytes (K.vault keeper.old) dept.now + size ≤ quota) }
@@ -33,7 +33,7 @@ pub fn check_quota<K: Keeper>(keeper: &mut K, dept: &DeptName, size: u64) -> Res
     }
 }
 
-/// The id of the next entry, while one is left.
+/// The id of the next entry, while one is left; else VaultFull.
 pub fn find_id<K: Keeper>(keeper: &mut K) -> Result<VersionId, Halt>
     ensures found { K.is_honest keeper.new → Finds result (free_id (K.vault keeper.old)) }
     ensures few { K.is_honest keeper.new → OnOk result (next_id (K.vault keeper.old) ≤ most_ids) }
@@ -60,7 +60,7 @@ fn id_of(number: u64) -> Option<VersionId>
     }
 }
 
-/// One setting more may be made of a version that has so many.
+/// One setting more may be made of a version that has so many; else VaultFull.
 pub fn check_settings(count: u64) -> Result<(), Refusal>
     ensures exact { result ≡ check (nat_lt count most_settings) VaultFull }
     ensures fits { OnOk result (count < most_settings) }

@@ -16,7 +16,7 @@ use Rattle.vault_core_laws.proofs.Lists.{All-weaker, All-filter}
 
 -- ---- ids rise
 
-pub IsRising : ℕ → List History → Type 0
+unfoldable pub IsRising : ℕ → List History → Type 0
 IsRising n [] = Unit {0}
 IsRising n (h ∷ hs) = (n < h.entry.id) × IsRising h.entry.id hs
 

@@ -1,6 +1,6 @@
 -- Of the held entries of a key, the newest is the current one.
 use Rattle.std.proofs.Common.{◌≡◌, ℕ, ◌+◌, ◌<◌, ◌≤◌, ◌++◌, ◌&&◌, Bool, true, false, List, [], ◌∷◌, length, Some, refl, sym, ap, subst, ◌∙◌, arith, append_assoc}
-use Rattle.std.specs.Prelude.{filter, find, if◌then◌else◌, nat_lt, ◌==◌, option_map, reverse}
+use Rattle.std.specs.Prelude.{filter, find, nat_lt, ◌==◌, option_map, reverse}
 use Rattle.std.specs.List.{AllByRecursion}
 use Rattle.std.specs.Str.{bytes_eq}
 use Rattle.std.proofs.lemmas.List.{length-reverse, reverse-append}
@@ -10,34 +10,11 @@ use Rattle.vault_core_model.specs.declared.records.History.{History}
 use Rattle.vault_core_model.specs.Vault.{Vault}
 use Rattle.vault_core_model.specs.Places.{is_held, is_held_at, held_at, is_current}
 use Rattle.vault_core_model.specs.Reads.{entry_of}
-use Rattle.vault_core_model.specs.Sound.{AreIdsFrom, Sound}
+use Rattle.vault_core_model.specs.Sound.{Sound}
 use Rattle.vault_core_laws.proofs.Lists.{All-filter}
-use Rattle.vault_core_laws.proofs.Newest.{finds_itself, passes}
+use Rattle.vault_core_laws.proofs.Newest.{IsRising, finds_itself, passes, rising-filter, rising_ids}
 
 -- ---- ids rise
-
-IsRising : ℕ → List History → Type 0
-IsRising n [] = Unit {0}
-IsRising n (h ∷ hs) = (n < h.entry.id) × IsRising h.entry.id hs
-
-rising_lower : (m n : ℕ) (hs : List History) → m ≤ n → IsRising n hs → IsRising m hs
-unfolding IsRising
-rising_lower m n [] le rising = tt
-rising_lower m n (h ∷ hs) le rising = (omega (arith, rising.0), rising.1)
-
-rising-filter : (p : History → Bool) (n : ℕ) (hs : List History) → IsRising n hs → IsRising n (filter p hs)
-unfolding IsRising
-rising-filter p n [] rising = tt
-rising-filter p n (h ∷ hs) rising =
-    elim (p h) as (λ b. IsRising n (if b then h ∷ filter p hs else filter p hs)) [
-      | true ↦ (rising.0, rising-filter p h.entry.id hs rising.1)
-      | false ↦ rising_lower n h.entry.id (filter p hs) (omega (arith, rising.0)) (rising-filter p h.entry.id hs rising.1)
-    ]
-
-rising_ids : (m n : ℕ) (hs : List History) → m < n → AreIdsFrom n hs → IsRising m hs
-unfolding IsRising
-rising_ids m n [] lt ids = tt
-rising_ids m n (h ∷ hs) lt ids = (omega (arith, ids.0), rising_ids h.entry.id (n + 1) hs (omega (arith, ids.0)) ids.1)
 
 all_newer : (m n : ℕ) (hs : List History) → m ≤ n → IsRising n hs → filter (λ g. nat_lt m g.entry.id) hs ≡ hs
 unfolding IsRising

@@ -122,6 +122,7 @@ pub struct Entry {
     pub bucket: BucketName,
     pub key: ObjectKey,
     pub marker: bool,
+    /// In bytes; a marker has 0.
     pub size: u64,
     /// The digest of the content; a marker has none.
     pub digest: Option<Digest>,
@@ -247,8 +248,10 @@ impl Clone for History {
 pub struct Note {
     pub bucket: BucketName,
     pub batch: BatchName,
+    /// From 1 on.
     pub line: u32,
     pub key: ObjectKey,
+    /// In bytes.
     pub size: u64,
     pub digest: Digest,
     pub retention: Option<Retention>,

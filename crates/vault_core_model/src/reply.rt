@@ -100,9 +100,13 @@ pub struct Counts {
 pub struct Report {
     pub dept: DeptName,
     pub at: Moment,
+    /// The bytes ever admitted.
     pub admitted: u64,
+    /// The bytes held.
     pub held: u64,
+    /// The bytes removed.
     pub removed: u64,
+    /// Bytes times whole days held, of removed versions too.
     pub byte_days: u64,
 }
 
@@ -113,6 +117,7 @@ pub struct TakenIn {
     pub again: bool,
 }
 
+/// What a command that was done answers.
 #[derive(Drop)]
 pub enum Answer {
     Nothing,
@@ -143,6 +148,7 @@ pub enum Stop {
     VaultFull,
 }
 
+/// The reply to a command.
 #[derive(Drop)]
 pub enum Reply {
     Done(Answer),

@@ -118,7 +118,7 @@ plans-append v b t (k ∷ ks) js = ap (λ l. plan_at v b t k ++ l) (plans-append
 nat_list_irreflexive : (a x : List ℕ) → slice_cmp nat_cmp a x ≡ Less → slice_cmp nat_cmp x a ≡ Less → ⊥
 nat_list_irreflexive a x l m = irreflexive a (nat_list_cmp_total.trans a x a l m)
 
-rising_left : (ks js : List (List ℕ)) → IsRising (ks ++ js) → IsRising ks
+pub rising_left : (ks js : List (List ℕ)) → IsRising (ks ++ js) → IsRising ks
 rising_left [] js r = tt
 rising_left (k ∷ ks) js r = (under_left ks r.0, rising_left ks js r.1)
   where
@@ -126,7 +126,7 @@ rising_left (k ∷ ks) js r = (under_left ks r.0, rising_left ks js r.1)
     under_left [] u = tt
     under_left (x ∷ l) u = (u.0, under_left l u.1)
 
-rising_right : (ks js : List (List ℕ)) → IsRising (ks ++ js) → IsRising js
+pub rising_right : (ks js : List (List ℕ)) → IsRising (ks ++ js) → IsRising js
 rising_right [] js r = r
 rising_right (k ∷ ks) js r = rising_right ks js r.1
 

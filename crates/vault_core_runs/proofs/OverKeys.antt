@@ -7,7 +7,7 @@ use Rattle.vault_rules.specs.declared.plan.Held.{Held}
 use Rattle.vault_rules.specs.declared.plan.Step.{Step}
 use Rattle.vault_rules.specs.declared.plan.Step.TheVariants.{Mark, Remove, RemoveLone}
 use Rattle.vault_rules.specs.KeyPlan.{Planned, at_key, ids_rise, key_plan}
-use Rattle.vault_rules_laws.specs.BucketLaws.{IsIn, IsUnder, IsRising}
+use Rattle.vault_rules_laws.specs.BucketLaws.{IsIn, IsRising}
 use Rattle.vault_rules_laws.proofs.KeyByKey.{flat_map-in}
 use Rattle.vault_core_model.specs.declared.halt.Halt.{Halt}
 use Rattle.vault_core_model.specs.declared.reply.Counts.{Counts}
@@ -19,7 +19,7 @@ use Rattle.vault_core_model.specs.Plan.{made, change_at, rules_in, is_mark}
 use Rattle.vault_core_run_laws.specs.KeyRuns.{MayRun, plan_at, plans_at}
 use Rattle.vault_core_run_laws.specs.RunLaws.{Leaves}
 use Rattle.vault_core_runs.specs.Making.{place_of, HaveCauses, HasId, MayBeMade, MakesAll, MakesFirst, Makes, only}
-use Rattle.vault_core_run_laws.proofs.RunLaws.{entries_rise, key_runs_go_on, key_steps_are_allowed, runs_go_on, other_keys_stay, later_keys_are_others}
+use Rattle.vault_core_run_laws.proofs.RunLaws.{entries_rise, key_runs_go_on, key_steps_are_allowed, runs_go_on, other_keys_stay, later_keys_are_others, rising_left}
 use Rattle.vault_core_runs.proofs.Making.{MakesAll-then, MakesAll-first, MakesFirst-more, Makes-then}
 
 -- ---- within one key
@@ -105,18 +105,6 @@ module _ (v v1 v2 : Vault) (b : List ℕ) (t : ℕ) (key : List ℕ) (steps : Li
 
 -- ---- over keys that rise
 
-under_front : (k : List ℕ) (xs ys : List (List ℕ)) → IsUnder k (xs ++ ys) → IsUnder k xs
-under_front k [] ys u = tt
-under_front k (x ∷ xs) ys u = (u.0, under_front k xs ys u.1)
-
-pub rising_front : (xs ys : List (List ℕ)) → IsRising (xs ++ ys) → IsRising xs
-rising_front [] ys r = tt
-rising_front (x ∷ xs) ys r = (under_front x xs ys r.0, rising_front xs ys r.1)
-
-pub rising_rest : (xs ys : List (List ℕ)) → IsRising (xs ++ ys) → IsRising ys
-rising_rest [] ys r = r
-rising_rest (x ∷ xs) ys r = rising_rest xs ys r.1
-
 module _ (v v1 : Vault) (b : List ℕ) (t : ℕ) (done : List (List ℕ)) (x y : Counts) where
   -- after the plans of some keys a run may go on
   pub may_go_on : MayRun v b t → IsRising done → MakesAll v b t (plans_at v b t done) x y v1 → MayRun v1 b t × (rules_in v1 b ≡ rules_in v b)
@@ -128,7 +116,7 @@ module _ (v v1 : Vault) (b : List ℕ) (t : ℕ) (done : List (List ℕ)) (x y :
   pub same_plan : (rest : List (List ℕ)) (k : List ℕ) → MayRun v b t → IsRising (done ++ rest) → IsIn k rest → MakesAll v b t (plans_at v b t done) x y v1 → plan_at v1 b t k ≡ plan_at v b t k
   same_plan rest k may rising i m =
       let ps = plans_at v b t done in
-      let front = rising_front done rest rising in
+      let front = rising_left done rest rising in
       let e : entries_of (made v b t ps) b k ≡ entries_of v b k =
       other_keys_stay v b t done ps [] k may front (sym (append-nil ps)) m.ids (later_keys_are_others done rest k rising i) in
       let f : entries_of v1 b k ≡ entries_of v b k = ap (λ u. entries_of u b k) m.left ∙ e in
@@ -160,7 +148,7 @@ next_key v v1 v2 b t keys i k r x y z may rising l e m n =
     subst (λ (ps : List Planned). Makes r v b t ps x z v2) q (Makes-then v v1 v2 b t (plans_at v b t done) (plan_at v b t k) r x y z m n')
 
 pub front_rises : (keys : List (List ℕ)) (i : ℕ) → IsRising keys → IsRising (take i keys)
-front_rises keys i r = rising_front (take i keys) (drop i keys) (subst IsRising (sym (take-append-drop i keys)) r)
+front_rises keys i r = rising_left (take i keys) (drop i keys) (subst IsRising (sym (take-append-drop i keys)) r)
 
 -- or the run stops within its plan
 pub stopped_key : (v v1 v2 : Vault) (b : List ℕ) (t : ℕ) (keys : List (List ℕ)) (i : ℕ) (k : List ℕ) (h : Halt) (x y z : Counts)

@@ -16,9 +16,9 @@ use Rattle.vault_core_model.specs.Reads.{keys_after}
 use Rattle.vault_core_model.specs.Plan.{plan, rules_in}
 use Rattle.vault_core_run_laws.specs.KeyRuns.{MayRun, plans_at, last_key}
 use Rattle.vault_core_runs.specs.Making.{IsLastKey, MakesAll, MakesFirst}
-use Rattle.vault_core_run_laws.proofs.RunLaws.{plans_are_key_by_key, bucket_keys_rise, pages_go_on}
+use Rattle.vault_core_run_laws.proofs.RunLaws.{plans_are_key_by_key, bucket_keys_rise, pages_go_on, rising_left, rising_right}
 use Rattle.vault_core_runs.proofs.Making.{MakesAll-none, MakesAll-then, MakesAll-first, MakesFirst-fault, MakesFirst-more}
-use Rattle.vault_core_runs.proofs.OverKeys.{may_go_on, same_plans, plans_at-append, rising_front, rising_rest}
+use Rattle.vault_core_runs.proofs.OverKeys.{may_go_on, same_plans, plans_at-append}
 
 -- the plans of the first keys of the bucket are made, up to the last one seen
 pub record PagesDone (v : Vault) (b : List ℕ) (t : ℕ) (after : List ℕ) (x y : Counts) (v1 : Vault) : Type 0 where
@@ -60,11 +60,11 @@ module _ (v v1 : Vault) (b : List ℕ) (t : ℕ) (after : List ℕ) (x y : Count
 
   pub page_rises : (most : ℕ) (keys : List (List ℕ)) → keys ≡ take most d.rest → IsRising keys
   page_rises most keys e =
-      subst IsRising (sym e) (rising_front (take most d.rest) (drop most d.rest)
-      (subst IsRising (sym (take-append-drop most d.rest)) (rising_rest d.done d.rest rising)))
+      subst IsRising (sym e) (rising_left (take most d.rest) (drop most d.rest)
+      (subst IsRising (sym (take-append-drop most d.rest)) (rising_right d.done d.rest rising)))
 
   pub page_may : MayRun v1 b t × (rules_in v1 b ≡ rules_in v b)
-  page_may = may_go_on v v1 b t d.done x y may (rising_front d.done d.rest rising) d.makes
+  page_may = may_go_on v v1 b t d.done x y may (rising_left d.done d.rest rising) d.makes
 
   apart : (most : ℕ) (keys : List (List ℕ)) → keys ≡ take most d.rest → d.done ++ d.rest ≡ (d.done ++ keys) ++ drop most d.rest
   apart most keys e =
@@ -73,7 +73,7 @@ module _ (v v1 : Vault) (b : List ℕ) (t : ℕ) (after : List ℕ) (x y : Count
 
   page_plans : (most : ℕ) (keys : List (List ℕ)) → keys ≡ take most d.rest → plans_at v1 b t keys ≡ plans_at v b t keys
   page_plans most keys e =
-      same_plans v v1 b t d.done x y keys may (rising_front (d.done ++ keys) (drop most d.rest) (subst IsRising (apart most keys e) rising)) d.makes
+      same_plans v v1 b t d.done x y keys may (rising_left (d.done ++ keys) (drop most d.rest) (subst IsRising (apart most keys e) rising)) d.makes
 
   -- one page more
   pub page_done : (most : ℕ) (keys : List (List ℕ)) (next : List ℕ) (z : Counts) (v2 : Vault) → keys ≡ take most d.rest → next ≡ last_key keys → 1 ≤ length keys → 1 ≤ length next

@@ -2,20 +2,16 @@
 ghost use Rattle.std.specs.Prelude.{◌≡◌, option_map};
 ghost use Rattle.csv.specs.Records.{fields_of};
 ghost use Rattle.vault_http_values.specs.Fault.{Gives};
-ghost use Rattle.vault_http_values.specs.Locks as locks;
-ghost use Rattle.vault_http_values.specs.Values.{or_invalid};
-ghost use Rattle.vault_http_values.specs.Words.{mode_named as mode_of, hold_named as is_on};
 ghost use Rattle.vault_files_rows.specs.Row as spec;
 
 use crate::file_name::{self, FileName};
 use csv::ByteRecord;
 use std::alloc::Global;
-use vault_base::moment::{Moment, MomentFault};
 use vault_base::name::{NameFault, ObjectKey};
 use vault_base::refusal::Refusal;
 use vault_http_values::fault::LineFault;
-use vault_http_values::words::{hold_named, mode_named};
-use vault_lock::retention::{Mode, Retention};
+use vault_http_values::locks::{both_or_none, is_on};
+use vault_lock::retention::Retention;
 
 /// A file to be taken in: under which key, and with which retention and hold.
 #[derive(Drop)]
@@ -79,45 +75,6 @@ fn key(alloc: Global, cell: &[u8]) -> Result<ObjectKey, LineFault>
     }
 }
 
-fn mode(text: &str) -> Result<Mode, LineFault>
-    ensures { Gives (λ x. x) result (or_invalid (mode_of text.now)) }
-{
-    match mode_named(text) {
-        Some(mode) => Ok(mode),
-        None => Err(LineFault::Refused(Refusal::InvalidArgument)),
-    }
-}
-
-fn until(text: &str) -> Result<Moment, LineFault>
-    ensures { Gives (λ x. x) result (locks.until_named text.now) }
-{
-    match Moment::read(text) {
-        Ok(moment) => Ok(moment),
-        Err(MomentFault::Form) => Err(LineFault::Refused(Refusal::InvalidArgument)),
-        Err(MomentFault::Range) => Err(LineFault::Refused(Refusal::RetentionOutOfRange)),
-    }
-}
-
-#[tactic(auto, unfolding(vault_http_values::specs::Locks::retention_spelled))]
-fn retention_spelled(mode_text: &str, until_text: &str) -> Result<Retention, LineFault>
-    ensures { Gives (λ x. x) result (locks.retention_spelled mode_text.now until_text.now) }
-{
-    let mode = mode(mode_text)?;
-    let until = until(until_text)?;
-    Ok(Retention { mode, until })
-}
-
-#[tactic(auto, unfolding(vault_http_values::specs::Locks::both_or_none))]
-fn both_or_none(mode: Option<&str>, until: Option<&str>) -> Result<Option<Retention>, LineFault>
-    ensures { Gives (λ x. x) result (locks.both_or_none (option_map (λ t. t.now) mode.entry) (option_map (λ t. t.now) until.entry)) }
-{
-    match (mode, until) {
-        (None, None) => Ok(None),
-        (Some(mode), Some(until)) => Ok(Some(retention_spelled(mode, until)?)),
-        _ => Err(LineFault::Refused(Refusal::InvalidArgument)),
-    }
-}
-
 #[tactic(auto, unfolding(crate::specs::Row::retention_of))]
 fn retention(mode: &[u8], until: &[u8]) -> Result<Option<Retention>, LineFault>
     ensures { Gives (λ x. x) result (spec.retention_of mode.now until.now) }
@@ -127,15 +84,6 @@ fn retention(mode: &[u8], until: &[u8]) -> Result<Option<Retention>, LineFault>
     both_or_none(mode, until)
 }
 
-fn hold_spelled(text: &str) -> Result<bool, LineFault>
-    ensures { Gives (λ x. x) result (or_invalid (is_on text.now)) }
-{
-    match hold_named(text) {
-        Some(hold) => Ok(hold),
-        None => Err(LineFault::Refused(Refusal::InvalidArgument)),
-    }
-}
-
 #[tactic(auto, unfolding(crate::specs::Row::hold_of))]
 fn hold(cell: &[u8]) -> Result<Option<bool>, LineFault>
     ensures { Gives (λ x. x) result (spec.hold_of cell.now) }
@@ -143,7 +91,7 @@ fn hold(cell: &[u8]) -> Result<Option<bool>, LineFault>
     let Some(text) = optional_text(cell)? else {
         return Ok(None);
     };
-    Ok(Some(hold_spelled(text)?))
+    Ok(Some(is_on(text)?))
 }
 
 /// What a record asks for by its cells: file, key, mode, until and hold, of which the last three are left

@@ -1,7 +1,7 @@
 //! What a target asks about: an object, one of its settings, a bucket, or one of its subresources.
 ghost use Rattle.std.specs.Prelude.{◌≡◌, map, option_map};
 ghost use Rattle.vault_http_values.specs.Fault.{Gives};
-ghost use Rattle.vault_http_values.specs.Values.{prefix_named as prefix_of, prefix_if};
+ghost use Rattle.vault_http_values.specs.Values.{prefix_if};
 ghost use Rattle.vault_http_target.specs.Query.{shown};
 ghost use Rattle.vault_http_target.specs.Target as spec;
 
@@ -10,10 +10,11 @@ use crate::path::{before, behind};
 use crate::place::{Place, place_of};
 use crate::query::{Pair, are_among, count_among, has_named, pairs_of, value_named};
 use std::alloc::Global;
-use vault_base::name::{BucketName, KeyPrefix, NameFault, ObjectKey, VersionId};
+use vault_base::name::{BucketName, KeyPrefix, ObjectKey, VersionId};
 use vault_base::refusal::Refusal;
 use vault_core_model::command::ListVersions;
 use vault_http_values::fault::LineFault;
+use vault_http_values::values::prefix_named;
 
 /// How many entries a listing has at most, where that isn't said.
 const MOST: u32 = 1_000;
@@ -160,17 +161,6 @@ fn check_names_of_bucket(pairs: &[Pair]) -> Result<(), LineFault>
         return Err(LineFault::Refused(Refusal::InvalidArgument));
     }
     Ok(())
-}
-
-#[tactic(auto, unfolding(vault_http_values::specs::Values::prefix_named))]
-fn prefix_named(alloc: Global, text: &str) -> Result<KeyPrefix, LineFault>
-    ensures { Gives (λ x. x) result (prefix_of text.now) }
-{
-    match KeyPrefix::read(alloc, text)? {
-        Ok(prefix) => Ok(prefix),
-        Err(NameFault::TooLong) => Err(LineFault::Refused(Refusal::KeyTooLongError)),
-        Err(_) => Err(LineFault::Refused(Refusal::InvalidArgument)),
-    }
 }
 
 /// A prefix, or the empty one where there is none.

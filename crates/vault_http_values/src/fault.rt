@@ -5,7 +5,11 @@ use vault_base::refusal::Refusal;
 /// Why a line gives no command.
 #[derive(Clone, Copy, Debug)]
 pub enum LineFault {
+    /// There was no memory for it.
     Memory,
+    /// Its first fault: MalformedBody for a shape; for a value InvalidBucketName, KeyTooLongError,
+    /// RetentionOutOfRange, ClockOutOfRange or AccessDenied where its kind has one of these, else InvalidArgument; a
+    /// request has some of its own.
     Refused(Refusal),
 }
 

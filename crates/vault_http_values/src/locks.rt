@@ -53,8 +53,12 @@ pub fn retention(value: &Value) -> Result<Retention, LineFault>
     retention_spelled(mode, until)
 }
 
+/// A retention by the texts of its mode and its end, which stand together or not at all.
+///
+/// InvalidArgument for one without the other, another mode, or a text that is no moment; RetentionOutOfRange for
+/// a moment outside 1970 to 9999.
 #[tactic(auto, unfolding(crate::specs::Locks::both_or_none))]
-fn both_or_none(mode: Option<&str>, until: Option<&str>) -> Result<Option<Retention>, LineFault>
+pub fn both_or_none(mode: Option<&str>, until: Option<&str>) -> Result<Option<Retention>, LineFault>
     ensures { Gives (λ x. x) result (spec.both_or_none (option_map (λ t. t.now) mode.entry) (option_map (λ t. t.now) until.entry)) }
 {
     match (mode, until) {
@@ -75,7 +79,8 @@ pub fn optional_retention(value: &Value) -> Result<Option<Retention>, LineFault>
     both_or_none(mode, until)
 }
 
-fn is_on(text: &str) -> Result<bool, LineFault>
+/// Whether a text names a hold that is on, `ON` or `OFF`; else InvalidArgument.
+pub fn is_on(text: &str) -> Result<bool, LineFault>
     ensures { Gives (λ x. x) result (or_invalid (is_on text.now)) }
 {
     match hold_named(text) {

@@ -110,8 +110,10 @@ pub fn key(alloc: Global, value: &Value) -> Result<ObjectKey, LineFault>
     }
 }
 
+/// The prefix of that text, which may be empty. KeyTooLongError where it is longer than a key may be, else
+/// InvalidArgument.
 #[tactic(auto, unfolding(crate::specs::Values::prefix_named))]
-pub(crate) fn prefix_named(alloc: Global, text: &str) -> Result<KeyPrefix, LineFault>
+pub fn prefix_named(alloc: Global, text: &str) -> Result<KeyPrefix, LineFault>
     ensures { Gives (λ x. x) result (spec.prefix_named text.now) }
 {
     match KeyPrefix::read(alloc, text)? {

@@ -10,7 +10,7 @@ use vault_base::name::{KeyPrefix, ObjectKey, RuleId};
 /// The action on noncurrent entries.
 #[derive(Clone, Copy, Debug, PartialEq, Eq)]
 pub struct Noncurrent {
-    /// NoncurrentDays.
+    /// NoncurrentDays: of 86,400 seconds, up to the next midnight.
     pub days: u32,
     /// NewerNoncurrentVersions.
     pub newer: Option<u32>,
@@ -22,7 +22,7 @@ pub struct Rule {
     pub id: RuleId,
     pub prefix: KeyPrefix,
     pub enabled: bool,
-    /// Expiration by Days.
+    /// Expiration by Days: of 86,400 seconds, up to the next midnight.
     pub days: Option<u32>,
     /// Expiration by ExpiredObjectDeleteMarker.
     pub lone_markers: bool,

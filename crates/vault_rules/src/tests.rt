@@ -1,7 +1,7 @@
 //! Dues, plans and faults by worked values.
 ghost use Rattle.std.specs.Prelude.{◌≡◌, IfOk};
 
-use crate::due::{due_current, due_noncurrent};
+use crate::due::{due_current, due_marker, due_noncurrent};
 use crate::plan::{Held, Step, plan_key};
 use crate::rule::{Noncurrent, Rule};
 use crate::rule_set::{RuleFault, RuleSet};
@@ -116,6 +116,23 @@ fn entry(number: u32, admitted: Moment) -> Result<Held, Fail>
 
 /// Of three rules the first is disabled, and the first of those that make the content due is
 /// named.
+#[test]
+fn lone_markers(rt: HostRuntime) -> Result<(), Fail> {
+    let alloc = rt.alloc();
+    let key = ObjectKey::read(alloc, "k")??;
+    let admitted = Moment::read("2024-03-01T08:00:00Z")?;
+    let next_day = Moment::read("2024-03-02T23:59:59Z")?;
+    let midnight = Moment::read("2024-03-03T00:00:00Z")?;
+    let mut lone = rule(alloc, "lone")?;
+    lone.lone_markers = true;
+    let lone = rule_set(vec![in alloc; lone]?)?;
+    assert_eq!(rt; due_marker(&lone, &key, 0, admitted, admitted), Some(0));
+    let days = rule_set(vec![in alloc; rule_of_days(alloc, "days", 1)?]?)?;
+    assert_eq!(rt; due_marker(&days, &key, 0, admitted, next_day), None);
+    assert_eq!(rt; due_marker(&days, &key, 0, admitted, midnight), Some(0));
+    Ok(())
+}
+
 #[test]
 fn first_due_rule(rt: HostRuntime) -> Result<(), Fail> {
     let alloc = rt.alloc();

@@ -1,5 +1,5 @@
 -- A committed edit that is the edit of a change makes that change.
-use Rattle.std.proofs.Common.{◌≡◌, ℕ, ◌≤◌, IsTrue, IsPermutation, Result, Ok, Err, OnOk, OnErr, subst, refl}
+use Rattle.std.proofs.Common.{◌≡◌, ℕ, ◌≤◌, IsTrue, IsPermutation, Result, Ok, Err, OnOk, subst, refl}
 use Rattle.sqlite_trees.specs.Tree.{Trees}
 use Rattle.sqlite.specs.Effect.{Database}
 use Rattle.sqlite.specs.State.{State, Survives}
@@ -49,10 +49,6 @@ on_ok_both R (Err e) p q f = tt
 pub on_ok_then : {A E : Type 0} {P : Type 0} (R : Type 0) (r : Result A E) → OnOk r P → (P → R) → OnOk r R
 on_ok_then R (Ok a) p f = f p
 on_ok_then R (Err e) p f = tt
-
-pub on_err_then : {A E : Type 0} {P Q : Type 0} (r : Result A E) → OnErr r P → (P → Q) → OnErr r Q
-on_err_then (Ok a) p f = tt
-on_err_then (Err e) p f = f p
 
 -- where a read alone has been done, an open connection leaves what it could leave before
 pub shut_leaves : (old new : State) (v : Vault) (t : ℕ) (c : Change) → Survives old new (λ _. ¬ IsTrue old.is_open) → Survives old new (IsChanged old v t c)

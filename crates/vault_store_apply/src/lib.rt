@@ -1,4 +1,7 @@
 //! Changes of the vault, each made in one transaction, as a whole or not at all.
+//!
+//! An error is want of memory, told as `ErrorCode::OutOfMemory`, `ErrorCode::TooBig` for a number that a
+//! column can't take, or a failure of the store.
 #![tactic(auto)]
 
 pub mod commit;

@@ -1,4 +1,7 @@
 //! The statements that edit entries and what stands beside them, one function for each.
+//!
+//! An error is want of memory, told as `ErrorCode::OutOfMemory`, `ErrorCode::TooBig` for a number that a
+//! column can't take, or a failure of the store.
 #![tactic(auto)]
 
 mod by_id;

@@ -1,4 +1,6 @@
 //! Reads of a vault that show several rows in order.
+//!
+//! An error is want of memory, told as `ErrorCode::OutOfMemory`, or a failure of the store.
 #![tactic(auto)]
 
 mod decode;

@@ -36,6 +36,7 @@ pub fn read_last(row: &Row) -> Option<LastSetting>
 pub struct HeldRow {
     pub id: VersionId,
     pub marker: bool,
+    /// In bytes; a marker has 0.
     pub size: u64,
     pub admitted: Moment,
 }

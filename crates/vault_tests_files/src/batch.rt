@@ -1,5 +1,4 @@
 //! Files in memory, and a list over them that is taken in.
-use crate::trial::compare;
 use std::alloc::Global;
 use std::test::Fail;
 use vault_base::content::Content;
@@ -12,6 +11,7 @@ use vault_files_intake::list_folder::ListFolder;
 use vault_files_intake::report::IntakeReport;
 use vault_files_lines::lines::intake_lines;
 use vault_files_rows::file_name::FileName;
+use vault_transcript::trial::compare;
 
 fn file(alloc: Global, name: &str, bytes: &str) -> Result<File, Fail> {
     let name = FileName::read(alloc, name)?.ok_or("a name of a file")?;

@@ -1,8 +1,6 @@
-//! Bad lines, intakes whose folder, device or memory fails, and registers and texts whose writer fails.
+//! Bad lines, intakes whose folder, device or memory fails, and texts whose writer fails.
 mod growths;
 mod intakes;
 mod lines;
 mod printed;
-mod registers;
 mod taking;
-mod vault;

@@ -1,5 +1,5 @@
-//! Tests of what goes between a vault and files: intakes, the register of removals, certificates and reports as
-//! texts, and all of them where a line is bad, or where a folder, a device, a writer or memory fails.
+//! Tests of intakes: lists over a folder in memory, and all of it where a line is bad, or where a folder, a device,
+//! a writer or memory fails.
 #![tactic(auto)]
 
 #[cfg(test)]
@@ -8,7 +8,3 @@ mod batch;
 mod faults;
 #[cfg(test)]
 mod intake;
-#[cfg(test)]
-mod register;
-#[cfg(test)]
-mod trial;

@@ -14,7 +14,7 @@ fn made<S: Alter>(conn: &mut Connection<S>) -> Result<(), Refusal> {
     fill(conn)
 }
 
-pub fn batch<S: Alter>(conn: &mut Connection<S>, sql: &str) -> Result<(), Error> {
+fn batch<S: Alter>(conn: &mut Connection<S>, sql: &str) -> Result<(), Error> {
     conn.execute_batch(sql)
 }
 

@@ -1,5 +1,7 @@
 //! What tests over whole vaults have in common: a script with its replies between the lines, carried out
-//! over a keeper.
+//! over a keeper; what replies tell of a vault; and trials on a vault in memory.
 #![tactic(auto)]
 
+pub mod telling;
 pub mod transcript;
+pub mod trial;

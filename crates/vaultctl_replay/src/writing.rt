@@ -1,5 +1,5 @@
 //! Replies to a writer.
-ghost use Rattle.std.specs.Prelude.{◌≡◌, OnOk, OnErr};
+ghost use Rattle.std.specs.Prelude.{◌≡◌, IfErr, OnOk, OnErr};
 ghost use Rattle.std.specs.Io.KnownBytes.{Appends, Keeps};
 ghost use Rattle.vault_io.specs.Begins.{Begins};
 
@@ -12,6 +12,7 @@ pub fn write_bytes<W: Write>(writer: &mut W, bytes: &[u8]) -> Result<(), ReplayF
     ensures ok { OnOk result (Appends (W.contents writer.old) (W.contents writer.new) bytes.now) }
     ensures err { OnErr result (Begins (W.contents writer.old) (W.contents writer.new) bytes.now) }
     ensures kind { ¬ (result ≡ Err ReplayFault.Read) }
+    ensures write { IfErr result (λ e. e ≡ ReplayFault.Write) }
 {
     match bytes::write_bytes(writer, bytes) {
         Ok(()) => Ok(()),
@@ -23,6 +24,7 @@ pub fn write_bytes<W: Write>(writer: &mut W, bytes: &[u8]) -> Result<(), ReplayF
 pub fn flush<W: Write>(writer: &mut W) -> Result<(), ReplayFault>
     ensures keeps { Keeps (W.contents writer.old) (W.contents writer.new) }
     ensures kind { ¬ (result ≡ Err ReplayFault.Read) }
+    ensures write { IfErr result (λ e. e ≡ ReplayFault.Write) }
 {
     match writer.flush() {
         Ok(()) => Ok(()),

@@ -2,13 +2,13 @@
 use crate::batch::Batch;
 use crate::faults::intakes::tells_as_behind;
 use crate::faults::taking::{folder, list_of, resumed, stopped_behind, take};
-use crate::trial::{Trial, compare, try_on_new};
 use std::alloc::Global;
 use std::test::Fail;
 use vault_base::refusal::Refusal;
 use vault_core_model::keeper::Keeper;
 use vault_files_intake::report::IntakeReport;
 use vault_files_lines::lines::intake_lines;
+use vault_transcript::trial::{Trial, compare, try_on_new};
 
 /// Takes the list in. All that the test itself needs is there before, so that only the intake takes memory.
 fn taken<K: Keeper>(alloc: Global, keeper: &mut K) -> Result<IntakeReport, Fail> {

@@ -1,10 +1,10 @@
 //! Intakes that a folder, a device or a list stops.
 use crate::faults::taking::{list_of, resumed, stopped_behind, take, take_first, take_list};
-use crate::faults::vault::{tells_still, told};
-use crate::trial::{Trial, compare, try_on_failing, try_on_new};
 use std::alloc::Global;
 use std::test::Fail;
 use vault_core_model::keeper::Keeper;
+use vault_transcript::telling::{tells_still, told};
+use vault_transcript::trial::{Trial, compare, try_on_failing, try_on_new};
 
 /// What is to be told of a vault that has taken in the first so many rows.
 #[derive(Clone, Copy)]

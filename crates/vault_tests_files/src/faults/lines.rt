@@ -1,10 +1,10 @@
 //! Script lines that are no command: one MalformedBody each, nothing is changed, and the next line is answered.
-use crate::faults::vault::{edge, tells_still, told};
-use crate::trial::{Trial, compare, try_on_new};
 use std::alloc::Global;
 use std::test::Fail;
 use vault_core_model::keeper::Keeper;
+use vault_transcript::telling::{tells_still, told};
 use vault_transcript::transcript::{play, replies};
+use vault_transcript::trial::{Trial, compare, try_on_new};
 
 /// A line that is answered in any case.
 const NEXT: &str =
@@ -80,6 +80,11 @@ fn answered<K: Keeper>(
     input.extend_from_slice(behind.as_bytes())?;
     let given = replies(alloc, keeper, input.as_slice())?;
     compare(name, given.as_str(), wanted)
+}
+
+/// The moment of the last change in seconds, and the id that the next entry gets.
+fn edge<K: Keeper>(keeper: &mut K) -> Result<(u64, u64), Fail> {
+    Ok((keeper.last()?.secs(), keeper.next_id()?))
 }
 
 /// Carries a bad line out, and a good one behind it.

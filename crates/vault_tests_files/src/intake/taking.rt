@@ -1,10 +1,10 @@
 //! A list over two files, and steps in a vault.
 use crate::batch::{Listed, take};
-use crate::trial::{Trial, try_on_new};
 use std::alloc::Global;
 use std::test::Fail;
 use vault_core_model::keeper::Keeper;
 use vault_transcript::transcript::play;
+use vault_transcript::trial::{Trial, try_on_new};
 
 /// Two files, the second of which is kept back.
 pub const LIST: &str =

@@ -6,7 +6,8 @@ use Rattle.vault_base.specs.Days.{last_moment}
 use Rattle.vault_core_model.specs.declared.change.Change.TheVariants as change
 use Rattle.vault_store_apply.specs.Applies.{Changes, IsChanged}
 use Rattle.vault_store_transaction.proofs.TransactionLemmas.{on_err_here}
-use Rattle.vault_store_apply.proofs.ApplyLemmas.{on_ok_then, on_err_then, shut_leaves}
+use Rattle.vault_store_transaction.proofs.TransactionLemmas.{on_err_all}
+use Rattle.vault_store_apply.proofs.ApplyLemmas.{on_ok_then, shut_leaves}
 use Rattle.vault_store_apply_entries.proofs.AdmissionLemmas.{edits_admission}
 use Rattle.vault_store_apply_entries.proofs.entries.admit.Goals as goal
 
@@ -54,7 +55,7 @@ pub returns-clause-nothing : goal.returns-clause-nothing
 returns-clause-nothing g c clean =
     let mid = state g.S.Store c.read_place.new.conn in
     let early : HasCleanDisk mid = omega (arith, clean, c.commit_part-admitted.ensures.crash.clean) in
-    on_err_then c.commit_part-admitted.result (c.commit_part-admitted.ensures.nothing clean) (λ keeps v was. keeps v (c.in_ok-place.ensures.same early v was))
+    on_err_all c.commit_part-admitted.result (c.commit_part-admitted.ensures.nothing clean) (λ keeps v was. keeps v (c.in_ok-place.ensures.same early v was))
 
 pub returns-in_err-place-clause-nothing : goal.returns-in_err-place-clause-nothing
 returns-in_err-place-clause-nothing g c clean = on_err_here _ (c.in_err-place.ensures.same clean)

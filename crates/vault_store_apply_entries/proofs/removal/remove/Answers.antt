@@ -6,7 +6,8 @@ use Rattle.vault_base.specs.Days.{last_moment}
 use Rattle.vault_core_model.specs.declared.change.Change.TheVariants as change
 use Rattle.vault_store_apply.specs.Applies.{Changes, IsChanged}
 use Rattle.vault_store_transaction.proofs.TransactionLemmas.{on_err_here}
-use Rattle.vault_store_apply.proofs.ApplyLemmas.{on_ok_then, on_err_then, shut_leaves}
+use Rattle.vault_store_transaction.proofs.TransactionLemmas.{on_err_all}
+use Rattle.vault_store_apply.proofs.ApplyLemmas.{on_ok_then, shut_leaves}
 use Rattle.vault_store_apply_entries.proofs.ReadLemmas.{keeps_now, read_then}
 use Rattle.vault_store_apply_entries.proofs.RemovalLemmas.{edits_removal}
 use Rattle.vault_store_apply_entries.proofs.removal.remove.Goals as goal
@@ -66,7 +67,7 @@ returns-clause-nothing g c clean =
     let clean3 : HasCleanDisk (state g.S.Store c.read_place.new.conn) = omega (arith, clean, c.commit_part-removed.ensures.crash.clean) in
     let clean2 = c.in-Ok-read_place.ensures.honest clean3 in
     let clean1 = c.in-Ok.ensures.honest clean2 in
-    on_err_then c.commit_part-removed.result (c.commit_part-removed.ensures.nothing clean)
+    on_err_all c.commit_part-removed.result (c.commit_part-removed.ensures.nothing clean)
     (λ keeps v was. keeps v (c.in-Ok-read_place.ensures.same clean3 v (c.in-Ok.ensures.same clean2 v (c.in_ok-entry.ensures.same clean1 v was))))
 
 pub returns-in_err-entry-clause-crash : goal.returns-in_err-entry-clause-crash

@@ -7,7 +7,8 @@ use Rattle.vault_core_model.specs.Reads.{count_by}
 use Rattle.vault_store_entry_parts.specs.Parts.{setting_added}
 use Rattle.vault_store_apply.specs.Applies.{Changes, IsChanged}
 use Rattle.vault_store_transaction.proofs.TransactionLemmas.{on_err_here}
-use Rattle.vault_store_apply.proofs.ApplyLemmas.{on_ok_then, on_err_then, shut_leaves}
+use Rattle.vault_store_transaction.proofs.TransactionLemmas.{on_err_all}
+use Rattle.vault_store_apply.proofs.ApplyLemmas.{on_ok_then, shut_leaves}
 use Rattle.vault_store_apply_entries.proofs.settings.add_setting.Goals as goal
 
 pub returns-clause-done : goal.returns-clause-done
@@ -42,7 +43,7 @@ pub returns-clause-nothing : goal.returns-clause-nothing
 returns-clause-nothing g c clean =
     let mid = state g.S.Store c.read_setting.new.conn in
     let early : HasCleanDisk mid = omega (arith, clean, c.commit_part.ensures.crash.clean) in
-    on_err_then c.commit_part.result (c.commit_part.ensures.nothing clean) (λ keeps v was. keeps v (c.in_ok-last.ensures.same early v was))
+    on_err_all c.commit_part.result (c.commit_part.ensures.nothing clean) (λ keeps v was. keeps v (c.in_ok-last.ensures.same early v was))
 
 pub returns-in_err-last-clause-crash : goal.returns-in_err-last-clause-crash
 returns-in_err-last-clause-crash g c given v was =

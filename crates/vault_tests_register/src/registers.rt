@@ -1,13 +1,13 @@
 //! Registers of removals.
-use crate::register::export::{compare_answers, export, written};
-use crate::register::texts::{EMPTY, HELLO};
-use crate::trial::{Trial, compare, try_behind, try_on_new};
+use crate::export::{compare_answers, export, written};
+use crate::texts::{EMPTY, HELLO};
 use std::alloc::Global;
 use std::io::BufWriter;
 use std::test::Fail;
 use vault_core_model::keeper::Keeper;
 use vault_failing::FailingWriter;
 use vault_files_register::ExportFault;
+use vault_transcript::trial::{Trial, compare, try_behind, try_on_new};
 
 const HEADER: &str =
     "version,bucket,key,kind,size,sha256,admitted,admitted_by,removed,cause,cause_by,days\n";

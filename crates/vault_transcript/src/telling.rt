@@ -1,9 +1,9 @@
-//! What can be asked of a vault.
+//! What replies tell of a vault.
+use crate::transcript::replies;
 use crate::trial::compare;
 use std::alloc::Global;
 use std::test::Fail;
 use vault_core_model::keeper::Keeper;
-use vault_transcript::transcript::replies;
 
 const READS: &str = r#"
 {"at":"2024-01-16T00:00:00Z","as":"registrar","do":"report","dept":"records"}
@@ -17,11 +17,6 @@ const READS: &str = r#"
 /// All that replies tell of the vault.
 pub fn told<K: Keeper>(alloc: Global, keeper: &mut K) -> Result<String, Fail> {
     replies(alloc, keeper, READS.as_bytes())
-}
-
-/// The moment of the last change in seconds, and the id that the next entry gets.
-pub fn edge<K: Keeper>(keeper: &mut K) -> Result<(u64, u64), Fail> {
-    Ok((keeper.last()?.secs(), keeper.next_id()?))
 }
 
 /// Fails unless replies still tell of the vault what they told before.

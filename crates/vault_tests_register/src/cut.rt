@@ -1,11 +1,11 @@
 //! Registers that a writer cuts.
-use crate::faults::vault::{tells_still, told};
-use crate::register::export::written;
-use crate::trial::{Trial, try_behind};
+use crate::export::written;
 use std::alloc::Global;
 use std::test::Fail;
 use vault_core_model::keeper::Keeper;
 use vault_files_register::ExportFault;
+use vault_transcript::telling::{tells_still, told};
+use vault_transcript::trial::{Trial, try_behind};
 
 /// Three entries are removed.
 const REMOVALS: &str = r#"

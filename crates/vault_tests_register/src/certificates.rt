@@ -1,6 +1,5 @@
 //! Certificates of destruction.
-use crate::register::texts::{EMPTY, HELLO, asking};
-use crate::trial::{Trial, compare, try_behind};
+use crate::texts::{EMPTY, HELLO, asking};
 use sha2::{Digest, Sha256};
 use std::alloc::Global;
 use std::test::Fail;
@@ -12,6 +11,7 @@ use vault_core_model::halt::Halt;
 use vault_core_model::keeper::Keeper;
 use vault_core_model::reply::Answer;
 use vault_files_certificate::certificate as text;
+use vault_transcript::trial::{Trial, compare, try_behind};
 
 fn command(alloc: Global, number: u32) -> Result<Certificate, Fail> {
     let id = VersionId::new(number).ok_or("id")?;

@@ -1,12 +1,11 @@
 //! Schemas that differ from the vault's in one place, and the table that is told of each.
 
-use crate::calls::batch;
+use crate::{check_schema, first_difference};
 use sqlite::{Alter, Connection, Error};
 use std::alloc::Global;
 use std::process::Abort;
 use std::test::Fail;
 use vault_audit_model::schema::creation;
-use vault_audit_schema::{check_schema, first_difference};
 use vault_base::refusal::Table;
 
 const TABLES: [Table; 10] = [
@@ -62,7 +61,12 @@ fn make_tables<S: Alter>(
     Ok(())
 }
 
-// It has no clause, so that the proof of a test does not carry the state of the call.
+// These have no clause, so that the proof of a test does not carry the state of a call.
+
+fn batch<S: Alter>(conn: &mut Connection<S>, sql: &str) -> Result<(), Error> {
+    conn.execute_batch(sql)
+}
+
 fn difference<S: Alter>(conn: &mut Connection<S>) -> Option<Table> {
     check_schema(conn)
 }

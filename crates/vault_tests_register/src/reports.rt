@@ -1,6 +1,5 @@
 //! Reports as texts.
-use crate::register::texts::asking;
-use crate::trial::{Trial, compare, try_behind};
+use crate::texts::asking;
 use std::alloc::Global;
 use std::test::Fail;
 use vault_base::moment::Moment;
@@ -11,6 +10,7 @@ use vault_core_model::keeper::Keeper;
 use vault_core_model::reply::Answer;
 use vault_core_records::records::report;
 use vault_files_certificate::report_text::report_text;
+use vault_transcript::trial::{Trial, compare, try_behind};
 
 /// A hundred bytes that are removed a second later, on the next day.
 const HUNDRED: &str = r#"

@@ -1,10 +1,10 @@
 //! Trials on a vault in memory, and texts that are compared.
+use crate::transcript::{opened, play};
 use std::alloc::Global;
 use std::test::Fail;
 use vault_core::fuse_keeper::FuseKeeper;
 use vault_core_list::list_keeper::ListKeeper;
 use vault_core_model::keeper::Keeper;
-use vault_transcript::transcript::{opened, play};
 
 /// What is tried on a vault. It is over any keeper, as a proof over a list would go through all parts of that
 /// list wherever a trial may end.
