@@ -214,6 +214,7 @@ fn faults_of_intake_are_told(rt: HostRuntime) -> Result<(), Fail> {
         "UPDATE intake SET hold = 2",
         "UPDATE intake SET key = 'b'",
         "UPDATE intake SET size = 6",
+        "UPDATE intake SET digest = x'00'",
         "UPDATE intake SET id = 2",
         "UPDATE intake SET id = 4",
     ];
