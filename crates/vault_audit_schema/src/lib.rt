@@ -6,7 +6,5 @@ mod compare;
 mod difference;
 mod index;
 mod table;
-#[cfg(test)]
-mod tests;
 
 pub use difference::{check_schema, first_difference};

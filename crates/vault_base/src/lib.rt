@@ -6,7 +6,5 @@ pub mod name;
 pub mod refusal;
 pub mod right;
 mod spelling;
-#[cfg(test)]
-mod tests;
 
 pub use vault_base_time::moment;

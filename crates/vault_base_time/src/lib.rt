@@ -3,5 +3,3 @@
 
 mod calendar;
 pub mod moment;
-#[cfg(test)]
-mod tests;

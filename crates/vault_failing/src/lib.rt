@@ -7,9 +7,6 @@ ghost use Rattle.std.specs.declared.io.ErrorKind.TheVariants.{BrokenPipe};
 ghost use Rattle.std.specs.Io.{ReadsAtMost, WritesAtMost};
 ghost use Rattle.std.specs.Io.KnownBytes.{ReadConsumes, WriteAppends};
 
-#[cfg(test)]
-mod tests;
-
 use std::io::{Error, ErrorKind, Read, Result, Write};
 
 /// Gives its bytes, and then fails where another reader would answer that they have ended.

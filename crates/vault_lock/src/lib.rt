@@ -3,5 +3,3 @@
 
 pub mod lock;
 pub mod retention;
-#[cfg(test)]
-mod tests;

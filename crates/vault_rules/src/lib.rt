@@ -5,5 +5,3 @@ pub mod due;
 pub mod plan;
 pub mod rule;
 pub mod rule_set;
-#[cfg(test)]
-mod tests;

@@ -1,4 +1,4 @@
-//! Tests over tables in memory: the audit, reads by key, and how much is read.
+//! Tests over tables in memory: the schema, the audit, reads by key, and how much is read.
 #![tactic(auto)]
 
 #[cfg(test)]
@@ -7,5 +7,7 @@ mod audit;
 mod calls;
 #[cfg(test)]
 mod reads;
+#[cfg(test)]
+mod schema;
 #[cfg(test)]
 mod steps;

@@ -1,11 +1,11 @@
 //! Schemas that differ from the vault's in one place, and the table that is told of each.
 
-use crate::{check_schema, first_difference};
 use sqlite::{Alter, Connection, Error};
 use std::alloc::Global;
 use std::process::Abort;
 use std::test::Fail;
 use vault_audit_model::schema::creation;
+use vault_audit_schema::{check_schema, first_difference};
 use vault_base::refusal::Table;
 
 const TABLES: [Table; 10] = [

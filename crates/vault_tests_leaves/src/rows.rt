@@ -1,6 +1,6 @@
 //! Rows by numbers.
-use crate::row::Row;
 use std::test::Fail;
+use vault_tally::row::Row;
 
 /// 100 bytes admitted on day 19,737 and removed the day after.
 #[test]
