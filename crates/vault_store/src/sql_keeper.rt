@@ -5,7 +5,8 @@ ghost use Rattle.sqlite.specs.State.{HasCleanDisk, IsUnchanged, Survives};
 ghost use Rattle.sqlite_trees.specs.Tree.{Trees};
 ghost use Rattle.vault_base.specs.declared.refusal.Table.{Table};
 ghost use Rattle.vault_audit_model.specs.Tables.{no_schema};
-ghost use Rattle.vault_store_create.specs.Create.{AreOpening};
+ghost use Rattle.vault_audit.specs.Whole.{IsTold};
+ghost use Rattle.vault_store_create.specs.Create.{AreOpening, IsFault};
 ghost use Rattle.vault_core_model.specs.Vault.{Vault, opening};
 ghost use Rattle.vault_core_model.specs.Allowed.{Allows};
 ghost use Rattle.vault_core_model.specs.Change.{changed};
@@ -109,6 +110,7 @@ impl<S: Alter> SqlKeeper<S> {
         ensures same { IfOk result (λ k. HasCleanDisk (state S.Store k.conn) → IsUnchanged (state S.Store conn) (state S.Store k.conn)) }
         ensures crash { IfOk result (λ k. Survives (state S.Store conn) (state S.Store k.conn) (λ _. ⊥)) }
         ensures counted { IfOk result (λ k. k.faults ≡ 0) }
+        ensures told { IfErr result (λ e. IsTold e.0) }
         ensures damaged { IfErr result (λ e. HasCleanDisk (state S.Store e.1) → (t : Table) → e.0 ≡ Refusal.Damaged t → (v : Vault) → ¬ AreSound (state S.Store conn).now v) }
         ensures harmless { IfErr result (λ e. Survives (state S.Store conn) (state S.Store e.1) (λ _. ⊥)) }
     {
@@ -136,6 +138,8 @@ impl<S: Alter> SqlKeeper<S> {
         ensures alone { IfOk result (λ k. HasCleanDisk (state S.Store k.conn) → (db : Trees) → (state S.Store k.conn).may_leave db → AreOpening db) }
         ensures counted { IfOk result (λ k. k.faults ≡ 0) }
         ensures taken { (state S.Store conn).now.schema ≢ no_schema → IfErr result (λ e. e.0 ≡ Refusal.NameTaken) }
+        ensures free { IfErr result (λ e. e.0 ≡ Refusal.NameTaken → (state S.Store conn).now.schema ≢ no_schema) }
+        ensures faults { IfErr result (λ e. e.0 ≢ Refusal.NameTaken → IsFault e.0) }
         ensures crash { IfOk result (λ k. Survives (state S.Store conn) (state S.Store k.conn) AreOpening) }
         ensures harmless { IfErr result (λ e. Survives (state S.Store conn) (state S.Store e.1) AreOpening) }
     {

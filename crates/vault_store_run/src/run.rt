@@ -5,6 +5,7 @@ ghost use Rattle.sqlite.specs.State.{HasCleanDisk, Survives};
 ghost use Rattle.vault_base.specs.declared.refusal.Table.{Table};
 ghost use Rattle.vault_core_model.specs.Step.{Run};
 ghost use Rattle.vault_core_model.specs.Vault.{Vault};
+ghost use Rattle.vault_audit.specs.Whole.{IsTold};
 ghost use Rattle.vault_audit_model.specs.Spells.{AreSound};
 ghost use Rattle.vault_store.specs.Kept.{StandsFor};
 
@@ -29,11 +30,14 @@ pub fn run_in_tables<S: Alter>(
     // The replies are those of the machine from the vault that the tables spelled, and while the connection is open they spell the vault that it comes to.
     ensures run { IfOk result (λ done. HasCleanDisk (state S.Store done.1) → (v : Vault) → AreSound (state S.Store conn).now v →
         ∥ ((w : Vault) × Run v commands.now done.0.items w × StandsFor (state S.Store done.1) w) ∥₁) }
+    // Commands are carried out over sound tables alone.
+    ensures sound { IfOk result (λ done. HasCleanDisk (state S.Store done.1) → (v : Vault) × AreSound (state S.Store conn).now v) }
+    ensures told { IfErr result (λ e. IsTold e.0) }
     // What is told as damaged spells no vault.
     ensures damaged { IfErr result (λ e. HasCleanDisk (state S.Store e.1) → (t : Table) → e.0 ≡ Refusal.Damaged t → (v : Vault) → ¬ AreSound (state S.Store conn).now v) }
-    // Where it is refused, a crash leaves nothing but what it could leave before, or the tables spell the vault that they spelled.
-    ensures refused { IfErr result (λ e. HasCleanDisk (state S.Store e.1) → (v : Vault) → AreSound (state S.Store conn).now v →
-        ∥ Survives (state S.Store conn) (state S.Store e.1) (λ _. ⊥) ⊎ StandsFor (state S.Store e.1) v ∥₁) }
+    // Where it is refused, a crash leaves nothing but what it could leave before, or the tables spelled a vault and spell it still.
+    ensures refused { IfErr result (λ e. HasCleanDisk (state S.Store e.1) →
+        ∥ Survives (state S.Store conn) (state S.Store e.1) (λ _. ⊥) ⊎ ((v : Vault) × AreSound (state S.Store conn).now v × StandsFor (state S.Store e.1) v) ∥₁) }
 {
     let mut keeper = match SqlKeeper::open(alloc, conn) {
         Ok(keeper) => keeper,
