@@ -40,6 +40,7 @@ impl ListFolder {
     pub fn new(alloc: Global, left: Option<u64>) -> ListFolder
         ensures files { result.files.items ≡ [] }
         ensures left { result.left ≡ left }
+        ensures failures { result.failures ≡ 0 }
     {
         ListFolder {
             alloc,
@@ -53,6 +54,8 @@ impl ListFolder {
     pub fn push(&mut self, file: File) -> Result<(), AllocError>
         ensures ok { OnOk result (self.new.files.items ≡ self.old.files.items ++ file ∷ []) }
         ensures err { OnErr result (self.new.files.items ≡ self.old.files.items) }
+        ensures left { self.new.left ≡ self.old.left }
+        ensures failures { self.new.failures ≡ self.old.failures }
     {
         self.files.push(file)?;
         Ok(())
