@@ -1,5 +1,5 @@
 //! Both passes, and what they tell.
-ghost use Rattle.std.specs.Prelude.{◌≡◌, IfOk, OnOk, IfErr};
+ghost use Rattle.std.specs.Prelude.{◌≡◌, ◌≢◌, IfOk, OnOk, IfErr};
 ghost use Rattle.sqlite.specs.State.{HasCleanDisk, IsUnchanged, Survives};
 ghost use Rattle.sqlite.specs.Held.{state};
 ghost use Rattle.vault_base.specs.declared.refusal.Table.{Table};
@@ -8,6 +8,7 @@ ghost use Rattle.vault_audit_model.specs.Spells.{AreSound};
 ghost use Rattle.vault_audit_model.specs.Tables.{vault_schema};
 ghost use Rattle.vault_audit_model.specs.Faults.{refusal_of};
 ghost use Rattle.vault_audit.specs.Whole.{IsAudited, IsJudged, IsTold};
+ghost use Rattle.vault_audit_walk.specs.Health.{IsHealthy, IsMemory};
 
 use crate::first_pass::look_at_rows;
 use crate::second_pass::look_again;
@@ -33,6 +34,7 @@ fn find_damage<S: Alter>(alloc: Global, conn: &mut Connection<S>) -> Result<Opti
     requires { HasCleanDisk (state S.Store conn.old) → (state S.Store conn.old).now.schema ≡ vault_schema }
     ensures told { HasCleanDisk (state S.Store conn.new) → IfOk result (IsAudited (state S.Store conn.new).now) }
     ensures same { HasCleanDisk (state S.Store conn.new) → OnOk result (IsUnchanged (state S.Store conn.old) (state S.Store conn.new)) }
+    ensures err { IsHealthy (state S.Store conn.new) → IfErr result IsMemory }
     ensures crash { Survives (state S.Store conn.old) (state S.Store conn.new) (λ _. ⊥) }
 {
     let Some(meta) = check_meta(conn)? else {
@@ -53,13 +55,15 @@ fn find_damage<S: Alter>(alloc: Global, conn: &mut Connection<S>) -> Result<Opti
 ///
 /// `Damaged` with the first table that isn't, in their order: first each is looked at by itself, for its
 /// columns and for the values of its rows, and then beside the others. `Memory` where the store wanted
-/// memory. `Device` where it refused for another cause.
+/// memory. `Device` where it refused for another cause, as where its disk failed; a store that works never does.
 pub fn audit<S: Alter>(alloc: Global, conn: &mut Connection<S>) -> Result<(), Refusal>
     // There is a vault that the tables are those of,
     ensures sound { HasCleanDisk (state S.Store conn.new) → OnOk result ((v : Vault) × AreSound (state S.Store conn.new).now v) }
     // or they are those of none.
     ensures damaged { HasCleanDisk (state S.Store conn.new) → IfErr result (λ r. (t : Table) → r ≡ Refusal.Damaged t → (v : Vault) → ¬ AreSound (state S.Store conn.new).now v) }
     ensures faults { IfErr result IsTold }
+    // A store that works is never told as one that failed.
+    ensures healthy { IsHealthy (state S.Store conn.new) → IfErr result (λ r. r ≢ Refusal.Device) }
     ensures same { HasCleanDisk (state S.Store conn.new) → OnOk result (IsUnchanged (state S.Store conn.old) (state S.Store conn.new)) }
     ensures kept { HasCleanDisk (state S.Store conn.new) → IsJudged result → (state S.Store conn.new).now ≡ (state S.Store conn.old).now }
     ensures crash { Survives (state S.Store conn.old) (state S.Store conn.new) (λ _. ⊥) }

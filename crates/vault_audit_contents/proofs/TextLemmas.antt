@@ -1,5 +1,5 @@
 -- What the statements on contents read.
-use Rattle.std.proofs.Common.{◌≡◌, List, ℕ, [], ◌∷◌, codes, false, refl}
+use Rattle.std.proofs.Common.{◌≡◌, List, ℕ, [], ◌∷◌, codes, false, refl, arith}
 use Rattle.sqlite_tied.specs.Compute.{everything}
 use Rattle.sqlite_value.specs.Keys.{ascending}
 use Rattle.sqlite_value.specs.declared.keys.Collation.TheVariants.{Binary}
@@ -10,6 +10,7 @@ use Rattle.sqlite_sql.specs.Term.{Term, col}
 use Rattle.vault_audit_model.specs.Tables.{vault_schema, contents_tree}
 use Rattle.vault_audit_walk.proofs.RecordLemmas.{Scans}
 use Rattle.vault_audit_contents.proofs.JoinLemmas.{beside_of}
+use Rattle.vault_audit_walk.specs.Health.{Asks}
 
 abbrev pub contents_walk : List ℕ
 contents_walk = codes "SELECT c.id, c.bytes, e.size, e.digest, e.removed FROM contents AS c LEFT JOIN entries AS e ON e.id = c.id ORDER BY c.id"
@@ -26,9 +27,17 @@ pub contents_walk_plain : IsPlain (understood vault_schema contents_walk)
 unfolding understood everything
 contents_walk_plain = (refl, refl)
 
+pub contents_walk_asks : Asks vault_schema contents_walk
+unfolding understood everything
+contents_walk_asks = record { is = (omega (arith), refl, (refl, refl, refl, refl)); unlisted = refl }
+
 abbrev pub held_text : List ℕ
 held_text = codes "SELECT marker, removed FROM entries"
 
 pub held_scan : Scans vault_schema held_text 9 (col 1 4 ∷ col 1 10 ∷ []) (codes "marker" ∷ codes "removed" ∷ [])
 unfolding understood everything
 held_scan = record { command = refl; unlisted = refl; plain = (refl, refl) }
+
+pub held_asks : Asks vault_schema held_text
+unfolding understood everything
+held_asks = record { is = (omega (arith), refl, (refl, refl, refl, refl)); unlisted = refl }

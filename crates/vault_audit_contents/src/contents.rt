@@ -8,6 +8,7 @@ ghost use Rattle.vault_audit_model.specs.Limits.{IsContentRow};
 ghost use Rattle.vault_audit_model.specs.Relations.{AreEntries};
 ghost use Rattle.vault_audit_model.specs.Tables.{vault_schema};
 ghost use Rattle.vault_audit_contents.specs.Contents.{held_row, TellOfHeld};
+ghost use Rattle.vault_audit_walk.specs.Health.{IsHealthy, IsMemory};
 
 use sqlite::{Alter, Connection, Error, ErrorCode, Row};
 use vault_audit_model::rows::ContentRow;
@@ -80,7 +81,7 @@ impl Pass for ContentPass {
             return Ok(false);
         }
         let Some(count) = self.count.checked_add(1) else {
-            return Err(Error::SqliteFailure(ErrorCode::OperationInterrupted));
+            return Err(Error::SqliteFailure(ErrorCode::OutOfMemory));
         };
         self.next = u64::from(found.id.number()) + 1;
         self.count = count;
@@ -94,6 +95,7 @@ pub fn check_bytes<S: Alter>(conn: &mut Connection<S>) -> Result<Option<u64>, Er
     requires { HasCleanDisk (state S.Store conn.old) → (state S.Store conn.old).now.schema ≡ vault_schema }
     ensures told { HasCleanDisk (state S.Store conn.new) → IfOk result (λ found. (es : List Entry) → AreEntries (state S.Store conn.new).now es → TellOfHeld (state S.Store conn.new).now es found) }
     ensures same { HasCleanDisk (state S.Store conn.new) → OnOk result (IsUnchanged (state S.Store conn.old) (state S.Store conn.new)) }
+    ensures err { IsHealthy (state S.Store conn.new) → IfErr result IsMemory }
     ensures crash { Survives (state S.Store conn.old) (state S.Store conn.new) (λ _. ⊥) }
 {
     let mut pass = ContentPass { next: 1, count: 0 };

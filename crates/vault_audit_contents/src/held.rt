@@ -1,5 +1,5 @@
 //! The count of the held versions.
-ghost use Rattle.std.specs.Prelude.{◌≡◌, List, IfOk, OnOk};
+ghost use Rattle.std.specs.Prelude.{◌≡◌, List, IfOk, IfErr, OnOk};
 ghost use Rattle.sqlite_value.specs.Order.{column};
 ghost use Rattle.sqlite_sql.specs.Ops.{is_null};
 ghost use Rattle.sqlite.specs.State.{HasCleanDisk, IsUnchanged, Survives};
@@ -9,6 +9,7 @@ ghost use Rattle.vault_audit_model.specs.Relations.{AreEntries};
 ghost use Rattle.vault_audit_model.specs.Tables.{vault_schema};
 ghost use Rattle.vault_audit_contents.specs.Contents.{held_count};
 ghost use Rattle.vault_audit_contents.specs.Passes.{is_zero, is_held_row};
+ghost use Rattle.vault_audit_walk.specs.Health.{IsHealthy, IsMemory};
 
 use sqlite::types::ValueRef;
 use sqlite::{Alter, Connection, Error, ErrorCode, Row};
@@ -61,7 +62,7 @@ impl Pass for HeldCount {
             return Ok(true);
         }
         let Some(count) = self.count.checked_add(1) else {
-            return Err(Error::SqliteFailure(ErrorCode::OperationInterrupted));
+            return Err(Error::SqliteFailure(ErrorCode::OutOfMemory));
         };
         self.count = count;
         Ok(true)
@@ -73,6 +74,7 @@ pub fn count_held<S: Alter>(conn: &mut Connection<S>) -> Result<u64, Error>
     requires { HasCleanDisk (state S.Store conn.old) → (state S.Store conn.old).now.schema ≡ vault_schema }
     ensures told { HasCleanDisk (state S.Store conn.new) → IfOk result (λ count. (es : List Entry) → AreEntries (state S.Store conn.new).now es → count ≡ held_count es) }
     ensures same { HasCleanDisk (state S.Store conn.new) → OnOk result (IsUnchanged (state S.Store conn.old) (state S.Store conn.new)) }
+    ensures err { IsHealthy (state S.Store conn.new) → IfErr result IsMemory }
     ensures crash { Survives (state S.Store conn.old) (state S.Store conn.new) (λ _. ⊥) }
 {
     let mut held = HeldCount { count: 0 };

@@ -1,5 +1,5 @@
 //! The second look at `contents`: it has the bytes of each held version, and no others.
-ghost use Rattle.std.specs.Prelude.{◌≡◌, false, List, IfOk, OnOk};
+ghost use Rattle.std.specs.Prelude.{◌≡◌, false, List, IfOk, IfErr, OnOk};
 ghost use Rattle.sqlite.specs.State.{HasCleanDisk, IsUnchanged, Survives};
 ghost use Rattle.sqlite.specs.Held.{state};
 ghost use Rattle.vault_core_model.specs.declared.records.Entry.{Entry};
@@ -7,6 +7,7 @@ ghost use Rattle.vault_core_model.specs.Vault.{Vault};
 ghost use Rattle.vault_audit_model.specs.Relations.{AreEntries, TellContents};
 ghost use Rattle.vault_audit_model.specs.Spells.{AreSound};
 ghost use Rattle.vault_audit_model.specs.Tables.{vault_schema};
+ghost use Rattle.vault_audit_walk.specs.Health.{IsHealthy, IsMemory};
 
 use crate::contents::check_bytes;
 use crate::held::count_held;
@@ -19,6 +20,7 @@ pub fn check_held_contents<S: Alter>(conn: &mut Connection<S>) -> Result<bool, E
     ensures told { HasCleanDisk (state S.Store conn.new) → IfOk result (λ found. (es : List Entry) → AreEntries (state S.Store conn.new).now es → TellContents (state S.Store conn.new).now es found) }
     ensures damaged { HasCleanDisk (state S.Store conn.new) → IfOk result (λ found. found ≡ false → (v : Vault) → ¬ AreSound (state S.Store conn.new).now v) }
     ensures same { HasCleanDisk (state S.Store conn.new) → OnOk result (IsUnchanged (state S.Store conn.old) (state S.Store conn.new)) }
+    ensures err { IsHealthy (state S.Store conn.new) → IfErr result IsMemory }
     ensures crash { Survives (state S.Store conn.old) (state S.Store conn.new) (λ _. ⊥) }
 {
     let Some(count) = check_bytes(conn)? else {

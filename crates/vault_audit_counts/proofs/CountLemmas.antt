@@ -34,6 +34,7 @@ use Rattle.vault_audit_model.specs.Rows.{entry_row, entry_columns, head_row, hea
 use Rattle.vault_audit_model.specs.Tables.{vault_schema, entries_tree, heads_tree}
 use Rattle.vault_audit_model.specs.Values.{number}
 use Rattle.vault_audit_model.proofs.SameRows.{number_same}
+use Rattle.vault_audit_walk.specs.Health.{Asks}
 use Rattle.vault_audit_walk.specs.Records.{Checked}
 use Rattle.vault_audit_walk.proofs.ScanLemmas.{goes_on_to}
 use Rattle.vault_audit_walk.proofs.RecordLemmas.{between, front}
@@ -74,6 +75,10 @@ counts_is = (refl, refl)
 pub counts_plain : IsPlain (understood vault_schema counts_text)
 unfolding understood everything
 counts_plain = (refl, refl)
+
+pub counts_asks : Asks vault_schema counts_text
+unfolding understood everything
+counts_asks = record { is = (omega (arith), refl, (refl, refl, refl, refl)); unlisted = refl }
 
 -- ---- what it shows
 

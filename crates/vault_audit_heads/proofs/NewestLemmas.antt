@@ -39,6 +39,7 @@ use Rattle.vault_audit_walk.proofs.RecordLemmas.{between, front}
 use Rattle.vault_audit_model.proofs.ValueLemmas.{agrees, three, truth_back}
 use Rattle.vault_audit_beside.proofs.BesideLemmas.{agree_texts, of_records, of_stored, each, any_alike, any_map, passes}
 use Rattle.vault_audit_heads.specs.Newest.{is_head_over, IsHeaded, TellHeaded, ShowsHeaded}
+use Rattle.vault_audit_walk.specs.Health.{Asks}
 
 -- ---- the statement
 
@@ -69,6 +70,10 @@ headed_is = (refl, refl)
 pub headed_plain : IsPlain (understood vault_schema headed_text)
 unfolding understood everything
 headed_plain = (refl, refl)
+
+pub headed_asks : Asks vault_schema headed_text
+unfolding understood everything
+headed_asks = record { is = (omega (arith), refl, (refl, refl, refl, refl)); unlisted = refl }
 
 -- ---- what it shows
 

@@ -1,5 +1,5 @@
 -- What the statement on heads reads.
-use Rattle.std.proofs.Common.{◌≡◌, List, ℕ, [], ◌∷◌, codes, false, refl}
+use Rattle.std.proofs.Common.{◌≡◌, List, ℕ, [], ◌∷◌, codes, false, refl, arith}
 use Rattle.sqlite_tied.specs.Compute.{everything}
 use Rattle.sqlite_value.specs.Keys.{ascending}
 use Rattle.sqlite_value.specs.declared.keys.Key.{Key}
@@ -10,6 +10,7 @@ use Rattle.sqlite.proofs.Callers.{IsPlain, command_of}
 use Rattle.sqlite_sql.specs.Term.{Term, col}
 use Rattle.vault_audit_model.specs.Tables.{vault_schema, heads_tree}
 use Rattle.vault_audit_contents.proofs.JoinLemmas.{beside_of}
+use Rattle.vault_audit_walk.specs.Health.{Asks}
 
 abbrev pub heads_walk : List ℕ
 heads_walk = codes "SELECT h.bucket, h.key, h.newest, h.count, e.bucket, e.key, e.removed FROM heads AS h LEFT JOIN entries AS e ON e.id = h.newest ORDER BY h.bucket, h.key"
@@ -28,3 +29,7 @@ heads_walk_is = (refl, refl)
 pub heads_walk_plain : IsPlain (understood vault_schema heads_walk)
 unfolding understood everything
 heads_walk_plain = (refl, refl)
+
+pub heads_walk_asks : Asks vault_schema heads_walk
+unfolding understood everything
+heads_walk_asks = record { is = (omega (arith), refl, (refl, refl, refl, refl)); unlisted = refl }

@@ -1,5 +1,5 @@
 //! Whether each held entry has a head of its key that names it or a newer one.
-ghost use Rattle.std.specs.Prelude.{◌≡◌, List, map, IsPermutation, IfOk, OnOk};
+ghost use Rattle.std.specs.Prelude.{◌≡◌, List, map, IsPermutation, IfOk, IfErr, OnOk};
 ghost use Rattle.sqlite.specs.State.{HasCleanDisk, IsUnchanged, Survives};
 ghost use Rattle.sqlite.specs.Held.{state};
 ghost use Rattle.vault_core_model.specs.declared.records.Entry.{Entry};
@@ -8,6 +8,7 @@ ghost use Rattle.vault_audit_model.specs.Relations.{AreEntries};
 ghost use Rattle.vault_audit_model.specs.Rows.{head_row, head_columns};
 ghost use Rattle.vault_audit_model.specs.Tables.{vault_schema, heads_tree};
 ghost use Rattle.vault_audit_heads.specs.Newest.{TellHeaded};
+ghost use Rattle.vault_audit_walk.specs.Health.{IsHealthy, IsMemory};
 
 use sqlite::{Alter, Connection, Error, Row};
 use vault_audit_rows::cell::{flag, is_null};
@@ -38,6 +39,7 @@ pub fn check_each_is_headed<S: Alter>(conn: &mut Connection<S>) -> Result<bool, 
     requires { HasCleanDisk (state S.Store conn.old) → (state S.Store conn.old).now.schema ≡ vault_schema }
     ensures told { HasCleanDisk (state S.Store conn.new) → IfOk result (λ found. (es : List Entry) (hs : List HeadRow) → AreEntries (state S.Store conn.new).now es → IsPermutation (map head_row hs) (map head_columns ((state S.Store conn.new).now.trees heads_tree)) → TellHeaded es hs found) }
     ensures same { HasCleanDisk (state S.Store conn.new) → OnOk result (IsUnchanged (state S.Store conn.old) (state S.Store conn.new)) }
+    ensures err { IsHealthy (state S.Store conn.new) → IfErr result IsMemory }
     ensures crash { Survives (state S.Store conn.old) (state S.Store conn.new) (λ _. ⊥) }
 {
     let found = check_rows(

@@ -1,5 +1,5 @@
 -- What the statement on intake reads.
-use Rattle.std.proofs.Common.{◌≡◌, List, ℕ, [], ◌∷◌, codes, false, refl}
+use Rattle.std.proofs.Common.{◌≡◌, List, ℕ, [], ◌∷◌, codes, false, refl, arith}
 use Rattle.sqlite_tied.specs.Compute.{everything}
 use Rattle.sqlite_value.specs.Keys.{ascending}
 use Rattle.sqlite_value.specs.declared.keys.Key.{Key}
@@ -10,6 +10,7 @@ use Rattle.sqlite.proofs.Callers.{IsPlain, command_of}
 use Rattle.sqlite_sql.specs.Term.{Term, col}
 use Rattle.vault_audit_model.specs.Tables.{vault_schema, intake_tree}
 use Rattle.vault_audit_contents.proofs.JoinLemmas.{beside_of}
+use Rattle.vault_audit_walk.specs.Health.{Asks}
 
 abbrev pub notes_walk : List ℕ
 notes_walk = codes "SELECT n.bucket, n.batch, n.line, n.key, n.size, n.digest, n.mode, n.until, n.hold, n.id, e.bucket, e.key, e.size, e.digest FROM intake AS n LEFT JOIN entries AS e ON e.id = n.id ORDER BY n.bucket, n.batch, n.line"
@@ -28,3 +29,7 @@ notes_walk_is = (refl, refl)
 pub notes_walk_plain : IsPlain (understood vault_schema notes_walk)
 unfolding understood everything
 notes_walk_plain = (refl, refl)
+
+pub notes_walk_asks : Asks vault_schema notes_walk
+unfolding understood everything
+notes_walk_asks = record { is = (omega (arith), refl, (refl, refl, refl, refl)); unlisted = refl }

@@ -3,7 +3,7 @@
 //! An error is want of memory, told as `ErrorCode::OutOfMemory`, or a failure of the store.
 #![tactic(auto)]
 
-ghost use Rattle.std.specs.Prelude.{◌≡◌, false, IfOk, OnOk};
+ghost use Rattle.std.specs.Prelude.{◌≡◌, false, IfOk, IfErr, OnOk};
 ghost use Rattle.sqlite.specs.State.{HasCleanDisk, IsUnchanged, Survives};
 ghost use Rattle.sqlite.specs.Held.{state};
 ghost use Rattle.vault_core_model.specs.Vault.{Vault};
@@ -11,6 +11,7 @@ ghost use Rattle.vault_audit_model.specs.Relations.{AreEntries, TellHeads};
 ghost use Rattle.vault_audit_model.specs.Spells.{AreSound};
 ghost use Rattle.vault_audit_model.specs.Tables.{vault_schema};
 ghost use Rattle.vault_audit_keys.specs.Keys.{entries_of};
+ghost use Rattle.vault_audit_walk.specs.Health.{IsHealthy, IsMemory};
 
 use sqlite::{Alter, Connection, Error};
 use vault_audit_counts::check_counts;
@@ -24,6 +25,7 @@ pub fn check_heads<S: Alter>(conn: &mut Connection<S>) -> Result<bool, Error>
     ensures told { HasCleanDisk (state S.Store conn.new) → IfOk result (λ found. (v : Vault) → AreEntries (state S.Store conn.new).now (entries_of v) → TellHeads (state S.Store conn.new).now v found) }
     ensures damaged { HasCleanDisk (state S.Store conn.new) → IfOk result (λ found. found ≡ false → (v : Vault) → ¬ AreSound (state S.Store conn.new).now v) }
     ensures same { HasCleanDisk (state S.Store conn.new) → OnOk result (IsUnchanged (state S.Store conn.old) (state S.Store conn.new)) }
+    ensures err { IsHealthy (state S.Store conn.new) → IfErr result IsMemory }
     ensures crash { Survives (state S.Store conn.old) (state S.Store conn.new) (λ _. ⊥) }
 {
     let by_key = check_heads_by_key(conn)?;

@@ -1,9 +1,10 @@
 //! Callers, and buckets with their rules.
-ghost use Rattle.std.specs.Prelude.{◌≡◌, IfOk, OnOk};
+ghost use Rattle.std.specs.Prelude.{◌≡◌, IfOk, IfErr, OnOk};
 ghost use Rattle.sqlite.specs.State.{HasCleanDisk, IsUnchanged, Survives};
 ghost use Rattle.sqlite.specs.Held.{state};
 ghost use Rattle.vault_audit_model.specs.Tables.{vault_schema};
 ghost use Rattle.vault_audit_looks.specs.Looks.{Told, NamesFound};
+ghost use Rattle.vault_audit_walk.specs.Health.{IsHealthy, IsMemory};
 
 use sqlite::{Alter, Connection, Error};
 use std::alloc::Global;
@@ -20,6 +21,7 @@ pub fn look_at_names<S: Alter>(
     requires { HasCleanDisk (state S.Store conn.old) → (state S.Store conn.old).now.schema ≡ vault_schema }
     ensures told { HasCleanDisk (state S.Store conn.new) → IfOk result (Told (state S.Store conn.new).now (NamesFound (state S.Store conn.new).now)) }
     ensures same { HasCleanDisk (state S.Store conn.new) → OnOk result (IsUnchanged (state S.Store conn.old) (state S.Store conn.new)) }
+    ensures err { IsHealthy (state S.Store conn.new) → IfErr result IsMemory }
     ensures crash { Survives (state S.Store conn.old) (state S.Store conn.new) (λ _. ⊥) }
 {
     let callers = check_callers_by_name(conn)?;

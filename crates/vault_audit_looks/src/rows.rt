@@ -1,9 +1,10 @@
 //! The first look at each table but meta.
-ghost use Rattle.std.specs.Prelude.{◌≡◌, IfOk, OnOk};
+ghost use Rattle.std.specs.Prelude.{◌≡◌, IfOk, IfErr, OnOk};
 ghost use Rattle.sqlite.specs.State.{HasCleanDisk, IsUnchanged, Survives};
 ghost use Rattle.sqlite.specs.Held.{state};
 ghost use Rattle.vault_audit_model.specs.Tables.{vault_schema};
 ghost use Rattle.vault_audit_looks.specs.Looks.{Told};
+ghost use Rattle.vault_audit_walk.specs.Health.{IsHealthy, IsMemory};
 
 use sqlite::{Alter, Connection, Error};
 use vault_audit_tables::table_rows::{
@@ -17,6 +18,7 @@ pub fn look_at_configuration<S: Alter>(conn: &mut Connection<S>) -> Result<Optio
     requires { HasCleanDisk (state S.Store conn.old) → (state S.Store conn.old).now.schema ≡ vault_schema }
     ensures told { HasCleanDisk (state S.Store conn.new) → IfOk result (Told (state S.Store conn.new).now (Unit {0})) }
     ensures same { HasCleanDisk (state S.Store conn.new) → OnOk result (IsUnchanged (state S.Store conn.old) (state S.Store conn.new)) }
+    ensures err { IsHealthy (state S.Store conn.new) → IfErr result IsMemory }
     ensures crash { Survives (state S.Store conn.old) (state S.Store conn.new) (λ _. ⊥) }
 {
     let departments = check_departments(conn)?;
@@ -43,6 +45,7 @@ pub fn look_at_versions_rows<S: Alter>(conn: &mut Connection<S>) -> Result<Optio
     requires { HasCleanDisk (state S.Store conn.old) → (state S.Store conn.old).now.schema ≡ vault_schema }
     ensures told { HasCleanDisk (state S.Store conn.new) → IfOk result (Told (state S.Store conn.new).now (Unit {0})) }
     ensures same { HasCleanDisk (state S.Store conn.new) → OnOk result (IsUnchanged (state S.Store conn.old) (state S.Store conn.new)) }
+    ensures err { IsHealthy (state S.Store conn.new) → IfErr result IsMemory }
     ensures crash { Survives (state S.Store conn.old) (state S.Store conn.new) (λ _. ⊥) }
 {
     let contents = check_contents(conn)?;

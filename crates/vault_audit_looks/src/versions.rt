@@ -1,11 +1,12 @@
 //! Contents, settings and notes of the entries.
-ghost use Rattle.std.specs.Prelude.{◌≡◌, List, IfOk, OnOk};
+ghost use Rattle.std.specs.Prelude.{◌≡◌, List, IfOk, IfErr, OnOk};
 ghost use Rattle.sqlite.specs.State.{HasCleanDisk, IsUnchanged, Survives};
 ghost use Rattle.sqlite.specs.Held.{state};
 ghost use Rattle.vault_core_model.specs.declared.records.Entry.{Entry};
 ghost use Rattle.vault_audit_model.specs.Relations.{AreEntries};
 ghost use Rattle.vault_audit_model.specs.Tables.{vault_schema};
 ghost use Rattle.vault_audit_looks.specs.Looks.{Told, VersionsFound};
+ghost use Rattle.vault_audit_walk.specs.Health.{IsHealthy, IsMemory};
 
 use sqlite::{Alter, Connection, Error};
 use vault_audit_contents::kept::check_held_contents;
@@ -20,6 +21,7 @@ pub fn look_at_versions<S: Alter>(conn: &mut Connection<S>) -> Result<Option<Tab
     ensures told { HasCleanDisk (state S.Store conn.new) → IfOk result (Told (state S.Store conn.new).now
         ((es : List Entry) → AreEntries (state S.Store conn.new).now es → VersionsFound (state S.Store conn.new).now es)) }
     ensures same { HasCleanDisk (state S.Store conn.new) → OnOk result (IsUnchanged (state S.Store conn.old) (state S.Store conn.new)) }
+    ensures err { IsHealthy (state S.Store conn.new) → IfErr result IsMemory }
     ensures crash { Survives (state S.Store conn.old) (state S.Store conn.new) (λ _. ⊥) }
 {
     let contents = check_held_contents(conn)?;

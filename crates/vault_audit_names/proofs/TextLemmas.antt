@@ -1,5 +1,5 @@
 -- What the walks by name read.
-use Rattle.std.proofs.Common.{◌≡◌, List, ℕ, [], ◌∷◌, codes, false, refl}
+use Rattle.std.proofs.Common.{◌≡◌, List, ℕ, [], ◌∷◌, codes, false, refl, arith}
 use Rattle.sqlite_tied.specs.Compute.{everything}
 use Rattle.sqlite.specs.Command.TheVariants.{Select}
 use Rattle.sqlite.specs.Listing.{understood, reads_listing}
@@ -7,6 +7,7 @@ use Rattle.sqlite.proofs.Callers.{IsPlain, command_of}
 use Rattle.sqlite_sql.specs.Term.{col}
 use Rattle.vault_audit_model.specs.Tables.{vault_schema}
 use Rattle.vault_audit_walk.proofs.ScanLemmas.{walk_of}
+use Rattle.vault_audit_walk.specs.Health.{Asks}
 
 abbrev pub callers_walk : List ℕ
 callers_walk = codes "SELECT name, dept, rights, closed FROM callers ORDER BY name"
@@ -20,6 +21,10 @@ pub callers_walk_plain : IsPlain (understood vault_schema callers_walk)
 unfolding understood everything
 callers_walk_plain = (refl, refl)
 
+pub callers_walk_asks : Asks vault_schema callers_walk
+unfolding understood everything
+callers_walk_asks = record { is = (omega (arith), refl, (refl, refl, refl, refl)); unlisted = refl }
+
 abbrev pub departments_walk : List ℕ
 departments_walk = codes "SELECT name, admitted, held, removed, weighted, closed FROM departments ORDER BY name"
 
@@ -31,3 +36,7 @@ departments_walk_is = (refl, refl)
 pub departments_walk_plain : IsPlain (understood vault_schema departments_walk)
 unfolding understood everything
 departments_walk_plain = (refl, refl)
+
+pub departments_walk_asks : Asks vault_schema departments_walk
+unfolding understood everything
+departments_walk_asks = record { is = (omega (arith), refl, (refl, refl, refl, refl)); unlisted = refl }

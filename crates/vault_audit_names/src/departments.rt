@@ -1,5 +1,5 @@
 //! Whether the rows of `departments` are departments, by rising name.
-ghost use Rattle.std.specs.Prelude.{◌≡◌, ◌↔◌, false, IsTrue, IfOk, OnOk};
+ghost use Rattle.std.specs.Prelude.{◌≡◌, ◌↔◌, false, IsTrue, IfOk, IfErr, OnOk};
 ghost use Rattle.sqlite.specs.State.{HasCleanDisk, IsUnchanged, Survives};
 ghost use Rattle.sqlite.specs.Held.{state};
 ghost use Rattle.vault_core_model.specs.Vault.{Vault};
@@ -7,6 +7,7 @@ ghost use Rattle.vault_audit_model.specs.Spells.{AreSound};
 ghost use Rattle.vault_audit_model.specs.Tables.{vault_schema};
 ghost use Rattle.vault_audit_model.specs.Relations.{IsAfter};
 ghost use Rattle.vault_audit_names.specs.Names.{TellDepartments};
+ghost use Rattle.vault_audit_walk.specs.Health.{IsHealthy, IsMemory};
 
 use sqlite::{Alter, Connection, Error, Row};
 use std::marker::Model;
@@ -69,6 +70,7 @@ pub fn check_departments_by_name<S: Alter>(conn: &mut Connection<S>) -> Result<b
     ensures told { HasCleanDisk (state S.Store conn.new) → IfOk result (TellDepartments (state S.Store conn.new).now) }
     ensures damaged { HasCleanDisk (state S.Store conn.new) → IfOk result (λ told. told ≡ false → (v : Vault) → ¬ AreSound (state S.Store conn.new).now v) }
     ensures same { HasCleanDisk (state S.Store conn.new) → OnOk result (IsUnchanged (state S.Store conn.old) (state S.Store conn.new)) }
+    ensures err { IsHealthy (state S.Store conn.new) → IfErr result IsMemory }
     ensures crash { Survives (state S.Store conn.old) (state S.Store conn.new) (λ _. ⊥) }
 {
     let mut pass = DepartmentPass { last: None };

@@ -23,6 +23,7 @@ use Rattle.vault_audit_walk.proofs.ScanLemmas.{shows}
 use Rattle.vault_audit_tables.specs.Meta.{IsMetaOf}
 use Rattle.vault_audit_next.specs.declared.RowCount.{RowCount}
 use Rattle.vault_audit_next.specs.Count.{CountsOne, TellNext}
+use Rattle.vault_audit_walk.specs.Health.{Asks}
 
 abbrev pub ids_text : List ℕ
 ids_text = codes "SELECT id FROM entries"
@@ -30,6 +31,10 @@ ids_text = codes "SELECT id FROM entries"
 pub ids_scan : Scans vault_schema ids_text 9 (col 1 0 ∷ []) (codes "id" ∷ [])
 unfolding understood everything
 ids_scan = record { command = refl; unlisted = refl; plain = (refl, refl) }
+
+pub ids_asks : Asks vault_schema ids_text
+unfolding understood everything
+ids_asks = record { is = (omega (arith), refl, (refl, refl, refl, refl)); unlisted = refl }
 
 abbrev Counting : RowCount → Row → RowCount → Type 0
 Counting p row q = CountsOne p q

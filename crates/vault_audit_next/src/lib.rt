@@ -3,7 +3,7 @@
 //! An error is want of memory, told as `ErrorCode::OutOfMemory`, or a failure of the store.
 #![tactic(auto)]
 
-ghost use Rattle.std.specs.Prelude.{◌≡◌, false, Some, IfOk, OnOk};
+ghost use Rattle.std.specs.Prelude.{◌≡◌, false, Some, IfOk, IfErr, OnOk};
 ghost use Rattle.sqlite.specs.State.{HasCleanDisk, IsUnchanged, Survives};
 ghost use Rattle.sqlite.specs.Held.{state};
 ghost use Rattle.vault_core_model.specs.Vault.{Vault};
@@ -12,6 +12,7 @@ ghost use Rattle.vault_audit_model.specs.Spells.{AreSound};
 ghost use Rattle.vault_audit_model.specs.Tables.{vault_schema};
 ghost use Rattle.vault_audit_tables.specs.Meta.{IsMetaOf};
 ghost use Rattle.vault_audit_next.specs.Count.{TellNext};
+ghost use Rattle.vault_audit_walk.specs.Health.{IsHealthy, IsMemory};
 
 use sqlite::{Alter, Connection, Error, ErrorCode, Row};
 use vault_audit_walk::walk::{Pass, walk};
@@ -32,7 +33,7 @@ impl Pass for RowCount {
 
     fn take(&mut self, _row: &Row) -> Result<bool, Error> {
         let Some(count) = self.count.checked_add(1) else {
-            return Err(Error::SqliteFailure(ErrorCode::OperationInterrupted));
+            return Err(Error::SqliteFailure(ErrorCode::OutOfMemory));
         };
         self.count = count;
         Ok(true)
@@ -46,6 +47,7 @@ pub fn check_next<S: Alter>(conn: &mut Connection<S>, next: u64) -> Result<bool,
     ensures damaged { HasCleanDisk (state S.Store conn.new) → IfOk result (λ hold. hold ≡ false →
         (m : MetaRow) → IsMetaOf (state S.Store conn.new).now (Some m) → m.next ≡ next → (v : Vault) → ¬ AreSound (state S.Store conn.new).now v) }
     ensures same { HasCleanDisk (state S.Store conn.new) → OnOk result (IsUnchanged (state S.Store conn.old) (state S.Store conn.new)) }
+    ensures err { IsHealthy (state S.Store conn.new) → IfErr result IsMemory }
     ensures crash { Survives (state S.Store conn.old) (state S.Store conn.new) (λ _. ⊥) }
 {
     let mut met = RowCount { count: 0 };

@@ -1,9 +1,10 @@
 //! Whether the rules of each bucket stand at the places 1, 2, 3 .. and are a set.
-ghost use Rattle.std.specs.Prelude.{◌≡◌, ◌↔◌, ◌+◌, Some, [], length, IsTrue, IfOk, OnOk};
+ghost use Rattle.std.specs.Prelude.{◌≡◌, ◌↔◌, ◌+◌, Some, [], length, IsTrue, IfOk, IfErr, OnOk};
 ghost use Rattle.sqlite.specs.State.{HasCleanDisk, IsUnchanged, Survives};
 ghost use Rattle.sqlite.specs.Held.{state};
 ghost use Rattle.vault_audit_model.specs.Tables.{vault_schema};
 ghost use Rattle.vault_audit_rules.specs.Runs.{IsWhole, TellRuns};
+ghost use Rattle.vault_audit_walk.specs.Health.{IsHealthy, IsMemory};
 
 use crate::bucket_rows::is_after;
 use sqlite::{Alter, Connection, Error, ErrorCode, Row};
@@ -103,6 +104,7 @@ pub(crate) fn are_runs<S: Alter>(alloc: Global, conn: &mut Connection<S>) -> Res
     requires { HasCleanDisk (state S.Store conn.old) → (state S.Store conn.old).now.schema ≡ vault_schema }
     ensures told { HasCleanDisk (state S.Store conn.new) → IfOk result (TellRuns (state S.Store conn.new).now) }
     ensures same { HasCleanDisk (state S.Store conn.new) → OnOk result (IsUnchanged (state S.Store conn.old) (state S.Store conn.new)) }
+    ensures err { IsHealthy (state S.Store conn.new) → IfErr result IsMemory }
     ensures crash { Survives (state S.Store conn.old) (state S.Store conn.new) (λ _. ⊥) }
 {
     let mut pass = RulePass {

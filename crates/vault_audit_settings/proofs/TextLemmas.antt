@@ -1,5 +1,5 @@
 -- What the second look at settings reads.
-use Rattle.std.proofs.Common.{◌≡◌, List, ℕ, [], ◌∷◌, codes, pos, false, refl}
+use Rattle.std.proofs.Common.{◌≡◌, List, ℕ, [], ◌∷◌, codes, pos, false, refl, arith}
 use Rattle.sqlite_tied.specs.Compute.{everything}
 use Rattle.sqlite.specs.Command.TheVariants.{Select}
 use Rattle.sqlite.specs.Listing.{understood, reads_listing}
@@ -9,6 +9,7 @@ use Rattle.sqlite_value.specs.declared.value.Value.TheVariants.{Int}
 use Rattle.vault_audit_model.specs.Tables.{vault_schema, settings_tree}
 use Rattle.vault_audit_walk.proofs.PairLemmas.{pair_walk_of}
 use Rattle.vault_audit_beside.proofs.BesideLemmas.{LooksBeside}
+use Rattle.vault_audit_walk.specs.Health.{Asks}
 
 abbrev pub placed_walk : List ℕ
 placed_walk = codes "SELECT id, n, moment, caller, mode, until, hold, bypass FROM settings ORDER BY id, n"
@@ -22,6 +23,10 @@ pub placed_walk_plain : IsPlain (understood vault_schema placed_walk)
 unfolding understood everything
 placed_walk_plain = (refl, refl)
 
+pub placed_walk_asks : Asks vault_schema placed_walk
+unfolding understood everything
+placed_walk_asks = record { is = (omega (arith), refl, (refl, refl, refl, refl)); unlisted = refl }
+
 abbrev pub settings_beside : List ℕ
 settings_beside = codes "SELECT e.marker, s.id FROM entries AS e LEFT JOIN settings AS s ON s.id = e.id"
 
@@ -29,9 +34,17 @@ pub settings_beside_is : LooksBeside vault_schema settings_beside 9 settings_tre
 unfolding understood everything
 settings_beside_is = record { command = refl; unlisted = refl; plain = (refl, refl) }
 
+pub settings_beside_asks : Asks vault_schema settings_beside
+unfolding understood everything
+settings_beside_asks = record { is = (omega (arith), refl, (refl, refl, refl, refl)); unlisted = refl }
+
 abbrev pub entries_beside : List ℕ
 entries_beside = codes "SELECT 0, e.id FROM settings AS s LEFT JOIN entries AS e ON e.id = s.id"
 
 pub entries_beside_is : LooksBeside vault_schema entries_beside settings_tree 9 (lit (Int (pos 0))) 0 1 (codes "0" ∷ codes "id" ∷ [])
 unfolding understood everything
 entries_beside_is = record { command = refl; unlisted = refl; plain = (refl, refl) }
+
+pub entries_beside_asks : Asks vault_schema entries_beside
+unfolding understood everything
+entries_beside_asks = record { is = (omega (arith), refl, (refl, refl, refl, refl)); unlisted = refl }

@@ -1,5 +1,5 @@
 //! A department's running row beside the sums over its versions.
-ghost use Rattle.std.specs.Prelude.{◌≡◌, ℕ, List, map, IfOk, OnOk};
+ghost use Rattle.std.specs.Prelude.{◌≡◌, ℕ, List, map, IfOk, IfErr, OnOk};
 ghost use Rattle.std.specs.List.{AllByRecursion};
 ghost use Rattle.sqlite.specs.State.{HasCleanDisk, IsUnchanged, Survives};
 ghost use Rattle.sqlite.specs.Held.{state};
@@ -8,6 +8,7 @@ ghost use Rattle.vault_core_model.specs.declared.records.History.{History};
 ghost use Rattle.vault_audit_model.specs.Relations.{AreBuckets, AreEntries, IsPast};
 ghost use Rattle.vault_audit_model.specs.Tables.{vault_schema};
 ghost use Rattle.vault_audit_sums.specs.Department.{TellDepartment};
+ghost use Rattle.vault_audit_walk.specs.Health.{IsHealthy, IsMemory};
 
 use crate::owned::buckets_of;
 use crate::versions::sum_versions;
@@ -27,6 +28,7 @@ pub fn check_department<S: Alter>(
         AreBuckets (state S.Store conn.new).now bs → AreEntries (state S.Store conn.new).now (map (λ (h : History). h.entry) hs) →
         AllByRecursion (IsPast last) (map (λ (h : History). h.entry) hs) → TellDepartment bs hs department.now holds) }
     ensures same { HasCleanDisk (state S.Store conn.new) → OnOk result (IsUnchanged (state S.Store conn.old) (state S.Store conn.new)) }
+    ensures err { IsHealthy (state S.Store conn.new) → IfErr result IsMemory }
     ensures crash { Survives (state S.Store conn.old) (state S.Store conn.new) (λ _. ⊥) }
 {
     let Some(names) = buckets_of(alloc, conn, department.name.clone()?)? else {

@@ -1,11 +1,12 @@
 //! The buckets of a department.
-ghost use Rattle.std.specs.Prelude.{◌≡◌, ℕ, List, IfOk, IsSomeAnd, OnOk};
+ghost use Rattle.std.specs.Prelude.{◌≡◌, ℕ, List, IfOk, IfErr, IsSomeAnd, OnOk};
 ghost use Rattle.sqlite.specs.State.{HasCleanDisk, IsUnchanged, Survives};
 ghost use Rattle.sqlite.specs.Held.{state};
 ghost use Rattle.vault_core_model.specs.declared.records.Bucket.{Bucket};
 ghost use Rattle.vault_audit_model.specs.Relations.{AreBuckets};
 ghost use Rattle.vault_audit_model.specs.Tables.{vault_schema};
 ghost use Rattle.vault_audit_sums.specs.Owned.{AreOwnedBy};
+ghost use Rattle.vault_audit_walk.specs.Health.{IsHealthy, IsMemory};
 
 use sqlite::{Alter, Connection, Error, Row};
 use std::alloc::Global;
@@ -54,6 +55,7 @@ pub fn buckets_of<S: Alter>(
     requires { HasCleanDisk (state S.Store conn.old) → (state S.Store conn.old).now.schema ≡ vault_schema }
     ensures told { HasCleanDisk (state S.Store conn.new) → IfOk result (λ found. (bs : List Bucket) → AreBuckets (state S.Store conn.new).now bs → IsSomeAnd found (λ names. AreOwnedBy bs dept names.items)) }
     ensures same { HasCleanDisk (state S.Store conn.new) → OnOk result (IsUnchanged (state S.Store conn.old) (state S.Store conn.new)) }
+    ensures err { IsHealthy (state S.Store conn.new) → IfErr result IsMemory }
     ensures crash { Survives (state S.Store conn.old) (state S.Store conn.new) (λ _. ⊥) }
 {
     let mut pass = OwnedPass {

@@ -1,5 +1,5 @@
 //! The second look at `departments`: each has the five sums over its versions.
-ghost use Rattle.std.specs.Prelude.{◌≡◌, false, ℕ, List, map, IsTrue, IfOk, OnOk};
+ghost use Rattle.std.specs.Prelude.{◌≡◌, false, ℕ, List, map, IsTrue, IfOk, IfErr, OnOk};
 ghost use Rattle.std.specs.List.{AllByRecursion};
 ghost use Rattle.sqlite.specs.State.{HasCleanDisk, IsUnchanged, Survives};
 ghost use Rattle.sqlite.specs.Held.{state};
@@ -10,6 +10,7 @@ ghost use Rattle.vault_core_model.specs.Vault.{Vault};
 ghost use Rattle.vault_audit_model.specs.Spells.{AreSound};
 ghost use Rattle.vault_audit_model.specs.Tables.{vault_schema};
 ghost use Rattle.vault_audit_sums.specs.Department.{TellEach};
+ghost use Rattle.vault_audit_walk.specs.Health.{IsHealthy, IsMemory};
 
 use crate::department::check_department;
 use crate::listed::list_departments;
@@ -28,6 +29,7 @@ fn check_each<S: Alter>(
         AreBuckets (state S.Store conn.new).now bs → AreEntries (state S.Store conn.new).now (map (λ (h : History). h.entry) hs) →
         AllByRecursion (IsPast last) (map (λ (h : History). h.entry) hs) → TellEach bs hs departments.now hold) }
     ensures same { HasCleanDisk (state S.Store conn.new) → OnOk result (IsUnchanged (state S.Store conn.old) (state S.Store conn.new)) }
+    ensures err { IsHealthy (state S.Store conn.new) → IfErr result IsMemory }
     ensures crash { Survives (state S.Store conn.old) (state S.Store conn.new) (λ _. ⊥) }
 {
     for department in departments {
@@ -48,6 +50,7 @@ pub fn check_sums<S: Alter>(alloc: Global, conn: &mut Connection<S>) -> Result<b
         AllByRecursion (IsPast last) (map (λ (h : History). h.entry) hs) → TellSums (state S.Store conn.new).now bs hs hold) }
     ensures damaged { HasCleanDisk (state S.Store conn.new) → IfOk result (λ hold. hold ≡ false → (v : Vault) → ¬ AreSound (state S.Store conn.new).now v) }
     ensures same { HasCleanDisk (state S.Store conn.new) → OnOk result (IsUnchanged (state S.Store conn.old) (state S.Store conn.new)) }
+    ensures err { IsHealthy (state S.Store conn.new) → IfErr result IsMemory }
     ensures crash { Survives (state S.Store conn.old) (state S.Store conn.new) (λ _. ⊥) }
 {
     let Some(departments) = list_departments(alloc, conn)? else {

@@ -1,5 +1,5 @@
 //! The sums over the versions in some buckets.
-ghost use Rattle.std.specs.Prelude.{◌≡◌, ℕ, List, IfOk, OnOk};
+ghost use Rattle.std.specs.Prelude.{◌≡◌, ℕ, List, IfOk, IfErr, OnOk};
 ghost use Rattle.std.specs.List.{list_any};
 ghost use Rattle.std.specs.Str.{bytes_eq};
 ghost use Rattle.std.specs.List.{AllByRecursion};
@@ -9,6 +9,7 @@ ghost use Rattle.vault_core_model.specs.declared.records.Entry.{Entry};
 ghost use Rattle.vault_audit_model.specs.Relations.{AreEntries, IsPast};
 ghost use Rattle.vault_audit_model.specs.Tables.{vault_schema};
 ghost use Rattle.vault_audit_sums.specs.Versions.{counts, IsSumWith, IsSumOf};
+ghost use Rattle.vault_audit_walk.specs.Health.{IsHealthy, IsMemory};
 
 use sqlite::{Alter, Connection, Error, Row};
 use vault_audit_rows::records::read_entry;
@@ -87,6 +88,7 @@ pub fn sum_versions<S: Alter>(
     requires { HasCleanDisk (state S.Store conn.old) → (state S.Store conn.old).now.schema ≡ vault_schema }
     ensures told { HasCleanDisk (state S.Store conn.new) → IfOk result (λ found. (es : List Entry) (last : ℕ) → AreEntries (state S.Store conn.new).now es → AllByRecursion (IsPast last) es → IsSumOf names.items es found) }
     ensures same { HasCleanDisk (state S.Store conn.new) → OnOk result (IsUnchanged (state S.Store conn.old) (state S.Store conn.new)) }
+    ensures err { IsHealthy (state S.Store conn.new) → IfErr result IsMemory }
     ensures crash { Survives (state S.Store conn.old) (state S.Store conn.new) (λ _. ⊥) }
 {
     let mut pass = SumPass {

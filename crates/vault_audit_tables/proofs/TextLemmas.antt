@@ -1,5 +1,5 @@
 -- What the first look at each table reads.
-use Rattle.std.proofs.Common.{◌≡◌, List, ℕ, [], ◌∷◌, codes, false, refl}
+use Rattle.std.proofs.Common.{◌≡◌, List, ℕ, [], ◌∷◌, codes, false, refl, arith}
 use Rattle.sqlite_tied.specs.Compute.{everything}
 use Rattle.sqlite.specs.Command.TheVariants.{Select}
 use Rattle.sqlite.specs.Listing.{understood, reads_listing}
@@ -8,6 +8,7 @@ use Rattle.sqlite_sql.specs.Term.{col}
 use Rattle.vault_audit_model.specs.Tables.{vault_schema, contents_tree, heads_tree, intake_tree, settings_tree}
 use Rattle.vault_audit_walk.proofs.RecordLemmas.{Scans}
 use Rattle.vault_audit_walk.proofs.ScanLemmas.{walk_of}
+use Rattle.vault_audit_walk.specs.Health.{Asks}
 
 abbrev pub departments_text : List ℕ
 departments_text = codes "SELECT name, admitted, held, removed, weighted, closed FROM departments"
@@ -16,12 +17,20 @@ pub departments_scan : Scans vault_schema departments_text 1 (col 1 1 ∷ col 1 
 unfolding understood everything
 departments_scan = record { command = refl; unlisted = refl; plain = (refl, refl) }
 
+pub departments_asks : Asks vault_schema departments_text
+unfolding understood everything
+departments_asks = record { is = (omega (arith), refl, (refl, refl, refl, refl)); unlisted = refl }
+
 abbrev pub callers_text : List ℕ
 callers_text = codes "SELECT name, dept, rights, closed FROM callers"
 
 pub callers_scan : Scans vault_schema callers_text 3 (col 1 1 ∷ col 1 2 ∷ col 1 3 ∷ col 1 4 ∷ []) (codes "name" ∷ codes "dept" ∷ codes "rights" ∷ codes "closed" ∷ [])
 unfolding understood everything
 callers_scan = record { command = refl; unlisted = refl; plain = (refl, refl) }
+
+pub callers_asks : Asks vault_schema callers_text
+unfolding understood everything
+callers_asks = record { is = (omega (arith), refl, (refl, refl, refl, refl)); unlisted = refl }
 
 abbrev pub buckets_text : List ℕ
 buckets_text = codes "SELECT name, dept, mode, days, years FROM buckets"
@@ -30,12 +39,20 @@ pub buckets_scan : Scans vault_schema buckets_text 5 (col 1 1 ∷ col 1 2 ∷ co
 unfolding understood everything
 buckets_scan = record { command = refl; unlisted = refl; plain = (refl, refl) }
 
+pub buckets_asks : Asks vault_schema buckets_text
+unfolding understood everything
+buckets_asks = record { is = (omega (arith), refl, (refl, refl, refl, refl)); unlisted = refl }
+
 abbrev pub rules_text : List ℕ
 rules_text = codes "SELECT bucket, n, id, prefix, enabled, days, lone, nc_days, nc_keep FROM rules"
 
 pub rules_scan : Scans vault_schema rules_text 7 (col 1 1 ∷ col 1 2 ∷ col 1 3 ∷ col 1 4 ∷ col 1 5 ∷ col 1 6 ∷ col 1 7 ∷ col 1 8 ∷ col 1 9 ∷ []) (codes "bucket" ∷ codes "n" ∷ codes "id" ∷ codes "prefix" ∷ codes "enabled" ∷ codes "days" ∷ codes "lone" ∷ codes "nc_days" ∷ codes "nc_keep" ∷ [])
 unfolding understood everything
 rules_scan = record { command = refl; unlisted = refl; plain = (refl, refl) }
+
+pub rules_asks : Asks vault_schema rules_text
+unfolding understood everything
+rules_asks = record { is = (omega (arith), refl, (refl, refl, refl, refl)); unlisted = refl }
 
 abbrev pub contents_text : List ℕ
 contents_text = codes "SELECT id, bytes FROM contents"
@@ -44,12 +61,20 @@ pub contents_scan : Scans vault_schema contents_text contents_tree (col 1 0 ∷ 
 unfolding understood everything
 contents_scan = record { command = refl; unlisted = refl; plain = (refl, refl) }
 
+pub contents_asks : Asks vault_schema contents_text
+unfolding understood everything
+contents_asks = record { is = (omega (arith), refl, (refl, refl, refl, refl)); unlisted = refl }
+
 abbrev pub settings_text : List ℕ
 settings_text = codes "SELECT id, n, moment, caller, mode, until, hold, bypass FROM settings"
 
 pub settings_scan : Scans vault_schema settings_text settings_tree (col 1 1 ∷ col 1 2 ∷ col 1 3 ∷ col 1 4 ∷ col 1 5 ∷ col 1 6 ∷ col 1 7 ∷ col 1 8 ∷ []) (codes "id" ∷ codes "n" ∷ codes "moment" ∷ codes "caller" ∷ codes "mode" ∷ codes "until" ∷ codes "hold" ∷ codes "bypass" ∷ [])
 unfolding understood everything
 settings_scan = record { command = refl; unlisted = refl; plain = (refl, refl) }
+
+pub settings_asks : Asks vault_schema settings_text
+unfolding understood everything
+settings_asks = record { is = (omega (arith), refl, (refl, refl, refl, refl)); unlisted = refl }
 
 abbrev pub intake_text : List ℕ
 intake_text = codes "SELECT bucket, batch, line, key, size, digest, mode, until, hold, id FROM intake"
@@ -58,6 +83,10 @@ pub intake_scan : Scans vault_schema intake_text intake_tree (col 1 1 ∷ col 1 
 unfolding understood everything
 intake_scan = record { command = refl; unlisted = refl; plain = (refl, refl) }
 
+pub intake_asks : Asks vault_schema intake_text
+unfolding understood everything
+intake_asks = record { is = (omega (arith), refl, (refl, refl, refl, refl)); unlisted = refl }
+
 abbrev pub heads_text : List ℕ
 heads_text = codes "SELECT bucket, key, newest, count FROM heads"
 
@@ -65,12 +94,20 @@ pub heads_scan : Scans vault_schema heads_text heads_tree (col 1 1 ∷ col 1 2 �
 unfolding understood everything
 heads_scan = record { command = refl; unlisted = refl; plain = (refl, refl) }
 
+pub heads_asks : Asks vault_schema heads_text
+unfolding understood everything
+heads_asks = record { is = (omega (arith), refl, (refl, refl, refl, refl)); unlisted = refl }
+
 abbrev pub entries_text : List ℕ
 entries_text = codes "SELECT id, bucket, key, marker, size, digest, admitted, by_rule, admitted_by, removed, cause, cause_by FROM entries"
 
 pub entries_scan : Scans vault_schema entries_text 9 (col 1 0 ∷ col 1 2 ∷ col 1 3 ∷ col 1 4 ∷ col 1 5 ∷ col 1 6 ∷ col 1 7 ∷ col 1 8 ∷ col 1 9 ∷ col 1 10 ∷ col 1 11 ∷ col 1 12 ∷ []) (codes "id" ∷ codes "bucket" ∷ codes "key" ∷ codes "marker" ∷ codes "size" ∷ codes "digest" ∷ codes "admitted" ∷ codes "by_rule" ∷ codes "admitted_by" ∷ codes "removed" ∷ codes "cause" ∷ codes "cause_by" ∷ [])
 unfolding understood everything
 entries_scan = record { command = refl; unlisted = refl; plain = (refl, refl) }
+
+pub entries_asks : Asks vault_schema entries_text
+unfolding understood everything
+entries_asks = record { is = (omega (arith), refl, (refl, refl, refl, refl)); unlisted = refl }
 
 -- ---- walks in the order of the first column
 
@@ -86,6 +123,10 @@ pub meta_walk_plain : IsPlain (understood vault_schema meta_walk)
 unfolding understood everything
 meta_walk_plain = (refl, refl)
 
+pub meta_walk_asks : Asks vault_schema meta_walk
+unfolding understood everything
+meta_walk_asks = record { is = (omega (arith), refl, (refl, refl, refl, refl)); unlisted = refl }
+
 abbrev pub numbers_walk : List ℕ
 numbers_walk = codes "SELECT id, bucket, key, marker, size, digest, admitted, by_rule, admitted_by, removed, cause, cause_by FROM entries ORDER BY id"
 
@@ -97,3 +138,7 @@ numbers_walk_is = (refl, refl)
 pub numbers_walk_plain : IsPlain (understood vault_schema numbers_walk)
 unfolding understood everything
 numbers_walk_plain = (refl, refl)
+
+pub numbers_walk_asks : Asks vault_schema numbers_walk
+unfolding understood everything
+numbers_walk_asks = record { is = (omega (arith), refl, (refl, refl, refl, refl)); unlisted = refl }

@@ -1,5 +1,5 @@
 //! The first look at `entries`: its rows tell entries, none after the last moment.
-ghost use Rattle.std.specs.Prelude.{◌≡◌, ◌↔◌, false, map, IsTrue, IfOk, OnOk};
+ghost use Rattle.std.specs.Prelude.{◌≡◌, ◌↔◌, false, map, IsTrue, IfOk, IfErr, OnOk};
 ghost use Rattle.sqlite.specs.State.{HasCleanDisk, IsUnchanged, Survives};
 ghost use Rattle.sqlite.specs.Held.{state};
 ghost use Rattle.vault_audit_walk.specs.Records.{AreRecords};
@@ -10,6 +10,7 @@ ghost use Rattle.vault_core_model.specs.Vault.{Vault};
 ghost use Rattle.vault_audit_model.specs.Spells.{AreSound};
 ghost use Rattle.vault_audit_model.specs.Relations.{IsPast};
 ghost use Rattle.vault_audit_tables.specs.Entries.{IsEntryBy};
+ghost use Rattle.vault_audit_walk.specs.Health.{IsHealthy, IsMemory};
 
 use crate::row_check::refused;
 use sqlite::{Alter, Connection, Error, Row};
@@ -65,6 +66,7 @@ pub fn check_entries<S: Alter>(conn: &mut Connection<S>, last: Moment) -> Result
     ensures told { HasCleanDisk (state S.Store conn.new) → IfOk result (AreRecords entry_row (IsEntryBy last) (map entry_columns ((state S.Store conn.new).now.trees entries_tree))) }
     ensures damaged { HasCleanDisk (state S.Store conn.new) → IfOk result (λ told. told ≡ false → (v : Vault) → v.last ≡ last → ¬ AreSound (state S.Store conn.new).now v) }
     ensures same { HasCleanDisk (state S.Store conn.new) → OnOk result (IsUnchanged (state S.Store conn.old) (state S.Store conn.new)) }
+    ensures err { IsHealthy (state S.Store conn.new) → IfErr result IsMemory }
     ensures crash { Survives (state S.Store conn.old) (state S.Store conn.new) (λ _. ⊥) }
 {
     check_rows(

@@ -1,5 +1,5 @@
 //! The second look at `entries`: their ids are 1, 2, 3 .., and no admission goes back.
-ghost use Rattle.std.specs.Prelude.{◌≡◌, ◌↔◌, None, IsTrue, IfOk, IfSome, OnOk};
+ghost use Rattle.std.specs.Prelude.{◌≡◌, ◌↔◌, None, IsTrue, IfOk, IfErr, IfSome, OnOk};
 ghost use Rattle.sqlite.specs.State.{HasCleanDisk, IsUnchanged, Survives};
 ghost use Rattle.sqlite.specs.Held.{state};
 ghost use Rattle.vault_core_model.specs.Vault.{Vault, next_id};
@@ -7,6 +7,7 @@ ghost use Rattle.vault_audit_model.specs.Spells.{AreSound};
 ghost use Rattle.vault_audit_model.specs.Tables.{vault_schema};
 ghost use Rattle.vault_audit_model.specs.Relations.{GoesOn};
 ghost use Rattle.vault_audit_tables.specs.Numbers.{AreEntriesUpTo};
+ghost use Rattle.vault_audit_walk.specs.Health.{IsHealthy, IsMemory};
 
 use crate::row_check::refused;
 use sqlite::{Alter, Connection, Error, Row};
@@ -66,6 +67,7 @@ pub fn check_numbers<S: Alter>(conn: &mut Connection<S>) -> Result<Option<u64>, 
     ensures damaged { HasCleanDisk (state S.Store conn.new) → IfOk result (λ found. found ≡ None → (v : Vault) → ¬ AreSound (state S.Store conn.new).now v) }
     ensures next { HasCleanDisk (state S.Store conn.new) → IfOk result (λ found. IfSome found (λ next. (v : Vault) → AreSound (state S.Store conn.new).now v → next_id v ≡ next)) }
     ensures same { HasCleanDisk (state S.Store conn.new) → OnOk result (IsUnchanged (state S.Store conn.old) (state S.Store conn.new)) }
+    ensures err { IsHealthy (state S.Store conn.new) → IfErr result IsMemory }
     ensures crash { Survives (state S.Store conn.old) (state S.Store conn.new) (λ _. ⊥) }
 {
     let mut pass = NumberPass { next: 1, low: 0 };

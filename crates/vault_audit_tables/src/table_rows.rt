@@ -1,5 +1,5 @@
 //! The first look at each table: its rows tell records, with values in their limits.
-ghost use Rattle.std.specs.Prelude.{◌≡◌, false, map, IfOk, OnOk};
+ghost use Rattle.std.specs.Prelude.{◌≡◌, false, map, IfOk, IfErr, OnOk};
 ghost use Rattle.sqlite.specs.State.{HasCleanDisk, IsUnchanged, Survives};
 ghost use Rattle.sqlite.specs.Held.{state};
 ghost use Rattle.vault_core_model.specs.Vault.{Vault};
@@ -8,6 +8,7 @@ ghost use Rattle.vault_audit_walk.specs.Records.{AreRecords};
 ghost use Rattle.vault_audit_model.specs.Tables.{vault_schema, departments_tree, callers_tree, buckets_tree, rules_tree, contents_tree, settings_tree, intake_tree, heads_tree};
 ghost use Rattle.vault_audit_model.specs.Rows.{department_row, caller_row, bucket_row, rule_row, content_row, setting_row, note_row, head_row, department_columns, caller_columns, bucket_columns, rule_columns, content_columns, setting_columns, note_columns, head_columns};
 ghost use Rattle.vault_audit_model.specs.Limits.{IsDepartmentRow, IsCaller, IsBucketRow, IsRuleRow, IsContentRow, IsSettingRow, IsNote, IsHeadRow};
+ghost use Rattle.vault_audit_walk.specs.Health.{IsHealthy, IsMemory};
 
 use crate::row_check::{
     BucketCheck, CallerCheck, ContentCheck, DepartmentCheck, HeadCheck, NoteCheck, RuleCheck,
@@ -22,6 +23,7 @@ pub fn check_departments<S: Alter>(conn: &mut Connection<S>) -> Result<bool, Err
     ensures told { HasCleanDisk (state S.Store conn.new) → IfOk result (AreRecords department_row IsDepartmentRow (map department_columns ((state S.Store conn.new).now.trees departments_tree))) }
     ensures damaged { HasCleanDisk (state S.Store conn.new) → IfOk result (λ told. told ≡ false → (v : Vault) → ¬ AreSound (state S.Store conn.new).now v) }
     ensures same { HasCleanDisk (state S.Store conn.new) → OnOk result (IsUnchanged (state S.Store conn.old) (state S.Store conn.new)) }
+    ensures err { IsHealthy (state S.Store conn.new) → IfErr result IsMemory }
     ensures crash { Survives (state S.Store conn.old) (state S.Store conn.new) (λ _. ⊥) }
 {
     check_rows(
@@ -37,6 +39,7 @@ pub fn check_callers<S: Alter>(conn: &mut Connection<S>) -> Result<bool, Error>
     ensures told { HasCleanDisk (state S.Store conn.new) → IfOk result (AreRecords caller_row IsCaller (map caller_columns ((state S.Store conn.new).now.trees callers_tree))) }
     ensures damaged { HasCleanDisk (state S.Store conn.new) → IfOk result (λ told. told ≡ false → (v : Vault) → ¬ AreSound (state S.Store conn.new).now v) }
     ensures same { HasCleanDisk (state S.Store conn.new) → OnOk result (IsUnchanged (state S.Store conn.old) (state S.Store conn.new)) }
+    ensures err { IsHealthy (state S.Store conn.new) → IfErr result IsMemory }
     ensures crash { Survives (state S.Store conn.old) (state S.Store conn.new) (λ _. ⊥) }
 {
     check_rows(
@@ -52,6 +55,7 @@ pub fn check_buckets<S: Alter>(conn: &mut Connection<S>) -> Result<bool, Error>
     ensures told { HasCleanDisk (state S.Store conn.new) → IfOk result (AreRecords bucket_row IsBucketRow (map bucket_columns ((state S.Store conn.new).now.trees buckets_tree))) }
     ensures damaged { HasCleanDisk (state S.Store conn.new) → IfOk result (λ told. told ≡ false → (v : Vault) → ¬ AreSound (state S.Store conn.new).now v) }
     ensures same { HasCleanDisk (state S.Store conn.new) → OnOk result (IsUnchanged (state S.Store conn.old) (state S.Store conn.new)) }
+    ensures err { IsHealthy (state S.Store conn.new) → IfErr result IsMemory }
     ensures crash { Survives (state S.Store conn.old) (state S.Store conn.new) (λ _. ⊥) }
 {
     check_rows(
@@ -67,6 +71,7 @@ pub fn check_rules<S: Alter>(conn: &mut Connection<S>) -> Result<bool, Error>
     ensures told { HasCleanDisk (state S.Store conn.new) → IfOk result (AreRecords rule_row IsRuleRow (map rule_columns ((state S.Store conn.new).now.trees rules_tree))) }
     ensures damaged { HasCleanDisk (state S.Store conn.new) → IfOk result (λ told. told ≡ false → (v : Vault) → ¬ AreSound (state S.Store conn.new).now v) }
     ensures same { HasCleanDisk (state S.Store conn.new) → OnOk result (IsUnchanged (state S.Store conn.old) (state S.Store conn.new)) }
+    ensures err { IsHealthy (state S.Store conn.new) → IfErr result IsMemory }
     ensures crash { Survives (state S.Store conn.old) (state S.Store conn.new) (λ _. ⊥) }
 {
     check_rows(
@@ -82,6 +87,7 @@ pub fn check_contents<S: Alter>(conn: &mut Connection<S>) -> Result<bool, Error>
     ensures told { HasCleanDisk (state S.Store conn.new) → IfOk result (AreRecords content_row IsContentRow (map content_columns ((state S.Store conn.new).now.trees contents_tree))) }
     ensures damaged { HasCleanDisk (state S.Store conn.new) → IfOk result (λ told. told ≡ false → (v : Vault) → ¬ AreSound (state S.Store conn.new).now v) }
     ensures same { HasCleanDisk (state S.Store conn.new) → OnOk result (IsUnchanged (state S.Store conn.old) (state S.Store conn.new)) }
+    ensures err { IsHealthy (state S.Store conn.new) → IfErr result IsMemory }
     ensures crash { Survives (state S.Store conn.old) (state S.Store conn.new) (λ _. ⊥) }
 {
     check_rows(conn, "SELECT id, bytes FROM contents", &ContentCheck {})
@@ -93,6 +99,7 @@ pub fn check_settings<S: Alter>(conn: &mut Connection<S>) -> Result<bool, Error>
     ensures told { HasCleanDisk (state S.Store conn.new) → IfOk result (AreRecords setting_row IsSettingRow (map setting_columns ((state S.Store conn.new).now.trees settings_tree))) }
     ensures damaged { HasCleanDisk (state S.Store conn.new) → IfOk result (λ told. told ≡ false → (v : Vault) → ¬ AreSound (state S.Store conn.new).now v) }
     ensures same { HasCleanDisk (state S.Store conn.new) → OnOk result (IsUnchanged (state S.Store conn.old) (state S.Store conn.new)) }
+    ensures err { IsHealthy (state S.Store conn.new) → IfErr result IsMemory }
     ensures crash { Survives (state S.Store conn.old) (state S.Store conn.new) (λ _. ⊥) }
 {
     check_rows(
@@ -108,6 +115,7 @@ pub fn check_intake<S: Alter>(conn: &mut Connection<S>) -> Result<bool, Error>
     ensures told { HasCleanDisk (state S.Store conn.new) → IfOk result (AreRecords note_row IsNote (map note_columns ((state S.Store conn.new).now.trees intake_tree))) }
     ensures damaged { HasCleanDisk (state S.Store conn.new) → IfOk result (λ told. told ≡ false → (v : Vault) → ¬ AreSound (state S.Store conn.new).now v) }
     ensures same { HasCleanDisk (state S.Store conn.new) → OnOk result (IsUnchanged (state S.Store conn.old) (state S.Store conn.new)) }
+    ensures err { IsHealthy (state S.Store conn.new) → IfErr result IsMemory }
     ensures crash { Survives (state S.Store conn.old) (state S.Store conn.new) (λ _. ⊥) }
 {
     check_rows(
@@ -123,6 +131,7 @@ pub fn check_heads<S: Alter>(conn: &mut Connection<S>) -> Result<bool, Error>
     ensures told { HasCleanDisk (state S.Store conn.new) → IfOk result (AreRecords head_row IsHeadRow (map head_columns ((state S.Store conn.new).now.trees heads_tree))) }
     ensures damaged { HasCleanDisk (state S.Store conn.new) → IfOk result (λ told. told ≡ false → (v : Vault) → ¬ AreSound (state S.Store conn.new).now v) }
     ensures same { HasCleanDisk (state S.Store conn.new) → OnOk result (IsUnchanged (state S.Store conn.old) (state S.Store conn.new)) }
+    ensures err { IsHealthy (state S.Store conn.new) → IfErr result IsMemory }
     ensures crash { Survives (state S.Store conn.old) (state S.Store conn.new) (λ _. ⊥) }
 {
     check_rows(

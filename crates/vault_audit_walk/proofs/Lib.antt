@@ -3,3 +3,4 @@ pub mod ScanLemmas
 pub mod PassLemmas
 pub mod RecordLemmas
 pub mod PairLemmas
+pub mod CauseLemmas

@@ -1,3 +1,4 @@
 pub mod Walk
 pub mod Pass
 pub mod Records
+pub mod Health

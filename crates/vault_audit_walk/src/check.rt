@@ -1,17 +1,19 @@
 //! A query each of whose rows is looked at by itself.
 
-ghost use Rattle.std.specs.Prelude.{◌≡◌, [], IfOk, OnOk};
+ghost use Rattle.std.specs.Prelude.{◌≡◌, [], IfOk, IfErr, OnOk};
 ghost use Rattle.sqlite.specs.State.{HasCleanDisk, IsUnchanged, Survives};
 ghost use Rattle.sqlite.specs.Held.{state};
 ghost use Rattle.sqlite.specs.Given.{IsPlain};
 ghost use Rattle.sqlite.specs.Listing.{understood};
+ghost use Rattle.vault_audit_walk.specs.Health.{IsHealthy, IsMemory, Asks};
 ghost use Rattle.vault_audit_walk.specs.Records.{Checked};
 
 use sqlite::{Alter, Connection, Error, ErrorCode, Row};
 
-/// A check that looks at each row by itself.
+/// A check that looks at each row by itself. An error is want of memory.
 pub trait Check {
-    ghost use Rattle.std.specs.Prelude.{MatchBool, IfOk};
+    ghost use Rattle.std.specs.Prelude.{MatchBool, IfOk, IfErr};
+    ghost use Rattle.vault_audit_walk.specs.Health.{IsMemory};
     ghost use Rattle.sqlite_value.specs.Order.{Row as Values};
 
     // The rows that pass.
@@ -19,7 +21,8 @@ pub trait Check {
 
     /// Whether the row passes.
     fn is_passed_by(&self, row: &Row) -> Result<bool, Error>
-        ensures { IfOk result (λ passes. MatchBool passes (takes self.now row.now) (¬ takes self.now row.now)) };
+        ensures told { IfOk result (λ passes. MatchBool passes (takes self.now row.now) (¬ takes self.now row.now)) }
+        ensures err { IfErr result IsMemory };
 }
 
 /// Whether each row of the answer passes. Nothing is changed.
@@ -31,6 +34,8 @@ pub fn check_rows<S: Alter, C: Check>(
     requires { HasCleanDisk (state S.Store conn.old) → IsPlain (understood conn.old.schema sql.now) }
     ensures checked { HasCleanDisk (state S.Store conn.new) → IfOk result (Checked (C.takes check.now) sql.now (state S.Store conn.old) (state S.Store conn.new)) }
     ensures same { HasCleanDisk (state S.Store conn.new) → OnOk result (IsUnchanged (state S.Store conn.old) (state S.Store conn.new)) }
+    // A store that works answers such a text, or wants memory.
+    ensures err { IsHealthy (state S.Store conn.new) → (HasCleanDisk (state S.Store conn.old) → Asks conn.old.schema sql.now) → IfErr result IsMemory }
     ensures crash { Survives (state S.Store conn.old) (state S.Store conn.new) (λ _. ⊥) }
 {
     let mut rows = conn.query(sql, &[])?;
@@ -42,5 +47,5 @@ pub fn check_rows<S: Alter, C: Check>(
             return Ok(false);
         }
     }
-    Err(Error::SqliteFailure(ErrorCode::OperationInterrupted))
+    Err(Error::SqliteFailure(ErrorCode::OutOfMemory))
 }

@@ -1,17 +1,19 @@
 //! A query whose rows go one at a time through a running check.
 
-ghost use Rattle.std.specs.Prelude.{◌≡◌, [], IfOk, OnOk};
+ghost use Rattle.std.specs.Prelude.{◌≡◌, [], IfOk, IfErr, OnOk};
 ghost use Rattle.sqlite.specs.State.{HasCleanDisk, IsUnchanged, Survives};
 ghost use Rattle.sqlite.specs.Held.{state};
 ghost use Rattle.sqlite.specs.Given.{IsPlain};
 ghost use Rattle.sqlite.specs.Listing.{understood};
+ghost use Rattle.vault_audit_walk.specs.Health.{IsHealthy, IsMemory, Asks};
 ghost use Rattle.vault_audit_walk.specs.Walk.{Walked};
 
 use sqlite::{Alter, Connection, Error, ErrorCode, Row};
 
-/// A check that takes rows one at a time.
+/// A check that takes rows one at a time. An error is want of memory.
 pub trait Pass {
-    ghost use Rattle.std.specs.Prelude.{MatchBool};
+    ghost use Rattle.std.specs.Prelude.{MatchBool, IfErr};
+    ghost use Rattle.vault_audit_walk.specs.Health.{IsMemory};
     ghost use Rattle.sqlite_value.specs.Order.{Row as Values};
 
     // It takes the row, and is then as this one; or it refuses the row.
@@ -20,7 +22,8 @@ pub trait Pass {
     ghost stops: { Self → Values → Type 0 };
 
     fn take(&mut self, row: &Row) -> Result<bool, Error>
-        ensures { IfOk result (λ goes_on. MatchBool goes_on (goes self.old row.now self.new) (stops self.old row.now)) };
+        ensures told { IfOk result (λ goes_on. MatchBool goes_on (goes self.old row.now self.new) (stops self.old row.now)) }
+        ensures err { IfErr result IsMemory };
 }
 
 /// Whether the check takes each row of the answer. Nothing is changed.
@@ -32,6 +35,8 @@ pub fn walk<S: Alter, P: Pass>(
     requires { HasCleanDisk (state S.Store conn.old) → IsPlain (understood conn.old.schema sql.now) }
     ensures walked { HasCleanDisk (state S.Store conn.new) → IfOk result (Walked P.goes P.stops sql.now (state S.Store conn.old) (state S.Store conn.new) pass.old pass.new) }
     ensures same { HasCleanDisk (state S.Store conn.new) → OnOk result (IsUnchanged (state S.Store conn.old) (state S.Store conn.new)) }
+    // A store that works answers such a text, or wants memory.
+    ensures err { IsHealthy (state S.Store conn.new) → (HasCleanDisk (state S.Store conn.old) → Asks conn.old.schema sql.now) → IfErr result IsMemory }
     ensures crash { Survives (state S.Store conn.old) (state S.Store conn.new) (λ _. ⊥) }
 {
     let mut rows = conn.query(sql, &[])?;
@@ -43,5 +48,5 @@ pub fn walk<S: Alter, P: Pass>(
             return Ok(false);
         }
     }
-    Err(Error::SqliteFailure(ErrorCode::OperationInterrupted))
+    Err(Error::SqliteFailure(ErrorCode::OutOfMemory))
 }

@@ -5,6 +5,7 @@ ghost use Rattle.sqlite.specs.State.{HasCleanDisk, IsUnchanged, Survives};
 ghost use Rattle.sqlite_trees.specs.Tree.{Trees};
 ghost use Rattle.vault_base.specs.declared.refusal.Table.{Table};
 ghost use Rattle.vault_audit_model.specs.Tables.{no_schema};
+ghost use Rattle.vault_audit_walk.specs.Health.{IsHealthy};
 ghost use Rattle.vault_audit.specs.Whole.{IsTold};
 ghost use Rattle.vault_store_create.specs.Create.{AreOpening, IsFault};
 ghost use Rattle.vault_core_model.specs.Vault.{Vault, opening};
@@ -111,6 +112,8 @@ impl<S: Alter> SqlKeeper<S> {
         ensures crash { IfOk result (λ k. Survives (state S.Store conn) (state S.Store k.conn) (λ _. ⊥)) }
         ensures counted { IfOk result (λ k. k.faults ≡ 0) }
         ensures told { IfErr result (λ e. IsTold e.0) }
+        // A store that works, outside a transaction, is never told as one that failed.
+        ensures healthy { conn.in_transaction ≡ false → IfErr result (λ e. IsHealthy (state S.Store e.1) → e.0 ≢ Refusal.Device) }
         ensures damaged { IfErr result (λ e. HasCleanDisk (state S.Store e.1) → (t : Table) → e.0 ≡ Refusal.Damaged t → (v : Vault) → ¬ AreSound (state S.Store conn).now v) }
         ensures harmless { IfErr result (λ e. Survives (state S.Store conn) (state S.Store e.1) (λ _. ⊥)) }
     {

@@ -1,10 +1,11 @@
 use Rattle.std.proofs.Common.{rules, ◌≡◌, sym, subst, ◌∙◌, arith}
 use Rattle.sqlite.specs.State.{HasCleanDisk}
+use Rattle.vault_audit_walk.specs.Health.{Asks, IsMemory}
 use Rattle.sqlite.specs.Held.{state}
 use Rattle.sqlite.specs.Given.{IsPlain}
 use Rattle.sqlite.specs.Listing.{understood}
 use Rattle.vault_audit_next.specs.Count.{TellNext}
-use Rattle.vault_audit_next.proofs.CountLemmas.{ids_text, ids_scan, all_counted, next_of, told}
+use Rattle.vault_audit_next.proofs.CountLemmas.{ids_text, ids_scan, ids_asks, all_counted, next_of, told}
 use Rattle.vault_audit_next.proofs.check_next.Goals as goal
 
 pub walk-requires : goal.walk-requires
@@ -25,3 +26,6 @@ returns-then-next-eq0-clause-damaged g c clean missed m is next v it =
     let zero : c.args.next ≡ 0 = search rules in
     let there = next_of (state g.S.Store c.walk.new.conn).now v m is it in
     absurd (omega (arith, zero, next, there))
+
+pub returns-in_err-_whole-clause-err : goal.returns-in_err-_whole-clause-err
+returns-in_err-_whole-clause-err g c well = let it : IsMemory c.in_err-_whole.field-0.0 = c.in_err-_whole.ensures.err well (λ clean. subst (λ s. Asks s ids_text) (sym (c.requires clean)) ids_asks) in search rules

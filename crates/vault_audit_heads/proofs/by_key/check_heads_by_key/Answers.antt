@@ -1,11 +1,12 @@
-use Rattle.std.proofs.Common.{sym, subst, arith}
+use Rattle.std.proofs.Common.{sym, subst, rules, arith}
 use Rattle.sqlite.specs.Held.{state}
 use Rattle.sqlite.specs.State.{HasCleanDisk}
+use Rattle.vault_audit_walk.specs.Health.{Asks, IsMemory}
 use Rattle.sqlite.specs.Given.{IsPlain}
 use Rattle.sqlite.specs.Listing.{understood}
 use Rattle.vault_audit_heads.proofs.CurrentLemmas.{unsound}
 use Rattle.vault_audit_heads.proofs.TellLemmas.{heads_told}
-use Rattle.vault_audit_heads.proofs.TextLemmas.{heads_walk, heads_walk_plain}
+use Rattle.vault_audit_heads.proofs.TextLemmas.{heads_walk, heads_walk_plain, heads_walk_asks}
 use Rattle.vault_audit_heads.proofs.by_key.check_heads_by_key.Goals as goal
 
 pub walk-requires : goal.walk-requires
@@ -18,3 +19,6 @@ returns-clause-told g c clean es are =
 
 pub returns-clause-damaged : goal.returns-clause-damaged
 returns-clause-damaged g c clean same v = unsound (state g.S.Store c.walk.new.conn).now (λ es are. rw same at (returns-clause-told g c clean es are)) v
+
+pub returns-in_err-found-clause-err : goal.returns-in_err-found-clause-err
+returns-in_err-found-clause-err g c well = let it : IsMemory c.in_err-found.field-0.0 = c.in_err-found.ensures.err well (λ clean. subst (λ s. Asks s heads_walk) (sym (c.requires clean)) heads_walk_asks) in search rules

@@ -1,10 +1,11 @@
-use Rattle.std.proofs.Common.{sym, subst, arith}
+use Rattle.std.proofs.Common.{sym, subst, rules, arith}
 use Rattle.sqlite.specs.Held.{state}
 use Rattle.sqlite.specs.State.{HasCleanDisk}
+use Rattle.vault_audit_walk.specs.Health.{Asks, IsMemory}
 use Rattle.sqlite.specs.Given.{IsPlain}
 use Rattle.sqlite.specs.Listing.{understood}
 use Rattle.vault_audit_intake.proofs.NoteLemmas.{notes_told, unsound}
-use Rattle.vault_audit_intake.proofs.TextLemmas.{notes_walk, notes_walk_plain}
+use Rattle.vault_audit_intake.proofs.TextLemmas.{notes_walk, notes_walk_plain, notes_walk_asks}
 use Rattle.vault_audit_intake.proofs.intake.check_notes.Goals as goal
 
 pub walk-requires : goal.walk-requires
@@ -17,3 +18,6 @@ returns-clause-told g c clean es are =
 
 pub returns-clause-damaged : goal.returns-clause-damaged
 returns-clause-damaged g c clean same v = unsound (state g.S.Store c.walk.new.conn).now (λ es are. rw same at (returns-clause-told g c clean es are)) v
+
+pub returns-in_err-found-clause-err : goal.returns-in_err-found-clause-err
+returns-in_err-found-clause-err g c well = let it : IsMemory c.in_err-found.field-0.0 = c.in_err-found.ensures.err well (λ clean. subst (λ s. Asks s notes_walk) (sym (c.requires clean)) notes_walk_asks) in search rules

@@ -1,6 +1,7 @@
 use Rattle.std.proofs.Common.{sym, subst, arith}
 use Rattle.sqlite.specs.Held.{state}
 use Rattle.sqlite.specs.State.{HasCleanDisk}
+use Rattle.vault_audit_walk.specs.Health.{Asks}
 use Rattle.sqlite.specs.Given.{IsPlain}
 use Rattle.sqlite.specs.Listing.{understood}
 use Rattle.vault_core_model.specs.Vault.{Vault}
@@ -8,7 +9,7 @@ use Rattle.vault_audit_model.specs.Spells.{AreSound}
 use Rattle.vault_audit_tables.proofs.DamageLemmas.{refused_if_ok}
 use Rattle.vault_audit_names.specs.Names.{TellDepartments}
 use Rattle.vault_audit_names.proofs.TellLemmas.{departments_if_ok, no_departments}
-use Rattle.vault_audit_names.proofs.TextLemmas.{departments_walk, departments_walk_plain}
+use Rattle.vault_audit_names.proofs.TextLemmas.{departments_walk, departments_walk_plain, departments_walk_asks}
 use Rattle.vault_audit_names.proofs.departments.check_departments_by_name.Goals as goal
 
 pub walk-requires : goal.walk-requires
@@ -23,3 +24,6 @@ pub returns-clause-damaged : goal.returns-clause-damaged
 returns-clause-damaged g c clean =
     let db = (state g.S.Store c.walk.new.conn).now in
     refused_if_ok (TellDepartments db) ((v : Vault) → ¬ AreSound db v) (λ none v. no_departments db v none) c.walk.result (returns-clause-told g c clean)
+
+pub returns-clause-err : goal.returns-clause-err
+returns-clause-err g c well = c.walk.ensures.err well (λ clean. subst (λ s. Asks s departments_walk) (sym (c.requires clean)) departments_walk_asks)

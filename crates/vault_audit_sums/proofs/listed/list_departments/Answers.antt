@@ -1,9 +1,10 @@
 use Rattle.std.proofs.Common.{◌≡◌, true, false, refl, sym, subst, rules, arith}
 use Rattle.sqlite.specs.Held.{state}
 use Rattle.sqlite.specs.State.{HasCleanDisk}
+use Rattle.vault_audit_walk.specs.Health.{Asks, IsMemory}
 use Rattle.sqlite.specs.Given.{IsPlain}
 use Rattle.sqlite.specs.Listing.{understood}
-use Rattle.vault_audit_tables.proofs.TextLemmas.{departments_text, departments_scan}
+use Rattle.vault_audit_tables.proofs.TextLemmas.{departments_text, departments_scan, departments_asks}
 use Rattle.vault_audit_sums.proofs.ListedLemmas.{listed_yes, listed_no}
 use Rattle.vault_audit_sums.proofs.listed.list_departments.Goals as goal
 
@@ -21,3 +22,6 @@ returns-clause-told g c clean =
     let early : HasCleanDisk (state g.S.Store c.args.conn.now) = omega (arith, c.in_ok-whole.ensures.crash.clean) in
     let yes : c.in_ok-whole.whole ≡ true = search rules in
     listed_yes (state g.S.Store c.args.conn.now) (state g.S.Store c.walk.new.conn) (c.requires early) (c.in_ok-whole.ensures.same clean) _ c.walk.new.pass c.new.ensures.items (rw yes at (c.in_ok-whole.ensures.walked clean))
+
+pub returns-in_err-whole-clause-err : goal.returns-in_err-whole-clause-err
+returns-in_err-whole-clause-err g c well = let it : IsMemory c.in_err-whole.field-0.0 = c.in_err-whole.ensures.err well (λ clean. subst (λ s. Asks s departments_text) (sym (c.requires clean)) departments_asks) in search rules

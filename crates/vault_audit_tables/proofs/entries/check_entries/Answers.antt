@@ -1,6 +1,7 @@
 use Rattle.std.proofs.Common.{◌≡◌, map, refl, sym, subst, rules, arith}
 use Rattle.sqlite.specs.Held.{state}
 use Rattle.sqlite.specs.State.{HasCleanDisk}
+use Rattle.vault_audit_walk.specs.Health.{Asks}
 use Rattle.sqlite.specs.Given.{IsPlain}
 use Rattle.sqlite.specs.Listing.{understood}
 use Rattle.vault_core_model.specs.Vault.{Vault}
@@ -11,7 +12,7 @@ use Rattle.vault_audit_tables.proofs.DamageLemmas.{refused_if_ok, no_entries}
 use Rattle.vault_audit_model.specs.Rows.{entry_row, entry_columns}
 use Rattle.vault_audit_tables.specs.Entries.{IsEntryBy}
 use Rattle.vault_audit_walk.proofs.RecordLemmas.{records_if_ok}
-use Rattle.vault_audit_tables.proofs.TextLemmas.{entries_text, entries_scan}
+use Rattle.vault_audit_tables.proofs.TextLemmas.{entries_text, entries_scan, entries_asks}
 use Rattle.vault_audit_tables.proofs.entries.check_entries.Goals as goal
 
 pub check_rows-requires : goal.check_rows-requires
@@ -26,3 +27,6 @@ pub returns-clause-damaged : goal.returns-clause-damaged
 returns-clause-damaged g c clean =
     let db = (state g.S.Store c.check_rows.new.conn).now in
     refused_if_ok (AreRecords entry_row (IsEntryBy c.args.last) (map entry_columns (db.trees entries_tree))) ((v : Vault) → v.last ≡ c.args.last → ¬ AreSound db v) (λ none v. no_entries db v c.args.last none) c.check_rows.result (returns-clause-told g c clean)
+
+pub returns-clause-err : goal.returns-clause-err
+returns-clause-err g c well = c.check_rows.ensures.err well (λ clean. subst (λ s. Asks s entries_text) (sym (c.requires clean)) entries_asks)

@@ -1,12 +1,13 @@
 use Rattle.std.proofs.Common.{◌≡◌, true, false, refl, sym, subst, rules, arith}
 use Rattle.sqlite.specs.Held.{state}
 use Rattle.sqlite.specs.State.{HasCleanDisk}
+use Rattle.vault_audit_walk.specs.Health.{Asks, IsMemory}
 use Rattle.sqlite.specs.Given.{IsPlain}
 use Rattle.sqlite.specs.Listing.{understood}
 use Rattle.vault_audit_tables.specs.Meta.{IsMetaOf}
 use Rattle.vault_audit_tables.proofs.DamageLemmas.{no_meta}
 use Rattle.vault_audit_tables.proofs.MetaLemmas.{meta_all, meta_no}
-use Rattle.vault_audit_tables.proofs.TextLemmas.{meta_walk, meta_walk_plain}
+use Rattle.vault_audit_tables.proofs.TextLemmas.{meta_walk, meta_walk_plain, meta_walk_asks}
 use Rattle.vault_audit_tables.proofs.meta.check_meta.Goals as goal
 
 pub walk-requires : goal.walk-requires
@@ -29,3 +30,6 @@ returns-then-not-one-clause-damaged g c clean same v = no_meta (state g.S.Store 
 
 pub returns-clause-damaged : goal.returns-clause-damaged
 returns-clause-damaged g c clean same v = no_meta (state g.S.Store c.walk.new.conn).now v (subst (IsMetaOf (state g.S.Store c.walk.new.conn).now) same (returns-clause-told g c clean))
+
+pub returns-in_err-one-clause-err : goal.returns-in_err-one-clause-err
+returns-in_err-one-clause-err g c well = let it : IsMemory c.in_err-one.field-0.0 = c.in_err-one.ensures.err well (λ clean. subst (λ s. Asks s meta_walk) (sym (c.requires clean)) meta_walk_asks) in search rules

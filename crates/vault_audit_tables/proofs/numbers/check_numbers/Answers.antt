@@ -1,11 +1,12 @@
 use Rattle.std.proofs.Common.{◌≡◌, true, false, refl, sym, subst, rules, arith}
 use Rattle.sqlite.specs.Held.{state}
 use Rattle.sqlite.specs.State.{HasCleanDisk}
+use Rattle.vault_audit_walk.specs.Health.{Asks, IsMemory}
 use Rattle.sqlite.specs.Given.{IsPlain}
 use Rattle.sqlite.specs.Listing.{understood}
 use Rattle.vault_audit_tables.proofs.DamageLemmas.{no_numbers, next_of}
 use Rattle.vault_audit_tables.proofs.NumberLemmas.{numbers_yes, numbers_no}
-use Rattle.vault_audit_tables.proofs.TextLemmas.{numbers_walk, numbers_walk_plain}
+use Rattle.vault_audit_tables.proofs.TextLemmas.{numbers_walk, numbers_walk_plain, numbers_walk_asks}
 use Rattle.vault_audit_tables.proofs.numbers.check_numbers.Goals as goal
 
 pub walk-requires : goal.walk-requires
@@ -28,3 +29,6 @@ returns-then-not-whole-clause-damaged g c clean same v = no_numbers (state g.S.S
 
 pub returns-clause-next : goal.returns-clause-next
 returns-clause-next g c clean v it = next_of (state g.S.Store c.walk.new.conn).now v _ (returns-clause-told g c clean) it
+
+pub returns-in_err-whole-clause-err : goal.returns-in_err-whole-clause-err
+returns-in_err-whole-clause-err g c well = let it : IsMemory c.in_err-whole.field-0.0 = c.in_err-whole.ensures.err well (λ clean. subst (λ s. Asks s numbers_walk) (sym (c.requires clean)) numbers_walk_asks) in search rules

@@ -1,6 +1,7 @@
 use Rattle.std.proofs.Common.{◌≡◌, map, false, refl, sym, subst, arith}
 use Rattle.sqlite.specs.Held.{state}
 use Rattle.sqlite.specs.State.{HasCleanDisk}
+use Rattle.vault_audit_walk.specs.Health.{Asks}
 use Rattle.sqlite.specs.Given.{IsPlain}
 use Rattle.sqlite.specs.Listing.{understood}
 use Rattle.vault_audit_model.specs.Rows.{caller_row, caller_columns}
@@ -11,7 +12,7 @@ use Rattle.vault_audit_model.specs.Tables.{callers_tree}
 use Rattle.vault_audit_walk.specs.Records.{AreRecords}
 use Rattle.vault_audit_tables.proofs.DamageLemmas.{refused_if_ok, no_callers}
 use Rattle.vault_audit_walk.proofs.RecordLemmas.{records_if_ok}
-use Rattle.vault_audit_tables.proofs.TextLemmas.{callers_text, callers_scan}
+use Rattle.vault_audit_tables.proofs.TextLemmas.{callers_text, callers_scan, callers_asks}
 use Rattle.vault_audit_tables.proofs.table_rows.check_callers.Goals as goal
 
 pub check_rows-requires : goal.check_rows-requires
@@ -26,3 +27,6 @@ pub returns-clause-damaged : goal.returns-clause-damaged
 returns-clause-damaged g c clean =
     let db = (state g.S.Store c.check_rows.new.conn).now in
     refused_if_ok (AreRecords caller_row IsCaller (map caller_columns (db.trees callers_tree))) ((v : Vault) → ¬ AreSound db v) (λ none v. no_callers db v none) c.check_rows.result (returns-clause-told g c clean)
+
+pub returns-clause-err : goal.returns-clause-err
+returns-clause-err g c well = c.check_rows.ensures.err well (λ clean. subst (λ s. Asks s callers_text) (sym (c.requires clean)) callers_asks)

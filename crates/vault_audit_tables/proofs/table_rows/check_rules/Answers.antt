@@ -1,6 +1,7 @@
 use Rattle.std.proofs.Common.{◌≡◌, map, false, refl, sym, subst, arith}
 use Rattle.sqlite.specs.Held.{state}
 use Rattle.sqlite.specs.State.{HasCleanDisk}
+use Rattle.vault_audit_walk.specs.Health.{Asks}
 use Rattle.sqlite.specs.Given.{IsPlain}
 use Rattle.sqlite.specs.Listing.{understood}
 use Rattle.vault_audit_model.specs.Rows.{rule_row, rule_columns}
@@ -11,7 +12,7 @@ use Rattle.vault_audit_model.specs.Tables.{rules_tree}
 use Rattle.vault_audit_walk.specs.Records.{AreRecords}
 use Rattle.vault_audit_tables.proofs.DamageLemmas.{refused_if_ok, no_rules}
 use Rattle.vault_audit_walk.proofs.RecordLemmas.{records_if_ok}
-use Rattle.vault_audit_tables.proofs.TextLemmas.{rules_text, rules_scan}
+use Rattle.vault_audit_tables.proofs.TextLemmas.{rules_text, rules_scan, rules_asks}
 use Rattle.vault_audit_tables.proofs.table_rows.check_rules.Goals as goal
 
 pub check_rows-requires : goal.check_rows-requires
@@ -26,3 +27,6 @@ pub returns-clause-damaged : goal.returns-clause-damaged
 returns-clause-damaged g c clean =
     let db = (state g.S.Store c.check_rows.new.conn).now in
     refused_if_ok (AreRecords rule_row IsRuleRow (map rule_columns (db.trees rules_tree))) ((v : Vault) → ¬ AreSound db v) (λ none v. no_rules db v none) c.check_rows.result (returns-clause-told g c clean)
+
+pub returns-clause-err : goal.returns-clause-err
+returns-clause-err g c well = c.check_rows.ensures.err well (λ clean. subst (λ s. Asks s rules_text) (sym (c.requires clean)) rules_asks)
