@@ -1,11 +1,10 @@
 -- The rows of departments as departments with their sums.
-use Rattle.std.proofs.Common.{◌≡◌, ℕ, ◌≤◌, List, [], ◌∷◌, map, Bool, true, false, IsPermutation, refl, sym, ap, subst, ◌∙◌}
+use Rattle.std.proofs.Common.{◌≡◌, ℕ, ◌≤◌, List, [], ◌∷◌, map, Bool, true, false, IsPermutation, refl, sym, ap, subst}
 use Rattle.std.specs.List.{AllByRecursion}
 use Rattle.std.proofs.lemmas.List.Sorted.{IsPermutation-sym, IsPermutation-trans}
 use Rattle.sqlite_trees.proofs.ListLemmas.{map-map, all-permutation}
-use Rattle.sqlite_value.specs.Order.{Row as Values, column}
+use Rattle.sqlite_value.specs.Order.{Row as Values}
 use Rattle.sqlite.specs.Effect.{Database}
-use Rattle.vault_tally.specs.declared.row.Row.{Row}
 use Rattle.vault_core_model.specs.declared.records.Bucket.{Bucket}
 use Rattle.vault_core_model.specs.declared.records.History.{History}
 use Rattle.vault_core_model.specs.Sound.{Sound, IsInTime}
@@ -13,7 +12,7 @@ use Rattle.vault_core_model.specs.Vault.{Vault}
 use Rattle.vault_core_laws.proofs.Soundness.{admitted_by}
 use Rattle.vault_audit_model.specs.declared.rows.DepartmentRow.{DepartmentRow}
 use Rattle.vault_audit_model.specs.Limits.{IsPlainName, IsDepartmentRow}
-use Rattle.vault_audit_model.specs.Relations.{department_with, IsPast, IsWithin, AreBuckets, AreEntries, AreSums, TellSums}
+use Rattle.vault_audit_model.specs.Relations.{department_with, IsPast, IsWithin, AreBuckets, AreEntries, TellSums}
 use Rattle.vault_audit_model.specs.Rows.{department_row, department_columns}
 use Rattle.vault_audit_model.specs.Spells.{AreSound}
 use Rattle.vault_audit_model.specs.Tables.{departments_tree}

@@ -1,16 +1,15 @@
 -- Tables of which one look finds a fault are sound for no vault.
-use Rattle.std.proofs.Common.{◌≡◌, ℕ, ◌+◌, ◌≤◌, List, [], ◌∷◌, ◌++◌, length, map, filter, flat_map, Bool, true, false, cond, Some, None, Option, Ok, Err, Result, IfOk, IfSome, IsTrue, IsPermutation, refl, sym, ap, subst, ◌∙◌, arith}
+use Rattle.std.proofs.Common.{◌≡◌, ℕ, ◌+◌, ◌≤◌, List, [], ◌∷◌, ◌++◌, length, map, filter, flat_map, Bool, true, false, cond, Some, None, Option, Ok, Err, Result, IfOk, IfSome, IsTrue, IsPermutation, refl, sym, subst, arith}
 use Rattle.std.specs.List.{AllByRecursion}
 use Rattle.std.proofs.lemmas.List.{length-map}
 use Rattle.std.proofs.lemmas.List.Sorted.{IsPermutation-sym, IsPermutation-trans, length_permutation}
 use Rattle.sqlite_trees.proofs.ListLemmas.{map-map}
-use Rattle.sqlite_value.specs.Order.{Row}
 use Rattle.sqlite.specs.Effect.{Database}
 use Rattle.sqlite.specs.declared.error.Error.{Error}
 use Rattle.vault_base.specs.Name.{is_version_id}
 use Rattle.vault_rules.specs.declared.rule.Rule.{Rule}
 use Rattle.vault_core_model.specs.Checks.{most_content, most_settings}
-use Rattle.vault_core_model.specs.Sound.{AreIdsFrom, AreInOrder, IsInTime, HasItsBytes, IsWholeAs, IsWhole, LiesBetween}
+use Rattle.vault_core_model.specs.Sound.{AreIdsFrom, AreInOrder, IsInTime, HasItsBytes, IsWholeAs, IsWhole}
 use Rattle.vault_core_model.specs.Places.{is_current}
 use Rattle.vault_core_model.specs.Vault.{Vault, next_id}
 use Rattle.vault_core_model.specs.declared.records.Bucket.{Bucket}
@@ -18,12 +17,11 @@ use Rattle.vault_core_model.specs.declared.records.Entry.{Entry}
 use Rattle.vault_core_model.specs.declared.records.History.{History}
 use Rattle.vault_core_model.specs.declared.records.Removal.{Removal}
 use Rattle.vault_core_model.specs.declared.records.Setting.{Setting}
-use Rattle.vault_audit_model.specs.Limits.{IsPlainName, IsBucketName, IsCaller, IsBucket, IsRule, AreRules, IsHistory, IsSetting, IsNote, IsEntry, IsMetaRow, IsDepartmentRow, IsBucketRow, IsRuleRow, IsContentRow, IsSettingRow, IsHeadRow}
-use Rattle.vault_audit_model.specs.Rows.{meta_row, department_row, caller_row, bucket_row, rule_row, entry_row, content_row, setting_row, note_row, head_row, meta_columns, department_columns, caller_columns, bucket_columns, rule_columns, entry_columns, content_columns, setting_columns, note_columns, head_columns}
+use Rattle.vault_audit_model.specs.Limits.{IsBucketName, IsCaller, IsBucket, IsRule, AreRules, IsHistory, IsSetting, IsNote, IsDepartmentRow, IsBucketRow, IsRuleRow, IsContentRow, IsSettingRow, IsHeadRow}
+use Rattle.vault_audit_model.specs.Rows.{department_row, caller_row, bucket_row, rule_row, entry_row, content_row, setting_row, note_row, head_row, department_columns, caller_columns, bucket_columns, rule_columns, entry_columns, content_columns, setting_columns, note_columns, head_columns}
 use Rattle.vault_audit_model.specs.Spells.{AreSound, meta_of, bucket_of, rules_from, rules_if_given, rules_in, content_if_given, contents_in, settings_from, settings_in, department_in, head_in, heads_in}
 use Rattle.vault_audit_model.specs.Tables.{departments_tree, callers_tree, buckets_tree, rules_tree, entries_tree, contents_tree, settings_tree, intake_tree, heads_tree}
 use Rattle.vault_audit_walk.specs.Records.{AreRecords}
-use Rattle.vault_audit_model.specs.Relations.{IsPast}
 use Rattle.vault_audit_rows.proofs.PartLemmas.{few}
 use Rattle.vault_audit_tables.specs.Entries.{IsEntryBy}
 use Rattle.vault_audit_tables.specs.Meta.{IsMetaOf}

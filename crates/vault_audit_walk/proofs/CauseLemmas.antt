@@ -1,25 +1,20 @@
 -- A store that works refuses a query that it can answer for want of memory alone.
-use Rattle.std.proofs.Common.{◌≡◌, ◌⊎◌, ◌≤◌, inl, inr, ℕ, List, [], ◌∷◌, length, true, false, None, Some, Option, Ok, Err, Result, IsTrue, IsSome, append-nil, refl, sym, ap, subst, ◌∙◌, arith}
-use Rattle.sqlite_schema.specs.declared.schema.Schema.{Schema}
+use Rattle.std.proofs.Common.{◌≡◌, inl, inr, ℕ, List, [], ◌∷◌, length, true, false, None, Option, Ok, IsTrue, IsSome, append-nil, sym, ap, subst, ◌∙◌, arith}
 use Rattle.sqlite_schema.specs.declared.command.Command.{Command}
 use Rattle.sqlite_schema.specs.declared.command.Command.TheVariants.{Select}
 use Rattle.sqlite_schema.specs.declared.program.Program.{Program}
 use Rattle.sqlite_schema.specs.Program.{lets_of}
 use Rattle.sqlite_resolve.specs.declared.compiled.Compiled.{Compiled}
-use Rattle.sqlite_resolve.specs.declared.error.CompileError.{CompileError}
 use Rattle.sqlite_typing.specs.Types.{accepts_program}
-use Rattle.sqlite_value.specs.Order.{Row}
-use Rattle.sqlite_sql.specs.Query.{Query, Join, FoldOverflows, has_no_fold}
-use Rattle.sqlite_sql.specs.Term.{Env}
+use Rattle.sqlite_sql.specs.Query.{Query, has_no_fold}
 use Rattle.sqlite_sql.specs.Program.{Let, QueryOverflows, ProgramOverflows}
 use Rattle.sqlite_sql.proofs.QueryLemmas.{no_fold_overflows}
 use Rattle.sqlite_trees.specs.Tree.{Trees}
-use Rattle.sqlite_trees.specs.declared.error.StoreError.{StoreError}
 use Rattle.sqlite_trees.specs.declared.error.StoreError.TheVariants.{OutOfMemory, Io, Corrupt, Full, Broken, Unstorable}
 use Rattle.sqlite.specs.declared.error.Error.{Error}
 use Rattle.sqlite.specs.Effect.{Database, RefusesQuery, RefusesToRead}
 use Rattle.sqlite.specs.Given.{IsPlain}
-use Rattle.sqlite.specs.Listing.{understood, reads_listing, IsSourceOf}
+use Rattle.sqlite.specs.Listing.{understood, IsSourceOf}
 use Rattle.sqlite.specs.Clock.{timed}
 use Rattle.sqlite.specs.State.{State, HasCause, Survives, IsUnchanged, Fails, FailsToShow, FailsToQuery, IsNoStatement, IsNotRun, IsStatement}
 use Rattle.vault_audit_walk.specs.Health.{IsHealthy, IsMemory, IsAnswerable, IsRead, Asks}

@@ -1,4 +1,4 @@
-use Rattle.std.proofs.Common.{rules, ◌≡◌, List, map, Option, None, Result, Ok, Err, Bool, IfOk, OnOk, subst, arith, ℕ, refl, sym, ap}
+use Rattle.std.proofs.Common.{rules, ◌≡◌, List, map, None, Result, Ok, Err, Bool, IfOk, OnOk, subst, arith, ℕ, sym}
 use Rattle.std.specs.List.{AllByRecursion}
 use Rattle.sqlite.specs.State.{State, HasCleanDisk, IsUnchanged}
 use Rattle.sqlite.specs.Held.{state}

@@ -1,4 +1,4 @@
-use Rattle.std.proofs.Common.{◌≡◌, true, false, refl, sym, subst, rules, arith}
+use Rattle.std.proofs.Common.{◌≡◌, true, false, sym, subst, rules, arith}
 use Rattle.sqlite.specs.Held.{state}
 use Rattle.sqlite.specs.State.{HasCleanDisk}
 use Rattle.vault_audit_walk.specs.Health.{Asks, IsMemory}
