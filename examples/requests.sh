@@ -19,6 +19,7 @@ cd "$folder"
 printf hello >a.txt
 long_key=$(head -c 1025 /dev/zero | tr '\0' k)
 timeout 60 "$program" serve records.vault "$port" --count 61 &
+server=$!
 patience="--retry 20 --retry-connrefused --retry-delay 1" # until the server is up
 
 # WORDS..: a request by ann, and its answer without the line of the date.
@@ -105,5 +106,5 @@ ask -X PUT -d '{"mode":"GOVERNANCE","until":"2001-01-01T00:00:00Z"}' "$at/docs/2
 ask -X PUT -d '{"hold":"ON"' "$at/docs/2024/a?legal-hold"
 ask -X PUT -d '{"rules":[]}' "$at/docs?lifecycle"
 ask -X DELETE "$at/docs?versions"
-wait
+wait "$server"
 "$program" verify records.vault

@@ -1,0 +1,38 @@
+"""A program as `rt try` builds it: of the sources as they stand, unproved, with checks of each access to memory."""
+
+import contextlib
+import os
+import pathlib
+import subprocess
+import time
+
+
+def running(folder):
+    """The words of the first run of a program that was built in this folder, if there is one now."""
+    for it in pathlib.Path("/proc").glob("[0-9]*/cmdline"):
+        with contextlib.suppress(OSError):
+            words = it.read_bytes().decode(errors="replace").split("\0")[:-1]
+            for at, word in enumerate(words):
+                if word.startswith(f"{folder}/") and word.endswith("/program"):
+                    return words[:at], word
+    return None
+
+
+def built(options, crate, folder):
+    """What `rt try` builds of a crate in its folder: the words in front of a program and its bytes, taken from a run
+    that the tool has begun; or none, and what the tool says."""
+    said = pathlib.Path(folder) / "said"
+    with open(said, "w") as out:
+        how = {"stdin": subprocess.DEVNULL, "stdout": out, "stderr": out, "env": {**os.environ, "TMPDIR": str(folder)}}
+        tool = subprocess.Popen(["rt", "try", *options], cwd=crate, **how)
+        try:
+            while tool.poll() is None:
+                found = running(folder)
+                if found:
+                    with contextlib.suppress(FileNotFoundError):
+                        return (found[0], pathlib.Path(found[1]).read_bytes()), ""
+                time.sleep(0.02)
+        finally:
+            tool.terminate()
+            tool.wait()
+    return None, said.read_text()
