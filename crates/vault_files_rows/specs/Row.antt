@@ -1,12 +1,11 @@
 -- What a record of an intake list asks for. Its cells are file, key, mode, until and hold.
 use Rattle.std.specs.Prelude.{ℕ, List, [], ◌∷◌, Bool, Option, Some, None, Result, Ok, unwrap_or}
 use Rattle.csv.specs.Records.{field_at}
-use Rattle.vault_base.specs.Name.{object_key_of}
 use Rattle.vault_base.specs.declared.refusal.Refusal.{Refusal}
 use Rattle.vault_lock.specs.declared.retention.Retention.{Retention}
 use Rattle.vault_http_values.specs.Fault.{◌>>=◌}
 use Rattle.vault_http_values.specs.Locks.{both_or_none}
-use Rattle.vault_http_values.specs.Values.{or_invalid, or_key_refusal, if_given}
+use Rattle.vault_http_values.specs.Values.{or_invalid, if_given, key_named}
 use Rattle.vault_http_values.specs.Words.{hold_named}
 use Rattle.vault_files_rows.specs.FileName.{text_of, file_name_of}
 use Rattle.vault_files_rows.specs.declared.row.Row.{Row}
@@ -35,7 +34,7 @@ file_of cell = do
 unfoldable pub key_of : List ℕ → Result (List ℕ) Refusal
 key_of cell = do
   text ← text_named cell
-  or_key_refusal (object_key_of text)
+  key_named text
 
 -- the two stand together or not at all
 unfoldable pub retention_of : List ℕ → List ℕ → Result (Option Retention) Refusal

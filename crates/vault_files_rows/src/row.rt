@@ -7,10 +7,11 @@ ghost use Rattle.vault_files_rows.specs.Row as spec;
 use crate::file_name::{self, FileName};
 use csv::ByteRecord;
 use std::alloc::Global;
-use vault_base::name::{NameFault, ObjectKey};
+use vault_base::name::ObjectKey;
 use vault_base::refusal::Refusal;
 use vault_http_values::fault::LineFault;
 use vault_http_values::locks::{both_or_none, is_on};
+use vault_http_values::named::key_named;
 use vault_lock::retention::Retention;
 
 /// A file to be taken in: under which key, and with which retention and hold.
@@ -68,11 +69,7 @@ fn key(alloc: Global, cell: &[u8]) -> Result<ObjectKey, LineFault>
     ensures { Gives (λ x. x) result (spec.key_of cell.now) }
 {
     let text = text(cell)?;
-    match ObjectKey::read(alloc, text)? {
-        Ok(key) => Ok(key),
-        Err(NameFault::TooLong) => Err(LineFault::Refused(Refusal::KeyTooLongError)),
-        Err(_) => Err(LineFault::Refused(Refusal::InvalidArgument)),
-    }
+    key_named(alloc, text)
 }
 
 #[tactic(auto, unfolding(crate::specs::Row::retention_of))]

@@ -1,6 +1,5 @@
 -- What the headers of a request say of its order: the body's length, who asks, and locks.
 use Rattle.std.specs.Prelude.{ℕ, ◌≤◌, ◌==◌, ◌&&◌, ◌||◌, not, nat_lt, List, codes, Bool, true, false, Option, Some, None, is_some, option_and_then, Result, Ok, Err, if◌then◌else◌, ⊤}
-use Rattle.vault_base.specs.Name.{plain_name_of}
 use Rattle.vault_base.specs.declared.refusal.Reason.TheVariants.{UnknownCaller}
 use Rattle.vault_base.specs.declared.refusal.Refusal.{Refusal}
 use Rattle.vault_base.specs.declared.refusal.Refusal.TheVariants.{AccessDenied, EntityTooLarge, InvalidArgument, MissingContentLength}
@@ -8,7 +7,7 @@ use Rattle.vault_lock.specs.declared.retention.Mode.{Mode}
 use Rattle.vault_lock.specs.declared.retention.Retention.{Retention}
 use Rattle.vault_http_values.specs.Fault.{◌>>=◌}
 use Rattle.vault_http_values.specs.Locks.{until_named}
-use Rattle.vault_http_values.specs.Values.{or_refused, or_invalid, if_given}
+use Rattle.vault_http_values.specs.Values.{or_invalid, if_given, asker_named}
 use Rattle.vault_http_values.specs.Words.{mode_named, hold_named}
 use Rattle.vault_http_target.specs.Fields.{Fields, same_name, value_of, count_of}
 use Rattle.vault_http_target.specs.Number.{number_upto}
@@ -95,7 +94,7 @@ text_named name fields = option_and_then as_text (value_of name fields)
 unfoldable pub caller_of : Fields → Result (List ℕ) Refusal
 caller_of fields = do
   text ← or_refusal (AccessDenied UnknownCaller) (text_named (codes "x-vault-caller") fields)
-  or_refused (AccessDenied UnknownCaller) (plain_name_of text)
+  asker_named text
 
 -- ---- locks
 

@@ -3,19 +3,19 @@ ghost use Rattle.std.specs.Prelude.{◌≡◌, ◌≤◌, All, length, map, opti
 ghost use Rattle.std.specs.Option.{option_copied};
 ghost use Rattle.httparse.specs.Spans.{header_bytes, IsHeaderWithin};
 ghost use Rattle.vault_http_values.specs.Fault.{Gives};
-ghost use Rattle.vault_http_values.specs.Locks.{until_named};
 ghost use Rattle.vault_http_request.specs.Terms as spec;
 
 use crate::order::Order;
 use httparse::spans::HeaderSpan;
 use std::alloc::Global;
-use vault_base::moment::{Moment, MomentFault};
+use vault_base::moment::Moment;
 use vault_base::name::CallerName;
 use vault_base::refusal::{Reason, Refusal};
 use vault_http_target::fields::{count_of, same_name, value_of};
 use vault_http_target::number::{NumberFault, number_upto};
 use vault_http_target::path::as_text;
 use vault_http_values::fault::LineFault;
+use vault_http_values::named::{asker_named, until_named};
 use vault_http_values::words::{hold_named, mode_named};
 use vault_lock::retention::{Mode, Retention};
 
@@ -180,10 +180,7 @@ fn caller_of(alloc: Global, buf: &[u8], headers: &[HeaderSpan]) -> Result<Caller
     let Some(text) = text_named(buf, headers, b"x-vault-caller") else {
         return Err(LineFault::Refused(Refusal::AccessDenied(Reason::UnknownCaller)));
     };
-    match CallerName::read(alloc, text)? {
-        Ok(name) => Ok(name),
-        Err(_) => Err(LineFault::Refused(Refusal::AccessDenied(Reason::UnknownCaller))),
-    }
+    asker_named(alloc, text)
 }
 
 fn mode(value: &[u8]) -> Result<Mode, LineFault>
@@ -201,11 +198,7 @@ fn until(value: &[u8]) -> Result<Moment, LineFault>
     let Some(text) = as_text(value) else {
         return Err(LineFault::Refused(Refusal::InvalidArgument));
     };
-    match Moment::read(text) {
-        Ok(moment) => Ok(moment),
-        Err(MomentFault::Form) => Err(LineFault::Refused(Refusal::InvalidArgument)),
-        Err(MomentFault::Range) => Err(LineFault::Refused(Refusal::RetentionOutOfRange)),
-    }
+    until_named(text)
 }
 
 #[tactic(auto, unfolding(crate::specs::Terms::retention))]

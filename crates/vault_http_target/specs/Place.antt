@@ -1,10 +1,9 @@
 -- The bucket that a path names, and its key.
 use Rattle.std.specs.Prelude.{ℕ, ◌==◌, List, length, drop, Result, Ok, Err, if◌then◌else◌, ⊤}
-use Rattle.vault_base.specs.Name.{bucket_name_of, object_key_of}
 use Rattle.vault_base.specs.declared.refusal.Refusal.{Refusal}
 use Rattle.vault_base.specs.declared.refusal.Refusal.TheVariants.{InvalidArgument, InvalidBucketName}
 use Rattle.vault_http_values.specs.Fault.{◌>>=◌}
-use Rattle.vault_http_values.specs.Values.{or_refused, or_key_refusal}
+use Rattle.vault_http_values.specs.Values.{bucket_named, key_named}
 use Rattle.vault_http_target.specs.Path.{before, behind, decoded}
 use Rattle.vault_http_target.specs.Routes.{is_routed}
 use Rattle.vault_http_target.specs.declared.place.Place.{Place}
@@ -16,12 +15,12 @@ routed path = if is_routed path then Ok tt else Err InvalidArgument
 unfoldable pub bucket_in : List ℕ → Result (List ℕ) Refusal
 bucket_in part = do
   text ← decoded InvalidBucketName part
-  or_refused InvalidBucketName (bucket_name_of text)
+  bucket_named text
 
 unfoldable pub key_in : List ℕ → Result (List ℕ) Refusal
 key_in part = do
   text ← decoded InvalidArgument part
-  or_key_refusal (object_key_of text)
+  key_named text
 
 abbrev pub key_of_bucket : List ℕ → List ℕ → Result Place Refusal
 key_of_bucket bucket part = do

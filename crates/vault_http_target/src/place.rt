@@ -5,9 +5,10 @@ ghost use Rattle.vault_http_target.specs.Place as spec;
 use crate::path::{before, behind, behind_first, decoded};
 use crate::routes::is_routed;
 use std::alloc::Global;
-use vault_base::name::{BucketName, NameFault, ObjectKey};
+use vault_base::name::{BucketName, ObjectKey};
 use vault_base::refusal::Refusal;
 use vault_http_values::fault::LineFault;
+use vault_http_values::named::{bucket_named, key_named};
 
 /// What a path names: a bucket, or a key in it.
 #[derive(Drop)]
@@ -30,10 +31,7 @@ fn bucket_in(alloc: Global, part: &[u8]) -> Result<BucketName, LineFault>
     ensures { Gives (λ x. x) result (spec.bucket_in part.now) }
 {
     let text = decoded(alloc, part, Refusal::InvalidBucketName)?;
-    match BucketName::read(alloc, text.as_str())? {
-        Ok(name) => Ok(name),
-        Err(_) => Err(LineFault::Refused(Refusal::InvalidBucketName)),
-    }
+    bucket_named(alloc, text.as_str())
 }
 
 #[tactic(auto, unfolding(crate::specs::Place::key_in))]
@@ -41,11 +39,7 @@ fn key_in(alloc: Global, part: &[u8]) -> Result<ObjectKey, LineFault>
     ensures { Gives (λ x. x) result (spec.key_in part.now) }
 {
     let text = decoded(alloc, part, Refusal::InvalidArgument)?;
-    match ObjectKey::read(alloc, text.as_str())? {
-        Ok(key) => Ok(key),
-        Err(NameFault::TooLong) => Err(LineFault::Refused(Refusal::KeyTooLongError)),
-        Err(_) => Err(LineFault::Refused(Refusal::InvalidArgument)),
-    }
+    key_named(alloc, text.as_str())
 }
 
 #[tactic(auto, unfolding(crate::specs::Place::place_within))]

@@ -14,7 +14,7 @@ use vault_base::name::{BucketName, KeyPrefix, ObjectKey, VersionId};
 use vault_base::refusal::Refusal;
 use vault_core_model::command::ListVersions;
 use vault_http_values::fault::LineFault;
-use vault_http_values::values::prefix_named;
+use vault_http_values::named::prefix_named;
 
 /// How many entries a listing has at most, where that isn't said.
 const MOST: u32 = 1_000;

@@ -46,18 +46,24 @@ abbrev pub or_clock_refusal : Result ℕ MomentFault → Result ℕ Refusal
 or_clock_refusal (Ok at) = Ok at
 or_clock_refusal (Err fault) = Err (clock_refusal fault)
 
+abbrev pub reading_named : List ℕ → Result ℕ Refusal
+reading_named text = or_clock_refusal (moment_of text)
+
 unfoldable pub reading_of : Data → Result ℕ Refusal
 reading_of d = do
   text ← text_of (codes "at") d
-  or_clock_refusal (moment_of text)
+  reading_named text
 
 -- ---- names
 
 -- nobody can be known by what is no name
+abbrev pub asker_named : List ℕ → Result (List ℕ) Refusal
+asker_named text = or_refused (AccessDenied UnknownCaller) (plain_name_of text)
+
 unfoldable pub asker_of : Data → Result (List ℕ) Refusal
 asker_of d = do
   text ← text_of (codes "as") d
-  or_refused (AccessDenied UnknownCaller) (plain_name_of text)
+  asker_named text
 
 -- the name of a caller, a department or a batch
 unfoldable pub name_of : List ℕ → Result (List ℕ) Refusal
@@ -78,10 +84,13 @@ optional_dept_of d = do
   text ← optional_text_of (codes "dept") d
   if_given name_of text
 
+abbrev pub bucket_named : List ℕ → Result (List ℕ) Refusal
+bucket_named text = or_refused InvalidBucketName (bucket_name_of text)
+
 unfoldable pub bucket_of : Data → Result (List ℕ) Refusal
 bucket_of d = do
   text ← text_of (codes "bucket") d
-  or_refused InvalidBucketName (bucket_name_of text)
+  bucket_named text
 
 -- why a text is no key
 abbrev pub key_refusal : NameFault → Refusal
@@ -93,10 +102,13 @@ abbrev pub or_key_refusal : Result (List ℕ) NameFault → Result (List ℕ) Re
 or_key_refusal (Ok key) = Ok key
 or_key_refusal (Err fault) = Err (key_refusal fault)
 
+abbrev pub key_named : List ℕ → Result (List ℕ) Refusal
+key_named text = or_key_refusal (object_key_of text)
+
 unfoldable pub key_of : Data → Result (List ℕ) Refusal
 key_of d = do
   text ← text_of (codes "key") d
-  or_key_refusal (object_key_of text)
+  key_named text
 
 unfoldable pub prefix_named : List ℕ → Result (List ℕ) Refusal
 prefix_named text = or_key_refusal (key_prefix_of text)

@@ -8,6 +8,7 @@ pub mod document;
 pub mod fault;
 pub mod locks;
 pub mod members;
+pub mod named;
 pub mod rules;
 pub mod shape;
 pub mod values;

@@ -8,10 +8,10 @@ ghost use Rattle.vault_http_values.specs.Words.{mode_named as mode_of, hold_name
 
 use crate::fault::LineFault;
 use crate::members::{Whole, flag_of, optional_text_of, optional_whole_of, text_of};
+use crate::named::until_named;
 use crate::values::{small, smaller};
 use crate::words::{hold_named, mode_named};
 use serde_json::Value;
-use vault_base::moment::{Moment, MomentFault};
 use vault_base::refusal::Refusal;
 use vault_lock::retention::{Default, Mode, Period, Retention};
 
@@ -24,22 +24,12 @@ fn mode(text: &str) -> Result<Mode, LineFault>
     }
 }
 
-fn until(text: &str) -> Result<Moment, LineFault>
-    ensures { Gives (λ x. x) result (spec.until_named text.now) }
-{
-    match Moment::read(text) {
-        Ok(moment) => Ok(moment),
-        Err(MomentFault::Form) => Err(LineFault::Refused(Refusal::InvalidArgument)),
-        Err(MomentFault::Range) => Err(LineFault::Refused(Refusal::RetentionOutOfRange)),
-    }
-}
-
 #[tactic(auto, unfolding(crate::specs::Locks::retention_spelled))]
 fn retention_spelled(mode_text: &str, until_text: &str) -> Result<Retention, LineFault>
     ensures { Gives (λ x. x) result (spec.retention_spelled mode_text.now until_text.now) }
 {
     let mode = mode(mode_text)?;
-    let until = until(until_text)?;
+    let until = until_named(until_text)?;
     Ok(Retention { mode, until })
 }
 

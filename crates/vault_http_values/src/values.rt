@@ -6,15 +6,19 @@ ghost use Rattle.vault_http_values.specs.Values as spec;
 
 use crate::fault::LineFault;
 use crate::members::{Whole, optional_text_of, optional_whole_of, text_of, texts_of, whole_of};
+use crate::named::{
+    asker_named, batch_named, bucket_named, caller_named, dept_named, key_named, prefix_named,
+    reading_named,
+};
 use hex::FromHexError;
 use serde_json::Value;
 use std::alloc::Global;
 use vault_base::content::Content;
-use vault_base::moment::{Moment, MomentFault};
+use vault_base::moment::Moment;
 use vault_base::name::{
-    BatchName, BucketName, CallerName, DeptName, KeyPrefix, NameFault, ObjectKey, VersionId,
+    BatchName, BucketName, CallerName, DeptName, KeyPrefix, ObjectKey, VersionId,
 };
-use vault_base::refusal::{Reason, Refusal};
+use vault_base::refusal::Refusal;
 use vault_base::right::Right;
 use vault_core_model::rights::Rights;
 
@@ -24,11 +28,7 @@ pub fn reading(value: &Value) -> Result<Moment, LineFault>
     ensures { Gives (λ x. x) result (spec.reading_of (view value.now)) }
 {
     let text = text_of("at", value)?;
-    match Moment::read(text) {
-        Ok(moment) => Ok(moment),
-        Err(MomentFault::Form) => Err(LineFault::Refused(Refusal::InvalidArgument)),
-        Err(MomentFault::Range) => Err(LineFault::Refused(Refusal::ClockOutOfRange)),
-    }
+    reading_named(text)
 }
 
 /// The caller who asks: the member `as`.
@@ -37,32 +37,16 @@ pub fn asker(alloc: Global, value: &Value) -> Result<CallerName, LineFault>
     ensures { Gives (λ x. x) result (spec.asker_of (view value.now)) }
 {
     let text = text_of("as", value)?;
-    match CallerName::read(alloc, text)? {
-        Ok(name) => Ok(name),
-        Err(_) => Err(LineFault::Refused(Refusal::AccessDenied(Reason::UnknownCaller))),
-    }
+    asker_named(alloc, text)
 }
 
 /// The name of a caller who is spoken of: the member `caller`.
-#[tactic(auto, unfolding(crate::specs::Values::caller_of, crate::specs::Values::name_of))]
+#[tactic(auto, unfolding(crate::specs::Values::caller_of))]
 pub fn caller(alloc: Global, value: &Value) -> Result<CallerName, LineFault>
     ensures { Gives (λ x. x) result (spec.caller_of (view value.now)) }
 {
     let text = text_of("caller", value)?;
-    match CallerName::read(alloc, text)? {
-        Ok(name) => Ok(name),
-        Err(_) => Err(LineFault::Refused(Refusal::InvalidArgument)),
-    }
-}
-
-#[tactic(auto, unfolding(crate::specs::Values::name_of))]
-fn dept_named(alloc: Global, text: &str) -> Result<DeptName, LineFault>
-    ensures { Gives (λ x. x) result (spec.name_of text.now) }
-{
-    match DeptName::read(alloc, text)? {
-        Ok(name) => Ok(name),
-        Err(_) => Err(LineFault::Refused(Refusal::InvalidArgument)),
-    }
+    caller_named(alloc, text)
 }
 
 /// The name of a department: the member `dept`.
@@ -91,10 +75,7 @@ pub fn bucket(alloc: Global, value: &Value) -> Result<BucketName, LineFault>
     ensures { Gives (λ x. x) result (spec.bucket_of (view value.now)) }
 {
     let text = text_of("bucket", value)?;
-    match BucketName::read(alloc, text)? {
-        Ok(name) => Ok(name),
-        Err(_) => Err(LineFault::Refused(Refusal::InvalidBucketName)),
-    }
+    bucket_named(alloc, text)
 }
 
 /// The key of an object: the member `key`.
@@ -103,24 +84,7 @@ pub fn key(alloc: Global, value: &Value) -> Result<ObjectKey, LineFault>
     ensures { Gives (λ x. x) result (spec.key_of (view value.now)) }
 {
     let text = text_of("key", value)?;
-    match ObjectKey::read(alloc, text)? {
-        Ok(name) => Ok(name),
-        Err(NameFault::TooLong) => Err(LineFault::Refused(Refusal::KeyTooLongError)),
-        Err(_) => Err(LineFault::Refused(Refusal::InvalidArgument)),
-    }
-}
-
-/// The prefix of that text, which may be empty. KeyTooLongError where it is longer than a key may be, else
-/// InvalidArgument.
-#[tactic(auto, unfolding(crate::specs::Values::prefix_named))]
-pub fn prefix_named(alloc: Global, text: &str) -> Result<KeyPrefix, LineFault>
-    ensures { Gives (λ x. x) result (spec.prefix_named text.now) }
-{
-    match KeyPrefix::read(alloc, text)? {
-        Ok(prefix) => Ok(prefix),
-        Err(NameFault::TooLong) => Err(LineFault::Refused(Refusal::KeyTooLongError)),
-        Err(_) => Err(LineFault::Refused(Refusal::InvalidArgument)),
-    }
+    key_named(alloc, text)
 }
 
 /// What keys are held against: what they begin with, or the key behind which a listing begins. A member that
@@ -136,15 +100,12 @@ pub fn prefix(alloc: Global, name: &str, value: &Value) -> Result<KeyPrefix, Lin
 }
 
 /// The name of an intake batch: the member `batch`.
-#[tactic(auto, unfolding(crate::specs::Values::batch_of, crate::specs::Values::name_of))]
+#[tactic(auto, unfolding(crate::specs::Values::batch_of))]
 pub fn batch(alloc: Global, value: &Value) -> Result<BatchName, LineFault>
     ensures { Gives (λ x. x) result (spec.batch_of (view value.now)) }
 {
     let text = text_of("batch", value)?;
-    match BatchName::read(alloc, text)? {
-        Ok(name) => Ok(name),
-        Err(_) => Err(LineFault::Refused(Refusal::InvalidArgument)),
-    }
+    batch_named(alloc, text)
 }
 
 /// A number of 32 bits.

@@ -1,28 +1,18 @@
--- What words spell, each with its refusal: as the members of a script's line.
+-- What words spell, each with its refusal, beside what the members of a script's line do.
 use Rattle.std.specs.Prelude.{ℕ, List, Option, Result}
-use Rattle.vault_base.specs.Moment.{moment_of}
-use Rattle.vault_base.specs.Name.{bucket_name_of, plain_name_of, version_id_of}
-use Rattle.vault_base.specs.declared.refusal.Reason.TheVariants.{UnknownCaller}
+use Rattle.vault_base.specs.Name.{version_id_of}
 use Rattle.vault_base.specs.declared.refusal.Refusal.{Refusal}
-use Rattle.vault_base.specs.declared.refusal.Refusal.TheVariants.{AccessDenied, InvalidArgument, InvalidBucketName}
-use Rattle.vault_http_values.specs.Values.{if_given, name_of, or_clock_refusal, or_refused}
-
-unfoldable pub moment_named : List ℕ → Result ℕ Refusal
-moment_named text = or_clock_refusal (moment_of text)
+use Rattle.vault_base.specs.declared.refusal.Refusal.TheVariants.{InvalidArgument}
+use Rattle.vault_http_values.specs.Values.{if_given, name_of, or_refused, reading_named}
 
 -- the reading, where one is given
-unfoldable pub reading_of : Option (List ℕ) → Result (Option ℕ) Refusal
-reading_of text = if_given moment_named text
+unfoldable pub optional_reading : Option (List ℕ) → Result (Option ℕ) Refusal
+optional_reading text = if_given reading_named text
 
--- nobody can be known by what is no name
-unfoldable pub asker_of : List ℕ → Result (List ℕ) Refusal
-asker_of text = or_refused (AccessDenied UnknownCaller) (plain_name_of text)
+-- the name of a department, where one is given
+unfoldable pub optional_dept : Option (List ℕ) → Result (Option (List ℕ)) Refusal
+optional_dept text = if_given name_of text
 
-unfoldable pub optional_dept_of : Option (List ℕ) → Result (Option (List ℕ)) Refusal
-optional_dept_of text = if_given name_of text
-
-unfoldable pub bucket_named : List ℕ → Result (List ℕ) Refusal
-bucket_named text = or_refused InvalidBucketName (bucket_name_of text)
-
+-- a number from 1 to 1,000,000,000, in decimal without a sign and without zeros in front
 unfoldable pub version_named : List ℕ → Result ℕ Refusal
 version_named text = or_refused InvalidArgument (version_id_of text)

@@ -2,10 +2,7 @@
 ghost use Rattle.vault_http_values.specs.Fault.{Gives};
 ghost use Rattle.vaultctl_values.specs.Asked as spec;
 
-use crate::values::{
-    asker, bucket_named, dept_named, name_of_batch, name_of_caller, optional_dept, reading,
-    rights_named, version_named,
-};
+use crate::values::{optional_dept, optional_reading, rights_named, version_named};
 use std::alloc::Global;
 use vault_base::moment::Moment;
 use vault_base::name::{BatchName, BucketName, CallerName};
@@ -13,6 +10,7 @@ use vault_core_model::command::{
     AddBucket, AddCaller, AddDept, Certificate, CloseCaller, Command, Report, Run,
 };
 use vault_http_values::fault::LineFault;
+use vault_http_values::named::{asker_named, batch_named, bucket_named, caller_named, dept_named};
 use vaultctl_job::job;
 
 /// A command with the caller who asks, and the reading where one is given; else the machine's clock is read.
@@ -37,9 +35,9 @@ pub struct AskedIntake {
 pub fn dept(alloc: Global, job: &job::Dept) -> Result<Asked, LineFault>
     ensures { Gives (λ x. x) result (spec.dept_of job.now) }
 {
-    let at = reading(&job.asking.at)?;
-    let who = asker(alloc, &job.asking.who)?;
-    let dept = dept_named(alloc, &job.name)?;
+    let at = optional_reading(&job.asking.at)?;
+    let who = asker_named(alloc, job.asking.who.as_str())?;
+    let dept = dept_named(alloc, job.name.as_str())?;
     Ok(Asked {
         at,
         who,
@@ -52,7 +50,7 @@ pub fn dept(alloc: Global, job: &job::Dept) -> Result<Asked, LineFault>
 fn new_caller(alloc: Global, job: &job::Caller) -> Result<Command, LineFault>
     ensures { Gives (λ x. x) result (spec.new_caller_of job.now) }
 {
-    let caller = name_of_caller(alloc, &job.name)?;
+    let caller = caller_named(alloc, job.name.as_str())?;
     let dept = optional_dept(alloc, &job.dept)?;
     let rights = rights_named(job.rights.as_slice())?;
     Ok(Command::AddCaller(AddCaller {
@@ -67,7 +65,7 @@ fn new_caller(alloc: Global, job: &job::Caller) -> Result<Command, LineFault>
 fn closed_caller(alloc: Global, job: &job::Caller) -> Result<Command, LineFault>
     ensures { Gives (λ x. x) result (spec.closed_caller_of job.now) }
 {
-    let caller = name_of_caller(alloc, &job.name)?;
+    let caller = caller_named(alloc, job.name.as_str())?;
     Ok(Command::CloseCaller(CloseCaller { caller }))
 }
 
@@ -87,8 +85,8 @@ fn caller_command(alloc: Global, job: &job::Caller) -> Result<Command, LineFault
 pub fn caller(alloc: Global, job: &job::Caller) -> Result<Asked, LineFault>
     ensures { Gives (λ x. x) result (spec.caller_of job.now) }
 {
-    let at = reading(&job.asking.at)?;
-    let who = asker(alloc, &job.asking.who)?;
+    let at = optional_reading(&job.asking.at)?;
+    let who = asker_named(alloc, job.asking.who.as_str())?;
     let command = caller_command(alloc, job)?;
     Ok(Asked { at, who, command })
 }
@@ -98,10 +96,10 @@ pub fn caller(alloc: Global, job: &job::Caller) -> Result<Asked, LineFault>
 pub fn bucket(alloc: Global, job: &job::Bucket) -> Result<Asked, LineFault>
     ensures { Gives (λ x. x) result (spec.bucket_of job.now) }
 {
-    let at = reading(&job.asking.at)?;
-    let who = asker(alloc, &job.asking.who)?;
-    let bucket = bucket_named(alloc, &job.name)?;
-    let dept = dept_named(alloc, &job.dept)?;
+    let at = optional_reading(&job.asking.at)?;
+    let who = asker_named(alloc, job.asking.who.as_str())?;
+    let bucket = bucket_named(alloc, job.name.as_str())?;
+    let dept = dept_named(alloc, job.dept.as_str())?;
     Ok(Asked {
         at,
         who,
@@ -114,9 +112,9 @@ pub fn bucket(alloc: Global, job: &job::Bucket) -> Result<Asked, LineFault>
 pub fn run(alloc: Global, job: &job::Run) -> Result<Asked, LineFault>
     ensures { Gives (λ x. x) result (spec.run_of job.now) }
 {
-    let at = reading(&job.asking.at)?;
-    let who = asker(alloc, &job.asking.who)?;
-    let bucket = bucket_named(alloc, &job.bucket)?;
+    let at = optional_reading(&job.asking.at)?;
+    let who = asker_named(alloc, job.asking.who.as_str())?;
+    let bucket = bucket_named(alloc, job.bucket.as_str())?;
     Ok(Asked {
         at,
         who,
@@ -129,9 +127,9 @@ pub fn run(alloc: Global, job: &job::Run) -> Result<Asked, LineFault>
 pub fn report(alloc: Global, job: &job::Report) -> Result<Asked, LineFault>
     ensures { Gives (λ x. x) result (spec.report_of job.now) }
 {
-    let at = reading(&job.asking.at)?;
-    let who = asker(alloc, &job.asking.who)?;
-    let dept = dept_named(alloc, &job.dept)?;
+    let at = optional_reading(&job.asking.at)?;
+    let who = asker_named(alloc, job.asking.who.as_str())?;
+    let dept = dept_named(alloc, job.dept.as_str())?;
     Ok(Asked {
         at,
         who,
@@ -144,9 +142,9 @@ pub fn report(alloc: Global, job: &job::Report) -> Result<Asked, LineFault>
 pub fn certificate(alloc: Global, job: &job::Certificate) -> Result<Asked, LineFault>
     ensures { Gives (λ x. x) result (spec.certificate_of job.now) }
 {
-    let at = reading(&job.asking.at)?;
-    let who = asker(alloc, &job.asking.who)?;
-    let bucket = bucket_named(alloc, &job.bucket)?;
+    let at = optional_reading(&job.asking.at)?;
+    let who = asker_named(alloc, job.asking.who.as_str())?;
+    let bucket = bucket_named(alloc, job.bucket.as_str())?;
     let id = version_named(&job.version)?;
     Ok(Asked {
         at,
@@ -160,10 +158,10 @@ pub fn certificate(alloc: Global, job: &job::Certificate) -> Result<Asked, LineF
 pub fn intake(alloc: Global, job: &job::Intake) -> Result<AskedIntake, LineFault>
     ensures { Gives (λ x. x) result (spec.intake_of job.now) }
 {
-    let at = reading(&job.asking.at)?;
-    let who = asker(alloc, &job.asking.who)?;
-    let bucket = bucket_named(alloc, &job.bucket)?;
-    let batch = name_of_batch(alloc, &job.batch)?;
+    let at = optional_reading(&job.asking.at)?;
+    let who = asker_named(alloc, job.asking.who.as_str())?;
+    let bucket = bucket_named(alloc, job.bucket.as_str())?;
+    let batch = batch_named(alloc, job.batch.as_str())?;
     Ok(AskedIntake {
         at,
         who,
