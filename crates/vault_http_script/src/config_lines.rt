@@ -11,6 +11,7 @@ use vault_core_model::command::{
 use vault_http_values::fault::LineFault;
 use vault_http_values::{locks, rules, values};
 
+/// The command of a `set-default` line, or its first fault: a value's refusal, or want of memory.
 #[tactic(auto, unfolding(crate::specs::ConfigLines::set_default_of))]
 pub fn set_default(alloc: Global, value: &Value) -> Result<Command, LineFault>
     ensures { Gives (λ x. x) result (spec.set_default_of (view value.now)) }
@@ -20,6 +21,7 @@ pub fn set_default(alloc: Global, value: &Value) -> Result<Command, LineFault>
     Ok(Command::SetDefault(SetDefault { bucket, default }))
 }
 
+/// The command of a `get-default` line, or its first fault: a value's refusal, or want of memory.
 #[tactic(auto, unfolding(crate::specs::ConfigLines::get_default_of))]
 pub fn get_default(alloc: Global, value: &Value) -> Result<Command, LineFault>
     ensures { Gives (λ x. x) result (spec.get_default_of (view value.now)) }
@@ -28,6 +30,7 @@ pub fn get_default(alloc: Global, value: &Value) -> Result<Command, LineFault>
     Ok(Command::GetDefault(GetDefault { bucket }))
 }
 
+/// The command of a `set-rules` line, or its first fault: a value's refusal, or want of memory.
 #[tactic(auto, unfolding(crate::specs::ConfigLines::set_rules_of))]
 pub fn set_rules(alloc: Global, value: &Value) -> Result<Command, LineFault>
     ensures { Gives (λ x. x) result (spec.set_rules_of (view value.now)) }
@@ -37,6 +40,7 @@ pub fn set_rules(alloc: Global, value: &Value) -> Result<Command, LineFault>
     Ok(Command::SetRules(SetRules { bucket, rules }))
 }
 
+/// The command of a `get-rules` line, or its first fault: a value's refusal, or want of memory.
 #[tactic(auto, unfolding(crate::specs::ConfigLines::get_rules_of))]
 pub fn get_rules(alloc: Global, value: &Value) -> Result<Command, LineFault>
     ensures { Gives (λ x. x) result (spec.get_rules_of (view value.now)) }
@@ -45,6 +49,7 @@ pub fn get_rules(alloc: Global, value: &Value) -> Result<Command, LineFault>
     Ok(Command::GetRules(GetRules { bucket }))
 }
 
+/// The command of a `drop-rules` line, or its first fault: a value's refusal, or want of memory.
 #[tactic(auto, unfolding(crate::specs::ConfigLines::drop_rules_of))]
 pub fn drop_rules(alloc: Global, value: &Value) -> Result<Command, LineFault>
     ensures { Gives (λ x. x) result (spec.drop_rules_of (view value.now)) }
@@ -53,6 +58,7 @@ pub fn drop_rules(alloc: Global, value: &Value) -> Result<Command, LineFault>
     Ok(Command::DropRules(DropRules { bucket }))
 }
 
+/// The command of a `run` line, or its first fault: a value's refusal, or want of memory.
 #[tactic(auto, unfolding(crate::specs::ConfigLines::run_of))]
 pub fn run(alloc: Global, value: &Value) -> Result<Command, LineFault>
     ensures { Gives (λ x. x) result (spec.run_of (view value.now)) }

@@ -10,6 +10,7 @@ use vault_core_model::command::{Command, Delete, DeleteVersion, Get, Head, Intak
 use vault_http_values::fault::LineFault;
 use vault_http_values::{locks, values};
 
+/// The command of a `get` line, or its first fault: a value's refusal, or want of memory.
 #[tactic(auto, unfolding(crate::specs::EntryLines::get_of))]
 pub fn get(alloc: Global, value: &Value) -> Result<Command, LineFault>
     ensures { Gives (λ x. x) result (spec.get_of (view value.now)) }
@@ -20,6 +21,7 @@ pub fn get(alloc: Global, value: &Value) -> Result<Command, LineFault>
     Ok(Command::Get(Get { bucket, key, id }))
 }
 
+/// The command of a `head` line, or its first fault: a value's refusal, or want of memory.
 #[tactic(auto, unfolding(crate::specs::EntryLines::head_of))]
 pub fn head(alloc: Global, value: &Value) -> Result<Command, LineFault>
     ensures { Gives (λ x. x) result (spec.head_of (view value.now)) }
@@ -30,6 +32,7 @@ pub fn head(alloc: Global, value: &Value) -> Result<Command, LineFault>
     Ok(Command::Head(Head { bucket, key, id }))
 }
 
+/// The command of a `delete` line, or its first fault: a value's refusal, or want of memory.
 #[tactic(auto, unfolding(crate::specs::EntryLines::delete_of))]
 pub fn delete(alloc: Global, value: &Value) -> Result<Command, LineFault>
     ensures { Gives (λ x. x) result (spec.delete_of (view value.now)) }
@@ -39,6 +42,7 @@ pub fn delete(alloc: Global, value: &Value) -> Result<Command, LineFault>
     Ok(Command::Delete(Delete { bucket, key }))
 }
 
+/// The command of a `delete-version` line, or its first fault: a value's refusal, or want of memory.
 #[tactic(auto, unfolding(crate::specs::EntryLines::delete_version_of))]
 pub fn delete_version(alloc: Global, value: &Value) -> Result<Command, LineFault>
     ensures { Gives (λ x. x) result (spec.delete_version_of (view value.now)) }
@@ -72,6 +76,7 @@ fn put_in(alloc: Global, bucket: BucketName, value: &Value) -> Result<Put, LineF
     })
 }
 
+/// The command of a `put` line, or its first fault: a value's refusal, or want of memory.
 #[tactic(auto, unfolding(crate::specs::EntryLines::put_of))]
 pub fn put(alloc: Global, value: &Value) -> Result<Command, LineFault>
     ensures { Gives (λ x. x) result (spec.put_of (view value.now)) }
@@ -80,6 +85,7 @@ pub fn put(alloc: Global, value: &Value) -> Result<Command, LineFault>
     Ok(Command::Put(put_in(alloc, bucket, value)?))
 }
 
+/// The command of an `intake` line, or its first fault: a value's refusal, or want of memory.
 #[tactic(auto, unfolding(crate::specs::EntryLines::intake_of))]
 pub fn intake(alloc: Global, value: &Value) -> Result<Command, LineFault>
     ensures { Gives (λ x. x) result (spec.intake_of (view value.now)) }

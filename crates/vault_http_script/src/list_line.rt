@@ -39,6 +39,7 @@ fn most(value: &Value) -> Result<u32, LineFault>
     Ok(most.unwrap_or(MOST))
 }
 
+/// The command of a `list-versions` line, or its first fault: a value's refusal, or want of memory.
 #[tactic(auto, unfolding(crate::specs::ListLine::list_versions_of))]
 pub fn list_versions(alloc: Global, value: &Value) -> Result<Command, LineFault>
     ensures { Gives (λ x. x) result (spec.list_versions_of (view value.now)) }

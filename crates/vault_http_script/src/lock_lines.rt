@@ -9,6 +9,7 @@ use vault_core_model::command::{Command, GetHold, GetRetention, SetHold, SetRete
 use vault_http_values::fault::LineFault;
 use vault_http_values::{locks, values};
 
+/// The command of a `set-retention` line, or its first fault: a value's refusal, or want of memory.
 #[tactic(auto, unfolding(crate::specs::LockLines::set_retention_of))]
 pub fn set_retention(alloc: Global, value: &Value) -> Result<Command, LineFault>
     ensures { Gives (λ x. x) result (spec.set_retention_of (view value.now)) }
@@ -27,6 +28,7 @@ pub fn set_retention(alloc: Global, value: &Value) -> Result<Command, LineFault>
     }))
 }
 
+/// The command of a `get-retention` line, or its first fault: a value's refusal, or want of memory.
 #[tactic(auto, unfolding(crate::specs::LockLines::get_retention_of))]
 pub fn get_retention(alloc: Global, value: &Value) -> Result<Command, LineFault>
     ensures { Gives (λ x. x) result (spec.get_retention_of (view value.now)) }
@@ -37,6 +39,7 @@ pub fn get_retention(alloc: Global, value: &Value) -> Result<Command, LineFault>
     Ok(Command::GetRetention(GetRetention { bucket, key, id }))
 }
 
+/// The command of a `set-hold` line, or its first fault: a value's refusal, or want of memory.
 #[tactic(auto, unfolding(crate::specs::LockLines::set_hold_of))]
 pub fn set_hold(alloc: Global, value: &Value) -> Result<Command, LineFault>
     ensures { Gives (λ x. x) result (spec.set_hold_of (view value.now)) }
@@ -53,6 +56,7 @@ pub fn set_hold(alloc: Global, value: &Value) -> Result<Command, LineFault>
     }))
 }
 
+/// The command of a `get-hold` line, or its first fault: a value's refusal, or want of memory.
 #[tactic(auto, unfolding(crate::specs::LockLines::get_hold_of))]
 pub fn get_hold(alloc: Global, value: &Value) -> Result<Command, LineFault>
     ensures { Gives (λ x. x) result (spec.get_hold_of (view value.now)) }

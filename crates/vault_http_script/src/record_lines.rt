@@ -11,6 +11,7 @@ use vault_core_model::command::{
 use vault_http_values::fault::LineFault;
 use vault_http_values::values;
 
+/// The command of an `add-dept` line, or its first fault: a value's refusal, or want of memory.
 #[tactic(auto, unfolding(crate::specs::RecordLines::add_dept_of))]
 pub fn add_dept(alloc: Global, value: &Value) -> Result<Command, LineFault>
     ensures { Gives (λ x. x) result (spec.add_dept_of (view value.now)) }
@@ -19,6 +20,7 @@ pub fn add_dept(alloc: Global, value: &Value) -> Result<Command, LineFault>
     Ok(Command::AddDept(AddDept { dept }))
 }
 
+/// The command of an `add-caller` line, or its first fault: a value's refusal, or want of memory.
 #[tactic(auto, unfolding(crate::specs::RecordLines::add_caller_of))]
 pub fn add_caller(alloc: Global, value: &Value) -> Result<Command, LineFault>
     ensures { Gives (λ x. x) result (spec.add_caller_of (view value.now)) }
@@ -33,6 +35,7 @@ pub fn add_caller(alloc: Global, value: &Value) -> Result<Command, LineFault>
     }))
 }
 
+/// The command of a `close-caller` line, or its first fault: a value's refusal, or want of memory.
 #[tactic(auto, unfolding(crate::specs::RecordLines::close_caller_of))]
 pub fn close_caller(alloc: Global, value: &Value) -> Result<Command, LineFault>
     ensures { Gives (λ x. x) result (spec.close_caller_of (view value.now)) }
@@ -41,6 +44,7 @@ pub fn close_caller(alloc: Global, value: &Value) -> Result<Command, LineFault>
     Ok(Command::CloseCaller(CloseCaller { caller }))
 }
 
+/// The command of an `add-bucket` line, or its first fault: a value's refusal, or want of memory.
 #[tactic(auto, unfolding(crate::specs::RecordLines::add_bucket_of))]
 pub fn add_bucket(alloc: Global, value: &Value) -> Result<Command, LineFault>
     ensures { Gives (λ x. x) result (spec.add_bucket_of (view value.now)) }
@@ -50,6 +54,7 @@ pub fn add_bucket(alloc: Global, value: &Value) -> Result<Command, LineFault>
     Ok(Command::AddBucket(AddBucket { bucket, dept }))
 }
 
+/// The command of a `report` line, or its first fault: a value's refusal, or want of memory.
 #[tactic(auto, unfolding(crate::specs::RecordLines::report_of))]
 pub fn report(alloc: Global, value: &Value) -> Result<Command, LineFault>
     ensures { Gives (λ x. x) result (spec.report_of (view value.now)) }
@@ -58,6 +63,7 @@ pub fn report(alloc: Global, value: &Value) -> Result<Command, LineFault>
     Ok(Command::Report(Report { dept }))
 }
 
+/// The command of a `certificate` line, or its first fault: a value's refusal, or want of memory.
 #[tactic(auto, unfolding(crate::specs::RecordLines::certificate_of))]
 pub fn certificate(alloc: Global, value: &Value) -> Result<Command, LineFault>
     ensures { Gives (λ x. x) result (spec.certificate_of (view value.now)) }

@@ -41,6 +41,132 @@ const WHO: (&str, Kind) = ("as", Kind::Text);
 
 const VERB: (&str, Kind) = ("do", Kind::Text);
 
+const OF_DEPT: [(&str, Kind); 4] = [AT, WHO, VERB, ("dept", Kind::Text)];
+
+const OF_CALLER: [(&str, Kind); 4] = [AT, WHO, VERB, ("caller", Kind::Text)];
+
+const ADD_CALLER: [(&str, Kind); 6] = [
+    AT,
+    WHO,
+    VERB,
+    ("caller", Kind::Text),
+    ("dept", Kind::OptionalText),
+    ("rights", Kind::Texts),
+];
+
+const OF_BUCKET: [(&str, Kind); 4] = [AT, WHO, VERB, ("bucket", Kind::Text)];
+
+const ADD_BUCKET: [(&str, Kind); 5] = [AT, WHO, VERB, ("bucket", Kind::Text), ("dept", Kind::Text)];
+
+const SET_DEFAULT: [(&str, Kind); 7] = [
+    AT,
+    WHO,
+    VERB,
+    ("bucket", Kind::Text),
+    ("mode", Kind::OptionalText),
+    ("days", Kind::OptionalNumber),
+    ("years", Kind::OptionalNumber),
+];
+
+const SET_RULES: [(&str, Kind); 5] = [
+    AT,
+    WHO,
+    VERB,
+    ("bucket", Kind::Text),
+    ("rules", Kind::Rules),
+];
+
+/// Without an id the current entry is meant.
+const OF_ENTRY: [(&str, Kind); 6] = [
+    AT,
+    WHO,
+    VERB,
+    ("bucket", Kind::Text),
+    ("key", Kind::Text),
+    ("id", Kind::OptionalNumber),
+];
+
+const PUT: [(&str, Kind); 10] = [
+    AT,
+    WHO,
+    VERB,
+    ("bucket", Kind::Text),
+    ("key", Kind::Text),
+    ("text", Kind::OptionalText),
+    ("hex", Kind::OptionalText),
+    ("mode", Kind::OptionalText),
+    ("until", Kind::OptionalText),
+    ("hold", Kind::OptionalText),
+];
+
+const LIST_VERSIONS: [(&str, Kind); 8] = [
+    AT,
+    WHO,
+    VERB,
+    ("bucket", Kind::Text),
+    ("prefix", Kind::OptionalText),
+    ("after_key", Kind::OptionalText),
+    ("after_id", Kind::OptionalNumber),
+    ("most", Kind::OptionalNumber),
+];
+
+const DELETE: [(&str, Kind); 5] = [AT, WHO, VERB, ("bucket", Kind::Text), ("key", Kind::Text)];
+
+const DELETE_VERSION: [(&str, Kind); 7] = [
+    AT,
+    WHO,
+    VERB,
+    ("bucket", Kind::Text),
+    ("key", Kind::Text),
+    ("id", Kind::Number),
+    ("bypass", Kind::OptionalFlag),
+];
+
+const SET_RETENTION: [(&str, Kind); 9] = [
+    AT,
+    WHO,
+    VERB,
+    ("bucket", Kind::Text),
+    ("key", Kind::Text),
+    ("id", Kind::OptionalNumber),
+    ("mode", Kind::Text),
+    ("until", Kind::Text),
+    ("bypass", Kind::OptionalFlag),
+];
+
+const SET_HOLD: [(&str, Kind); 7] = [
+    AT,
+    WHO,
+    VERB,
+    ("bucket", Kind::Text),
+    ("key", Kind::Text),
+    ("id", Kind::OptionalNumber),
+    ("hold", Kind::Text),
+];
+
+const CERTIFICATE: [(&str, Kind); 5] = [
+    AT,
+    WHO,
+    VERB,
+    ("bucket", Kind::Text),
+    ("id", Kind::Number),
+];
+
+const INTAKE: [(&str, Kind); 12] = [
+    AT,
+    WHO,
+    VERB,
+    ("bucket", Kind::Text),
+    ("batch", Kind::Text),
+    ("line", Kind::Number),
+    ("key", Kind::Text),
+    ("text", Kind::OptionalText),
+    ("hex", Kind::OptionalText),
+    ("mode", Kind::OptionalText),
+    ("until", Kind::OptionalText),
+    ("hold", Kind::OptionalText),
+];
+
 impl Verb {
     /// The verb of that name, as `delete-version`.
     pub fn read(text: &str) -> Option<Verb>
@@ -88,168 +214,37 @@ impl Verb {
     fn has_members(self, value: &Value) -> bool
         ensures { result ≡ are_members (spec.members_of self) (view value.now) }
     {
+        has_members(value, self.members())
+    }
+
+    /// The members of this verb's line.
+    fn members(self) -> &'static [(&'static str, Kind)]
+        ensures { map (λ m. (m.0.now, m.1)) result.now ≡ spec.members_of self }
+    {
         match self {
-            Verb::AddDept => has_members(value, &[AT, WHO, VERB, ("dept", Kind::Text)]),
-            Verb::AddCaller => has_members(
-                value,
-                &[
-                    AT,
-                    WHO,
-                    VERB,
-                    ("caller", Kind::Text),
-                    ("dept", Kind::OptionalText),
-                    ("rights", Kind::Texts),
-                ],
-            ),
-            Verb::CloseCaller => has_members(value, &[AT, WHO, VERB, ("caller", Kind::Text)]),
-            Verb::AddBucket => has_members(
-                value,
-                &[AT, WHO, VERB, ("bucket", Kind::Text), ("dept", Kind::Text)],
-            ),
-            Verb::SetDefault => has_members(
-                value,
-                &[
-                    AT,
-                    WHO,
-                    VERB,
-                    ("bucket", Kind::Text),
-                    ("mode", Kind::OptionalText),
-                    ("days", Kind::OptionalNumber),
-                    ("years", Kind::OptionalNumber),
-                ],
-            ),
-            Verb::GetDefault => has_bucket(value),
-            Verb::SetRules => has_members(
-                value,
-                &[
-                    AT,
-                    WHO,
-                    VERB,
-                    ("bucket", Kind::Text),
-                    ("rules", Kind::Rules),
-                ],
-            ),
-            Verb::GetRules => has_bucket(value),
-            Verb::DropRules => has_bucket(value),
-            Verb::Put => has_members(
-                value,
-                &[
-                    AT,
-                    WHO,
-                    VERB,
-                    ("bucket", Kind::Text),
-                    ("key", Kind::Text),
-                    ("text", Kind::OptionalText),
-                    ("hex", Kind::OptionalText),
-                    ("mode", Kind::OptionalText),
-                    ("until", Kind::OptionalText),
-                    ("hold", Kind::OptionalText),
-                ],
-            ),
-            Verb::Get => has_entry(value),
-            Verb::Head => has_entry(value),
-            Verb::ListVersions => has_members(
-                value,
-                &[
-                    AT,
-                    WHO,
-                    VERB,
-                    ("bucket", Kind::Text),
-                    ("prefix", Kind::OptionalText),
-                    ("after_key", Kind::OptionalText),
-                    ("after_id", Kind::OptionalNumber),
-                    ("most", Kind::OptionalNumber),
-                ],
-            ),
-            Verb::Delete => has_members(
-                value,
-                &[AT, WHO, VERB, ("bucket", Kind::Text), ("key", Kind::Text)],
-            ),
-            Verb::DeleteVersion => has_members(
-                value,
-                &[
-                    AT,
-                    WHO,
-                    VERB,
-                    ("bucket", Kind::Text),
-                    ("key", Kind::Text),
-                    ("id", Kind::Number),
-                    ("bypass", Kind::OptionalFlag),
-                ],
-            ),
-            Verb::SetRetention => has_members(
-                value,
-                &[
-                    AT,
-                    WHO,
-                    VERB,
-                    ("bucket", Kind::Text),
-                    ("key", Kind::Text),
-                    ("id", Kind::OptionalNumber),
-                    ("mode", Kind::Text),
-                    ("until", Kind::Text),
-                    ("bypass", Kind::OptionalFlag),
-                ],
-            ),
-            Verb::GetRetention => has_entry(value),
-            Verb::SetHold => has_members(
-                value,
-                &[
-                    AT,
-                    WHO,
-                    VERB,
-                    ("bucket", Kind::Text),
-                    ("key", Kind::Text),
-                    ("id", Kind::OptionalNumber),
-                    ("hold", Kind::Text),
-                ],
-            ),
-            Verb::GetHold => has_entry(value),
-            Verb::Run => has_bucket(value),
-            Verb::Report => has_members(value, &[AT, WHO, VERB, ("dept", Kind::Text)]),
-            Verb::Certificate => has_members(
-                value,
-                &[AT, WHO, VERB, ("bucket", Kind::Text), ("id", Kind::Number)],
-            ),
-            Verb::Intake => has_members(
-                value,
-                &[
-                    AT,
-                    WHO,
-                    VERB,
-                    ("bucket", Kind::Text),
-                    ("batch", Kind::Text),
-                    ("line", Kind::Number),
-                    ("key", Kind::Text),
-                    ("text", Kind::OptionalText),
-                    ("hex", Kind::OptionalText),
-                    ("mode", Kind::OptionalText),
-                    ("until", Kind::OptionalText),
-                    ("hold", Kind::OptionalText),
-                ],
-            ),
+            Verb::AddDept => &OF_DEPT,
+            Verb::AddCaller => &ADD_CALLER,
+            Verb::CloseCaller => &OF_CALLER,
+            Verb::AddBucket => &ADD_BUCKET,
+            Verb::SetDefault => &SET_DEFAULT,
+            Verb::GetDefault => &OF_BUCKET,
+            Verb::SetRules => &SET_RULES,
+            Verb::GetRules => &OF_BUCKET,
+            Verb::DropRules => &OF_BUCKET,
+            Verb::Put => &PUT,
+            Verb::Get => &OF_ENTRY,
+            Verb::Head => &OF_ENTRY,
+            Verb::ListVersions => &LIST_VERSIONS,
+            Verb::Delete => &DELETE,
+            Verb::DeleteVersion => &DELETE_VERSION,
+            Verb::SetRetention => &SET_RETENTION,
+            Verb::GetRetention => &OF_ENTRY,
+            Verb::SetHold => &SET_HOLD,
+            Verb::GetHold => &OF_ENTRY,
+            Verb::Run => &OF_BUCKET,
+            Verb::Report => &OF_DEPT,
+            Verb::Certificate => &CERTIFICATE,
+            Verb::Intake => &INTAKE,
         }
     }
-}
-
-fn has_bucket(value: &Value) -> bool
-    ensures { result ≡ are_members spec.of_bucket (view value.now) }
-{
-    has_members(value, &[AT, WHO, VERB, ("bucket", Kind::Text)])
-}
-
-fn has_entry(value: &Value) -> bool
-    ensures { result ≡ are_members spec.of_entry (view value.now) }
-{
-    has_members(
-        value,
-        &[
-            AT,
-            WHO,
-            VERB,
-            ("bucket", Kind::Text),
-            ("key", Kind::Text),
-            ("id", Kind::OptionalNumber),
-        ],
-    )
 }
