@@ -190,7 +190,8 @@ impl Keeper for ListKeeper {
         ensures value { IsOkAnd result (λ row. IsRowFor self.old dept.now row) }
         ensures same { self.new ≡ self.old }
     {
-        // No day is past that of the last moment, and no department is past its quota: so the sums fit.
+        // Only the proof reads this: it gives that the last moment is within the range of moments. No day is
+        // past that of the last moment, and no department is past its quota: so the sums fit.
         let _seconds = self.last.secs();
         Ok(sums::row(&self.buckets, &self.histories, dept))
     }

@@ -8,11 +8,11 @@ use std::alloc::{AllocError, Global};
 use std::path::{Path, PathBuf};
 use std::rt::Files;
 use vault_core_model::halt::Fault;
-use vault_files_intake::folder::Folder;
+use vault_files_intake::folder::{Folder, MOST_CONTENT};
 use vault_files_rows::file_name::FileName;
 
 /// One byte more than a version may have.
-const MOST_READ: u64 = 1_048_577;
+const MOST_READ: u64 = MOST_CONTENT as u64 + 1;
 
 /// The path of a file of a folder. The error is want of memory.
 fn path_of(alloc: Global, folder: &str, name: &FileName) -> Result<PathBuf, AllocError>

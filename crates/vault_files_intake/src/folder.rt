@@ -8,6 +8,9 @@ use vault_base::content::Content;
 use vault_core_model::halt::Fault;
 use vault_files_rows::file_name::FileName;
 
+/// The bytes that a version has at most.
+pub const MOST_CONTENT: usize = 1_048_576;
+
 /// A file with its bytes.
 #[derive(Drop)]
 pub struct File {

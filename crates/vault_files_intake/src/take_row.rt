@@ -9,7 +9,7 @@ ghost use Rattle.vault_core_model.specs.Step.{Step, Reached};
 ghost use Rattle.vault_files_intake.specs.TakenIn as spec;
 ghost use Rattle.vault_files_rows.specs.Row.{row_of};
 
-use crate::folder::Folder;
+use crate::folder::{Folder, MOST_CONTENT};
 use csv::ByteRecord;
 use std::alloc::{AllocError, Global};
 use vault_base::content::Content;
@@ -23,9 +23,6 @@ use vault_core_model::keeper::Keeper;
 use vault_core_model::reply::Reply;
 use vault_files_rows::row::{Row, read_row};
 use vault_http_values::fault::LineFault;
-
-/// The bytes that a version has at most.
-const MOST_CONTENT: usize = 1_048_576;
 
 /// What a record asks for.
 fn row(alloc: Global, cells: &ByteRecord) -> Result<Row, Halt>

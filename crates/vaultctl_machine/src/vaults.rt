@@ -43,12 +43,9 @@ fn unopened(error: Error) -> Refusal
 fn unmade(error: Error) -> Refusal
     ensures { result ≡ spec.unmade_of error }
 {
-    match error {
-        Error::SqliteFailure(ErrorCode::OutOfMemory) => Refusal::Memory,
-        Error::SqliteFailure(
-            ErrorCode::NotADatabase | ErrorCode::DatabaseCorrupt | ErrorCode::TooBig,
-        ) => Refusal::NameTaken,
-        _ => Refusal::Device,
+    match unopened(error) {
+        Refusal::Damaged(_) => Refusal::NameTaken,
+        other => other,
     }
 }
 

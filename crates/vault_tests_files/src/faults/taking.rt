@@ -49,10 +49,7 @@ pub fn stopped_behind(alloc: Global, count: usize, stop: &str) -> Result<String,
 /// What is printed of the whole list, so many rows of which were taken in before.
 pub fn resumed(alloc: Global, count: usize) -> Result<String, Fail> {
     let mut lines = String::new(alloc);
-    for line in AGAIN.iter().take(count) {
-        lines.push_str(*line)?;
-    }
-    for line in FIRST.iter().skip(count) {
+    for line in AGAIN.iter().take(count).chain(FIRST.iter().skip(count)) {
         lines.push_str(*line)?;
     }
     Ok(lines)
