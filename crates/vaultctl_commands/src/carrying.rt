@@ -1,6 +1,7 @@
 //! A command carried out, and its reply printed.
-ghost use Rattle.std.specs.Prelude.{◌≡◌, ◌≢◌, IfOk, OnErr, Err, Ok};
+ghost use Rattle.std.specs.Prelude.{◌≡◌, ◌≢◌, ◌≤◌, IsTrue, IfOk, OnErr, Err, Ok};
 ghost use Rattle.std.specs.Io.KnownBytes.{Appends};
+ghost use Rattle.vault_core_model.specs.Halts.{is_device_reply, Rose};
 ghost use Rattle.vault_core_model.specs.Step.{Step, Reached};
 ghost use Rattle.vault_core_model.specs.declared.reply.Reply.{Reply as AnyReply};
 ghost use Rattle.vault_core_model.specs.declared.reply.Reply.TheVariants.{Refused};
@@ -70,14 +71,17 @@ pub fn carry_out<K: Keeper, W: Write>(
     command: &Command,
     out: &mut W,
 ) -> Result<Outcome, JobFault>
-    // The reply is that of one step of the machine, and it is what is printed.
+    // The reply is that of one step of the machine, and it is what is printed. It tells that the device failed only
+    // where the count of failures rose, or stands at its greatest value.
     ensures ok { K.is_honest keeper.new → IfOk result (λ outcome. (reply : AnyReply) × Step (K.vault keeper.old) at who.now command.now reply (K.vault keeper.new)
-        × (outcome ≡ spec.outcome_of reply) × Appends (W.contents out.old) (W.contents out.new) (spec.printed reply)) }
+        × (outcome ≡ spec.outcome_of reply) × Appends (W.contents out.old) (W.contents out.new) (spec.printed reply)
+        × (IsTrue (is_device_reply reply) → Rose (K.count keeper.old) (K.count keeper.new))) }
     ensures err { K.is_honest keeper.new → OnErr result ((reply : AnyReply) × Step (K.vault keeper.old) at who.now command.now reply (K.vault keeper.new)) }
     // Whatever the device does, what is answered is what the printed reply says.
     ensures told { IfOk result (λ outcome. spec.TellsReply outcome (W.contents out.old) (W.contents out.new)) }
     ensures reached { K.is_honest keeper.new → Reached (K.vault keeper.old) → Reached (K.vault keeper.new) }
     ensures honest { K.is_honest keeper.new → K.is_honest keeper.old }
+    ensures counted { K.count keeper.old ≤ K.count keeper.new }
     ensures reader { result ≢ Err JobFault.Read }
     ensures device { result ≢ Err JobFault.Device }
 {

@@ -40,6 +40,8 @@ fn take_in_read<K: Keeper, W: Write>(
     ensures told { IfOk result (λ told. told ≡ Outcome.Done → TellsIntake Outcome.Done (W.contents out.old) (W.contents out.new)) }
     ensures reached { K.is_honest keeper.new → Reached (K.vault keeper.old) → Reached (K.vault keeper.new) }
     ensures honest { K.is_honest keeper.new → K.is_honest keeper.old }
+    ensures reader { result ≢ Err JobFault.Read }
+    ensures device { result ≢ Err JobFault.Device }
 {
     let alloc = rt.alloc();
     let Some(at) = reading(rt, asked.at) else {
@@ -70,6 +72,8 @@ fn take_in_list<K: Keeper, W: Write>(
     ensures told { IfOk result (λ told. told ≡ Outcome.Done → TellsIntake Outcome.Done (W.contents out.old) (W.contents out.new)) }
     ensures reached { K.is_honest keeper.new → Reached (K.vault keeper.old) → Reached (K.vault keeper.new) }
     ensures honest { K.is_honest keeper.new → K.is_honest keeper.old }
+    ensures reader { result ≢ Err JobFault.Read }
+    ensures device { result ≢ Err JobFault.Device }
 {
     match read_list(rt.alloc(), rt, job.list.as_str()) {
         Ok(list) => take_in_read(rt, keeper, asked, list.as_slice(), job.folder.as_str(), out),
@@ -88,6 +92,8 @@ fn take_in_keeper<K: Keeper, W: Write>(
     out: &mut W,
 ) -> Result<Outcome, JobFault>
     ensures told { IfOk result (λ told. told ≡ Outcome.Done → TellsIntake Outcome.Done (W.contents out.old) (W.contents out.new)) }
+    ensures reader { result ≢ Err JobFault.Read }
+    ensures device { result ≢ Err JobFault.Device }
 {
     take_in_list(rt, keeper, asked, job, out)
 }
@@ -101,6 +107,8 @@ fn take_in_vault<W: Write>(
     out: &mut W,
 ) -> Result<Outcome, JobFault>
     ensures told { IfOk result (λ told. told ≡ Outcome.Done → TellsIntake Outcome.Done (W.contents out.old) (W.contents out.new)) }
+    ensures reader { result ≢ Err JobFault.Read }
+    ensures device { result ≢ Err JobFault.Device }
 {
     let mut vault = vault;
     let outcome = take_in_keeper(rt, &mut vault, asked, job, out);

@@ -6,11 +6,11 @@ use Rattle.vaultctl_perform.proofs.asked.carry_out_asked.Goals as goal
 pub returns-clause-done : goal.returns-clause-done
 returns-clause-done g c = λ h.
     IfOk-weaker c.carry_out.result _ _
-    (λ told d. done_at c.args.asked.now _ _ told _ _ c.args.asked.now.at c.in-Some.at c.in-Some.ensures d)
+    (λ told d. done_at _ c.args.asked.now _ _ told _ _ c.args.asked.now.at c.in-Some.at c.in-Some.ensures d)
     (c.carry_out.ensures.ok h)
 
 pub returns-in_default-clause-done : goal.returns-in_default-clause-done
 returns-in_default-clause-done g c = λ h.
     IfOk-weaker c.tell_refusal.result _ _
-    (λ told d. unread_at c.args.asked.now _ _ told _ _ c.args.asked.now.at c.in_default.ensures (refl, d.0, d.1))
+    (λ told d. unread_at _ c.args.asked.now _ _ told _ _ c.args.asked.now.at c.in_default.ensures (refl, d.0, d.1))
     c.tell_refusal.ensures.ok

@@ -1,7 +1,9 @@
 use Rattle.std.proofs.Common.{subst}
 use Rattle.std.proofs.lemmas.Result.{on_ok_weaker}
-use Rattle.vault_core_model.specs.Vault.{Vault}
+use Rattle.vault_core_model.specs.Halts.{Rose}
+use Rattle.vault_core_model.specs.Vault.{Vault, opening}
 use Rattle.vaultctl_replay.specs.Runs.{AnswersAll}
+use Rattle.vaultctl_replay.proofs.RunLemmas.{none_failed}
 use Rattle.vaultctl_perform.proofs.replay.answer_all.Goals as goal
 
 pub returns : goal.returns
@@ -11,6 +13,6 @@ returns g c =
     let last = c.replay.new.keeper in
     on_ok_weaker c.replay.result
     (λ s.
-    let P : Vault → Type 0 = λ v. AnswersAll v before s.0 last after in
-    (s.0, s.1, s.2, (last, subst P c.in-Ok.ensures s.3)))
+    let P : Vault → Type 0 = λ v. AnswersAll (Rose 0 0) v before s.0 last after in
+    (s.0, s.1, s.2, (last, none_failed opening last before after s.0 (subst P c.in-Ok.ensures s.3))))
     (c.replay.ensures.ok tt)
