@@ -1,5 +1,5 @@
 -- The lines of an input, and what they ask for.
-use Rattle.std.specs.Prelude.{◌≡◌, ◌≢◌, ◌==◌, ◌&&◌, ℕ, Bool, List, [], ◌∷◌, ◌++◌, length, map, slice_index, take, All, if◌then◌else◌}
+use Rattle.std.specs.Prelude.{◌≡◌, ◌≢◌, ◌==◌, ◌&&◌, ◌⊎◌, ℕ, Bool, List, [], ◌∷◌, ◌++◌, length, map, slice_index, take, All, if◌then◌else◌}
 use Rattle.std.specs.List.{flat_map}
 use Rattle.vault_base.specs.declared.refusal.Refusal.TheVariants.{MalformedBody}
 use Rattle.vault_http_script.specs.ReadLine.{line_of}
@@ -39,6 +39,10 @@ AskFor input asked = (lines : List (List ℕ)) × (rest : List ℕ) × Splits in
 -- those of the lines that end do
 abbrev pub EndedAskFor : List ℕ → List Line → Type 0
 EndedAskFor bytes asked = (lines : List (List ℕ)) × (rest : List ℕ) × Splits bytes lines rest × (asked ≡ map line_of lines)
+
+-- The lines that were read ask for these. A last one that lacks its LF is a line only where the input is at its end.
+abbrev pub AskSoFar : Type 0 → List ℕ → List Line → Type 0
+AskSoFar AtEnd taken asked = EndedAskFor taken asked ⊎ (AtEnd × AskFor taken asked)
 
 -- The lines that end in these bytes, where a part of the first was there before, and the part behind the last of them. Of each line no more than so many bytes are kept.
 abbrev pub advance : ℕ → List ℕ → List ℕ → List (List ℕ) × List ℕ

@@ -1,5 +1,6 @@
 //! One line: what it asks for is carried out, and its reply written.
-ghost use Rattle.std.specs.Prelude.{◌≡◌, [], ◌∷◌, IfOk, OnOk, OnErr, string_bytes};
+ghost use Rattle.std.specs.Prelude.{◌≡◌, ◌≤◌, [], ◌∷◌, IfOk, OnOk, OnErr, string_bytes};
+ghost use Rattle.vault_core_model.specs.Halts.{Rose};
 ghost use Rattle.vault_http_script.specs.ReadLine.{line_of};
 ghost use Rattle.vault_http_script.specs.ReplyLine.{reply_text};
 ghost use Rattle.vault_http_script.specs.declared.read_line.Line.TheVariants.{Command};
@@ -29,9 +30,10 @@ fn told(alloc: Global, reply: Reply) -> Result<String, AllocError>
 
 /// Carries out a command. Its reply is a line.
 fn carried_out<K: Keeper>(alloc: Global, keeper: &mut K, timed: Timed) -> Result<String, AllocError>
-    ensures ok { K.is_honest keeper.new → IfOk result (λ text. Answers (K.vault keeper.old) (Command timed) (string_bytes text) (K.vault keeper.new)) }
-    ensures err { K.is_honest keeper.new → OnErr result (Unwritten (K.vault keeper.old) (Command timed) (K.vault keeper.new)) }
+    ensures ok { K.is_honest keeper.new → IfOk result (λ text. Answers (Rose (K.count keeper.old) (K.count keeper.new)) (K.vault keeper.old) (Command timed) (string_bytes text) (K.vault keeper.new)) }
+    ensures err { K.is_honest keeper.new → OnErr result (Unwritten (Rose (K.count keeper.old) (K.count keeper.new)) (K.vault keeper.old) (Command timed) (K.vault keeper.new)) }
     ensures honest { K.is_honest keeper.new → K.is_honest keeper.old }
+    ensures counted { K.count keeper.old ≤ K.count keeper.new }
 {
     let reply = step(alloc, keeper, timed.at, &timed.who, &timed.command);
     drop(timed);
@@ -40,9 +42,10 @@ fn carried_out<K: Keeper>(alloc: Global, keeper: &mut K, timed: Timed) -> Result
 
 /// Carries out what a line asks for. Its reply is a line, or nothing where the line is empty.
 fn reply_to<K: Keeper>(alloc: Global, keeper: &mut K, asked: Line) -> Result<String, AllocError>
-    ensures ok { K.is_honest keeper.new → IfOk result (λ reply. Answers (K.vault keeper.old) asked (string_bytes reply) (K.vault keeper.new)) }
-    ensures err { K.is_honest keeper.new → OnErr result (Unwritten (K.vault keeper.old) asked (K.vault keeper.new)) }
+    ensures ok { K.is_honest keeper.new → IfOk result (λ reply. Answers (Rose (K.count keeper.old) (K.count keeper.new)) (K.vault keeper.old) asked (string_bytes reply) (K.vault keeper.new)) }
+    ensures err { K.is_honest keeper.new → OnErr result (Unwritten (Rose (K.count keeper.old) (K.count keeper.new)) (K.vault keeper.old) asked (K.vault keeper.new)) }
     ensures honest { K.is_honest keeper.new → K.is_honest keeper.old }
+    ensures counted { K.count keeper.old ≤ K.count keeper.new }
 {
     match asked {
         Line::Skip => Ok(String::new(alloc)),
@@ -58,10 +61,11 @@ fn answer<K: Keeper, W: Write>(
     writer: &mut W,
     asked: Line,
 ) -> Result<(), ReplayFault>
-    ensures ok { K.is_honest keeper.new → OnOk result (Finished (K.vault keeper.old) (W.contents writer.old) (asked ∷ []) (K.vault keeper.new) (W.contents writer.new)) }
-    ensures err { K.is_honest keeper.new → OnErr result (Began (K.vault keeper.old) (W.contents writer.old) (asked ∷ []) (K.vault keeper.new) (W.contents writer.new)) }
+    ensures ok { K.is_honest keeper.new → OnOk result (Finished (Rose (K.count keeper.old) (K.count keeper.new)) (K.vault keeper.old) (W.contents writer.old) (asked ∷ []) (K.vault keeper.new) (W.contents writer.new)) }
+    ensures err { K.is_honest keeper.new → OnErr result (Began (Rose (K.count keeper.old) (K.count keeper.new)) (K.vault keeper.old) (W.contents writer.old) (asked ∷ []) (K.vault keeper.new) (W.contents writer.new)) }
     ensures kind { ¬ (result ≡ Err ReplayFault.Read) }
     ensures honest { K.is_honest keeper.new → K.is_honest keeper.old }
+    ensures counted { K.count keeper.old ≤ K.count keeper.new }
 {
     let Ok(reply) = reply_to(alloc, keeper, asked) else {
         return Err(ReplayFault::Memory);
@@ -76,10 +80,11 @@ pub fn answer_line<K: Keeper, W: Write>(
     writer: &mut W,
     line: &[u8],
 ) -> Result<(), ReplayFault>
-    ensures ok { K.is_honest keeper.new → OnOk result (Finished (K.vault keeper.old) (W.contents writer.old) (line_of line.now ∷ []) (K.vault keeper.new) (W.contents writer.new)) }
-    ensures err { K.is_honest keeper.new → OnErr result (Began (K.vault keeper.old) (W.contents writer.old) (line_of line.now ∷ []) (K.vault keeper.new) (W.contents writer.new)) }
+    ensures ok { K.is_honest keeper.new → OnOk result (Finished (Rose (K.count keeper.old) (K.count keeper.new)) (K.vault keeper.old) (W.contents writer.old) (line_of line.now ∷ []) (K.vault keeper.new) (W.contents writer.new)) }
+    ensures err { K.is_honest keeper.new → OnErr result (Began (Rose (K.count keeper.old) (K.count keeper.new)) (K.vault keeper.old) (W.contents writer.old) (line_of line.now ∷ []) (K.vault keeper.new) (W.contents writer.new)) }
     ensures kind { ¬ (result ≡ Err ReplayFault.Read) }
     ensures honest { K.is_honest keeper.new → K.is_honest keeper.old }
+    ensures counted { K.count keeper.old ≤ K.count keeper.new }
 {
     let Ok(asked) = read_line(alloc, line) else {
         return Err(ReplayFault::Memory);
@@ -94,10 +99,11 @@ pub fn answer_unended<K: Keeper, W: Write>(
     writer: &mut W,
     line: &[u8],
 ) -> Result<(), ReplayFault>
-    ensures ok { K.is_honest keeper.new → OnOk result (Finished (K.vault keeper.old) (W.contents writer.old) (unended_of line.now ∷ []) (K.vault keeper.new) (W.contents writer.new)) }
-    ensures err { K.is_honest keeper.new → OnErr result (Began (K.vault keeper.old) (W.contents writer.old) (unended_of line.now ∷ []) (K.vault keeper.new) (W.contents writer.new)) }
+    ensures ok { K.is_honest keeper.new → OnOk result (Finished (Rose (K.count keeper.old) (K.count keeper.new)) (K.vault keeper.old) (W.contents writer.old) (unended_of line.now ∷ []) (K.vault keeper.new) (W.contents writer.new)) }
+    ensures err { K.is_honest keeper.new → OnErr result (Began (Rose (K.count keeper.old) (K.count keeper.new)) (K.vault keeper.old) (W.contents writer.old) (unended_of line.now ∷ []) (K.vault keeper.new) (W.contents writer.new)) }
     ensures kind { ¬ (result ≡ Err ReplayFault.Read) }
     ensures honest { K.is_honest keeper.new → K.is_honest keeper.old }
+    ensures counted { K.count keeper.old ≤ K.count keeper.new }
 {
     if line.len() == 1 && line[0] == b'\r' {
         answer(alloc, keeper, writer, Line::Refused(Refusal::MalformedBody))

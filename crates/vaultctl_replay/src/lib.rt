@@ -1,8 +1,9 @@
 //! Script lines from any reader, carried out over any keeper, with their replies to any writer.
 #![tactic(auto)]
 
-ghost use Rattle.std.specs.Prelude.{◌≡◌, ℕ, List, [], OnOk, OnErr};
+ghost use Rattle.std.specs.Prelude.{◌≡◌, ◌≤◌, ℕ, List, [], OnOk, OnErr};
 ghost use Rattle.std.specs.Io.KnownBytes.{Consumes, IsAtEnd};
+ghost use Rattle.vault_core_model.specs.Halts.{Rose};
 ghost use Rattle.vault_core_model.specs.Step.{Reached};
 ghost use Rattle.vaultctl_replay.specs.Runs.{AnswersAll, AnswersEnded, AnswersSome};
 
@@ -35,19 +36,23 @@ pub fn replay<R: Read, W: Write, K: Keeper>(
     writer: &mut W,
     keeper: &mut K,
 ) -> Result<(), ReplayFault>
-    // What is read is the whole input, and what is written is the replies to its lines.
+    // What is read is the whole input, and what is written is the replies to its lines. Whatever comes of the
+    // input, a reply tells that the device failed only where its count of failures rose, or stands at its
+    // greatest value.
     ensures ok { K.is_honest keeper.new → OnOk result ((input : List ℕ) × Consumes (R.remaining reader.old) (R.remaining reader.new) input
         × IsAtEnd (R.remaining reader.new)
-        × AnswersAll (K.vault keeper.old) (W.contents writer.old) input (K.vault keeper.new) (W.contents writer.new)) }
+        × AnswersAll (Rose (K.count keeper.old) (K.count keeper.new)) (K.vault keeper.old) (W.contents writer.old) input (K.vault keeper.new) (W.contents writer.new)) }
     // The first lines were carried out and their replies written, and of at most one more a beginning of its reply.
+    // What is read behind the last LF is a line only where the reader is at its end.
     ensures err { K.is_honest keeper.new → OnErr result ((taken : List ℕ) × Consumes (R.remaining reader.old) (R.remaining reader.new) taken
-        × AnswersSome (K.vault keeper.old) (W.contents writer.old) taken (K.vault keeper.new) (W.contents writer.new)) }
+        × AnswersSome (Rose (K.count keeper.old) (K.count keeper.new)) (IsAtEnd (R.remaining reader.new)) (K.vault keeper.old) (W.contents writer.old) taken (K.vault keeper.new) (W.contents writer.new)) }
     // Where the reader failed, that beginning is each line whose LF was read, and all their replies are written.
     ensures read { K.is_honest keeper.new → result ≡ Err ReplayFault.Read → (taken : List ℕ) × Consumes (R.remaining reader.old) (R.remaining reader.new) taken
-        × AnswersEnded (K.vault keeper.old) (W.contents writer.old) taken (K.vault keeper.new) (W.contents writer.new) }
+        × AnswersEnded (Rose (K.count keeper.old) (K.count keeper.new)) (K.vault keeper.old) (W.contents writer.old) taken (K.vault keeper.new) (W.contents writer.new) }
     // Whatever comes of the input, a vault that runs lead to from a new one is left as such a vault.
     ensures reached { K.is_honest keeper.new → Reached (K.vault keeper.old) → Reached (K.vault keeper.new) }
     ensures honest { K.is_honest keeper.new → K.is_honest keeper.old }
+    ensures counted { K.count keeper.old ≤ K.count keeper.new }
 {
     let mut part = Vec::new(alloc);
     let mut piece = [0u8; 65_536];

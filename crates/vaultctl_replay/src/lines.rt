@@ -1,5 +1,6 @@
 //! The lines of an input, whatever pieces it comes in.
 ghost use Rattle.std.specs.Prelude.{◌≡◌, ◌≤◌, [], ◌∷◌, ◌++◌, take, IfErr, OnOk, OnErr, vec_len};
+ghost use Rattle.vault_core_model.specs.Halts.{Rose};
 ghost use Rattle.vaultctl_replay.specs.Lines.{advance, asked_in, last_of};
 ghost use Rattle.vaultctl_replay.specs.Runs.{Began, Finished};
 
@@ -34,12 +35,13 @@ fn take_byte<K: Keeper, W: Write>(
     byte: u8,
 ) -> Result<(), ReplayFault>
     requires { vec_len part.old ≤ most }
-    ensures ok { K.is_honest keeper.new → OnOk result (Finished (K.vault keeper.old) (W.contents writer.old) (asked_in most part.old.items (byte ∷ [])) (K.vault keeper.new) (W.contents writer.new)) }
+    ensures ok { K.is_honest keeper.new → OnOk result (Finished (Rose (K.count keeper.old) (K.count keeper.new)) (K.vault keeper.old) (W.contents writer.old) (asked_in most part.old.items (byte ∷ [])) (K.vault keeper.new) (W.contents writer.new)) }
     ensures part { OnOk result (part.new.items ≡ (advance most part.old.items (byte ∷ [])).1) }
-    ensures err { K.is_honest keeper.new → OnErr result (Began (K.vault keeper.old) (W.contents writer.old) (asked_in most part.old.items (byte ∷ [])) (K.vault keeper.new) (W.contents writer.new)) }
+    ensures err { K.is_honest keeper.new → OnErr result (Began (Rose (K.count keeper.old) (K.count keeper.new)) (K.vault keeper.old) (W.contents writer.old) (asked_in most part.old.items (byte ∷ [])) (K.vault keeper.new) (W.contents writer.new)) }
     ensures bound { vec_len part.new ≤ most }
     ensures kind { ¬ (result ≡ Err ReplayFault.Read) }
     ensures honest { K.is_honest keeper.new → K.is_honest keeper.old }
+    ensures counted { K.count keeper.old ≤ K.count keeper.new }
 {
     if byte == b'\n' {
         answer_line(alloc, keeper, writer, part.as_slice())?;
@@ -60,12 +62,13 @@ pub fn feed<K: Keeper, W: Write>(
     piece: &[u8],
 ) -> Result<(), ReplayFault>
     requires { vec_len part.old ≤ most }
-    ensures ok { K.is_honest keeper.new → OnOk result (Finished (K.vault keeper.old) (W.contents writer.old) (asked_in most part.old.items piece.now) (K.vault keeper.new) (W.contents writer.new)) }
+    ensures ok { K.is_honest keeper.new → OnOk result (Finished (Rose (K.count keeper.old) (K.count keeper.new)) (K.vault keeper.old) (W.contents writer.old) (asked_in most part.old.items piece.now) (K.vault keeper.new) (W.contents writer.new)) }
     ensures part { OnOk result (part.new.items ≡ (advance most part.old.items piece.now).1) }
-    ensures err { K.is_honest keeper.new → OnErr result (Began (K.vault keeper.old) (W.contents writer.old) (asked_in most part.old.items piece.now) (K.vault keeper.new) (W.contents writer.new)) }
+    ensures err { K.is_honest keeper.new → OnErr result (Began (Rose (K.count keeper.old) (K.count keeper.new)) (K.vault keeper.old) (W.contents writer.old) (asked_in most part.old.items piece.now) (K.vault keeper.new) (W.contents writer.new)) }
     ensures bound { vec_len part.new ≤ most }
     ensures kind { ¬ (result ≡ Err ReplayFault.Read) }
     ensures honest { K.is_honest keeper.new → K.is_honest keeper.old }
+    ensures counted { K.count keeper.old ≤ K.count keeper.new }
 {
     for byte in piece {
         take_byte(alloc, keeper, writer, part, most, *byte)?;
@@ -80,10 +83,11 @@ fn answer_last<K: Keeper, W: Write>(
     writer: &mut W,
     part: &[u8],
 ) -> Result<(), ReplayFault>
-    ensures ok { K.is_honest keeper.new → OnOk result (Finished (K.vault keeper.old) (W.contents writer.old) (last_of part.now) (K.vault keeper.new) (W.contents writer.new)) }
-    ensures err { K.is_honest keeper.new → OnErr result (Began (K.vault keeper.old) (W.contents writer.old) (last_of part.now) (K.vault keeper.new) (W.contents writer.new)) }
+    ensures ok { K.is_honest keeper.new → OnOk result (Finished (Rose (K.count keeper.old) (K.count keeper.new)) (K.vault keeper.old) (W.contents writer.old) (last_of part.now) (K.vault keeper.new) (W.contents writer.new)) }
+    ensures err { K.is_honest keeper.new → OnErr result (Began (Rose (K.count keeper.old) (K.count keeper.new)) (K.vault keeper.old) (W.contents writer.old) (last_of part.now) (K.vault keeper.new) (W.contents writer.new)) }
     ensures kind { ¬ (result ≡ Err ReplayFault.Read) }
     ensures honest { K.is_honest keeper.new → K.is_honest keeper.old }
+    ensures counted { K.count keeper.old ≤ K.count keeper.new }
 {
     if part.is_empty() {
         Ok(())
@@ -99,10 +103,11 @@ pub fn finish<K: Keeper, W: Write>(
     writer: &mut W,
     part: &[u8],
 ) -> Result<(), ReplayFault>
-    ensures ok { K.is_honest keeper.new → OnOk result (Finished (K.vault keeper.old) (W.contents writer.old) (last_of part.now) (K.vault keeper.new) (W.contents writer.new)) }
-    ensures err { K.is_honest keeper.new → OnErr result (Began (K.vault keeper.old) (W.contents writer.old) (last_of part.now) (K.vault keeper.new) (W.contents writer.new)) }
+    ensures ok { K.is_honest keeper.new → OnOk result (Finished (Rose (K.count keeper.old) (K.count keeper.new)) (K.vault keeper.old) (W.contents writer.old) (last_of part.now) (K.vault keeper.new) (W.contents writer.new)) }
+    ensures err { K.is_honest keeper.new → OnErr result (Began (Rose (K.count keeper.old) (K.count keeper.new)) (K.vault keeper.old) (W.contents writer.old) (last_of part.now) (K.vault keeper.new) (W.contents writer.new)) }
     ensures kind { ¬ (result ≡ Err ReplayFault.Read) }
     ensures honest { K.is_honest keeper.new → K.is_honest keeper.old }
+    ensures counted { K.count keeper.old ≤ K.count keeper.new }
 {
     answer_last(alloc, keeper, writer, part)?;
     flush(writer)
