@@ -18,7 +18,7 @@ use Rattle.vault_http_request.specs.declared.plan.Asked.{Asked}
 use Rattle.vault_http_request.specs.declared.plan.Asked.TheVariants as asked
 use Rattle.vault_http_request.specs.declared.plan.Plan.{Plan}
 use Rattle.vault_http_exchange.specs.Body.{IsWithinLength}
-use Rattle.vault_http_exchange.specs.Exchange.{Denied, Judged, PlanServed, allow_of, go_on, head_asked, is_shown, planned_command, told}
+use Rattle.vault_http_exchange.specs.Exchange.{Denied, Judged, allow_of, go_on, head_asked, is_shown, planned_command, told}
 use Rattle.vault_http_exchange.specs.declared.fault.ServeFault.{ServeFault}
 use Rattle.vault_http_exchange.specs.declared.fault.ServeFault.TheVariants as faults
 
@@ -43,38 +43,39 @@ abbrev pub IsUnanswered : Bool → Option (List ℕ) → Option (List ℕ) → T
 IsUnanswered waits before after = (after ≡ before) ⊎ Appends before after (told waits)
 
 -- Behind the body nothing is read any more. Where the answer found no room nothing is written, and at most that step was made; where writing it failed a beginning of it is written, and the vault is as it says.
-abbrev pub JudgedLeft : ServeFault → ℕ → Bool → List ℕ → Result Command Refusal → Vault → Vault → Option (List ℕ) → Option (List ℕ) → Type 0
-JudgedLeft faults.Read at shown who judged old new before after = ⊥
-JudgedLeft faults.Memory at shown who judged old new before after = ((new ≡ old) ⊎ Stepped at who judged old new) × (after ≡ before)
-JudgedLeft faults.Write at shown who judged old new before after = (out : List ℕ) × Judged at shown who judged old out new × Begins before after out
+-- Failed says that the device failed, as in Exchange.
+abbrev pub JudgedLeft : Type 0 → ServeFault → ℕ → Bool → List ℕ → Result Command Refusal → Vault → Vault → Option (List ℕ) → Option (List ℕ) → Type 0
+JudgedLeft Failed faults.Read at shown who judged old new before after = ⊥
+JudgedLeft Failed faults.Memory at shown who judged old new before after = ((new ≡ old) ⊎ Stepped at who judged old new) × (after ≡ before)
+JudgedLeft Failed faults.Write at shown who judged old new before after = (out : List ℕ) × Judged Failed at shown who judged old out new × Begins before after out
 
 abbrev pub DenyLeft : ServeFault → Option ℕ → Refusal → Option Allow → Bool → Option (List ℕ) → Option (List ℕ) → Type 0
 DenyLeft faults.Read moment r a shown before after = ⊥
 DenyLeft faults.Memory moment r a shown before after = after ≡ before
 DenyLeft faults.Write moment r a shown before after = (out : List ℕ) × AnswersRefusal moment r a shown out × Begins before after out
 
--- After Read no step was made, after Memory at most that one, and no byte of an answer is written. After Write 100 Continue failed, nothing of the body was read and no step was made, or the answer failed and the vault is as it says; what is written is a beginning of that.
-abbrev pub PlanLeft : ServeFault → Bool → Plan → List ℕ → Option (List ℕ) → Vault → Vault → Option (List ℕ) → Option (List ℕ) → Type 0
-PlanLeft faults.Read shown plan rest unread old new before after = (new ≡ old) × IsUnanswered plan.terms.waits before after
-PlanLeft faults.Memory shown plan rest unread old new before after =
+-- After Read no step was made, after Memory at most that one, and no byte of an answer is written. After Write 100 Continue failed, nothing of the body was read and no step was made, or the answer failed behind a 100 Continue that was written whole, where the client waits, and the vault is as the answer says; what is written is a beginning of that.
+abbrev pub PlanLeft : Type 0 → ServeFault → Bool → Plan → List ℕ → Option (List ℕ) → Vault → Vault → Option (List ℕ) → Option (List ℕ) → Type 0
+PlanLeft Failed faults.Read shown plan rest unread old new before after = (new ≡ old) × IsUnanswered plan.terms.waits before after
+PlanLeft Failed faults.Memory shown plan rest unread old new before after =
     ((new ≡ old) ⊎ Stepped plan.at plan.terms.caller (planned_command plan rest) old new) × IsUnanswered plan.terms.waits before after
-PlanLeft faults.Write shown plan rest unread old new before after =
+PlanLeft Failed faults.Write shown plan rest unread old new before after =
     ((plan.terms.waits ≡ true) × (unread ≡ Some rest) × (new ≡ old) × Begins before after go_on)
-    ⊎ ((out : List ℕ) × PlanServed shown plan rest old out new × Begins before after out)
+    ⊎ ((answer : List ℕ) × (mid : Option (List ℕ)) × Judged Failed plan.at shown plan.terms.caller (planned_command plan rest) old answer new × Appends before mid (told plan.terms.waits) × Begins mid after answer)
 
 abbrev pub DeniedLeft : ServeFault → Option ℕ → Bool → Refusal → Option Allow → Vault → Vault → Option (List ℕ) → Option (List ℕ) → Type 0
 DeniedLeft faults.Read moment shown r a old new before after = (new ≡ old) × (after ≡ before)
 DeniedLeft faults.Memory moment shown r a old new before after = (new ≡ old) × (after ≡ before)
 DeniedLeft faults.Write moment shown r a old new before after = (out : List ℕ) × Denied moment shown r a old out new × Begins before after out
 
-abbrev pub AskedLeft : ServeFault → Option ℕ → Bool → Asked → List ℕ → Option (List ℕ) → Vault → Vault → Option (List ℕ) → Option (List ℕ) → Type 0
-AskedLeft e moment shown (asked.Plan plan) rest unread old new before after = PlanLeft e shown plan rest unread old new before after
-AskedLeft e moment shown (asked.NotAllowed r) rest unread old new before after =
+abbrev pub AskedLeft : Type 0 → ServeFault → Option ℕ → Bool → Asked → List ℕ → Option (List ℕ) → Vault → Vault → Option (List ℕ) → Option (List ℕ) → Type 0
+AskedLeft Failed e moment shown (asked.Plan plan) rest unread old new before after = PlanLeft Failed e shown plan rest unread old new before after
+AskedLeft Failed e moment shown (asked.NotAllowed r) rest unread old new before after =
     DeniedLeft e moment shown refusal.MethodNotAllowed (Some (allow_of r)) old new before after
 
-abbrev pub HeadLeft : ServeFault → Option ℕ → Bool → Result Asked Refusal → List ℕ → Option (List ℕ) → Vault → Vault → Option (List ℕ) → Option (List ℕ) → Type 0
-HeadLeft e moment shown (Ok a) rest unread old new before after = AskedLeft e moment shown a rest unread old new before after
-HeadLeft e moment shown (Err r) rest unread old new before after = DeniedLeft e moment shown r None old new before after
+abbrev pub HeadLeft : Type 0 → ServeFault → Option ℕ → Bool → Result Asked Refusal → List ℕ → Option (List ℕ) → Vault → Vault → Option (List ℕ) → Option (List ℕ) → Type 0
+HeadLeft Failed e moment shown (Ok a) rest unread old new before after = AskedLeft Failed e moment shown a rest unread old new before after
+HeadLeft Failed e moment shown (Err r) rest unread old new before after = DeniedLeft e moment shown r None old new before after
 
 -- before a head was judged: writing fails only where there is none
 abbrev pub Early : ServeFault → Option ℕ → List ℕ → Vault → Vault → Option (List ℕ) → Option (List ℕ) → Type 0
@@ -84,10 +85,10 @@ Early faults.Write moment input old new before after =
     (0 < length input) × HasNoHead input × DeniedLeft faults.Write moment true refusal.InvalidArgument None old new before after
 
 -- of an input, of which this is unread after it, and of what was written before it and is after it
-abbrev pub Left : ServeFault → Option ℕ → List ℕ → Option (List ℕ) → Vault → Vault → Option (List ℕ) → Option (List ℕ) → Type 0
-Left e moment input unread old new before after =
+abbrev pub Left : Type 0 → ServeFault → Option ℕ → List ℕ → Option (List ℕ) → Vault → Vault → Option (List ℕ) → Option (List ℕ) → Type 0
+Left Failed e moment input unread old new before after =
     Early e moment input old new before after
-    ⊎ ((h : RequestHead) × (rest : List ℕ) × IsHead input h rest × HeadLeft e moment (is_shown h.method) (head_asked moment h) rest unread old new before after)
+    ⊎ ((h : RequestHead) × (rest : List ℕ) × IsHead input h rest × HeadLeft Failed e moment (is_shown h.method) (head_asked moment h) rest unread old new before after)
 
 -- ---- what was read
 

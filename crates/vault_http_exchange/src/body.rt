@@ -34,19 +34,20 @@ fn body_of<R: Read>(
     }
 }
 
-/// The command of a body that is there.
+/// The command of a body that is there. The error is want of memory.
 fn command_with(
     alloc: Global,
     order: Order,
     locks: Locks,
     body: Content,
-) -> Result<Result<Command, Refusal>, ReadFault>
-    ensures { IfOk result (λ judged. judged ≡ spec.command_with order locks body) }
+) -> Result<Result<Command, Refusal>, ServeFault>
+    ensures command { IfOk result (λ judged. judged ≡ spec.command_with order locks body) }
+    ensures kind { IfErr result (λ fault. fault ≡ faults.Memory) }
 {
     match command_of(alloc, order, locks, body) {
         Ok(command) => Ok(Ok(command)),
         Err(LineFault::Refused(refusal)) => Ok(Err(refusal)),
-        Err(LineFault::Memory) => Err(ReadFault::Memory),
+        Err(LineFault::Memory) => Err(ServeFault::Memory),
     }
 }
 
@@ -66,19 +67,6 @@ fn faulted(order: Order, fault: ServeFault) -> Result<Result<Command, Refusal>, 
     Err(fault)
 }
 
-fn or_fault(
-    given: Result<Result<Command, Refusal>, ReadFault>,
-) -> Result<Result<Command, Refusal>, ServeFault>
-    ensures ok { IfOk result (λ judged. given ≡ Ok judged) }
-    ensures kind { ¬ (result ≡ Err faults.Write) }
-{
-    match given {
-        Ok(judged) => Ok(judged),
-        Err(ReadFault::Read) => Err(ServeFault::Read),
-        Err(ReadFault::Memory) => Err(ServeFault::Memory),
-    }
-}
-
 /// The command that an order makes with the body that came, or why it makes none.
 fn command_of_body(
     alloc: Global,
@@ -90,7 +78,7 @@ fn command_of_body(
     ensures kind { ¬ (result ≡ Err faults.Write) }
 {
     match body {
-        Some(body) => or_fault(command_with(alloc, order, locks, body)),
+        Some(body) => command_with(alloc, order, locks, body),
         None => Ok(cut(order)),
     }
 }
@@ -117,7 +105,6 @@ pub fn command_after<R: Read>(
     }
     match body_of(alloc, reader, size) {
         Ok(body) => command_of_body(alloc, order, locks, body),
-        Err(ReadFault::Read) => faulted(order, ServeFault::Read),
-        Err(ReadFault::Memory) => faulted(order, ServeFault::Memory),
+        Err(fault) => faulted(order, ServeFault::from(fault)),
     }
 }

@@ -1,6 +1,7 @@
 //! Commands carried out, and refusals, with their answers written.
-ghost use Rattle.std.specs.Prelude.{◌≡◌, ℕ, List, IfErr, OnOk, Ok, Err, Some};
+ghost use Rattle.std.specs.Prelude.{◌≡◌, ◌≤◌, ℕ, List, IfErr, OnOk, Ok, Err, Some};
 ghost use Rattle.std.specs.Io.KnownBytes.{Appends};
+ghost use Rattle.vault_core_model.specs.Halts.{Rose};
 ghost use Rattle.vault_http_answer.specs.Reply.{AnswersRefusal};
 ghost use Rattle.vault_http_exchange.specs.Exchange as spec;
 ghost use Rattle.vault_http_exchange.specs.Left as left;
@@ -23,10 +24,7 @@ use vault_http_answer::reply::{refusal_bytes, reply_bytes};
 fn drops(command: &Command) -> bool
     ensures { result ≡ spec.drops command.now }
 {
-    match command {
-        Command::DropRules(_) => true,
-        _ => false,
-    }
+    matches!(command, Command::DropRules(_))
 }
 
 /// Carries a command out and writes its answer.
@@ -39,11 +37,12 @@ fn answer<W: Write, K: Keeper>(
     command: &Command,
     shown: bool,
 ) -> Result<(), ServeFault>
-    ensures ok { K.is_honest keeper.new → OnOk result ((out : List ℕ) × spec.Done at shown who.now command.now (K.vault keeper.old) out (K.vault keeper.new) × Appends (W.contents writer.old) (W.contents writer.new) out) }
-    ensures err { K.is_honest keeper.new → IfErr result (λ e. left.JudgedLeft e at shown who.now (Ok command.now) (K.vault keeper.old) (K.vault keeper.new) (W.contents writer.old) (W.contents writer.new)) }
+    ensures ok { K.is_honest keeper.new → OnOk result ((out : List ℕ) × spec.Done (Rose (K.count keeper.old) (K.count keeper.new)) at shown who.now command.now (K.vault keeper.old) out (K.vault keeper.new) × Appends (W.contents writer.old) (W.contents writer.new) out) }
+    ensures err { K.is_honest keeper.new → IfErr result (λ e. left.JudgedLeft (Rose (K.count keeper.old) (K.count keeper.new)) e at shown who.now (Ok command.now) (K.vault keeper.old) (K.vault keeper.new) (W.contents writer.old) (W.contents writer.new)) }
     ensures kind { ¬ (result ≡ Err faults.Read) }
     ensures once { K.is_honest keeper.new → left.AtMostOne (Some at) (K.vault keeper.old) (K.vault keeper.new) }
     ensures honest { K.is_honest keeper.new → K.is_honest keeper.old }
+    ensures counted { K.count keeper.old ≤ K.count keeper.new }
 {
     let reply = step(alloc, keeper, at, who, command);
     let Ok(bytes) = reply_bytes(alloc, Some(at), drops(command), reply, shown) else {
@@ -62,11 +61,12 @@ fn finish<W: Write, K: Keeper>(
     command: Command,
     shown: bool,
 ) -> Result<(), ServeFault>
-    ensures ok { K.is_honest keeper.new → OnOk result ((out : List ℕ) × spec.Done at shown who command (K.vault keeper.old) out (K.vault keeper.new) × Appends (W.contents writer.old) (W.contents writer.new) out) }
-    ensures err { K.is_honest keeper.new → IfErr result (λ e. left.JudgedLeft e at shown who (Ok command) (K.vault keeper.old) (K.vault keeper.new) (W.contents writer.old) (W.contents writer.new)) }
+    ensures ok { K.is_honest keeper.new → OnOk result ((out : List ℕ) × spec.Done (Rose (K.count keeper.old) (K.count keeper.new)) at shown who command (K.vault keeper.old) out (K.vault keeper.new) × Appends (W.contents writer.old) (W.contents writer.new) out) }
+    ensures err { K.is_honest keeper.new → IfErr result (λ e. left.JudgedLeft (Rose (K.count keeper.old) (K.count keeper.new)) e at shown who (Ok command) (K.vault keeper.old) (K.vault keeper.new) (W.contents writer.old) (W.contents writer.new)) }
     ensures kind { ¬ (result ≡ Err faults.Read) }
     ensures once { K.is_honest keeper.new → left.AtMostOne (Some at) (K.vault keeper.old) (K.vault keeper.new) }
     ensures honest { K.is_honest keeper.new → K.is_honest keeper.old }
+    ensures counted { K.count keeper.old ≤ K.count keeper.new }
 {
     let written = answer(alloc, writer, keeper, at, &who, &command, shown);
     drop(command);
@@ -102,11 +102,12 @@ pub fn conclude<W: Write, K: Keeper>(
     judged: Result<Command, Refusal>,
     shown: bool,
 ) -> Result<(), ServeFault>
-    ensures ok { K.is_honest keeper.new → OnOk result ((out : List ℕ) × spec.Judged at shown who judged (K.vault keeper.old) out (K.vault keeper.new) × Appends (W.contents writer.old) (W.contents writer.new) out) }
-    ensures err { K.is_honest keeper.new → IfErr result (λ e. left.JudgedLeft e at shown who judged (K.vault keeper.old) (K.vault keeper.new) (W.contents writer.old) (W.contents writer.new)) }
+    ensures ok { K.is_honest keeper.new → OnOk result ((out : List ℕ) × spec.Judged (Rose (K.count keeper.old) (K.count keeper.new)) at shown who judged (K.vault keeper.old) out (K.vault keeper.new) × Appends (W.contents writer.old) (W.contents writer.new) out) }
+    ensures err { K.is_honest keeper.new → IfErr result (λ e. left.JudgedLeft (Rose (K.count keeper.old) (K.count keeper.new)) e at shown who judged (K.vault keeper.old) (K.vault keeper.new) (W.contents writer.old) (W.contents writer.new)) }
     ensures once { K.is_honest keeper.new → left.AtMostOne (Some at) (K.vault keeper.old) (K.vault keeper.new) }
     ensures kind { ¬ (result ≡ Err faults.Read) }
     ensures honest { K.is_honest keeper.new → K.is_honest keeper.old }
+    ensures counted { K.count keeper.old ≤ K.count keeper.new }
 {
     match judged {
         Ok(command) => finish(alloc, writer, keeper, at, who, command, shown),

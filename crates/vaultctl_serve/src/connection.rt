@@ -1,4 +1,5 @@
 //! One connection, and its one request.
+ghost use Rattle.std.specs.Prelude.{◌≤◌};
 ghost use Rattle.vaultctl_serve.specs.Serving.{Stepped};
 
 use std::alloc::Global;
@@ -16,6 +17,7 @@ pub fn serve_connection<K: Keeper>(
 ) -> Result<(), ServeFault>
     ensures stepped { K.is_honest keeper.new → Stepped 1 (K.vault keeper.old) (K.vault keeper.new) }
     ensures honest { K.is_honest keeper.new → K.is_honest keeper.old }
+    ensures counted { K.count keeper.old ≤ K.count keeper.new }
 {
     let Ok(mut reader) = BufReader::new(alloc, stream) else {
         return Err(ServeFault::Memory);

@@ -1,5 +1,5 @@
 //! Connections to a port of this machine, one after another.
-ghost use Rattle.std.specs.Prelude.{◌≡◌, OnErr};
+ghost use Rattle.std.specs.Prelude.{◌≡◌, ◌≤◌, OnErr};
 ghost use Rattle.vault_core_model.specs.Step.{Reached};
 ghost use Rattle.vaultctl_serve.specs.Serving.{Stepped};
 
@@ -20,6 +20,7 @@ fn serve_next<C: Clock, L: OpenListener<Stream = TcpStream>, K: Keeper>(
 )
     ensures stepped { K.is_honest keeper.new → Stepped 1 (K.vault keeper.old) (K.vault keeper.new) }
     ensures honest { K.is_honest keeper.new → K.is_honest keeper.old }
+    ensures counted { K.count keeper.old ≤ K.count keeper.new }
 {
     let Ok((stream, _)) = listener.accept() else {
         return;
@@ -45,6 +46,7 @@ pub fn serve_connections<C: Clock, L: OpenListener<Stream = TcpStream>, K: Keepe
     // A vault that runs lead to from a new one is left as such a vault.
     ensures reached { K.is_honest keeper.new → Reached (K.vault keeper.old) → Reached (K.vault keeper.new) }
     ensures honest { K.is_honest keeper.new → K.is_honest keeper.old }
+    ensures counted { K.count keeper.old ≤ K.count keeper.new }
 {
     for _ in 0..count {
         serve_next(clock, alloc, listener, keeper);
@@ -65,6 +67,7 @@ pub fn serve<R: Net<Stream = TcpStream> + Clock, K: Keeper>(
     ensures reached { K.is_honest keeper.new → Reached (K.vault keeper.old) → Reached (K.vault keeper.new) }
     ensures err { OnErr result (K.vault keeper.new ≡ K.vault keeper.old) }
     ensures honest { K.is_honest keeper.new → K.is_honest keeper.old }
+    ensures counted { K.count keeper.old ≤ K.count keeper.new }
 {
     let Ok(listener) = TcpListener::bind(rt, (Ipv4Addr::LOCALHOST, port)) else {
         return Err(PortFault::Device);
