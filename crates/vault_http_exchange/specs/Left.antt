@@ -38,10 +38,6 @@ abbrev pub Stepped : ℕ → List ℕ → Result Command Refusal → Vault → V
 Stepped at who (Ok c) old new = (reply : Reply) × Step old at who c reply new
 Stepped at who (Err r) old new = ⊥
 
--- no byte of an answer is written: nothing is, or that a client that waits was told to go on
-abbrev pub IsUnanswered : Bool → Option (List ℕ) → Option (List ℕ) → Type 0
-IsUnanswered waits before after = (after ≡ before) ⊎ Appends before after (told waits)
-
 -- Behind the body nothing is read any more. Where the answer found no room nothing is written, and at most that step was made; where writing it failed a beginning of it is written, and the vault is as it says.
 -- Failed says that the device failed, as in Exchange.
 abbrev pub JudgedLeft : Type 0 → ServeFault → ℕ → Bool → List ℕ → Result Command Refusal → Vault → Vault → Option (List ℕ) → Option (List ℕ) → Type 0
@@ -54,11 +50,11 @@ DenyLeft faults.Read moment r a shown before after = ⊥
 DenyLeft faults.Memory moment r a shown before after = after ≡ before
 DenyLeft faults.Write moment r a shown before after = (out : List ℕ) × AnswersRefusal moment r a shown out × Begins before after out
 
--- After Read no step was made, after Memory at most that one, and no byte of an answer is written. After Write 100 Continue failed, nothing of the body was read and no step was made, or the answer failed behind a 100 Continue that was written whole, where the client waits, and the vault is as the answer says; what is written is a beginning of that.
+-- After Read no step was made, after Memory at most that one, and no byte of an answer is written: a client that waits was told to go on, and that is all. After Write 100 Continue failed, nothing of the body was read and no step was made, or the answer failed behind a 100 Continue that was written whole, where the client waits, and the vault is as the answer says; what is written is a beginning of that.
 abbrev pub PlanLeft : Type 0 → ServeFault → Bool → Plan → List ℕ → Option (List ℕ) → Vault → Vault → Option (List ℕ) → Option (List ℕ) → Type 0
-PlanLeft Failed faults.Read shown plan rest unread old new before after = (new ≡ old) × IsUnanswered plan.terms.waits before after
+PlanLeft Failed faults.Read shown plan rest unread old new before after = (new ≡ old) × Appends before after (told plan.terms.waits)
 PlanLeft Failed faults.Memory shown plan rest unread old new before after =
-    ((new ≡ old) ⊎ Stepped plan.at plan.terms.caller (planned_command plan rest) old new) × IsUnanswered plan.terms.waits before after
+    ((new ≡ old) ⊎ Stepped plan.at plan.terms.caller (planned_command plan rest) old new) × Appends before after (told plan.terms.waits)
 PlanLeft Failed faults.Write shown plan rest unread old new before after =
     ((plan.terms.waits ≡ true) × (unread ≡ Some rest) × (new ≡ old) × Begins before after go_on)
     ⊎ ((answer : List ℕ) × (mid : Option (List ℕ)) × Judged Failed plan.at shown plan.terms.caller (planned_command plan rest) old answer new × Appends before mid (told plan.terms.waits) × Begins mid after answer)
