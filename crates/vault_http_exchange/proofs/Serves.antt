@@ -66,7 +66,7 @@ module _ (Failed : Type 0) (shown : Bool) (plan : Plan) (old new : Vault) where
       → JudgedLeft Failed e plan.at shown plan.terms.caller judged old new b c → PlanLeft Failed e shown plan rest unread old new a c
   judged_left unread a b c faults.Read judged rest is p d = absurd d
   judged_left unread a b c faults.Memory judged rest is p d =
-      (subst (λ (j : Result Command Refusal). (new ≡ old) ⊎ Stepped plan.at plan.terms.caller j old new) is d.0, subst (λ (w : Option (List ℕ)). Appends a w (told plan.terms.waits)) (sym d.1) p)
+      inr (subst (λ (j : Result Command Refusal). (new ≡ old) ⊎ Stepped plan.at plan.terms.caller j old new) is d.0, subst (λ (w : Option (List ℕ)). Appends a w (told plan.terms.waits)) (sym d.1) p)
   judged_left unread a b c faults.Write judged rest is p d =
       inr (d.0, b, subst (λ (j : Result Command Refusal). Judged Failed plan.at shown plan.terms.caller j old d.0 new) is d.1, p, d.2)
 

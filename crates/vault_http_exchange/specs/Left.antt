@@ -50,11 +50,12 @@ DenyLeft faults.Read moment r a shown before after = ⊥
 DenyLeft faults.Memory moment r a shown before after = after ≡ before
 DenyLeft faults.Write moment r a shown before after = (out : List ℕ) × AnswersRefusal moment r a shown out × Begins before after out
 
--- After Read no step was made, after Memory at most that one, and no byte of an answer is written: a client that waits was told to go on, and that is all. After Write 100 Continue failed, nothing of the body was read and no step was made, or the answer failed behind a 100 Continue that was written whole, where the client waits, and the vault is as the answer says; what is written is a beginning of that.
+-- After Read and Memory no byte of an answer is written, only that a client that waits is to go on; or, where the head found no room, nothing, and no step was made. After Read none was made, after Memory at most that one. After Write 100 Continue failed, nothing of the body was read and no step was made, or the answer failed behind a 100 Continue that was written whole, where the client waits, and the vault is as the answer says; what is written is a beginning of that.
 abbrev pub PlanLeft : Type 0 → ServeFault → Bool → Plan → List ℕ → Option (List ℕ) → Vault → Vault → Option (List ℕ) → Option (List ℕ) → Type 0
 PlanLeft Failed faults.Read shown plan rest unread old new before after = (new ≡ old) × Appends before after (told plan.terms.waits)
 PlanLeft Failed faults.Memory shown plan rest unread old new before after =
-    ((new ≡ old) ⊎ Stepped plan.at plan.terms.caller (planned_command plan rest) old new) × Appends before after (told plan.terms.waits)
+    ((new ≡ old) × (after ≡ before))
+    ⊎ (((new ≡ old) ⊎ Stepped plan.at plan.terms.caller (planned_command plan rest) old new) × Appends before after (told plan.terms.waits))
 PlanLeft Failed faults.Write shown plan rest unread old new before after =
     ((plan.terms.waits ≡ true) × (unread ≡ Some rest) × (new ≡ old) × Begins before after go_on)
     ⊎ ((answer : List ℕ) × (mid : Option (List ℕ)) × Judged Failed plan.at shown plan.terms.caller (planned_command plan rest) old answer new × Appends before mid (told plan.terms.waits) × Begins mid after answer)
