@@ -202,6 +202,15 @@ fn values_are_read_strictly(rt: HostRuntime) -> Result<(), Fail> {
   {"error":{"code":"InvalidBucketName","n":15}}
 {"at":"2024-01-15T10:30:00Z","as":"registrar","do":"add-bucket","bucket":"docs-","dept":"records"}
   {"error":{"code":"InvalidBucketName","n":15}}
+"#,
+    )
+}
+
+#[test]
+fn lines_are_read_strictly(rt: HostRuntime) -> Result<(), Fail> {
+    play_opened(
+        rt.alloc(),
+        r#"
 {"at":"2024-01-15T10:30:00Z","as":"ann","do":"put","bucket":"docs","key":"a","text":"x","hex":"00"}
   {"error":{"code":"MalformedBody","n":12}}
 {"at":"2024-01-15T10:30:00Z","as":"ann","do":"put","bucket":"docs","key":"a"}

@@ -146,9 +146,9 @@ fn invalid(rt: HostRuntime) -> Result<(), Fail> {
     )
 }
 
-/// What they say of the caller comes behind all that.
+/// Behind all that, what they say of the caller.
 #[test]
-fn callers_and_bodies(rt: HostRuntime) -> Result<(), Fail> {
+fn callers_are_looked_at_next(rt: HostRuntime) -> Result<(), Fail> {
     let alloc = rt.alloc();
     all_refused(
         alloc,
@@ -161,7 +161,13 @@ fn callers_and_bodies(rt: HostRuntime) -> Result<(), Fail> {
         ],
         "HTTP/1.1 403 Forbidden",
         UNKNOWN,
-    )?;
+    )
+}
+
+/// And behind that what they ask: the body's shape and length, a moment, the bucket, the version.
+#[test]
+fn what_is_asked_is_looked_at_last(rt: HostRuntime) -> Result<(), Fail> {
+    let alloc = rt.alloc();
     all_refused(
         alloc,
         &[

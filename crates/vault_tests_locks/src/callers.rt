@@ -2,9 +2,9 @@
 use std::test::Fail;
 use vault_transcript::transcript::play_opened;
 
-/// Whatever it asks, it is answered as one that isn't there; others go on.
+/// Whatever it asks of versions, it is answered as one that isn't there.
 #[test]
-fn a_closed_caller_is_denied_everything(rt: HostRuntime) -> Result<(), Fail> {
+fn a_closed_caller_is_denied_each_version(rt: HostRuntime) -> Result<(), Fail> {
     play_opened(
         rt.alloc(),
         r#"
@@ -34,6 +34,20 @@ fn a_closed_caller_is_denied_everything(rt: HostRuntime) -> Result<(), Fail> {
   {"error":{"code":"AccessDenied","n":3,"reason":"unknown-caller"}}
 {"at":"2024-01-15T10:30:00Z","as":"ann","do":"get-hold","bucket":"docs","key":"a"}
   {"error":{"code":"AccessDenied","n":3,"reason":"unknown-caller"}}
+"#,
+    )
+}
+
+/// So it is with what it asks of anything else; others go on.
+#[test]
+fn a_closed_caller_is_denied_everything_else(rt: HostRuntime) -> Result<(), Fail> {
+    play_opened(
+        rt.alloc(),
+        r#"
+{"at":"2024-01-15T10:30:00Z","as":"ann","do":"put","bucket":"docs","key":"a","text":"x"}
+  {"ok":{"version_id":1}}
+{"at":"2024-01-15T10:30:00Z","as":"registrar","do":"close-caller","caller":"ann"}
+  {"ok":{}}
 {"at":"2024-01-15T10:30:00Z","as":"ann","do":"set-default","bucket":"docs","mode":"GOVERNANCE","days":1}
   {"error":{"code":"AccessDenied","n":3,"reason":"unknown-caller"}}
 {"at":"2024-01-15T10:30:00Z","as":"ann","do":"get-default","bucket":"docs"}

@@ -40,7 +40,7 @@ fn reads_and_idle_runs_leave_the_clock(rt: HostRuntime) -> Result<(), Fail> {
 
 /// Also one that leaves everything as it was but for its trace: the same hold, no default, no rules.
 #[test]
-fn every_change_moves_the_clock(rt: HostRuntime) -> Result<(), Fail> {
+fn every_setting_moves_the_clock(rt: HostRuntime) -> Result<(), Fail> {
     play_opened(
         rt.alloc(),
         r#"
@@ -62,6 +62,18 @@ fn every_change_moves_the_clock(rt: HostRuntime) -> Result<(), Fail> {
   {"ok":{}}
 {"at":"2024-01-15T10:30:03Z","as":"ann","do":"get-rules","bucket":"docs"}
   {"error":{"code":"ClockBack","n":1}}
+"#,
+    )
+}
+
+/// So do markers, removals, closed callers and runs.
+#[test]
+fn every_other_change_moves_the_clock(rt: HostRuntime) -> Result<(), Fail> {
+    play_opened(
+        rt.alloc(),
+        r#"
+{"at":"2024-01-15T10:30:00Z","as":"ann","do":"put","bucket":"docs","key":"a","text":"x"}
+  {"ok":{"version_id":1}}
 {"at":"2024-01-15T10:30:05Z","as":"ann","do":"delete","bucket":"docs","key":"b"}
   {"ok":{"delete_marker":true,"version_id":2}}
 {"at":"2024-01-15T10:30:04Z","as":"ann","do":"list-versions","bucket":"docs"}

@@ -2,9 +2,9 @@
 use std::test::Fail;
 use vault_transcript::transcript::play_opened;
 
-/// Whatever is asked, a member that it doesn't have is one too many.
+/// Whatever is asked of departments, callers and buckets, a member that it doesn't have is one too many.
 #[test]
-fn unknown_members_are_malformed(rt: HostRuntime) -> Result<(), Fail> {
+fn unknown_members_about_buckets_are_malformed(rt: HostRuntime) -> Result<(), Fail> {
     play_opened(
         rt.alloc(),
         r#"
@@ -32,6 +32,16 @@ fn unknown_members_are_malformed(rt: HostRuntime) -> Result<(), Fail> {
   {"error":{"code":"MalformedBody","n":12}}
 {"at":"2024-01-15T10:30:00Z","as":"ann","do":"drop-rules","bucket":"docs","x":1}
   {"error":{"code":"MalformedBody","n":12}}
+"#,
+    )
+}
+
+/// So it is with what is asked of versions.
+#[test]
+fn unknown_members_about_versions_are_malformed(rt: HostRuntime) -> Result<(), Fail> {
+    play_opened(
+        rt.alloc(),
+        r#"
 {"at":"2024-01-15T10:30:00Z","as":"ann","do":"put","bucket":"docs","key":"a","text":"","x":1}
   {"error":{"code":"MalformedBody","n":12}}
 {"at":"2024-01-15T10:30:00Z","as":"ann","do":"put","bucket":"docs","key":"a","hex":"6A6b","mode":"COMPLIANCE","until":"2030-01-01T00:00:00Z","x":1}
@@ -60,6 +70,16 @@ fn unknown_members_are_malformed(rt: HostRuntime) -> Result<(), Fail> {
   {"error":{"code":"MalformedBody","n":12}}
 {"at":"2024-01-15T10:30:00Z","as":"ann","do":"get-hold","bucket":"docs","key":"a","x":1}
   {"error":{"code":"MalformedBody","n":12}}
+"#,
+    )
+}
+
+/// And with runs, reports and intakes.
+#[test]
+fn unknown_members_of_runs_and_intakes_are_malformed(rt: HostRuntime) -> Result<(), Fail> {
+    play_opened(
+        rt.alloc(),
+        r#"
 {"at":"2024-01-15T10:30:00Z","as":"ann","do":"run","bucket":"docs","x":1}
   {"error":{"code":"MalformedBody","n":12}}
 {"at":"2024-01-15T10:30:00Z","as":"ann","do":"report","dept":"records","x":1}
@@ -72,9 +92,9 @@ fn unknown_members_are_malformed(rt: HostRuntime) -> Result<(), Fail> {
     )
 }
 
-/// Numbers that aren't whole, values of another type, members that lack.
+/// Numbers that aren't whole, values of another type, members that lack, in a bucket's settings.
 #[test]
-fn members_of_other_shapes_are_malformed(rt: HostRuntime) -> Result<(), Fail> {
+fn settings_of_other_shapes_are_malformed(rt: HostRuntime) -> Result<(), Fail> {
     play_opened(
         rt.alloc(),
         r#"
@@ -98,6 +118,16 @@ fn members_of_other_shapes_are_malformed(rt: HostRuntime) -> Result<(), Fail> {
   {"error":{"code":"MalformedBody","n":12}}
 {"at":"2024-01-15T10:30:00Z","as":"ann","do":"set-rules","bucket":"docs","rules":[{"ID":"r1","Status":"Enabled","NoncurrentVersionExpiration":{}}]}
   {"error":{"code":"MalformedBody","n":12}}
+"#,
+    )
+}
+
+/// The same, elsewhere.
+#[test]
+fn members_of_other_shapes_are_malformed(rt: HostRuntime) -> Result<(), Fail> {
+    play_opened(
+        rt.alloc(),
+        r#"
 {"at":"2024-01-15T10:30:00Z","as":"ann","do":"put","bucket":"docs","key":"a","text":"b","hold":true}
   {"error":{"code":"MalformedBody","n":12}}
 {"at":"2024-01-15T10:30:00Z","as":"ann","do":"delete-version","bucket":"docs","key":"a"}
@@ -152,9 +182,9 @@ fn a_right_named_twice_counts_once(rt: HostRuntime) -> Result<(), Fail> {
     )
 }
 
-/// Values out of their range, and members that don't stand together.
+/// Values out of their range, and members that don't stand together, in a bucket's settings.
 #[test]
-fn bad_values_are_invalid(rt: HostRuntime) -> Result<(), Fail> {
+fn bad_settings_are_invalid(rt: HostRuntime) -> Result<(), Fail> {
     play_opened(
         rt.alloc(),
         r#"
@@ -178,6 +208,16 @@ fn bad_values_are_invalid(rt: HostRuntime) -> Result<(), Fail> {
   {"error":{"code":"InvalidArgument","n":10}}
 {"at":"2024-01-15T10:30:00Z","as":"ann","do":"set-rules","bucket":"docs","rules":[{"ID":"r1","Status":"Enabled","Expiration":{"Days":0}}]}
   {"error":{"code":"InvalidArgument","n":10}}
+"#,
+    )
+}
+
+/// The same, elsewhere.
+#[test]
+fn bad_values_are_invalid(rt: HostRuntime) -> Result<(), Fail> {
+    play_opened(
+        rt.alloc(),
+        r#"
 {"at":"2024-01-15T10:30:00Z","as":"ann","do":"put","bucket":"docs","key":"a","text":"b","mode":"COMPLIANCE"}
   {"error":{"code":"InvalidArgument","n":10}}
 {"at":"2024-01-15T10:30:00Z","as":"ann","do":"put","bucket":"docs","key":"a","text":"b","until":"2030-01-01T00:00:00Z"}
