@@ -49,7 +49,7 @@ def fill(connection, count):
     execute("INSERT INTO departments VALUES ('records', ?1, ?1, 0, ?2, 0)", (held, held * days))
     execute("INSERT INTO callers VALUES ('ann', 'records', ?, 0)", (EVERY_RIGHT,))
     execute("INSERT INTO buckets VALUES ('docs', 'records', 0, NULL, NULL)")
-    execute("INSERT INTO rules VALUES ('docs', 1, 'expire', '', 1, 1, 0, NULL, NULL)")
+    execute("INSERT INTO rules VALUES ('docs', 1, 'expire', '', 1, 1, 0, NULL, NULL, NULL, NULL)")
     many(
         "INSERT INTO entries VALUES (?, 'docs', ?, 0, ?, ?, ?, 0, 'ann', NULL, NULL, NULL)",
         ((n, name, len(data), hashlib.sha256(data).digest(), MOMENT) for n, name, data in entries),

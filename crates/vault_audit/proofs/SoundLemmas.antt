@@ -10,11 +10,12 @@ use Rattle.sqlite.proofs.Callers.{one_permutation}
 use Rattle.vault_core_model.specs.declared.records.Entry.{Entry}
 use Rattle.vault_core_model.specs.declared.records.History.{History}
 use Rattle.vault_core_model.specs.Vault.{Vault}
+use Rattle.vault_audit_model.specs.declared.schema.Edition.{Edition}
 use Rattle.vault_audit_model.specs.declared.rows.MetaRow.{MetaRow}
 use Rattle.vault_audit_model.specs.Relations.{AreEntries, IsPast}
 use Rattle.vault_audit_model.specs.Rows.{meta_row, entry_row, entry_columns}
-use Rattle.vault_audit_model.specs.Spells.{AreSound, meta_of}
-use Rattle.vault_audit_model.specs.Tables.{vault_schema, entries_tree}
+use Rattle.vault_audit_model.specs.Spells.{AreSoundAs, meta_as}
+use Rattle.vault_audit_model.specs.Tables.{schema_of, entries_tree}
 use Rattle.vault_audit_model.proofs.SameRows.{same_meta, same_entry}
 use Rattle.vault_audit_tables.specs.Entries.{IsEntryBy}
 use Rattle.vault_audit_tables.specs.Meta.{IsMetaOf}
@@ -26,11 +27,11 @@ use Rattle.vault_audit_looks.specs.Looks.{ArePast}
 use Rattle.vault_audit.specs.Whole.{AllFound}
 
 -- the last moment of a vault that the tables are sound for is that of the row of meta
-pub last_of : (db : Database) (v : Vault) (m : MetaRow) → IsMetaOf db (Some m) → AreSound db v → v.last ≡ m.last
-last_of db v m is it =
+pub last_of : (n : Edition) (db : Database) (v : Vault) (m : MetaRow) → IsMetaOf n db (Some m) → AreSoundAs n db v → v.last ≡ m.last
+last_of n db v m is it =
     let rows = one_permutation (meta_row m) _ (IsPermutation-trans _ _ _ is.0 (IsPermutation-sym _ _ it.spells.meta)) in
-    let first : meta_row (meta_of v) ≡ meta_row m = cc in
-    let same : meta_of v ≡ m = same_meta (meta_of v) m first in
+    let first : meta_row (meta_as n v) ≡ meta_row m = cc in
+    let same : meta_as n v ≡ m = same_meta (meta_as n v) m first in
     ap (λ (x : MetaRow). x.last) same
 
 -- the row tells an entry that is past
@@ -49,9 +50,9 @@ past_too db last es past are =
     let rows = all-permutation (TellsPast last) _ _ (IsPermutation-trans _ _ _ past.1 (IsPermutation-sym _ _ are.0)) told in
     each (λ e. TellsPast last (entry_row e)) (IsPast last) (λ e its. subst (IsPast last) (sym (same_entry e its.0 its.1)) its.2) es (all_from_map (TellsPast last) entry_row es rows)
 
-module _ (db : Database) (m : MetaRow) (schema : db.schema ≡ vault_schema) (tied : AreTied db) (meta : IsMetaOf db (Some m)) (past : ArePast db m.last) (found : AllFound db m) where
+module _ (n : Edition) (db : Database) (m : MetaRow) (schema : db.schema ≡ schema_of n) (tied : AreTied db) (meta : IsMetaOf n db (Some m)) (past : ArePast db m.last) (found : AllFound n db m) where
   -- they are sound for the vault that was found
-  pub sound_vault : (v : Vault) × AreSound db v
+  pub sound_vault : (v : Vault) × AreSoundAs n db v
   sound_vault =
       let es = found.held.entries.0 in
       let are = found.held.entries.1 in
@@ -70,10 +71,10 @@ module _ (db : Database) (m : MetaRow) (schema : db.schema ≡ vault_schema) (ti
       let b : length (map entry_columns (db.trees entries_tree)) ≡ length (db.trees entries_tree) = simp length-map in
       let next = found.departments.next in
       let summed = found.departments.sums buckets.0 contents m.last buckets.1 (subst (AreEntries db) (sym contents_are.0) are) (subst (AllByRecursion (IsPast m.last)) (sym contents_are.0) since) in
-      let all : AreFound db m departments.0 callers.0 buckets.0 notes.0 es contents settings summed.0 = record {
+      let all : AreFound n db m departments.0 callers.0 buckets.0 notes.0 es contents settings summed.0 = record {
         schema = schema;
         tied = tied;
-        meta = meta;
+        meta = (meta.0, meta.1.0, meta.1.1);
         next = omega (arith, next, rows, a, b);
         departments_are = departments.1;
         callers_are = callers.1;
@@ -87,13 +88,13 @@ module _ (db : Database) (m : MetaRow) (schema : db.schema ≡ vault_schema) (ti
       } in
       let v = found_vault m departments.0 callers.0 buckets.0 notes.0 contents settings in
       let same : map (λ (h : History). h.entry) v.histories ≡ es = joined_entries contents settings (contents_are.0 ∙ sym settings_are.0) ∙ contents_are.0 in
-      let sound : AreSound db v = record {
-        spells = found_spelled db m departments.0 callers.0 buckets.0 notes.0 es contents settings summed.0 all;
-        numbers = found_sums db m departments.0 callers.0 buckets.0 notes.0 es contents settings summed.0 all;
+      let sound : AreSoundAs n db v = record {
+        spells = found_spelled n db m departments.0 callers.0 buckets.0 notes.0 es contents settings summed.0 all;
+        numbers = found_sums n db m departments.0 callers.0 buckets.0 notes.0 es contents settings summed.0 all;
         heads = found.held.heads v (subst (AreEntries db) (sym same) are);
       } in
       (v, sound)
 
 -- no vault of another moment
-pub none_of_meta : (db : Database) (m : MetaRow) → IsMetaOf db (Some m) → ((v : Vault) → v.last ≡ m.last → ¬ AreSound db v) → (v : Vault) → ¬ AreSound db v
-none_of_meta db m meta none v it = none v (last_of db v m meta it) it
+pub none_of_meta : (n : Edition) (db : Database) (m : MetaRow) → IsMetaOf n db (Some m) → ((v : Vault) → v.last ≡ m.last → ¬ AreSoundAs n db v) → (v : Vault) → ¬ AreSoundAs n db v
+none_of_meta n db m meta none v it = none v (last_of n db v m meta it) it

@@ -6,16 +6,17 @@ use Rattle.vault_base.specs.declared.refusal.Refusal.{Refusal}
 use Rattle.vault_base.specs.declared.refusal.Refusal.TheVariants.{Memory, Device, Damaged}
 use Rattle.vault_core_model.specs.declared.records.Entry.{Entry}
 use Rattle.vault_core_model.specs.Vault.{Vault}
+use Rattle.vault_audit_model.specs.declared.schema.Edition.{Edition}
 use Rattle.vault_audit_model.specs.declared.rows.MetaRow.{MetaRow}
 use Rattle.vault_audit_model.specs.Relations.{AreEntries, AreHeads}
-use Rattle.vault_audit_model.specs.Spells.{AreSound}
+use Rattle.vault_audit_model.specs.Spells.{AreSoundAs}
 use Rattle.vault_audit_keys.specs.Keys.{entries_of}
 use Rattle.vault_audit_looks.specs.Looks.{ArePast, DepartmentsFound, NamesFound, VersionsFound}
 
 -- no table behind meta is damaged, and no entry is after the last moment; or one is, and the tables are sound for no vault of that moment
-abbrev pub ToldBy : Database → ℕ → Option Table → Type 0
-ToldBy db last None = ArePast db last
-ToldBy db last (Some table) = (v : Vault) → v.last ≡ last → ¬ AreSound db v
+abbrev pub ToldBy : Edition → Database → ℕ → Option Table → Type 0
+ToldBy n db last None = ArePast db last
+ToldBy n db last (Some table) = (v : Vault) → v.last ≡ last → ¬ AreSoundAs n db v
 
 -- the entries, what stands beside them, and the heads of their keys
 pub record VersionsAndHeads (db : Database) : Type 0 where
@@ -24,15 +25,15 @@ pub record VersionsAndHeads (db : Database) : Type 0 where
   pub heads : (v : Vault) → AreEntries db (entries_of v) → AreHeads db v
 
 -- what the second pass finds
-pub record AllFound (db : Database) (m : MetaRow) : Type 0 where
-  pub departments : DepartmentsFound db m
-  pub names : NamesFound db
+pub record AllFound (n : Edition) (db : Database) (m : MetaRow) : Type 0 where
+  pub departments : DepartmentsFound n db m
+  pub names : NamesFound n db
   pub held : VersionsAndHeads db
 
 -- the tables are sound for a vault; or one is damaged, and they are sound for none
-abbrev pub IsAudited : Database → Option Table → Type 0
-IsAudited db None = (v : Vault) × AreSound db v
-IsAudited db (Some table) = (v : Vault) → ¬ AreSound db v
+abbrev pub IsAudited : Edition → Database → Option Table → Type 0
+IsAudited n db None = (v : Vault) × AreSoundAs n db v
+IsAudited n db (Some table) = (v : Vault) → ¬ AreSoundAs n db v
 
 -- the refusals of an audit
 abbrev pub IsTold : Refusal → Type 0

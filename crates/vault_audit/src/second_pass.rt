@@ -2,7 +2,7 @@
 ghost use Rattle.std.specs.Prelude.{◌≡◌, IfOk, IfErr, OnOk};
 ghost use Rattle.sqlite.specs.State.{HasCleanDisk, IsUnchanged, Survives};
 ghost use Rattle.sqlite.specs.Held.{state};
-ghost use Rattle.vault_audit_model.specs.Tables.{vault_schema};
+ghost use Rattle.vault_audit_model.specs.Tables.{schema_of};
 ghost use Rattle.vault_audit_looks.specs.Looks.{Told, ToldOf};
 ghost use Rattle.vault_audit.specs.Whole.{VersionsAndHeads, AllFound};
 ghost use Rattle.vault_audit_walk.specs.Health.{IsHealthy, IsMemory};
@@ -14,24 +14,28 @@ use vault_audit_looks::departments::look_at_departments;
 use vault_audit_looks::names::look_at_names;
 use vault_audit_looks::versions::look_at_versions;
 use vault_audit_model::rows::MetaRow;
+use vault_audit_model::schema::Edition;
 use vault_audit_tables::numbers::check_numbers;
 use vault_base::refusal::Table;
 
 /// The first of entries, contents, settings, intake and heads that is damaged.
-pub(crate) fn look_at_entries<S: Alter>(conn: &mut Connection<S>) -> Result<Option<Table>, Error>
-    requires { HasCleanDisk (state S.Store conn.old) → (state S.Store conn.old).now.schema ≡ vault_schema }
-    ensures told { HasCleanDisk (state S.Store conn.new) → IfOk result (Told (state S.Store conn.new).now (VersionsAndHeads (state S.Store conn.new).now)) }
+pub(crate) fn look_at_entries<S: Alter>(
+    conn: &mut Connection<S>,
+    edition: Edition,
+) -> Result<Option<Table>, Error>
+    requires { HasCleanDisk (state S.Store conn.old) → (state S.Store conn.old).now.schema ≡ schema_of edition }
+    ensures told { HasCleanDisk (state S.Store conn.new) → IfOk result (Told edition (state S.Store conn.new).now (VersionsAndHeads (state S.Store conn.new).now)) }
     ensures same { HasCleanDisk (state S.Store conn.new) → OnOk result (IsUnchanged (state S.Store conn.old) (state S.Store conn.new)) }
     ensures err { IsHealthy (state S.Store conn.new) → IfErr result IsMemory }
     ensures crash { Survives (state S.Store conn.old) (state S.Store conn.new) (λ _. ⊥) }
 {
-    let Some(_next) = check_numbers(conn)? else {
+    let Some(_next) = check_numbers(conn, edition)? else {
         return Ok(Some(Table::Entries));
     };
-    if let Some(table) = look_at_versions(conn)? {
+    if let Some(table) = look_at_versions(conn, edition)? {
         return Ok(Some(table));
     }
-    let heads = check_heads(conn)?;
+    let heads = check_heads(conn, edition)?;
     if !heads {
         return Ok(Some(Table::Heads));
     }
@@ -42,21 +46,22 @@ pub(crate) fn look_at_entries<S: Alter>(conn: &mut Connection<S>) -> Result<Opti
 pub(crate) fn look_again<S: Alter>(
     alloc: Global,
     conn: &mut Connection<S>,
+    edition: Edition,
     meta: MetaRow,
 ) -> Result<Option<Table>, Error>
-    requires { HasCleanDisk (state S.Store conn.old) → (state S.Store conn.old).now.schema ≡ vault_schema }
-    ensures told { HasCleanDisk (state S.Store conn.new) → IfOk result (ToldOf (state S.Store conn.new).now meta (AllFound (state S.Store conn.new).now meta)) }
+    requires { HasCleanDisk (state S.Store conn.old) → (state S.Store conn.old).now.schema ≡ schema_of edition }
+    ensures told { HasCleanDisk (state S.Store conn.new) → IfOk result (ToldOf edition (state S.Store conn.new).now meta (AllFound edition (state S.Store conn.new).now meta)) }
     ensures same { HasCleanDisk (state S.Store conn.new) → OnOk result (IsUnchanged (state S.Store conn.old) (state S.Store conn.new)) }
     ensures err { IsHealthy (state S.Store conn.new) → IfErr result IsMemory }
     ensures crash { Survives (state S.Store conn.old) (state S.Store conn.new) (λ _. ⊥) }
 {
-    if let Some(table) = look_at_departments(alloc, conn, meta)? {
+    if let Some(table) = look_at_departments(alloc, conn, edition, meta)? {
         return Ok(Some(table));
     }
-    if let Some(table) = look_at_names(alloc, conn)? {
+    if let Some(table) = look_at_names(alloc, conn, edition)? {
         return Ok(Some(table));
     }
-    if let Some(table) = look_at_entries(conn)? {
+    if let Some(table) = look_at_entries(conn, edition)? {
         return Ok(Some(table));
     }
     Ok(None)

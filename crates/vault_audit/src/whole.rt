@@ -4,8 +4,8 @@ ghost use Rattle.sqlite.specs.State.{HasCleanDisk, IsUnchanged, Survives};
 ghost use Rattle.sqlite.specs.Held.{state};
 ghost use Rattle.vault_base.specs.declared.refusal.Table.{Table};
 ghost use Rattle.vault_core_model.specs.Vault.{Vault};
-ghost use Rattle.vault_audit_model.specs.Spells.{AreSound};
-ghost use Rattle.vault_audit_model.specs.Tables.{vault_schema};
+ghost use Rattle.vault_audit_model.specs.Spells.{AreSoundAs};
+ghost use Rattle.vault_audit_model.specs.Tables.{schema_of};
 ghost use Rattle.vault_audit_model.specs.Faults.{refusal_of};
 ghost use Rattle.vault_audit.specs.Whole.{IsAudited, IsJudged, IsTold};
 ghost use Rattle.vault_audit_walk.specs.Health.{IsHealthy, IsMemory};
@@ -14,6 +14,7 @@ use crate::first_pass::look_at_rows;
 use crate::second_pass::look_again;
 use sqlite::{Alter, Connection, Error, ErrorCode};
 use std::alloc::Global;
+use vault_audit_model::schema::Edition;
 use vault_audit_schema::check_schema;
 use vault_audit_tables::meta::check_meta;
 use vault_audit_ties::check_ties;
@@ -30,37 +31,56 @@ fn refusal_of(error: Error) -> Refusal
 }
 
 /// The first table of a file with a vault's schema that is damaged.
-fn find_damage<S: Alter>(alloc: Global, conn: &mut Connection<S>) -> Result<Option<Table>, Error>
-    requires { HasCleanDisk (state S.Store conn.old) → (state S.Store conn.old).now.schema ≡ vault_schema }
-    ensures told { HasCleanDisk (state S.Store conn.new) → IfOk result (IsAudited (state S.Store conn.new).now) }
+fn find_damage<S: Alter>(
+    alloc: Global,
+    conn: &mut Connection<S>,
+    edition: Edition,
+) -> Result<Option<Table>, Error>
+    requires { HasCleanDisk (state S.Store conn.old) → (state S.Store conn.old).now.schema ≡ schema_of edition }
+    ensures told { HasCleanDisk (state S.Store conn.new) → IfOk result (IsAudited edition (state S.Store conn.new).now) }
     ensures same { HasCleanDisk (state S.Store conn.new) → OnOk result (IsUnchanged (state S.Store conn.old) (state S.Store conn.new)) }
     ensures err { IsHealthy (state S.Store conn.new) → IfErr result IsMemory }
     ensures crash { Survives (state S.Store conn.old) (state S.Store conn.new) (λ _. ⊥) }
 {
-    let Some(meta) = check_meta(conn)? else {
+    let Some(meta) = check_meta(conn, edition)? else {
         return Ok(Some(Table::Meta));
     };
-    if let Some(table) = look_at_rows(conn, meta.last)? {
+    if let Some(table) = look_at_rows(conn, edition, meta.last)? {
         return Ok(Some(table));
     }
-    if let Some(table) = look_again(alloc, conn, meta)? {
+    if let Some(table) = look_again(alloc, conn, edition, meta)? {
         return Ok(Some(table));
     }
-    check_ties(conn);
+    check_ties(conn, edition);
     Ok(None)
 }
 
-/// Looks at every table of a file, and changes nothing: they are to be those of a sound vault, with its
+/// What is told of a file that hasn't the schema of the edition asked for, and first differs at a table: `meta`
+/// where it has that of another edition, as its number tells.
+fn told_of_schema<S: Alter>(conn: &Connection<S>, table: Table) -> Table {
+    if check_schema(conn, Edition::First).is_none()
+        || check_schema(conn, Edition::Second).is_none()
+    {
+        return Table::Meta;
+    }
+    table
+}
+
+/// Looks at every table of a file, and changes nothing: they are to be those of a sound vault of that edition, with its
 /// running numbers and heads.
 ///
 /// `Damaged` with the first table that isn't, in their order: first each is looked at by itself, for its
 /// columns and for the values of its rows, and then beside the others. `Memory` where the store wanted
 /// memory. `Device` where it refused for another cause, as where its disk failed; a store that works never does.
-pub fn audit<S: Alter>(alloc: Global, conn: &mut Connection<S>) -> Result<(), Refusal>
+pub fn audit<S: Alter>(
+    alloc: Global,
+    conn: &mut Connection<S>,
+    edition: Edition,
+) -> Result<(), Refusal>
     // There is a vault that the tables are those of,
-    ensures sound { HasCleanDisk (state S.Store conn.new) → OnOk result ((v : Vault) × AreSound (state S.Store conn.new).now v) }
+    ensures sound { HasCleanDisk (state S.Store conn.new) → OnOk result ((v : Vault) × AreSoundAs edition (state S.Store conn.new).now v) }
     // or they are those of none.
-    ensures damaged { HasCleanDisk (state S.Store conn.new) → IfErr result (λ r. (t : Table) → r ≡ Refusal.Damaged t → (v : Vault) → ¬ AreSound (state S.Store conn.new).now v) }
+    ensures damaged { HasCleanDisk (state S.Store conn.new) → IfErr result (λ r. (t : Table) → r ≡ Refusal.Damaged t → (v : Vault) → ¬ AreSoundAs edition (state S.Store conn.new).now v) }
     ensures faults { IfErr result IsTold }
     // A store that works is never told as one that failed.
     ensures healthy { IsHealthy (state S.Store conn.new) → IfErr result (λ r. r ≢ Refusal.Device) }
@@ -68,10 +88,10 @@ pub fn audit<S: Alter>(alloc: Global, conn: &mut Connection<S>) -> Result<(), Re
     ensures kept { HasCleanDisk (state S.Store conn.new) → IsJudged result → (state S.Store conn.new).now ≡ (state S.Store conn.old).now }
     ensures crash { Survives (state S.Store conn.old) (state S.Store conn.new) (λ _. ⊥) }
 {
-    if let Some(table) = check_schema(conn) {
-        return Err(Refusal::Damaged(table));
+    if let Some(table) = check_schema(conn, edition) {
+        return Err(Refusal::Damaged(told_of_schema(conn, table)));
     }
-    match find_damage(alloc, conn) {
+    match find_damage(alloc, conn, edition) {
         Ok(None) => Ok(()),
         Ok(Some(table)) => Err(Refusal::Damaged(table)),
         Err(error) => Err(refusal_of(error)),

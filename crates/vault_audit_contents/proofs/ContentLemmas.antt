@@ -25,7 +25,7 @@ use Rattle.vault_audit_model.specs.Limits.{IsContentRow}
 use Rattle.vault_audit_model.specs.Relations.{AreEntries, AreNumbered, AreContents}
 use Rattle.vault_audit_model.specs.Rows.{content_row, content_columns, entry_columns, removal_at}
 use Rattle.vault_audit_model.specs.Spells.{contents_in}
-use Rattle.vault_audit_model.specs.Tables.{vault_schema, contents_tree, entries_tree}
+use Rattle.vault_audit_model.specs.Tables.{schema_of, contents_tree, entries_tree}
 use Rattle.vault_audit_model.specs.Values.{number, bytes_or_null}
 use Rattle.vault_audit_model.proofs.ValueLemmas.{int_less}
 use Rattle.vault_audit_model.proofs.SameRows.{cell}
@@ -41,6 +41,7 @@ use Rattle.vault_audit_contents.proofs.JoinLemmas.{beside_of, shown_beside, join
 use Rattle.vault_audit_contents.proofs.MergeLemmas.{IsGiven, taken}
 use Rattle.vault_audit_contents.proofs.RowLemmas.{same_row}
 use Rattle.vault_audit_contents.proofs.TextLemmas.{contents_walk, contents_shown, contents_walk_is, contents_walk_plain}
+use Rattle.vault_audit_model.specs.declared.schema.Edition.{Edition}
 
 abbrev Fit : ContentPass → List ContentRow → Type 0
 Fit = AllFit held_row ComesLater with_content
@@ -79,8 +80,8 @@ by_first a b = ap is_lt (then-Equal (value_cmp (eval (col 1 0) a) (eval (col 1 0
 abbrev source : Database → List Row
 source db = join_rows contents_tree 0 contents_shown db.trees
 
-answers : (a b : State) → a.now.schema ≡ vault_schema → (rows : List Row) → Shown contents_walk [] a b rows → IsPermutation (source a.now) rows × IsSorted first_cmp rows
-answers a b schema rows shown = joined contents_walk a b vault_schema schema contents_walk_plain contents_walk_is.1 contents_tree 0 contents_shown _ first_cmp _ contents_walk_is.0 by_first refl rows shown
+answers : (n : Edition) → (a b : State) → a.now.schema ≡ schema_of n → (rows : List Row) → Shown contents_walk [] a b rows → IsPermutation (source a.now) rows × IsSorted first_cmp rows
+answers n a b schema rows shown = joined contents_walk a b (schema_of n) schema (contents_walk_plain n) (contents_walk_is n).1 contents_tree 0 contents_shown _ first_cmp _ (contents_walk_is n).0 by_first refl rows shown
 
 -- the first two values of a row
 abbrev first_two : Row → Row
@@ -191,10 +192,10 @@ given_of db es hs are it = subst (λ xs. IsGiven 1 xs (flat_map contents_in hs))
 abbrev pub start : ContentPass
 start = record { next = 1; count = 0 }
 
-module _ (old new : State) (has : old.now.schema ≡ vault_schema) (same : IsUnchanged old new) (r : ContentPass) (es : List Entry) (are : AreEntries new.now es) where
+module _ (n : Edition) (old new : State) (has : old.now.schema ≡ schema_of n) (same : IsUnchanged old new) (r : ContentPass) (es : List Entry) (are : AreEntries new.now es) where
   pub contents_yes : Walked (Takes held_row ComesLater with_content) (Refuses held_row ComesLater with_content) contents_walk old new start r true → TellOfHeld new.now es (Some r.count)
   contents_yes h =
-      let it = walk_yes held_row ComesLater with_content same_row vault_schema contents_walk _ _ contents_walk_is.0 source answers old new has same start r h in
+      let it = walk_yes held_row ComesLater with_content same_row (schema_of n) contents_walk _ _ (contents_walk_is n).0 source (answers n) old new has same start r h in
       let count : r.count ≡ (end_of start it.0).count = ap (λ (p : ContentPass). p.count) it.3 in
       let all = counted start it.0 in
       (it.0, of_held new.now es it.0 are it.1 (rising start it.0 it.2), omega (arith, count, all))
@@ -203,4 +204,4 @@ module _ (old new : State) (has : old.now.schema ≡ vault_schema) (same : IsUnc
   contents_no h hs it =
       let cs = flat_map contents_in hs in
       let its = given_of new.now es hs are it in
-      walk_no held_row ComesLater with_content same_row vault_schema contents_walk _ _ contents_walk_is.0 source answers old new has same start r (rise start) h cs (shown_held new.now es cs are it.1 its.within) (fitting start cs its.rows its.rising)
+      walk_no held_row ComesLater with_content same_row (schema_of n) contents_walk _ _ (contents_walk_is n).0 source (answers n) old new has same start r (rise start) h cs (shown_held new.now es cs are it.1 its.within) (fitting start cs its.rows its.rising)

@@ -11,7 +11,7 @@ use Rattle.vault_core_model.specs.declared.records.Entry.{Entry}
 use Rattle.vault_core_model.specs.declared.records.Removal.{Removal}
 use Rattle.vault_audit_model.specs.Relations.{AreEntries}
 use Rattle.vault_audit_model.specs.Rows.{bit, entry_row, entry_columns, removal_at}
-use Rattle.vault_audit_model.specs.Tables.{vault_schema, entries_tree}
+use Rattle.vault_audit_model.specs.Tables.{schema_of, entries_tree}
 use Rattle.vault_audit_model.specs.Values.{flag}
 use Rattle.vault_audit_walk.specs.Walk.{Goes, Walked}
 use Rattle.vault_audit_walk.proofs.RecordLemmas.{scanned}
@@ -19,6 +19,7 @@ use Rattle.vault_audit_contents.specs.declared.held.HeldCount.{HeldCount}
 use Rattle.vault_audit_contents.specs.Contents.{is_held, held_count}
 use Rattle.vault_audit_contents.specs.Passes.{is_zero, is_held_row, Counts}
 use Rattle.vault_audit_contents.proofs.TextLemmas.{held_text, held_scan}
+use Rattle.vault_audit_model.specs.declared.schema.Edition.{Edition}
 
 -- what the count has come to
 counted : (p q : HeldCount) (rows : List Row) → Goes Counts p rows q → q.count ≡ p.count + length (filter is_held_row rows)
@@ -52,13 +53,13 @@ held_rows es =
     let three : length (map shown (filter is_held es)) ≡ length (filter is_held es) = simp length-map in
     ap length (one ∙ ap (map shown) two) ∙ three
 
-module _ (old new : State) (has : old.now.schema ≡ vault_schema) (same : IsUnchanged old new) (r : HeldCount) (es : List Entry) (are : AreEntries new.now es) where
+module _ (n : Edition) (old new : State) (has : old.now.schema ≡ schema_of n) (same : IsUnchanged old new) (r : HeldCount) (es : List Entry) (are : AreEntries new.now es) where
   pub held_all : (whole : Bool) → Walked Counts (λ _ _. ⊥) held_text old new (record { count = 0 }) r whole → r.count ≡ held_count es
   held_all false (rows, row, m, begins, goes, never) = absurd never
   held_all true (rows, shown, goes) =
       let db : new.now ≡ old.now = same.0.now_is in
       let its : IsPermutation (map entry_row es) (map entry_columns (old.now.trees entries_tree)) = subst (λ (d : Database). IsPermutation (map entry_row es) (map entry_columns (d.trees entries_tree))) db are.0 in
-      let all = scanned vault_schema held_text _ _ _ held_scan old new has refl rows shown in
+      let all = scanned (schema_of n) held_text _ _ _ (held_scan n) old new has refl rows shown in
       let cells = map-map two_cells entry_columns (old.now.trees entries_tree) in
       let mine = IsPermutation-trans _ _ _ (subst (IsPermutation (map two_cells (map entry_row es))) cells (IsPermutation-map two_cells _ _ its)) all in
       let count = length_permutation _ _ (IsPermutation-filter is_held_row _ _ mine) in

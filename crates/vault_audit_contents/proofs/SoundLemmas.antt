@@ -13,11 +13,12 @@ use Rattle.vault_audit_model.specs.declared.rows.ContentRow.{ContentRow}
 use Rattle.vault_audit_model.specs.Limits.{IsHistory}
 use Rattle.vault_audit_model.specs.Relations.{AreEntries, AreNumbered, AreContents, TellContents, HasContent, HasContentAs}
 use Rattle.vault_audit_model.specs.Rows.{entry_row, entry_columns, content_row, content_columns}
-use Rattle.vault_audit_model.specs.Spells.{AreSound, contents_in, entries_in}
+use Rattle.vault_audit_model.specs.Spells.{AreSoundAs, contents_in, entries_in}
 use Rattle.vault_audit_model.specs.Tables.{entries_tree, contents_tree}
 use Rattle.vault_audit_contents.specs.Contents.{held_count, TellOfHeld}
 use Rattle.vault_audit_contents.proofs.MergeLemmas.{given, itself, same_if}
 use Rattle.vault_audit_contents.proofs.ContentLemmas.{given_of}
+use Rattle.vault_audit_model.specs.declared.schema.Edition.{Edition}
 
 -- ---- a sound vault
 
@@ -26,8 +27,8 @@ numbers_of next low last [] ids order all = tt
 numbers_of next low last (h ∷ hs) ids order all = ((all.0.entry, (ids.0, order.0)), numbers_of (next + 1) h.entry.admitted last hs ids.1 order.1 all.1)
 
 -- its entries are those of the rows
-pub sound_entries : (db : Database) (v : Vault) → AreSound db v → AreEntries db (entries_in v.histories)
-sound_entries db v it =
+pub sound_entries : (n : Edition) → (db : Database) (v : Vault) → AreSoundAs n db v → AreEntries db (entries_in v.histories)
+sound_entries n db v it =
     let kept = it.spells.kept in (
       subst (λ rows. IsPermutation rows (map entry_columns (db.trees entries_tree))) (sym (map-map entry_row (λ (h : History). h.entry) v.histories)) it.spells.entries,
       numbers_of 1 0 v.last v.histories kept.sound.ids kept.sound.order kept.limits.histories,
@@ -41,11 +42,11 @@ contents_whole : (hs : List History) → AllByRecursion IsWhole hs → AllByRecu
 contents_whole [] all = tt
 contents_whole (h ∷ hs) all = (whole_content h.entry.marker h all.0, contents_whole hs all.1)
 
-pub sound_contents : (db : Database) (v : Vault) → AreSound db v → AreContents db (entries_in v.histories) v.histories
-sound_contents db v it = (refl, it.spells.contents, contents_whole v.histories it.spells.kept.sound.whole)
+pub sound_contents : (n : Edition) → (db : Database) (v : Vault) → AreSoundAs n db v → AreContents db (entries_in v.histories) v.histories
+sound_contents n db v it = (refl, it.spells.contents, contents_whole v.histories it.spells.kept.sound.whole)
 
-pub unsound : (db : Database) → ((es : List Entry) → AreEntries db es → TellContents db es false) → (v : Vault) → ¬ AreSound db v
-unsound db told v it = told (entries_in v.histories) (sound_entries db v it) v.histories (sound_contents db v it)
+pub unsound : (n : Edition) → (db : Database) → ((es : List Entry) → AreEntries db es → TellContents db es false) → (v : Vault) → ¬ AreSoundAs n db v
+unsound n db told v it = told (entries_in v.histories) ((sound_entries n) db v it) v.histories ((sound_contents n) db v it)
 
 -- ---- as many bytes as held versions, or not
 

@@ -6,12 +6,13 @@ ghost use Rattle.vault_core_model.specs.declared.records.Entry.{Entry};
 ghost use Rattle.vault_audit_model.specs.declared.rows.ContentRow.{ContentRow as Given};
 ghost use Rattle.vault_audit_model.specs.Limits.{IsContentRow};
 ghost use Rattle.vault_audit_model.specs.Relations.{AreEntries};
-ghost use Rattle.vault_audit_model.specs.Tables.{vault_schema};
+ghost use Rattle.vault_audit_model.specs.Tables.{schema_of};
 ghost use Rattle.vault_audit_contents.specs.Contents.{held_row, TellOfHeld};
 ghost use Rattle.vault_audit_walk.specs.Health.{IsHealthy, IsMemory};
 
 use sqlite::{Alter, Connection, Error, ErrorCode, Row};
 use vault_audit_model::rows::ContentRow;
+use vault_audit_model::schema::Edition;
 use vault_audit_rows::cell::{MOST_CONTENT, bytes, content, is_null, number, version_id};
 use vault_audit_rows::misread::Misread;
 use vault_audit_walk::walk::{Pass, walk};
@@ -91,8 +92,11 @@ impl Pass for ContentPass {
 
 /// How many rows `contents` has, or none where one isn't the bytes of a held version, of its size
 /// and digest.
-pub fn check_bytes<S: Alter>(conn: &mut Connection<S>) -> Result<Option<u64>, Error>
-    requires { HasCleanDisk (state S.Store conn.old) → (state S.Store conn.old).now.schema ≡ vault_schema }
+pub fn check_bytes<S: Alter>(
+    conn: &mut Connection<S>,
+    edition: Edition,
+) -> Result<Option<u64>, Error>
+    requires { HasCleanDisk (state S.Store conn.old) → (state S.Store conn.old).now.schema ≡ schema_of edition }
     ensures told { HasCleanDisk (state S.Store conn.new) → IfOk result (λ found. (es : List Entry) → AreEntries (state S.Store conn.new).now es → TellOfHeld (state S.Store conn.new).now es found) }
     ensures same { HasCleanDisk (state S.Store conn.new) → OnOk result (IsUnchanged (state S.Store conn.old) (state S.Store conn.new)) }
     ensures err { IsHealthy (state S.Store conn.new) → IfErr result IsMemory }

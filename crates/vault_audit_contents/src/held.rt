@@ -6,13 +6,14 @@ ghost use Rattle.sqlite.specs.State.{HasCleanDisk, IsUnchanged, Survives};
 ghost use Rattle.sqlite.specs.Held.{state};
 ghost use Rattle.vault_core_model.specs.declared.records.Entry.{Entry};
 ghost use Rattle.vault_audit_model.specs.Relations.{AreEntries};
-ghost use Rattle.vault_audit_model.specs.Tables.{vault_schema};
+ghost use Rattle.vault_audit_model.specs.Tables.{schema_of};
 ghost use Rattle.vault_audit_contents.specs.Contents.{held_count};
 ghost use Rattle.vault_audit_contents.specs.Passes.{is_zero, is_held_row};
 ghost use Rattle.vault_audit_walk.specs.Health.{IsHealthy, IsMemory};
 
 use sqlite::types::ValueRef;
 use sqlite::{Alter, Connection, Error, ErrorCode, Row};
+use vault_audit_model::schema::Edition;
 use vault_audit_walk::walk::{Pass, walk};
 
 /// The count of held versions as it runs.
@@ -70,8 +71,8 @@ impl Pass for HeldCount {
 }
 
 /// How many versions of `entries` are held.
-pub fn count_held<S: Alter>(conn: &mut Connection<S>) -> Result<u64, Error>
-    requires { HasCleanDisk (state S.Store conn.old) → (state S.Store conn.old).now.schema ≡ vault_schema }
+pub fn count_held<S: Alter>(conn: &mut Connection<S>, edition: Edition) -> Result<u64, Error>
+    requires { HasCleanDisk (state S.Store conn.old) → (state S.Store conn.old).now.schema ≡ schema_of edition }
     ensures told { HasCleanDisk (state S.Store conn.new) → IfOk result (λ count. (es : List Entry) → AreEntries (state S.Store conn.new).now es → count ≡ held_count es) }
     ensures same { HasCleanDisk (state S.Store conn.new) → OnOk result (IsUnchanged (state S.Store conn.old) (state S.Store conn.new)) }
     ensures err { IsHealthy (state S.Store conn.new) → IfErr result IsMemory }

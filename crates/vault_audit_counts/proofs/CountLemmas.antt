@@ -31,7 +31,7 @@ use Rattle.vault_core_model.specs.Places.{is_held_at}
 use Rattle.vault_audit_model.specs.declared.rows.HeadRow.{HeadRow}
 use Rattle.vault_audit_model.specs.Relations.{AreEntries, AreNumbered}
 use Rattle.vault_audit_model.specs.Rows.{entry_row, entry_columns, head_row, head_columns, removal_at}
-use Rattle.vault_audit_model.specs.Tables.{vault_schema, entries_tree, heads_tree}
+use Rattle.vault_audit_model.specs.Tables.{schema_of, entries_tree, heads_tree}
 use Rattle.vault_audit_model.specs.Values.{number}
 use Rattle.vault_audit_model.proofs.SameRows.{number_same}
 use Rattle.vault_audit_walk.specs.Health.{Asks}
@@ -41,6 +41,7 @@ use Rattle.vault_audit_walk.proofs.RecordLemmas.{between, front}
 use Rattle.vault_audit_model.proofs.ValueLemmas.{agrees, three}
 use Rattle.vault_audit_beside.proofs.BesideLemmas.{agree_texts, of_records, of_stored, each, passes}
 use Rattle.vault_audit_counts.specs.Counts.{IsCounted, TellCounts, ShowsCount}
+use Rattle.vault_audit_model.specs.declared.schema.Edition.{Edition}
 
 -- ---- the statement
 
@@ -67,18 +68,18 @@ counts_query = record {
   offset = lit (Int (pos 0));
 }
 
-counts_is : (command_of (understood vault_schema counts_text) ≡ Select (record { lets = []; body = counts_query }) (codes "count" ∷ codes "held" ∷ []))
-    × (reads_listing vault_schema counts_text ≡ false)
+counts_is : (n : Edition) → (command_of (understood (schema_of n) counts_text) ≡ Select (record { lets = []; body = counts_query }) (codes "count" ∷ codes "held" ∷ []))
+    × (reads_listing (schema_of n) counts_text ≡ false)
 unfolding understood everything
-counts_is = (refl, refl)
+counts_is n = (refl, refl)
 
-pub counts_plain : IsPlain (understood vault_schema counts_text)
+pub counts_plain : (n : Edition) → IsPlain (understood (schema_of n) counts_text)
 unfolding understood everything
-counts_plain = (refl, refl)
+counts_plain n = (refl, refl)
 
-pub counts_asks : Asks vault_schema counts_text
+pub counts_asks : (n : Edition) → Asks (schema_of n) counts_text
 unfolding understood everything
-counts_asks = record { is = (omega (arith), refl, (refl, refl, refl, refl)); unlisted = refl }
+counts_asks n = record { is = (omega (arith), refl, (refl, refl, refl, refl)); unlisted = refl }
 
 -- ---- what it shows
 
@@ -102,9 +103,9 @@ answered db rows a =
     ∙ map-map (λ (o : Output). o.1) (output q) (map (env_of db) (db heads_tree)) ∙ map-map (eval_all q.project) (env_of db) (db heads_tree) in
     subst (λ xs. IsPermutation xs rows) kept (subst (IsPermutation (map (λ (o : Output). o.1) a.kept)) (sym a.shown) (IsPermutation-map (λ (o : Output). o.1) a.kept a.ordered a.same))
 
-looked : (old new : State) → old.now.schema ≡ vault_schema → (rows : List Row) → Shown counts_text [] old new rows → IsPermutation (source old.now.trees) rows
-looked old new has rows h =
-    let read = reads_as counts_text [] old new vault_schema has _ counts_is.0 counts_plain counts_is.1 rows h in
+looked : (n : Edition) → (old new : State) → old.now.schema ≡ schema_of n → (rows : List Row) → Shown counts_text [] old new rows → IsPermutation (source old.now.trees) rows
+looked n old new has rows h =
+    let read = reads_as counts_text [] old new (schema_of n) has _ (counts_is n).0 (counts_plain n) (counts_is n).1 rows h in
     answered (overlay old.now.trees []) rows (read.answer Null)
 
 -- ---- how many entries pass
@@ -208,20 +209,20 @@ module _ (entries : List Row) (es : List Entry) (are : IsPermutation (map entry_
   if_counted : (h : HeadRow) → IsCounted es h → Counts entries (head_row h)
   if_counted h it = ap number (it ∙ sym (whole h))
 
-module _ (old new : State) (has : old.now.schema ≡ vault_schema) (same : IsUnchanged old new) (es : List Entry) (hs : List HeadRow) (are : AreEntries new.now es) (tell : IsPermutation (map head_row hs) (map head_columns (new.now.trees heads_tree))) where
+module _ (n : Edition) (old new : State) (has : old.now.schema ≡ schema_of n) (same : IsUnchanged old new) (es : List Entry) (hs : List HeadRow) (are : AreEntries new.now es) (tell : IsPermutation (map head_row hs) (map head_columns (new.now.trees heads_tree))) where
   counts_yes : Checked ShowsCount counts_text old new true → TellCounts es hs true
   counts_yes (rows, shown, all) =
       let db : new.now ≡ old.now = same.0.now_is in
-      let every = subst (λ (d : Database). IsPermutation (source d.trees) rows) (sym db) (looked old new has rows shown) in
+      let every = subst (λ (d : Database). IsPermutation (source d.trees) rows) (sym db) ((looked n) old new has rows shown) in
       let entries = new.now.trees entries_tree in
       let stored = all_from_map ShowsCount (shown_counted entries) (new.now.trees heads_tree) (all-permutation ShowsCount _ _ (IsPermutation-sym _ _ every) all) in
       each (counted_if entries es are.0 are.1) hs (of_records head_row head_columns (Counts entries) hs (new.now.trees heads_tree) tell (each (counts_if entries) (new.now.trees heads_tree) stored))
 
   counts_no : Checked ShowsCount counts_text old new false → TellCounts es hs false
   counts_no (rows, row, begins, none) all =
-      let known : new.now.schema ≡ vault_schema = ap (λ (b : Database). b.schema) same.0.now_is ∙ has in
-      let on = goes_on_to counts_text new vault_schema known _ _ counts_is.0 same.0.is_open (rows ++ row ∷ []) begins in
-      let every = looked new new known ((rows ++ row ∷ []) ++ on.0) on.1 in
+      let known : new.now.schema ≡ schema_of n = ap (λ (b : Database). b.schema) same.0.now_is ∙ has in
+      let on = goes_on_to counts_text new (schema_of n) known _ _ (counts_is n).0 same.0.is_open (rows ++ row ∷ []) begins in
+      let every = (looked n) new new known ((rows ++ row ∷ []) ++ on.0) on.1 in
       let entries = new.now.trees entries_tree in
       let stored = of_stored head_row head_columns (Counts entries) hs (new.now.trees heads_tree) tell (each (if_counted entries es are.0 are.1) hs all) in
       let passed = all-permutation ShowsCount _ _ every (all-map ShowsCount (shown_counted entries) (new.now.trees heads_tree) (each (shows_if entries) (new.now.trees heads_tree) stored)) in

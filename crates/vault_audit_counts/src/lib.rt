@@ -10,11 +10,12 @@ ghost use Rattle.vault_core_model.specs.declared.records.Entry.{Entry};
 ghost use Rattle.vault_audit_model.specs.declared.rows.HeadRow.{HeadRow};
 ghost use Rattle.vault_audit_model.specs.Relations.{AreEntries};
 ghost use Rattle.vault_audit_model.specs.Rows.{head_row, head_columns};
-ghost use Rattle.vault_audit_model.specs.Tables.{vault_schema, heads_tree};
+ghost use Rattle.vault_audit_model.specs.Tables.{schema_of, heads_tree};
 ghost use Rattle.vault_audit_counts.specs.Counts.{TellCounts};
 ghost use Rattle.vault_audit_walk.specs.Health.{IsHealthy, IsMemory};
 
 use sqlite::{Alter, Connection, Error, Row};
+use vault_audit_model::schema::Edition;
 use vault_audit_rows::cell::number;
 use vault_audit_walk::check::{Check, check_rows};
 
@@ -40,8 +41,8 @@ impl Check for CountCheck {
 
 /// Whether each row of `heads` has the number of held entries of its bucket and key. It is told of
 /// entries whose ids are 1, 2, 3 and so on, and of heads that the rows tell.
-pub fn check_counts<S: Alter>(conn: &mut Connection<S>) -> Result<bool, Error>
-    requires { HasCleanDisk (state S.Store conn.old) → (state S.Store conn.old).now.schema ≡ vault_schema }
+pub fn check_counts<S: Alter>(conn: &mut Connection<S>, edition: Edition) -> Result<bool, Error>
+    requires { HasCleanDisk (state S.Store conn.old) → (state S.Store conn.old).now.schema ≡ schema_of edition }
     ensures told { HasCleanDisk (state S.Store conn.new) → IfOk result (λ found. (es : List Entry) (hs : List HeadRow) → AreEntries (state S.Store conn.new).now es → IsPermutation (map head_row hs) (map head_columns ((state S.Store conn.new).now.trees heads_tree)) → TellCounts es hs found) }
     ensures same { HasCleanDisk (state S.Store conn.new) → OnOk result (IsUnchanged (state S.Store conn.old) (state S.Store conn.new)) }
     ensures err { IsHealthy (state S.Store conn.new) → IfErr result IsMemory }

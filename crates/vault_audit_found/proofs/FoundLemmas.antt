@@ -13,11 +13,12 @@ use Rattle.vault_core_model.specs.declared.records.Entry.{Entry}
 use Rattle.vault_core_model.specs.declared.records.History.{History}
 use Rattle.vault_core_model.specs.declared.records.Note.{Note}
 use Rattle.vault_core_model.specs.Totals.{items_in}
+use Rattle.vault_audit_model.specs.declared.schema.Edition.{Edition}
 use Rattle.vault_audit_model.specs.declared.rows.DepartmentRow.{DepartmentRow}
 use Rattle.vault_audit_model.specs.declared.rows.MetaRow.{MetaRow}
 use Rattle.vault_audit_model.specs.Relations.{department_with}
 use Rattle.vault_audit_model.specs.Rows.{department_row, department_columns}
-use Rattle.vault_audit_model.specs.Spells.{Spells, sums_over, department_in}
+use Rattle.vault_audit_model.specs.Spells.{SpellsAs, sums_over, department_in}
 use Rattle.vault_audit_model.specs.Tables.{departments_tree}
 use Rattle.vault_audit_laws.specs.Ties.{is_among}
 use Rattle.vault_audit_laws.proofs.RecordTies.{callers_employed, buckets_owned, entries_placed}
@@ -28,7 +29,7 @@ use Rattle.vault_audit_found.specs.Found.{AreFound, names_of, found_vault, HaveS
 use Rattle.vault_audit_found.proofs.NameLemmas.{name_column, names_are, same_names, by_name}
 use Rattle.vault_audit_found.proofs.WithinLemmas.{each_within}
 
-module _ (db : Database) (m : MetaRow) (departments : List DepartmentRow) (callers : List Caller) (buckets : List Bucket) (notes : List Note) (entries : List Entry) (contents settings : List History) (summed : List (List ℕ)) (are : AreFound db m departments callers buckets notes entries contents settings summed) where
+module _ (ed : Edition) (db : Database) (m : MetaRow) (departments : List DepartmentRow) (callers : List Caller) (buckets : List Bucket) (notes : List Note) (entries : List Entry) (contents settings : List History) (summed : List (List ℕ)) (are : AreFound ed db m departments callers buckets notes entries contents settings summed) where
   abbrev names : List (List ℕ)
   names = names_of departments
 
@@ -59,10 +60,10 @@ module _ (db : Database) (m : MetaRow) (departments : List DepartmentRow) (calle
   owned_summed [] all = tt
   owned_summed (b ∷ bs) all = (sym (list_any-IsPermutation (λ n. bytes_eq n b.config.dept) names summed reordered) ∙ all.0, owned_summed bs all.1)
 
-  parts : AreParts db m names callers buckets notes entries contents settings
+  parts : AreParts ed db m names callers buckets notes entries contents settings
   parts = record {
     schema = are.schema;
-    meta = (are.meta.0, are.meta.1, are.next);
+    meta = (are.meta.0, are.meta.1, are.next, are.meta.2);
     departments_are = by_name db departments are.departments_are;
     callers_are = are.callers_are;
     buckets_are = are.buckets_are;
@@ -77,8 +78,8 @@ module _ (db : Database) (m : MetaRow) (departments : List DepartmentRow) (calle
     within = each_within buckets contents summed (owned_summed buckets owned) are.sums_are.2;
   }
 
-  pub found_spelled : Spells db (found_vault m departments callers buckets notes contents settings)
-  found_spelled = spelled db m names callers buckets notes entries contents settings parts
+  pub found_spelled : SpellsAs ed db (found_vault m departments callers buckets notes contents settings)
+  found_spelled = spelled ed db m names callers buckets notes entries contents settings parts
 
   same_items : (dept : List ℕ) → items_in buckets dept contents ≡ items_in buckets dept (joined contents settings)
   same_items dept = items_same buckets dept contents (joined contents settings) (sym (joined_entries contents settings (are.contents_are.0 ∙ sym are.settings_are.0)))

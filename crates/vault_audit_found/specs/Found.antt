@@ -8,13 +8,15 @@ use Rattle.vault_core_model.specs.declared.records.Entry.{Entry}
 use Rattle.vault_core_model.specs.declared.records.History.{History}
 use Rattle.vault_core_model.specs.declared.records.Note.{Note}
 use Rattle.vault_core_model.specs.Vault.{Vault}
+use Rattle.vault_audit_model.specs.declared.schema.Edition.{Edition}
+use Rattle.vault_audit_model.specs.Editions.{number_of}
 use Rattle.vault_audit_model.specs.declared.rows.DepartmentRow.{DepartmentRow}
 use Rattle.vault_audit_model.specs.declared.rows.MetaRow.{MetaRow}
 use Rattle.vault_audit_model.specs.Limits.{IsMetaRow}
 use Rattle.vault_audit_model.specs.Relations.{AreEntries, AreContents, AreSettings, AreNotes, AreBuckets, AreSums, IsPast}
 use Rattle.vault_audit_model.specs.Rows.{meta_row, meta_columns, department_row, department_columns}
 use Rattle.vault_audit_model.specs.Spells.{department_in}
-use Rattle.vault_audit_model.specs.Tables.{vault_schema, meta_tree, departments_tree}
+use Rattle.vault_audit_model.specs.Tables.{schema_of, meta_tree, departments_tree}
 use Rattle.vault_audit_laws.specs.Ties.{AreTied}
 use Rattle.vault_audit_names.specs.Names.{AreCallersByName, AreDepartmentsByName}
 use Rattle.vault_audit_parts.specs.Parts.{vault_of}
@@ -32,14 +34,14 @@ abbrev pub HaveSums : Database → Vault → Type 0
 HaveSums db v = IsPermutation (map (λ d. department_row (department_in v d)) v.departments) (map department_columns (db.trees departments_tree))
 
 -- what each look finds
-pub record AreFound (db : Database) (m : MetaRow) (departments : List DepartmentRow) (callers : List Caller) (buckets : List Bucket) (notes : List Note) (entries : List Entry) (contents settings : List History) (summed : List (List ℕ)) : Type 0 where
-  pub schema : db.schema ≡ vault_schema
+pub record AreFound (ed : Edition) (db : Database) (m : MetaRow) (departments : List DepartmentRow) (callers : List Caller) (buckets : List Bucket) (notes : List Note) (entries : List Entry) (contents settings : List History) (summed : List (List ℕ)) : Type 0 where
+  pub schema : db.schema ≡ schema_of ed
   pub tied : AreTied db
-  pub meta : IsPermutation (meta_row m ∷ []) (map meta_columns (db.trees meta_tree)) × IsMetaRow m
+  pub meta : IsPermutation (meta_row m ∷ []) (map meta_columns (db.trees meta_tree)) × IsMetaRow m × (m.schema ≡ number_of ed)
   pub next : m.next ≡ length entries + 1
   pub departments_are : AreDepartmentsByName db departments
   pub callers_are : AreCallersByName db callers
-  pub buckets_are : AreBuckets db buckets
+  pub buckets_are : AreBuckets ed db buckets
   pub entries_are : AreEntries db entries
   pub past : AllByRecursion (IsPast m.last) entries
   pub contents_are : AreContents db entries contents

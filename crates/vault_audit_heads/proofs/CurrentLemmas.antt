@@ -24,12 +24,13 @@ use Rattle.vault_audit_model.specs.declared.rows.HeadRow.{HeadRow}
 use Rattle.vault_audit_model.specs.Limits.{IsHeadRow, IsHistory}
 use Rattle.vault_audit_model.specs.Relations.{AreEntries}
 use Rattle.vault_audit_model.specs.Rows.{head_row}
-use Rattle.vault_audit_model.specs.Spells.{AreSound, head_in, heads_in, entries_in}
+use Rattle.vault_audit_model.specs.Spells.{AreSoundAs, head_in, heads_in, entries_in}
 use Rattle.vault_audit_model.proofs.ListLemmas.{all_both}
 use Rattle.vault_audit_contents.proofs.MergeLemmas.{itself, same_if}
 use Rattle.vault_audit_contents.proofs.SoundLemmas.{sound_entries}
 use Rattle.vault_audit_heads.specs.Heads.{head_cmp, IsHeldFor, NamesHeld, AreHeadsByKey, TellHeadsByKey}
 use Rattle.vault_audit_heads.proofs.SortLemmas.{in_order, same_in_order, all_in_order, AreApart, ascending_in_order}
+use Rattle.vault_audit_model.specs.declared.schema.Edition.{Edition}
 
 -- ---- lists
 
@@ -142,8 +143,8 @@ module _ (v : Vault) where
 
 -- ---- a sound vault
 
-sound_heads : (db : Database) (v : Vault) → AreSound db v → AreHeadsByKey db (entries_in v.histories) (in_order head_cmp (heads_in v))
-sound_heads db v it =
+sound_heads : (n : Edition) → (db : Database) (v : Vault) → AreSoundAs n db v → AreHeadsByKey db (entries_in v.histories) (in_order head_cmp (heads_in v))
+sound_heads n db v it =
     let ids = it.spells.kept.sound.ids in
     let hs = heads_in v in (
       IsPermutation-trans _ _ _ (IsPermutation-map head_row _ _ (same_in_order head_cmp hs)) it.heads,
@@ -152,5 +153,5 @@ sound_heads db v it =
       all_in_order head_cmp (NamesHeld (entries_in v.histories)) hs (heads_name v ids),
     )
 
-pub unsound : (db : Database) → ((es : List Entry) → AreEntries db es → TellHeadsByKey db es false) → (v : Vault) → ¬ AreSound db v
-unsound db told v it = told (entries_in v.histories) (sound_entries db v it) (in_order head_cmp (heads_in v)) (sound_heads db v it)
+pub unsound : (n : Edition) → (db : Database) → ((es : List Entry) → AreEntries db es → TellHeadsByKey db es false) → (v : Vault) → ¬ AreSoundAs n db v
+unsound n db told v it = told (entries_in v.histories) (sound_entries n db v it) (in_order head_cmp (heads_in v)) ((sound_heads n) db v it)

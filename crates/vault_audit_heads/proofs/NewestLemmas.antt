@@ -30,7 +30,7 @@ use Rattle.vault_core_model.specs.declared.records.Removal.{Removal}
 use Rattle.vault_audit_model.specs.declared.rows.HeadRow.{HeadRow}
 use Rattle.vault_audit_model.specs.Relations.{AreEntries}
 use Rattle.vault_audit_model.specs.Rows.{bit, entry_row, entry_columns, head_row, head_columns, removal_at}
-use Rattle.vault_audit_model.specs.Tables.{vault_schema, entries_tree, heads_tree}
+use Rattle.vault_audit_model.specs.Tables.{schema_of, entries_tree, heads_tree}
 use Rattle.vault_audit_model.specs.Values.{number, flag}
 use Rattle.vault_audit_model.proofs.SameRows.{flag_same}
 use Rattle.vault_audit_walk.specs.Records.{Checked}
@@ -40,6 +40,7 @@ use Rattle.vault_audit_model.proofs.ValueLemmas.{agrees, three, truth_back}
 use Rattle.vault_audit_beside.proofs.BesideLemmas.{agree_texts, of_records, of_stored, each, any_alike, any_map, passes}
 use Rattle.vault_audit_heads.specs.Newest.{is_head_over, IsHeaded, TellHeaded, ShowsHeaded}
 use Rattle.vault_audit_walk.specs.Health.{Asks}
+use Rattle.vault_audit_model.specs.declared.schema.Edition.{Edition}
 
 -- ---- the statement
 
@@ -62,18 +63,18 @@ headed_query = record {
   offset = lit (Int (pos 0));
 }
 
-headed_is : (command_of (understood vault_schema headed_text) ≡ Select (record { lets = []; body = headed_query }) (codes "removed" ∷ codes "headed" ∷ []))
-    × (reads_listing vault_schema headed_text ≡ false)
+headed_is : (n : Edition) → (command_of (understood (schema_of n) headed_text) ≡ Select (record { lets = []; body = headed_query }) (codes "removed" ∷ codes "headed" ∷ []))
+    × (reads_listing (schema_of n) headed_text ≡ false)
 unfolding understood everything
-headed_is = (refl, refl)
+headed_is n = (refl, refl)
 
-pub headed_plain : IsPlain (understood vault_schema headed_text)
+pub headed_plain : (n : Edition) → IsPlain (understood (schema_of n) headed_text)
 unfolding understood everything
-headed_plain = (refl, refl)
+headed_plain n = (refl, refl)
 
-pub headed_asks : Asks vault_schema headed_text
+pub headed_asks : (n : Edition) → Asks (schema_of n) headed_text
 unfolding understood everything
-headed_asks = record { is = (omega (arith), refl, (refl, refl, refl, refl)); unlisted = refl }
+headed_asks n = record { is = (omega (arith), refl, (refl, refl, refl, refl)); unlisted = refl }
 
 -- ---- what it shows
 
@@ -94,9 +95,9 @@ answered db rows a =
     ∙ map-map (λ (o : Output). o.1) (output q) (map (env_of db) (db 9)) ∙ map-map (eval_all q.project) (env_of db) (db 9) in
     subst (λ xs. IsPermutation xs rows) kept (subst (IsPermutation (map (λ (o : Output). o.1) a.kept)) (sym a.shown) (IsPermutation-map (λ (o : Output). o.1) a.kept a.ordered a.same))
 
-looked : (old new : State) → old.now.schema ≡ vault_schema → (rows : List Row) → Shown headed_text [] old new rows → IsPermutation (source old.now.trees) rows
-looked old new has rows h =
-    let read = reads_as headed_text [] old new vault_schema has _ headed_is.0 headed_plain headed_is.1 rows h in
+looked : (n : Edition) → (old new : State) → old.now.schema ≡ schema_of n → (rows : List Row) → Shown headed_text [] old new rows → IsPermutation (source old.now.trees) rows
+looked n old new has rows h =
+    let read = reads_as headed_text [] old new (schema_of n) has _ (headed_is n).0 (headed_plain n) (headed_is n).1 rows h in
     answered (overlay old.now.trees []) rows (read.answer Null)
 
 -- ---- whether some head passes
@@ -169,20 +170,20 @@ module _ (heads : List Row) (hs : List HeadRow) (are : IsPermutation (map head_r
   if_headed : (e : Entry) → IsHeaded hs e → Holds heads (entry_row e)
   if_headed e it shown = subst (λ b. IsTrue b) (sym (found e)) (it (none_shown e.removal shown))
 
-module _ (old new : State) (has : old.now.schema ≡ vault_schema) (same : IsUnchanged old new) (es : List Entry) (hs : List HeadRow) (are : AreEntries new.now es) (tell : IsPermutation (map head_row hs) (map head_columns (new.now.trees heads_tree))) where
+module _ (n : Edition) (old new : State) (has : old.now.schema ≡ schema_of n) (same : IsUnchanged old new) (es : List Entry) (hs : List HeadRow) (are : AreEntries new.now es) (tell : IsPermutation (map head_row hs) (map head_columns (new.now.trees heads_tree))) where
   headed_yes : Checked ShowsHeaded headed_text old new true → TellHeaded es hs true
   headed_yes (rows, shown, all) =
       let db : new.now ≡ old.now = same.0.now_is in
-      let whole = subst (λ (d : Database). IsPermutation (source d.trees) rows) (sym db) (looked old new has rows shown) in
+      let whole = subst (λ (d : Database). IsPermutation (source d.trees) rows) (sym db) ((looked n) old new has rows shown) in
       let heads = new.now.trees heads_tree in
       let stored = all_from_map ShowsHeaded (shown_headed heads) (new.now.trees entries_tree) (all-permutation ShowsHeaded _ _ (IsPermutation-sym _ _ whole) all) in
       each (headed_if heads hs tell) es (of_records entry_row entry_columns (Holds heads) es (new.now.trees entries_tree) are.0 (each (holds_if heads) (new.now.trees entries_tree) stored))
 
   headed_no : Checked ShowsHeaded headed_text old new false → TellHeaded es hs false
   headed_no (rows, row, begins, none) all =
-      let known : new.now.schema ≡ vault_schema = ap (λ (b : Database). b.schema) same.0.now_is ∙ has in
-      let on = goes_on_to headed_text new vault_schema known _ _ headed_is.0 same.0.is_open (rows ++ row ∷ []) begins in
-      let whole = looked new new known ((rows ++ row ∷ []) ++ on.0) on.1 in
+      let known : new.now.schema ≡ schema_of n = ap (λ (b : Database). b.schema) same.0.now_is ∙ has in
+      let on = goes_on_to headed_text new (schema_of n) known _ _ (headed_is n).0 same.0.is_open (rows ++ row ∷ []) begins in
+      let whole = (looked n) new new known ((rows ++ row ∷ []) ++ on.0) on.1 in
       let heads = new.now.trees heads_tree in
       let stored = of_stored entry_row entry_columns (Holds heads) es (new.now.trees entries_tree) are.0 (each (if_headed heads hs tell) es all) in
       let every = all-permutation ShowsHeaded _ _ whole (all-map ShowsHeaded (shown_headed heads) (new.now.trees entries_tree) (each (shows_if heads) (new.now.trees entries_tree) stored)) in

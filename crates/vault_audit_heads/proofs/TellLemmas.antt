@@ -17,7 +17,7 @@ use Rattle.vault_audit_model.specs.declared.rows.HeadRow.{HeadRow}
 use Rattle.vault_audit_model.specs.Limits.{IsHeadRow}
 use Rattle.vault_audit_model.specs.Relations.{AreEntries}
 use Rattle.vault_audit_model.specs.Rows.{head_row, head_columns, entry_columns, removal_at}
-use Rattle.vault_audit_model.specs.Tables.{vault_schema, heads_tree, entries_tree}
+use Rattle.vault_audit_model.specs.Tables.{schema_of, heads_tree, entries_tree}
 use Rattle.vault_audit_model.proofs.SameRows.{text_same, cell}
 use Rattle.vault_audit_walk.specs.Pass.{Takes, Refuses}
 use Rattle.vault_audit_walk.specs.Walk.{Walked}
@@ -31,6 +31,7 @@ use Rattle.vault_audit_heads.specs.Passes.{ComesAfter, with_head}
 use Rattle.vault_audit_heads.proofs.RowLemmas.{same_head}
 use Rattle.vault_audit_heads.proofs.RiseLemmas.{row_order, row_order_total, ascending_heads, limits, fitting, no_last, rows_rise}
 use Rattle.vault_audit_heads.proofs.TextLemmas.{heads_walk, heads_shown, heads_order, heads_walk_is, heads_walk_plain}
+use Rattle.vault_audit_model.specs.declared.schema.Edition.{Edition}
 
 -- ---- what the query shows
 
@@ -40,8 +41,8 @@ by_key a b = refl
 abbrev source : Database → List Row
 source db = join_rows heads_tree 3 heads_shown db.trees
 
-answers : (a b : State) → a.now.schema ≡ vault_schema → (rows : List Row) → Shown heads_walk [] a b rows → IsPermutation (source a.now) rows × IsSorted row_order rows
-answers a b schema rows shown = joined heads_walk a b vault_schema schema heads_walk_plain heads_walk_is.1 heads_tree 3 heads_shown heads_order row_order _ heads_walk_is.0 by_key refl rows shown
+answers : (n : Edition) → (a b : State) → a.now.schema ≡ schema_of n → (rows : List Row) → Shown heads_walk [] a b rows → IsPermutation (source a.now) rows × IsSorted row_order rows
+answers n a b schema rows shown = joined heads_walk a b (schema_of n) schema (heads_walk_plain n) (heads_walk_is n).1 heads_tree 3 heads_shown heads_order row_order _ (heads_walk_is n).0 by_key refl rows shown
 
 -- a row of heads, with the bucket, the key and the removal of the entry that is its newest
 abbrev extended : List Entry → Row → Row
@@ -139,16 +140,16 @@ shown_headed db es hs are same all =
 abbrev pub start : HeadPass
 start = record { last = None }
 
-module _ (old new : State) (has : old.now.schema ≡ vault_schema) (same : IsUnchanged old new) (r : HeadPass) (es : List Entry) (are : AreEntries new.now es) where
+module _ (n : Edition) (old new : State) (has : old.now.schema ≡ schema_of n) (same : IsUnchanged old new) (r : HeadPass) (es : List Entry) (are : AreEntries new.now es) where
   heads_yes : Walked (Takes headed_row ComesAfter with_head) (Refuses headed_row ComesAfter with_head) heads_walk old new start r true → TellHeadsByKey new.now es true
   heads_yes h =
-      let it = pass_yes headed_row ComesAfter with_head same_head row_order row_order_total vault_schema heads_walk _ _ heads_walk_is.0 source answers old new has same start r h in
+      let it = pass_yes headed_row ComesAfter with_head same_head row_order row_order_total (schema_of n) heads_walk _ _ (heads_walk_is n).0 source (answers n) old new has same start r h in
       (it.0, are_heads new.now es it.0 are it.1 (ascending_heads start it.0 it.2) (limits start it.0 it.2))
 
   heads_no : Walked (Takes headed_row ComesAfter with_head) (Refuses headed_row ComesAfter with_head) heads_walk old new start r false → TellHeadsByKey new.now es false
   heads_no h hs it =
       let fit = fitting start hs (no_last hs) it.1 it.2 in
-      pass_no headed_row ComesAfter with_head same_head row_order row_order_total vault_schema heads_walk _ _ heads_walk_is.0 source answers old new has same start r (λ xs fits. rows_rise xs (ascending_heads start xs fits)) h hs (shown_headed new.now es hs are it.0 it.3) fit
+      pass_no headed_row ComesAfter with_head same_head row_order row_order_total (schema_of n) heads_walk _ _ (heads_walk_is n).0 source (answers n) old new has same start r (λ xs fits. rows_rise xs (ascending_heads start xs fits)) h hs (shown_headed new.now es hs are it.0 it.3) fit
 
   pub heads_told : (found : Bool) → Walked (Takes headed_row ComesAfter with_head) (Refuses headed_row ComesAfter with_head) heads_walk old new start r found → TellHeadsByKey new.now es found
   heads_told true = heads_yes

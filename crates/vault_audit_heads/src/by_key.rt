@@ -9,8 +9,8 @@ ghost use Rattle.vault_core_model.specs.Vault.{Vault};
 ghost use Rattle.vault_audit_model.specs.declared.rows.HeadRow.{HeadRow as Told};
 ghost use Rattle.vault_audit_model.specs.Limits.{IsHeadRow};
 ghost use Rattle.vault_audit_model.specs.Relations.{AreEntries};
-ghost use Rattle.vault_audit_model.specs.Spells.{AreSound};
-ghost use Rattle.vault_audit_model.specs.Tables.{vault_schema};
+ghost use Rattle.vault_audit_model.specs.Spells.{AreSoundAs};
+ghost use Rattle.vault_audit_model.specs.Tables.{schema_of};
 ghost use Rattle.vault_audit_model.specs.Values.{number as value};
 ghost use Rattle.vault_audit_heads.specs.Heads.{headed_row, head_cmp, IsAfter, TellHeadsByKey};
 ghost use Rattle.vault_audit_walk.specs.Health.{IsHealthy, IsMemory};
@@ -18,6 +18,7 @@ ghost use Rattle.vault_audit_walk.specs.Health.{IsHealthy, IsMemory};
 use sqlite::{Alter, Connection, Error, Row};
 use std::cmp::Ordering;
 use vault_audit_model::rows::HeadRow;
+use vault_audit_model::schema::Edition;
 use vault_audit_rows::cell::{is_null, number, text, version_id};
 use vault_audit_rows::misread::Misread;
 use vault_audit_rows::name::{bucket_name, object_key};
@@ -120,10 +121,13 @@ impl Pass for HeadPass {
 
 /// Whether each row of `heads` tells a head in its limits whose newest is a held entry of its bucket and
 /// key, and no two are of one key. It is told of entries whose ids are 1, 2, 3 and so on.
-pub fn check_heads_by_key<S: Alter>(conn: &mut Connection<S>) -> Result<bool, Error>
-    requires { HasCleanDisk (state S.Store conn.old) → (state S.Store conn.old).now.schema ≡ vault_schema }
+pub fn check_heads_by_key<S: Alter>(
+    conn: &mut Connection<S>,
+    edition: Edition,
+) -> Result<bool, Error>
+    requires { HasCleanDisk (state S.Store conn.old) → (state S.Store conn.old).now.schema ≡ schema_of edition }
     ensures told { HasCleanDisk (state S.Store conn.new) → IfOk result (λ found. (es : List Entry) → AreEntries (state S.Store conn.new).now es → TellHeadsByKey (state S.Store conn.new).now es found) }
-    ensures damaged { HasCleanDisk (state S.Store conn.new) → IfOk result (λ found. found ≡ false → (v : Vault) → ¬ AreSound (state S.Store conn.new).now v) }
+    ensures damaged { HasCleanDisk (state S.Store conn.new) → IfOk result (λ found. found ≡ false → (v : Vault) → ¬ AreSoundAs edition (state S.Store conn.new).now v) }
     ensures same { HasCleanDisk (state S.Store conn.new) → OnOk result (IsUnchanged (state S.Store conn.old) (state S.Store conn.new)) }
     ensures err { IsHealthy (state S.Store conn.new) → IfErr result IsMemory }
     ensures crash { Survives (state S.Store conn.old) (state S.Store conn.new) (λ _. ⊥) }

@@ -27,8 +27,8 @@ use Rattle.vault_core_laws.proofs.NameOrder.{notes_total}
 use Rattle.vault_audit_model.specs.Limits.{IsNote}
 use Rattle.vault_audit_model.specs.Relations.{AreEntries, AreNotes, TellNotes, NamesOneOf}
 use Rattle.vault_audit_model.specs.Rows.{note_row, note_columns, entry_columns}
-use Rattle.vault_audit_model.specs.Spells.{AreSound, entries_in}
-use Rattle.vault_audit_model.specs.Tables.{vault_schema, intake_tree, entries_tree}
+use Rattle.vault_audit_model.specs.Spells.{AreSoundAs, entries_in}
+use Rattle.vault_audit_model.specs.Tables.{schema_of, intake_tree, entries_tree}
 use Rattle.vault_audit_model.specs.Values.{number, bytes_or_null}
 use Rattle.vault_audit_model.proofs.SameRows.{number_same, text_same, cell}
 use Rattle.vault_audit_parts.proofs.JoinLemmas.{entry_found}
@@ -44,6 +44,7 @@ use Rattle.vault_audit_intake.specs.Notes.{noted_row, IsAfter}
 use Rattle.vault_audit_intake.specs.Passes.{ComesAfter, with_note}
 use Rattle.vault_audit_intake.proofs.RowLemmas.{first_ten, same_row}
 use Rattle.vault_audit_intake.proofs.TextLemmas.{notes_walk, notes_shown, notes_order, notes_walk_is, notes_walk_plain}
+use Rattle.vault_audit_model.specs.declared.schema.Edition.{Edition}
 
 abbrev Fit : NotePass → List Note → Type 0
 Fit = AllFit noted_row ComesAfter with_note
@@ -109,8 +110,8 @@ by_line a b = refl
 abbrev source : Database → List Row
 source db = join_rows intake_tree 10 notes_shown db.trees
 
-answers : (a b : State) → a.now.schema ≡ vault_schema → (rows : List Row) → Shown notes_walk [] a b rows → IsPermutation (source a.now) rows × IsSorted row_order rows
-answers a b schema rows shown = joined notes_walk a b vault_schema schema notes_walk_plain notes_walk_is.1 intake_tree 10 notes_shown notes_order row_order _ notes_walk_is.0 by_line refl rows shown
+answers : (n : Edition) → (a b : State) → a.now.schema ≡ schema_of n → (rows : List Row) → Shown notes_walk [] a b rows → IsPermutation (source a.now) rows × IsSorted row_order rows
+answers n a b schema rows shown = joined notes_walk a b (schema_of n) schema (notes_walk_plain n) (notes_walk_is n).1 intake_tree 10 notes_shown notes_order row_order _ (notes_walk_is n).0 by_line refl rows shown
 
 -- a row of intake, with the bucket, the key, the size and the digest of the entry of its id
 abbrev extended : List Entry → Row → Row
@@ -200,16 +201,16 @@ shown_noted db es ns are same all =
 abbrev pub start : NotePass
 start = record { last = None }
 
-module _ (old new : State) (has : old.now.schema ≡ vault_schema) (same : IsUnchanged old new) (r : NotePass) (es : List Entry) (are : AreEntries new.now es) where
+module _ (n : Edition) (old new : State) (has : old.now.schema ≡ schema_of n) (same : IsUnchanged old new) (r : NotePass) (es : List Entry) (are : AreEntries new.now es) where
   notes_yes : Walked (Takes noted_row ComesAfter with_note) (Refuses noted_row ComesAfter with_note) notes_walk old new start r true → TellNotes new.now es true
   notes_yes h =
-      let it = pass_yes noted_row ComesAfter with_note same_row row_order row_order_total vault_schema notes_walk _ _ notes_walk_is.0 source answers old new has same start r h in
+      let it = pass_yes noted_row ComesAfter with_note same_row row_order row_order_total (schema_of n) notes_walk _ _ (notes_walk_is n).0 source (answers n) old new has same start r h in
       (it.0, are_notes new.now es it.0 are it.1 (ascending_notes start it.0 it.2) (limits start it.0 it.2))
 
   notes_no : Walked (Takes noted_row ComesAfter with_note) (Refuses noted_row ComesAfter with_note) notes_walk old new start r false → TellNotes new.now es false
   notes_no h ns it =
       let fit = fitting start ns (no_last ns) it.1 it.2 in
-      pass_no noted_row ComesAfter with_note same_row row_order row_order_total vault_schema notes_walk _ _ notes_walk_is.0 source answers old new has same start r (λ xs fits. rows_rise xs (ascending_notes start xs fits)) h ns (shown_noted new.now es ns are it.0 it.3) fit
+      pass_no noted_row ComesAfter with_note same_row row_order row_order_total (schema_of n) notes_walk _ _ (notes_walk_is n).0 source (answers n) old new has same start r (λ xs fits. rows_rise xs (ascending_notes start xs fits)) h ns (shown_noted new.now es ns are it.0 it.3) fit
 
   pub notes_told : (found : Bool) → Walked (Takes noted_row ComesAfter with_note) (Refuses noted_row ComesAfter with_note) notes_walk old new start r found → TellNotes new.now es found
   notes_told true = notes_yes
@@ -221,10 +222,10 @@ named : (v : Vault) (ns : List Note) → AllByRecursion (λ n. IsNoted n (entry_
 named v [] all = tt
 named v (n ∷ ns) all = (subst (IsNoted n) (entry_found n.id v.histories) all.0, named v ns all.1)
 
-sound_notes : (db : Database) (v : Vault) → AreSound db v → AreNotes db (entries_in v.histories) v.notes
-sound_notes db v it =
+sound_notes : (n : Edition) → (db : Database) (v : Vault) → AreSoundAs n db v → AreNotes db (entries_in v.histories) v.notes
+sound_notes n db v it =
     let kept = it.spells.kept in
     (it.spells.intake, kept.sound.ordered.notes, kept.limits.notes, named v v.notes kept.sound.notes)
 
-pub unsound : (db : Database) → ((es : List Entry) → AreEntries db es → TellNotes db es false) → (v : Vault) → ¬ AreSound db v
-unsound db told v it = told (entries_in v.histories) (sound_entries db v it) v.notes (sound_notes db v it)
+pub unsound : (n : Edition) → (db : Database) → ((es : List Entry) → AreEntries db es → TellNotes db es false) → (v : Vault) → ¬ AreSoundAs n db v
+unsound n db told v it = told (entries_in v.histories) (sound_entries n db v it) v.notes ((sound_notes n) db v it)

@@ -12,14 +12,15 @@ ghost use Rattle.vault_core_model.specs.Vault.{Vault};
 ghost use Rattle.vault_audit_model.specs.Limits.{IsNote};
 ghost use Rattle.vault_audit_model.specs.Relations.{AreEntries, TellNotes};
 ghost use Rattle.vault_audit_model.specs.Rows.{retention_mode, retention_until};
-ghost use Rattle.vault_audit_model.specs.Spells.{AreSound};
-ghost use Rattle.vault_audit_model.specs.Tables.{vault_schema};
+ghost use Rattle.vault_audit_model.specs.Spells.{AreSoundAs};
+ghost use Rattle.vault_audit_model.specs.Tables.{schema_of};
 ghost use Rattle.vault_audit_model.specs.Values.{number as value, flag_or_null as hold_value};
 ghost use Rattle.vault_audit_intake.specs.Notes.{noted_row, IsAfter};
 ghost use Rattle.vault_audit_walk.specs.Health.{IsHealthy, IsMemory};
 
 use sqlite::{Alter, Connection, Error, ErrorCode, Row};
 use std::cmp::Ordering;
+use vault_audit_model::schema::Edition;
 use vault_audit_rows::cell::{
     MOST_CONTENT, bytes, digest, flag_or_null, number, number_within, text, version_id,
 };
@@ -146,10 +147,10 @@ impl Pass for NotePass {
 
 /// Whether each row of `intake` tells a note of a version of its bucket, key, size and digest, and no
 /// two are of one line of a batch. It is told of entries whose ids are 1, 2, 3 and so on.
-pub fn check_notes<S: Alter>(conn: &mut Connection<S>) -> Result<bool, Error>
-    requires { HasCleanDisk (state S.Store conn.old) → (state S.Store conn.old).now.schema ≡ vault_schema }
+pub fn check_notes<S: Alter>(conn: &mut Connection<S>, edition: Edition) -> Result<bool, Error>
+    requires { HasCleanDisk (state S.Store conn.old) → (state S.Store conn.old).now.schema ≡ schema_of edition }
     ensures told { HasCleanDisk (state S.Store conn.new) → IfOk result (λ found. (es : List Entry) → AreEntries (state S.Store conn.new).now es → TellNotes (state S.Store conn.new).now es found) }
-    ensures damaged { HasCleanDisk (state S.Store conn.new) → IfOk result (λ found. found ≡ false → (v : Vault) → ¬ AreSound (state S.Store conn.new).now v) }
+    ensures damaged { HasCleanDisk (state S.Store conn.new) → IfOk result (λ found. found ≡ false → (v : Vault) → ¬ AreSoundAs edition (state S.Store conn.new).now v) }
     ensures same { HasCleanDisk (state S.Store conn.new) → OnOk result (IsUnchanged (state S.Store conn.old) (state S.Store conn.new)) }
     ensures err { IsHealthy (state S.Store conn.new) → IfErr result IsMemory }
     ensures crash { Survives (state S.Store conn.old) (state S.Store conn.new) (λ _. ⊥) }

@@ -21,7 +21,7 @@ use Rattle.vault_audit_model.specs.declared.rows.HeadRow.{HeadRow}
 use Rattle.vault_audit_model.specs.Limits.{IsEntry, IsHeadRow}
 use Rattle.vault_audit_model.specs.Relations.{AreEntries, AreNumbered, AreHeads, TellHeads}
 use Rattle.vault_audit_model.specs.Rows.{head_row, head_columns}
-use Rattle.vault_audit_model.specs.Spells.{AreSound, head_in, heads_in}
+use Rattle.vault_audit_model.specs.Spells.{AreSoundAs, head_in, heads_in}
 use Rattle.vault_audit_model.specs.Tables.{heads_tree}
 use Rattle.vault_audit_contents.proofs.SoundLemmas.{sound_entries}
 use Rattle.vault_audit_heads.specs.Heads.{head_cmp, IsHeldFor, NamesHeld, AreHeadsByKey, TellHeadsByKey}
@@ -34,6 +34,7 @@ use Rattle.vault_audit_counts.proofs.CountLemmas.{mapped_many}
 use Rattle.vault_core_laws.proofs.Tests.{none_is}
 use Rattle.vault_audit_keys.specs.Keys.{entries_of}
 use Rattle.vault_audit_keys.proofs.MemberLemmas.{In, at_in, all_of, none_in, no_length, one_in, filter_in, in_filter, any_in, in_any, map_in, in_map, tied, one_of, same_rising}
+use Rattle.vault_audit_model.specs.declared.schema.Edition.{Edition}
 
 -- ---- tests
 
@@ -287,5 +288,5 @@ module _ (db : Database) (v : Vault) (are : AreEntries db (entries_of v)) where
   heads_told false hs by_key headed counts = no_counts counts
 
 -- heads that are none of any vault are those of no sound vault
-pub unsound : (db : Database) → ((v : Vault) → AreEntries db (entries_of v) → TellHeads db v false) → (v : Vault) → ¬ AreSound db v
-unsound db told v it = told v (sound_entries db v it) it.heads
+pub unsound : (n : Edition) → (db : Database) → ((v : Vault) → AreEntries db (entries_of v) → TellHeads db v false) → (v : Vault) → ¬ AreSoundAs n db v
+unsound n db told v it = told v (sound_entries n db v it) it.heads

@@ -8,8 +8,8 @@ ghost use Rattle.sqlite.specs.State.{HasCleanDisk, IsUnchanged, Survives};
 ghost use Rattle.sqlite.specs.Held.{state};
 ghost use Rattle.vault_core_model.specs.Vault.{Vault};
 ghost use Rattle.vault_audit_model.specs.Relations.{AreEntries, TellHeads};
-ghost use Rattle.vault_audit_model.specs.Spells.{AreSound};
-ghost use Rattle.vault_audit_model.specs.Tables.{vault_schema};
+ghost use Rattle.vault_audit_model.specs.Spells.{AreSoundAs};
+ghost use Rattle.vault_audit_model.specs.Tables.{schema_of};
 ghost use Rattle.vault_audit_keys.specs.Keys.{entries_of};
 ghost use Rattle.vault_audit_walk.specs.Health.{IsHealthy, IsMemory};
 
@@ -17,25 +17,26 @@ use sqlite::{Alter, Connection, Error};
 use vault_audit_counts::check_counts;
 use vault_audit_heads::by_key::check_heads_by_key;
 use vault_audit_heads::newest::check_each_is_headed;
+use vault_audit_model::schema::Edition;
 
 /// Whether `heads` has exactly a row for each key that holds an entry, with its newest id and how many it
 /// holds. It is told of a vault with the entries of the rows, whose ids are 1, 2, 3 and so on.
-pub fn check_heads<S: Alter>(conn: &mut Connection<S>) -> Result<bool, Error>
-    requires { HasCleanDisk (state S.Store conn.old) → (state S.Store conn.old).now.schema ≡ vault_schema }
+pub fn check_heads<S: Alter>(conn: &mut Connection<S>, edition: Edition) -> Result<bool, Error>
+    requires { HasCleanDisk (state S.Store conn.old) → (state S.Store conn.old).now.schema ≡ schema_of edition }
     ensures told { HasCleanDisk (state S.Store conn.new) → IfOk result (λ found. (v : Vault) → AreEntries (state S.Store conn.new).now (entries_of v) → TellHeads (state S.Store conn.new).now v found) }
-    ensures damaged { HasCleanDisk (state S.Store conn.new) → IfOk result (λ found. found ≡ false → (v : Vault) → ¬ AreSound (state S.Store conn.new).now v) }
+    ensures damaged { HasCleanDisk (state S.Store conn.new) → IfOk result (λ found. found ≡ false → (v : Vault) → ¬ AreSoundAs edition (state S.Store conn.new).now v) }
     ensures same { HasCleanDisk (state S.Store conn.new) → OnOk result (IsUnchanged (state S.Store conn.old) (state S.Store conn.new)) }
     ensures err { IsHealthy (state S.Store conn.new) → IfErr result IsMemory }
     ensures crash { Survives (state S.Store conn.old) (state S.Store conn.new) (λ _. ⊥) }
 {
-    let by_key = check_heads_by_key(conn)?;
+    let by_key = check_heads_by_key(conn, edition)?;
     if !by_key {
         return Ok(false);
     }
-    let headed = check_each_is_headed(conn)?;
+    let headed = check_each_is_headed(conn, edition)?;
     if !headed {
         return Ok(false);
     }
-    let counted = check_counts(conn)?;
+    let counted = check_counts(conn, edition)?;
     Ok(counted)
 }

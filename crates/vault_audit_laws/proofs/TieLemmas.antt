@@ -23,7 +23,8 @@ use Rattle.sqlite_rules.specs.Lists.{Has}
 use Rattle.sqlite_rules.proofs.ListLemmas.{all_has, some_has}
 use Rattle.sqlite_rules.proofs.ProbeLemmas.{mapped_has}
 use Rattle.sqlite.specs.Effect.{Database, IsDatabase}
-use Rattle.vault_audit_model.specs.Tables.{vault_schema, refers, departments, callers, buckets, rules, entries, intake, heads, has, departments_tree, callers_tree, buckets_tree, rules_tree, entries_tree, contents_tree, settings_tree, intake_tree, heads_tree}
+use Rattle.vault_audit_model.specs.declared.schema.Edition.{Edition}
+use Rattle.vault_audit_model.specs.Tables.{schema_of, rules_as, refers, departments, callers, buckets, entries, intake, heads, has, departments_tree, callers_tree, buckets_tree, rules_tree, entries_tree, contents_tree, settings_tree, intake_tree, heads_tree}
 use Rattle.vault_audit_laws.specs.Ties.{HaveParents, HaveTiedParents, AreTied}
 
 -- ---- values that SQL holds equal
@@ -164,23 +165,23 @@ module _ (tables : List Table) (trees : Trees) (at place tree : ℕ) (ref : Refe
 
 -- ---- the tables
 
-departments_key : (at : ℕ) → parent_key vault_schema.tables (refers at (codes "departments") (codes "name")) ≡ Some (departments_tree, 1 ∷ [], plain)
+departments_key : (n : Edition) (at : ℕ) → parent_key (schema_of n).tables (refers at (codes "departments") (codes "name")) ≡ Some (departments_tree, 1 ∷ [], plain)
 unfolding same_name joined
-departments_key at = refl
+departments_key n at = refl
 
-buckets_key : (at : ℕ) → parent_key vault_schema.tables (refers at (codes "buckets") (codes "name")) ≡ Some (buckets_tree, 1 ∷ [], plain)
+buckets_key : (n : Edition) (at : ℕ) → parent_key (schema_of n).tables (refers at (codes "buckets") (codes "name")) ≡ Some (buckets_tree, 1 ∷ [], plain)
 unfolding same_name joined
-buckets_key at = refl
+buckets_key n at = refl
 
-entries_key : (at : ℕ) → parent_key vault_schema.tables (refers at (codes "entries") (codes "id")) ≡ Some (entries_tree, 0 ∷ [], plain)
+entries_key : (n : Edition) (at : ℕ) → parent_key (schema_of n).tables (refers at (codes "entries") (codes "id")) ≡ Some (entries_tree, 0 ∷ [], plain)
 unfolding same_name joined
-entries_key at = refl
+entries_key n at = refl
 
-module _ (db : Database) (is : IsDatabase db) (ours : db.schema ≡ vault_schema) where
-  refer : Keeps ForeignKey vault_schema db.trees
+module _ (n : Edition) (db : Database) (is : IsDatabase db) (ours : db.schema ≡ schema_of n) where
+  refer : Keeps ForeignKey (schema_of n) db.trees
   refer = subst (λ s. Keeps ForeignKey s db.trees) ours (is.obeys.rules ForeignKey)
 
-  typed : Keeps Datatype vault_schema db.trees
+  typed : Keeps Datatype (schema_of n) db.trees
   typed = subst (λ s. Keeps Datatype s db.trees) ours (is.obeys.rules Datatype)
 
   abbrev rows_of : ℕ → List Row
@@ -202,7 +203,7 @@ module _ (db : Database) (is : IsDatabase db) (ours : db.schema ≡ vault_schema
   bucket_departments = second_texts buckets.key (head_of buckets.columns) (head_of (drop 1 buckets.columns)) (drop 2 buckets.columns) text_or_null refl (rows_of buckets_tree) typed.1.1.1.0
 
   rule_buckets : AreTexts 1 (rows_of rules_tree)
-  rule_buckets = first_texts rules.key (head_of rules.columns) (drop 1 rules.columns) text_or_null refl (rows_of rules_tree) typed.1.1.1.1.0
+  rule_buckets = first_texts (rules_as n).key (head_of (rules_as n).columns) (drop 1 (rules_as n).columns) text_or_null refl (rows_of rules_tree) typed.1.1.1.1.0
 
   entry_buckets : AreTexts 2 (rows_of entries_tree)
   entry_buckets = second_texts entries.key (head_of entries.columns) (head_of (drop 1 entries.columns)) (drop 2 entries.columns) text_or_null refl (rows_of entries_tree) typed.1.1.1.1.1.0
@@ -213,21 +214,21 @@ module _ (db : Database) (is : IsDatabase db) (ours : db.schema ≡ vault_schema
   head_buckets : AreTexts 1 (rows_of heads_tree)
   head_buckets = first_texts heads.key (head_of heads.columns) (drop 1 heads.columns) text_or_null refl (rows_of heads_tree) typed.1.1.1.1.1.1.1.1.1.0
 
-  to_departments : (at : ℕ) (refs : List Reference) (rows : List Row) → AllByRecursion (λ row. list_all (has_parent vault_schema.tables db.trees row) (refers at (codes "departments") (codes "name") ∷ refs) ≡ true) rows
+  to_departments : (at : ℕ) (refs : List Reference) (rows : List Row) → AllByRecursion (λ row. list_all (has_parent (schema_of n).tables db.trees row) (refers at (codes "departments") (codes "name") ∷ refs) ≡ true) rows
       → AllByRecursion (PointsTo at 1 (rows_of departments_tree)) rows
-  to_departments at = first_points vault_schema.tables db.trees at 1 departments_tree (refers at (codes "departments") (codes "name")) refl (departments_key at)
+  to_departments at = first_points (schema_of n).tables db.trees at 1 departments_tree (refers at (codes "departments") (codes "name")) refl (departments_key n at)
 
-  to_buckets : (at : ℕ) (refs : List Reference) (rows : List Row) → AllByRecursion (λ row. list_all (has_parent vault_schema.tables db.trees row) (refers at (codes "buckets") (codes "name") ∷ refs) ≡ true) rows
+  to_buckets : (at : ℕ) (refs : List Reference) (rows : List Row) → AllByRecursion (λ row. list_all (has_parent (schema_of n).tables db.trees row) (refers at (codes "buckets") (codes "name") ∷ refs) ≡ true) rows
       → AllByRecursion (PointsTo at 1 (rows_of buckets_tree)) rows
-  to_buckets at = first_points vault_schema.tables db.trees at 1 buckets_tree (refers at (codes "buckets") (codes "name")) refl (buckets_key at)
+  to_buckets at = first_points (schema_of n).tables db.trees at 1 buckets_tree (refers at (codes "buckets") (codes "name")) refl (buckets_key n at)
 
-  to_entries : (at : ℕ) (refs : List Reference) (rows : List Row) → AllByRecursion (λ row. list_all (has_parent vault_schema.tables db.trees row) (refers at (codes "entries") (codes "id") ∷ refs) ≡ true) rows
+  to_entries : (at : ℕ) (refs : List Reference) (rows : List Row) → AllByRecursion (λ row. list_all (has_parent (schema_of n).tables db.trees row) (refers at (codes "entries") (codes "id") ∷ refs) ≡ true) rows
       → AllByRecursion (PointsTo at 0 (rows_of entries_tree)) rows
-  to_entries at = first_points vault_schema.tables db.trees at 0 entries_tree (refers at (codes "entries") (codes "id")) refl (entries_key at)
+  to_entries at = first_points (schema_of n).tables db.trees at 0 entries_tree (refers at (codes "entries") (codes "id")) refl (entries_key n at)
 
   then_to_entries : (at : ℕ) (before : Reference) (refs : List Reference) (rows : List Row)
-      → AllByRecursion (λ row. list_all (has_parent vault_schema.tables db.trees row) (before ∷ refers at (codes "entries") (codes "id") ∷ refs) ≡ true) rows → AllByRecursion (PointsTo at 0 (rows_of entries_tree)) rows
-  then_to_entries at = second_points vault_schema.tables db.trees at 0 entries_tree (refers at (codes "entries") (codes "id")) refl (entries_key at)
+      → AllByRecursion (λ row. list_all (has_parent (schema_of n).tables db.trees row) (before ∷ refers at (codes "entries") (codes "id") ∷ refs) ≡ true) rows → AllByRecursion (PointsTo at 0 (rows_of entries_tree)) rows
+  then_to_entries at = second_points (schema_of n).tables db.trees at 0 entries_tree (refers at (codes "entries") (codes "id")) refl (entries_key n at)
 
   pub are_tied : AreTied db
   are_tied = record {

@@ -22,8 +22,10 @@ use Rattle.vault_core_model.specs.Vault.{Vault}
 use Rattle.vault_audit_model.specs.declared.rows.ContentRow.{ContentRow}
 use Rattle.vault_audit_model.specs.declared.rows.RuleRow.{RuleRow}
 use Rattle.vault_audit_model.specs.declared.rows.SettingRow.{SettingRow}
-use Rattle.vault_audit_model.specs.Rows.{meta_row, caller_row, bucket_row, rule_row, entry_row, content_row, setting_row, note_row, meta_columns, caller_columns, bucket_columns, rule_columns, entry_columns, content_columns, setting_columns, note_columns}
-use Rattle.vault_audit_model.specs.Spells.{Spells, meta_of, bucket_of, rules_from, rules_if_given, rules_in, content_if_given, contents_in, settings_from, settings_in}
+use Rattle.vault_audit_model.specs.declared.schema.Edition.{Edition}
+use Rattle.vault_audit_model.specs.Editions.{newest}
+use Rattle.vault_audit_model.specs.Rows.{meta_row, caller_row, bucket_row, rule_row, entry_row, content_row, setting_row, note_row, meta_columns, caller_columns, bucket_columns, rule_columns_as, entry_columns, content_columns, setting_columns, note_columns}
+use Rattle.vault_audit_model.specs.Spells.{SpellsAs, meta_as, bucket_of, rules_from, rules_if_given, rules_in, content_if_given, contents_in, settings_from, settings_in}
 use Rattle.vault_audit_model.specs.Tables.{meta_tree, departments_tree, callers_tree, buckets_tree, rules_tree, entries_tree, contents_tree, settings_tree, intake_tree}
 use Rattle.vault_audit_model.proofs.SameRows.{text_same, same_meta, same_caller, same_bucket, same_rule, same_entry, same_content, same_setting, same_note}
 use Rattle.vault_core_laws.proofs.NameOrder.{callers_total, buckets_total, notes_total}
@@ -144,44 +146,44 @@ alike_vaults a0 a1 b0 b1 c0 c1 d0 d1 e0 e1 f0 f1 p q r s t u = rw (p, q, r, s, t
 
 -- ---- what the one vault has the other has
 
-module _ (db : Database) where
-  ordered_ids : (v : Vault) → Spells db v → IsAscending (on id_of nat_cmp) v.histories
+module _ (n : Edition) (db : Database) where
+  ordered_ids : (v : Vault) → SpellsAs n db v → IsAscending (on id_of nat_cmp) v.histories
   ordered_ids v it = ascending_numbered id_of 1 v.histories (ids_numbered 1 v.histories it.kept.sound.ids)
 
-  departments_within : (v w : Vault) → Spells db v → Spells db w → IsWithin v.departments w.departments
+  departments_within : (v w : Vault) → SpellsAs n db v → SpellsAs n db w → IsWithin v.departments w.departments
   departments_within v w it is = within_by_rows (λ d. Text d) text_same v.departments w.departments (map (λ r. column r 1) (db.trees departments_tree)) it.departments is.departments
 
-  callers_within : (v w : Vault) → Spells db v → Spells db w → IsWithin v.callers w.callers
+  callers_within : (v w : Vault) → SpellsAs n db v → SpellsAs n db w → IsWithin v.callers w.callers
   callers_within v w it is = within_by_rows caller_row same_caller v.callers w.callers (map caller_columns (db.trees callers_tree)) it.callers is.callers
 
-  notes_within : (v w : Vault) → Spells db v → Spells db w → IsWithin v.notes w.notes
+  notes_within : (v w : Vault) → SpellsAs n db v → SpellsAs n db w → IsWithin v.notes w.notes
   notes_within v w it is = within_by_rows note_row same_note v.notes w.notes (map note_columns (db.trees intake_tree)) it.intake is.intake
 
-  rules_within : (v w : Vault) → Spells db v → Spells db w → IsWithin (flat_map rules_in v.buckets) (flat_map rules_in w.buckets)
-  rules_within v w it is = within_by_rows rule_row same_rule (flat_map rules_in v.buckets) (flat_map rules_in w.buckets) (map rule_columns (db.trees rules_tree)) it.rules is.rules
+  rules_within : (v w : Vault) → SpellsAs n db v → SpellsAs n db w → IsWithin (flat_map rules_in v.buckets) (flat_map rules_in w.buckets)
+  rules_within v w it is = within_by_rows rule_row same_rule (flat_map rules_in v.buckets) (flat_map rules_in w.buckets) (map (rule_columns_as n) (db.trees rules_tree)) it.rules is.rules
 
-  contents_within : (v w : Vault) → Spells db v → Spells db w → IsWithin (flat_map contents_in v.histories) (flat_map contents_in w.histories)
+  contents_within : (v w : Vault) → SpellsAs n db v → SpellsAs n db w → IsWithin (flat_map contents_in v.histories) (flat_map contents_in w.histories)
   contents_within v w it is = within_by_rows content_row same_content (flat_map contents_in v.histories) (flat_map contents_in w.histories) (map content_columns (db.trees contents_tree)) it.contents is.contents
 
-  settings_within : (v w : Vault) → Spells db v → Spells db w → IsWithin (flat_map settings_in v.histories) (flat_map settings_in w.histories)
+  settings_within : (v w : Vault) → SpellsAs n db v → SpellsAs n db w → IsWithin (flat_map settings_in v.histories) (flat_map settings_in w.histories)
   settings_within v w it is = within_by_rows setting_row same_setting (flat_map settings_in v.histories) (flat_map settings_in w.histories) (map setting_columns (db.trees settings_tree)) it.settings is.settings
 
-  bucket_rules : (v w : Vault) → Spells db v → Spells db w → (a b : Bucket) → Has v.buckets a → Has w.buckets b → a.name ≡ b.name → IsWithin (rules_in a) (rules_in b)
+  bucket_rules : (v w : Vault) → SpellsAs n db v → SpellsAs n db w → (a b : Bucket) → Has v.buckets a → Has w.buckets b → a.name ≡ b.name → IsWithin (rules_in a) (rules_in b)
   bucket_rules v w it is =
       same_parts (λ (b : Bucket). b.name) (λ (r : RuleRow). r.bucket) rules_in (λ b r h. rules_given_name b.name b.rules r h) v.buckets w.buckets
       (one_bucket w.buckets is.kept.sound.ordered.buckets) (rules_within v w it is)
 
-  history_content : (v w : Vault) → Spells db v → Spells db w → (g h : History) → Has v.histories g → Has w.histories h → g.entry.id ≡ h.entry.id → IsWithin (contents_in g) (contents_in h)
+  history_content : (v w : Vault) → SpellsAs n db v → SpellsAs n db w → (g h : History) → Has v.histories g → Has w.histories h → g.entry.id ≡ h.entry.id → IsWithin (contents_in g) (contents_in h)
   history_content v w it is =
       same_parts id_of (λ (c : ContentRow). c.id) contents_in (λ h c there. content_of_id h.entry.id h.content c there) v.histories w.histories
       (one_history w.histories (ordered_ids w is)) (contents_within v w it is)
 
-  history_settings : (v w : Vault) → Spells db v → Spells db w → (g h : History) → Has v.histories g → Has w.histories h → g.entry.id ≡ h.entry.id → IsWithin (settings_in g) (settings_in h)
+  history_settings : (v w : Vault) → SpellsAs n db v → SpellsAs n db w → (g h : History) → Has v.histories g → Has w.histories h → g.entry.id ≡ h.entry.id → IsWithin (settings_in g) (settings_in h)
   history_settings v w it is =
       same_parts id_of (λ (s : SettingRow). s.id) settings_in (λ h s there. settings_of_id h.entry.id 1 h.settings s there) v.histories w.histories
       (one_history w.histories (ordered_ids w is)) (settings_within v w it is)
 
-  same_bucket_there : (v w : Vault) → Spells db v → Spells db w → (a b : Bucket) → Has v.buckets a → Has w.buckets b → bucket_of a ≡ bucket_of b → a ≡ b
+  same_bucket_there : (v w : Vault) → SpellsAs n db v → SpellsAs n db w → (a b : Bucket) → Has v.buckets a → Has w.buckets b → bucket_of a ≡ bucket_of b → a ≡ b
   same_bucket_there v w it is a b in_v in_w same =
       let name : a.name ≡ b.name = ap (λ r. r.name) same in
       let there = subst (λ n. IsWithin (rules_in a) (rules_if_given n b.rules)) (sym name) (bucket_rules v w it is a b in_v in_w name) in
@@ -190,12 +192,12 @@ module _ (db : Database) where
       same_rules_given a.name a.rules b.rules (all_has HasRuleSet v.buckets a it.kept.sound.rule_sets in_v) (all_has HasRuleSet w.buckets b is.kept.sound.rule_sets in_w) there back in
       alike_buckets a.name b.name a.config b.config a.rules b.rules name (ap (λ r. r.config) same) rules
 
-  buckets_within : (v w : Vault) → Spells db v → Spells db w → IsWithin v.buckets w.buckets
+  buckets_within : (v w : Vault) → SpellsAs n db v → SpellsAs n db w → IsWithin v.buckets w.buckets
   buckets_within v w it is a in_v =
       let found = matched (λ b. bucket_row (bucket_of b)) v.buckets w.buckets (map bucket_columns (db.trees buckets_tree)) it.buckets is.buckets a in_v in
       subst (λ b. Has w.buckets b) (sym (same_bucket_there v w it is a found.0 in_v found.1 (same_bucket (bucket_of a) (bucket_of found.0) found.2))) found.1
 
-  same_history_there : (v w : Vault) → Spells db v → Spells db w → (g h : History) → Has v.histories g → Has w.histories h → g.entry ≡ h.entry → g ≡ h
+  same_history_there : (v w : Vault) → SpellsAs n db v → SpellsAs n db w → (g h : History) → Has v.histories g → Has w.histories h → g.entry ≡ h.entry → g ≡ h
   same_history_there v w it is g h in_v in_w same =
       let id : g.entry.id ≡ h.entry.id = ap (λ e. e.id) same in
       let content : g.content ≡ h.content =
@@ -206,28 +208,31 @@ module _ (db : Database) where
       (subst (λ i. IsWithin (settings_from i 1 h.settings) (settings_in g)) (sym id) (history_settings w v is it h g in_w in_v (sym id))) in
       alike_histories g.entry h.entry g.content h.content g.settings h.settings same content settings
 
-  histories_within : (v w : Vault) → Spells db v → Spells db w → IsWithin v.histories w.histories
+  histories_within : (v w : Vault) → SpellsAs n db v → SpellsAs n db w → IsWithin v.histories w.histories
   histories_within v w it is g in_v =
       let found = matched (λ h. entry_row h.entry) v.histories w.histories (map entry_columns (db.trees entries_tree)) it.entries is.entries g in_v in
       subst (λ h. Has w.histories h) (sym (same_history_there v w it is g found.0 in_v found.1 (same_entry g.entry found.0.entry found.2))) found.1
 
-  same_last : (v w : Vault) → Spells db v → Spells db w → v.last ≡ w.last
+  same_last : (v w : Vault) → SpellsAs n db v → SpellsAs n db w → v.last ≡ w.last
   same_last v w it is =
-      elim (within_by_rows meta_row same_meta (meta_of v ∷ []) (meta_of w ∷ []) (map meta_columns (db.trees meta_tree)) it.meta is.meta (meta_of v) (inl refl)) [
+      elim (within_by_rows meta_row same_meta (meta_as n v ∷ []) (meta_as n w ∷ []) (map meta_columns (db.trees meta_tree)) it.meta is.meta (meta_as n v) (inl refl)) [
         | inl e ↦ ap (λ m. m.last) e
         | inr none ↦ absurd none
       ]
 
 -- ---- the vault
 
-pub same_vault : (db : Database) (v w : Vault) → Spells db v → Spells db w → v ≡ w
-same_vault db v w it is =
+pub same_vault_as : (n : Edition) (db : Database) (v w : Vault) → SpellsAs n db v → SpellsAs n db w → v ≡ w
+same_vault_as n db v w it is =
     let first = it.kept.sound.ordered in
     let second = is.kept.sound.ordered in
     alike_vaults v.last w.last v.departments w.departments v.callers w.callers v.buckets w.buckets v.notes w.notes v.histories w.histories
-    (same_last db v w it is)
-    (same_ascending name_cmp nat_list_cmp_total v.departments w.departments first.departments second.departments (departments_within db v w it is) (departments_within db w v is it))
-    (same_ascending caller_cmp callers_total v.callers w.callers first.callers second.callers (callers_within db v w it is) (callers_within db w v is it))
-    (same_ascending bucket_cmp buckets_total v.buckets w.buckets first.buckets second.buckets (buckets_within db v w it is) (buckets_within db w v is it))
-    (same_ascending note_cmp notes_total v.notes w.notes first.notes second.notes (notes_within db v w it is) (notes_within db w v is it))
-    (same_ascending (on id_of nat_cmp) (by_number_total id_of) v.histories w.histories (ordered_ids db v it) (ordered_ids db w is) (histories_within db v w it is) (histories_within db w v is it))
+    (same_last n db v w it is)
+    (same_ascending name_cmp nat_list_cmp_total v.departments w.departments first.departments second.departments (departments_within n db v w it is) (departments_within n db w v is it))
+    (same_ascending caller_cmp callers_total v.callers w.callers first.callers second.callers (callers_within n db v w it is) (callers_within n db w v is it))
+    (same_ascending bucket_cmp buckets_total v.buckets w.buckets first.buckets second.buckets (buckets_within n db v w it is) (buckets_within n db w v is it))
+    (same_ascending note_cmp notes_total v.notes w.notes first.notes second.notes (notes_within n db v w it is) (notes_within n db w v is it))
+    (same_ascending (on id_of nat_cmp) (by_number_total id_of) v.histories w.histories (ordered_ids n db v it) (ordered_ids n db w is) (histories_within n db v w it is) (histories_within n db w v is it))
+
+pub same_vault : (db : Database) (v w : Vault) → SpellsAs newest db v → SpellsAs newest db w → v ≡ w
+same_vault db v w it is = same_vault_as newest db v w it is

@@ -11,19 +11,20 @@ ghost use Rattle.vault_core_model.specs.declared.records.Bucket.{Bucket};
 ghost use Rattle.vault_core_model.specs.declared.records.Caller.{Caller};
 ghost use Rattle.vault_core_model.specs.declared.records.Entry.{Entry};
 ghost use Rattle.vault_core_model.specs.Vault.{Vault, config_in};
+ghost use Rattle.vault_audit_model.specs.declared.schema.Edition.{Edition};
 ghost use Rattle.vault_audit_model.specs.Rows.{caller_row, bucket_row, entry_row, caller_columns, bucket_columns, entry_columns};
-ghost use Rattle.vault_audit_model.specs.Spells.{Spells, bucket_of};
-ghost use Rattle.vault_audit_model.specs.Tables.{vault_schema, departments_tree, callers_tree, buckets_tree, entries_tree};
+ghost use Rattle.vault_audit_model.specs.Spells.{SpellsAs, bucket_of};
+ghost use Rattle.vault_audit_model.specs.Tables.{schema_of, departments_tree, callers_tree, buckets_tree, entries_tree};
 ghost use Rattle.vault_audit_laws.specs.Ties.{AreTied, is_among};
 
-/// The rows of a database spell at most one vault.
+/// The rows of a database of an edition spell at most one vault.
 pub fn one_vault()
-    ensures { (db : Database) (v w : Vault) → Spells db v → Spells db w → v ≡ w }
+    ensures { (n : Edition) (db : Database) (v w : Vault) → SpellsAs n db v → SpellsAs n db w → v ≡ w }
 {}
 
 /// In a database that obeys the schema of a vault, what a row names stands in its table.
 pub fn live_tables_are_tied()
-    ensures { (db : Database) → IsDatabase db → db.schema ≡ vault_schema → AreTied db }
+    ensures { (n : Edition) (db : Database) → IsDatabase db → db.schema ≡ schema_of n → AreTied db }
 {}
 
 /// Where it does, the records that the rows tell have what they name: a caller the department, if it has

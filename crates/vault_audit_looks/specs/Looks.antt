@@ -9,11 +9,12 @@ use Rattle.vault_core_model.specs.declared.records.Entry.{Entry}
 use Rattle.vault_core_model.specs.declared.records.History.{History}
 use Rattle.vault_core_model.specs.declared.records.Note.{Note}
 use Rattle.vault_core_model.specs.Vault.{Vault}
+use Rattle.vault_audit_model.specs.declared.schema.Edition.{Edition}
 use Rattle.vault_audit_model.specs.declared.rows.DepartmentRow.{DepartmentRow}
 use Rattle.vault_audit_model.specs.declared.rows.MetaRow.{MetaRow}
 use Rattle.vault_audit_model.specs.Relations.{AreBuckets, AreContents, AreEntries, AreNotes, AreSettings, AreSums, IsPast}
 use Rattle.vault_audit_model.specs.Rows.{entry_row, entry_columns}
-use Rattle.vault_audit_model.specs.Spells.{AreSound}
+use Rattle.vault_audit_model.specs.Spells.{AreSoundAs}
 use Rattle.vault_audit_model.specs.Tables.{entries_tree}
 use Rattle.vault_audit_walk.specs.Records.{AreRecords}
 use Rattle.vault_audit_tables.specs.Entries.{IsEntryBy}
@@ -21,30 +22,30 @@ use Rattle.vault_audit_tables.specs.Meta.{IsMetaOf}
 use Rattle.vault_audit_names.specs.Names.{AreCallersByName, AreDepartmentsByName}
 
 -- no table is damaged, and this is found; or one is, and the tables are sound for no vault
-abbrev pub Told : Database → Type 0 → Option Table → Type 0
-Told db Found None = Found
-Told db Found (Some table) = (v : Vault) → ¬ AreSound db v
+abbrev pub Told : Edition → Database → Type 0 → Option Table → Type 0
+Told n db Found None = Found
+Told n db Found (Some table) = (v : Vault) → ¬ AreSoundAs n db v
 
 -- the same, where this is the row of meta
-abbrev pub ToldOf : Database → MetaRow → Type 0 → Option Table → Type 0
-ToldOf db m Found None = Found
-ToldOf db m Found (Some table) = IsMetaOf db (Some m) → (v : Vault) → ¬ AreSound db v
+abbrev pub ToldOf : Edition → Database → MetaRow → Type 0 → Option Table → Type 0
+ToldOf n db m Found None = Found
+ToldOf n db m Found (Some table) = IsMetaOf n db (Some m) → (v : Vault) → ¬ AreSoundAs n db v
 
 -- the rows of entries are entries in their limits, none after the last moment
 abbrev pub ArePast : Database → ℕ → Type 0
 ArePast db last = AreRecords entry_row (IsEntryBy last) (map entry_columns (db.trees entries_tree)) true
 
 -- the next id, and the departments with their sums
-pub record DepartmentsFound (db : Database) (m : MetaRow) : Type 0 where
+pub record DepartmentsFound (n : Edition) (db : Database) (m : MetaRow) : Type 0 where
   pub next : m.next ≡ length (db.trees entries_tree) + 1
   pub departments : (ds : List DepartmentRow) × AreDepartmentsByName db ds
-  pub sums : (bs : List Bucket) (hs : List History) (last : ℕ) → AreBuckets db bs → AreEntries db (map (λ (h : History). h.entry) hs) → AllByRecursion (IsPast last) (map (λ (h : History). h.entry) hs)
+  pub sums : (bs : List Bucket) (hs : List History) (last : ℕ) → AreBuckets n db bs → AreEntries db (map (λ (h : History). h.entry) hs) → AllByRecursion (IsPast last) (map (λ (h : History). h.entry) hs)
       → (summed : List (List ℕ)) × AreSums db bs hs summed
 
 -- callers, and buckets with their rules
-pub record NamesFound (db : Database) : Type 0 where
+pub record NamesFound (n : Edition) (db : Database) : Type 0 where
   pub callers : (cs : List Caller) × AreCallersByName db cs
-  pub buckets : (bs : List Bucket) × AreBuckets db bs
+  pub buckets : (bs : List Bucket) × AreBuckets n db bs
 
 -- the contents, the settings and the notes of these entries
 pub record VersionsFound (db : Database) (es : List Entry) : Type 0 where

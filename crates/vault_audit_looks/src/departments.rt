@@ -2,13 +2,14 @@
 ghost use Rattle.std.specs.Prelude.{◌≡◌, IfOk, IfErr, OnOk};
 ghost use Rattle.sqlite.specs.State.{HasCleanDisk, IsUnchanged, Survives};
 ghost use Rattle.sqlite.specs.Held.{state};
-ghost use Rattle.vault_audit_model.specs.Tables.{vault_schema};
+ghost use Rattle.vault_audit_model.specs.Tables.{schema_of};
 ghost use Rattle.vault_audit_looks.specs.Looks.{ToldOf, DepartmentsFound};
 ghost use Rattle.vault_audit_walk.specs.Health.{IsHealthy, IsMemory};
 
 use sqlite::{Alter, Connection, Error};
 use std::alloc::Global;
 use vault_audit_model::rows::MetaRow;
+use vault_audit_model::schema::Edition;
 use vault_audit_names::departments::check_departments_by_name;
 use vault_audit_next::check_next;
 use vault_audit_sums::sums::check_sums;
@@ -19,23 +20,24 @@ use vault_base::refusal::Table;
 pub fn look_at_departments<S: Alter>(
     alloc: Global,
     conn: &mut Connection<S>,
+    edition: Edition,
     meta: MetaRow,
 ) -> Result<Option<Table>, Error>
-    requires { HasCleanDisk (state S.Store conn.old) → (state S.Store conn.old).now.schema ≡ vault_schema }
-    ensures told { HasCleanDisk (state S.Store conn.new) → IfOk result (ToldOf (state S.Store conn.new).now meta (DepartmentsFound (state S.Store conn.new).now meta)) }
+    requires { HasCleanDisk (state S.Store conn.old) → (state S.Store conn.old).now.schema ≡ schema_of edition }
+    ensures told { HasCleanDisk (state S.Store conn.new) → IfOk result (ToldOf edition (state S.Store conn.new).now meta (DepartmentsFound edition (state S.Store conn.new).now meta)) }
     ensures same { HasCleanDisk (state S.Store conn.new) → OnOk result (IsUnchanged (state S.Store conn.old) (state S.Store conn.new)) }
     ensures err { IsHealthy (state S.Store conn.new) → IfErr result IsMemory }
     ensures crash { Survives (state S.Store conn.old) (state S.Store conn.new) (λ _. ⊥) }
 {
-    let next = check_next(conn, meta.next)?;
+    let next = check_next(conn, edition, meta.next)?;
     if !next {
         return Ok(Some(Table::Meta));
     }
-    let departments = check_departments_by_name(conn)?;
+    let departments = check_departments_by_name(conn, edition)?;
     if !departments {
         return Ok(Some(Table::Departments));
     }
-    let sums = check_sums(alloc, conn)?;
+    let sums = check_sums(alloc, conn, edition)?;
     if !sums {
         return Ok(Some(Table::Departments));
     }

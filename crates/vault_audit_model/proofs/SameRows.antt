@@ -220,18 +220,18 @@ removal_same (Some r) (Some s) p q e =
 
 -- ---- rows
 
-abbrev meta_with : ℕ → ℕ → MetaRow
-meta_with a b = record { last = a; next = b }
+abbrev meta_with : ℕ → ℕ → ℕ → MetaRow
+meta_with a b c = record { schema = a; last = b; next = c }
 
-alike_metas : (a0 a1 : ℕ) (b0 b1 : ℕ) → a0 ≡ a1 → b0 ≡ b1
-    → meta_with a0 b0 ≡ meta_with a1 b1
-alike_metas a0 a1 b0 b1 same0 same1 = rw (same0, same1) refl
+alike_metas : (a0 a1 : ℕ) (b0 b1 : ℕ) (c0 c1 : ℕ) → a0 ≡ a1 → b0 ≡ b1 → c0 ≡ c1
+    → meta_with a0 b0 c0 ≡ meta_with a1 b1 c1
+alike_metas a0 a1 b0 b1 c0 c1 same0 same1 same2 = rw (same0, same1, same2) refl
 
 pub same_meta : (x y : MetaRow) → meta_row x ≡ meta_row y → x ≡ y
 same_meta x y e =
     let one = cell (meta_row x) (meta_row y) in
-    alike_metas x.last y.last x.next y.next
-    (number_same _ _ (one 2 e)) (number_same _ _ (one 3 e))
+    alike_metas x.schema y.schema x.last y.last x.next y.next
+    (number_same _ _ (one 1 e)) (number_same _ _ (one 2 e)) (number_same _ _ (one 3 e))
 
 abbrev caller_with : List ℕ → Option (List ℕ) → Rights → Bool → Caller
 caller_with a b c d = record { name = a; dept = b; rights = c; closed = d }
@@ -258,19 +258,19 @@ same_bucket x y e =
     alike_buckets x.name y.name x.config.dept y.config.dept x.config.default y.config.default
     (text_same _ _ (one 0 e)) (text_same _ _ (one 1 e)) (default_same _ _ (one 2 e) (one 3 e) (one 4 e))
 
-abbrev rule_with : List ℕ → ℕ → List ℕ → List ℕ → Bool → Option ℕ → Bool → Option Noncurrent → RuleRow
-rule_with a b c d f g h i =
-    record { bucket = a; place = b; rule = record { id = c; prefix = d; enabled = f; days = g; lone_markers = h; noncurrent = i } }
+abbrev rule_with : List ℕ → ℕ → List ℕ → List ℕ → Bool → Option ℕ → Bool → Option Noncurrent → Option ℕ → Option ℕ → RuleRow
+rule_with a b c d f g h i j k =
+    record { bucket = a; place = b; rule = record { id = c; prefix = d; enabled = f; days = g; lone_markers = h; noncurrent = i; larger = j; smaller = k } }
 
-alike_rules : (a0 a1 : List ℕ) (b0 b1 : ℕ) (c0 c1 : List ℕ) (d0 d1 : List ℕ) (f0 f1 : Bool) (g0 g1 : Option ℕ) (h0 h1 : Bool) (i0 i1 : Option Noncurrent) → a0 ≡ a1 → b0 ≡ b1 → c0 ≡ c1 → d0 ≡ d1 → f0 ≡ f1 → g0 ≡ g1 → h0 ≡ h1 → i0 ≡ i1
-    → rule_with a0 b0 c0 d0 f0 g0 h0 i0 ≡ rule_with a1 b1 c1 d1 f1 g1 h1 i1
-alike_rules a0 a1 b0 b1 c0 c1 d0 d1 f0 f1 g0 g1 h0 h1 i0 i1 same0 same1 same2 same3 same4 same5 same6 same7 = rw (same0, same1, same2, same3, same4, same5, same6, same7) refl
+alike_rules : (a0 a1 : List ℕ) (b0 b1 : ℕ) (c0 c1 : List ℕ) (d0 d1 : List ℕ) (f0 f1 : Bool) (g0 g1 : Option ℕ) (h0 h1 : Bool) (i0 i1 : Option Noncurrent) (j0 j1 k0 k1 : Option ℕ) → a0 ≡ a1 → b0 ≡ b1 → c0 ≡ c1 → d0 ≡ d1 → f0 ≡ f1 → g0 ≡ g1 → h0 ≡ h1 → i0 ≡ i1 → j0 ≡ j1 → k0 ≡ k1
+    → rule_with a0 b0 c0 d0 f0 g0 h0 i0 j0 k0 ≡ rule_with a1 b1 c1 d1 f1 g1 h1 i1 j1 k1
+alike_rules a0 a1 b0 b1 c0 c1 d0 d1 f0 f1 g0 g1 h0 h1 i0 i1 j0 j1 k0 k1 same0 same1 same2 same3 same4 same5 same6 same7 same8 same9 = rw (same0, same1, same2, same3, same4, same5, same6, same7, same8, same9) refl
 
 pub same_rule : (x y : RuleRow) → rule_row x ≡ rule_row y → x ≡ y
 same_rule x y e =
     let one = cell (rule_row x) (rule_row y) in
-    alike_rules x.bucket y.bucket x.place y.place x.rule.id y.rule.id x.rule.prefix y.rule.prefix x.rule.enabled y.rule.enabled x.rule.days y.rule.days x.rule.lone_markers y.rule.lone_markers x.rule.noncurrent y.rule.noncurrent
-    (text_same _ _ (one 0 e)) (number_same _ _ (one 1 e)) (text_same _ _ (one 2 e)) (text_same _ _ (one 3 e)) (flag_same _ _ (one 4 e)) (number_or_null_same _ _ (one 5 e)) (flag_same _ _ (one 6 e)) (noncurrent_same _ _ (one 7 e) (one 8 e))
+    alike_rules x.bucket y.bucket x.place y.place x.rule.id y.rule.id x.rule.prefix y.rule.prefix x.rule.enabled y.rule.enabled x.rule.days y.rule.days x.rule.lone_markers y.rule.lone_markers x.rule.noncurrent y.rule.noncurrent x.rule.larger y.rule.larger x.rule.smaller y.rule.smaller
+    (text_same _ _ (one 0 e)) (number_same _ _ (one 1 e)) (text_same _ _ (one 2 e)) (text_same _ _ (one 3 e)) (flag_same _ _ (one 4 e)) (number_or_null_same _ _ (one 5 e)) (flag_same _ _ (one 6 e)) (noncurrent_same _ _ (one 7 e) (one 8 e)) (number_or_null_same _ _ (one 9 e)) (number_or_null_same _ _ (one 10 e))
 
 abbrev entry_with : ℕ → List ℕ → List ℕ → Bool → ℕ → Option (List ℕ) → ℕ → Author → Option Removal → Entry
 entry_with a b c d e f g h i = record { id = a; bucket = b; key = c; marker = d; size = e; digest = f; admitted = g; by = h; removal = i }

@@ -1,4 +1,5 @@
 pub mod Values
+pub mod Editions
 pub mod Tables
 pub mod Texts
 pub mod Rows

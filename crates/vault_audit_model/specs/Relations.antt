@@ -14,8 +14,9 @@ use Rattle.vault_core_model.specs.Sound.{HasItsBytes, IsNoted, LiesBetween}
 use Rattle.vault_core_model.specs.Totals.{items_in}
 use Rattle.vault_core_model.specs.Vault.{Vault}
 use Rattle.vault_audit_model.specs.declared.rows.DepartmentRow.{DepartmentRow}
+use Rattle.vault_audit_model.specs.declared.schema.Edition.{Edition}
 use Rattle.vault_audit_model.specs.Limits.{IsBucket, IsEntry, IsNote, IsPlainName, IsSetting}
-use Rattle.vault_audit_model.specs.Rows.{bucket_row, rule_row, entry_row, content_row, setting_row, note_row, department_row, head_row, bucket_columns, rule_columns, entry_columns, content_columns, setting_columns, note_columns, department_columns, head_columns}
+use Rattle.vault_audit_model.specs.Rows.{bucket_row, rule_row, entry_row, content_row, setting_row, note_row, department_row, head_row, bucket_columns, rule_columns_as, entry_columns, content_columns, setting_columns, note_columns, department_columns, head_columns}
 use Rattle.vault_audit_model.specs.Spells.{bucket_of, rules_in, contents_in, settings_in, sums_over, heads_in}
 use Rattle.vault_audit_model.specs.Tables.{departments_tree, buckets_tree, rules_tree, entries_tree, contents_tree, settings_tree, intake_tree, heads_tree}
 
@@ -100,15 +101,15 @@ TellNotes db es false = (ns : List Note) → ¬ AreNotes db es ns
 -- ---- buckets and rules
 
 -- the rows of buckets and of rules are these buckets, each with no rules or with a set that it may have
-abbrev pub AreBuckets : Database → List Bucket → Type 0
-AreBuckets db bs =
+abbrev pub AreBuckets : Edition → Database → List Bucket → Type 0
+AreBuckets n db bs =
     IsPermutation (map (λ b. bucket_row (bucket_of b)) bs) (map bucket_columns (db.trees buckets_tree))
-    × IsPermutation (map rule_row (flat_map rules_in bs)) (map rule_columns (db.trees rules_tree)) × IsAscending bucket_cmp bs
+    × IsPermutation (map rule_row (flat_map rules_in bs)) (map (rule_columns_as n) (db.trees rules_tree)) × IsAscending bucket_cmp bs
     × AllByRecursion IsBucket bs
 
-abbrev pub TellBuckets : Database → Bool → Type 0
-TellBuckets db true = (bs : List Bucket) × AreBuckets db bs
-TellBuckets db false = (bs : List Bucket) → ¬ AreBuckets db bs
+abbrev pub TellBuckets : Edition → Database → Bool → Type 0
+TellBuckets n db true = (bs : List Bucket) × AreBuckets n db bs
+TellBuckets n db false = (bs : List Bucket) → ¬ AreBuckets n db bs
 
 -- ---- running numbers
 

@@ -1,7 +1,7 @@
 -- What stands in the columns of a row, for each record that a row tells.
 use Rattle.std.specs.Prelude.{ℕ, ◌+◌, Bool, true, false, List, [], ◌∷◌, Option, Some, None, option_map, option_and_then}
 use Rattle.sqlite_value.specs.declared.value.Value.{Value}
-use Rattle.sqlite_value.specs.declared.value.Value.TheVariants.{Text, Blob}
+use Rattle.sqlite_value.specs.declared.value.Value.TheVariants.{Null, Text, Blob}
 use Rattle.sqlite_value.specs.Order.{Row, column}
 use Rattle.vault_lock.specs.declared.retention.Mode.{Mode}
 use Rattle.vault_lock.specs.declared.retention.Mode.TheVariants.{Governance, Compliance}
@@ -26,6 +26,9 @@ use Rattle.vault_audit_model.specs.declared.rows.RuleRow.{RuleRow}
 use Rattle.vault_audit_model.specs.declared.rows.ContentRow.{ContentRow}
 use Rattle.vault_audit_model.specs.declared.rows.SettingRow.{SettingRow}
 use Rattle.vault_audit_model.specs.declared.rows.HeadRow.{HeadRow}
+use Rattle.vault_audit_model.specs.declared.schema.Edition.{Edition}
+use Rattle.vault_audit_model.specs.declared.schema.Edition.TheVariants.{First, Second}
+use Rattle.vault_audit_model.specs.Editions.{newest}
 use Rattle.vault_audit_model.specs.Values.{number, number_or_null, text_or_null, bytes_or_null, flag, flag_or_null}
 
 -- ---- parts of rows
@@ -113,7 +116,7 @@ noncurrent_newer noncurrent = number_or_null (option_and_then (λ n. n.newer) no
 
 -- the first number tells the one row apart, the second is that of the schema
 abbrev pub meta_row : MetaRow → Row
-meta_row m = number 1 ∷ number 1 ∷ number m.last ∷ number m.next ∷ []
+meta_row m = number 1 ∷ number m.schema ∷ number m.last ∷ number m.next ∷ []
 
 abbrev pub department_row : DepartmentRow → Row
 department_row d =
@@ -132,7 +135,8 @@ abbrev pub rule_row : RuleRow → Row
 rule_row r =
     Text r.bucket ∷ number r.place ∷ Text r.rule.id ∷ Text r.rule.prefix ∷ flag r.rule.enabled
     ∷ number_or_null r.rule.days ∷ flag r.rule.lone_markers
-    ∷ noncurrent_days r.rule.noncurrent ∷ noncurrent_newer r.rule.noncurrent ∷ []
+    ∷ noncurrent_days r.rule.noncurrent ∷ noncurrent_newer r.rule.noncurrent
+    ∷ number_or_null r.rule.larger ∷ number_or_null r.rule.smaller ∷ []
 
 abbrev pub entry_row : Entry → Row
 entry_row e =
@@ -170,9 +174,18 @@ caller_columns r = column r 1 ∷ column r 2 ∷ column r 3 ∷ column r 4 ∷ [
 abbrev pub bucket_columns : Row → Row
 bucket_columns r = column r 1 ∷ column r 2 ∷ column r 3 ∷ column r 4 ∷ column r 5 ∷ []
 
+-- what an edition has no column for is NULL
+abbrev pub bounds_in : Edition → Row → Row
+bounds_in First r = Null ∷ Null ∷ []
+bounds_in Second r = column r 10 ∷ column r 11 ∷ []
+
+abbrev pub rule_columns_as : Edition → Row → Row
+rule_columns_as n r =
+    column r 1 ∷ column r 2 ∷ column r 3 ∷ column r 4 ∷ column r 5 ∷ column r 6 ∷ column r 7 ∷ column r 8 ∷ column r 9
+    ∷ bounds_in n r
+
 abbrev pub rule_columns : Row → Row
-rule_columns r =
-    column r 1 ∷ column r 2 ∷ column r 3 ∷ column r 4 ∷ column r 5 ∷ column r 6 ∷ column r 7 ∷ column r 8 ∷ column r 9 ∷ []
+rule_columns = rule_columns_as newest
 
 abbrev pub entry_columns : Row → Row
 entry_columns r =

@@ -24,14 +24,19 @@ use Rattle.vault_audit_model.specs.declared.rows.RuleRow.{RuleRow}
 use Rattle.vault_audit_model.specs.declared.rows.ContentRow.{ContentRow}
 use Rattle.vault_audit_model.specs.declared.rows.SettingRow.{SettingRow}
 use Rattle.vault_audit_model.specs.declared.rows.HeadRow.{HeadRow}
-use Rattle.vault_audit_model.specs.Tables.{vault_schema, meta_tree, departments_tree, callers_tree, buckets_tree, rules_tree, entries_tree, contents_tree, settings_tree, intake_tree, heads_tree}
-use Rattle.vault_audit_model.specs.Rows.{meta_row, department_row, caller_row, bucket_row, rule_row, entry_row, content_row, setting_row, note_row, head_row, meta_columns, department_columns, caller_columns, bucket_columns, rule_columns, entry_columns, content_columns, setting_columns, note_columns, head_columns}
+use Rattle.vault_audit_model.specs.declared.schema.Edition.{Edition}
+use Rattle.vault_audit_model.specs.Editions.{number_of, newest}
+use Rattle.vault_audit_model.specs.Tables.{schema_of, meta_tree, departments_tree, callers_tree, buckets_tree, rules_tree, entries_tree, contents_tree, settings_tree, intake_tree, heads_tree}
+use Rattle.vault_audit_model.specs.Rows.{meta_row, department_row, caller_row, bucket_row, rule_row, entry_row, content_row, setting_row, note_row, head_row, meta_columns, department_columns, caller_columns, bucket_columns, rule_columns_as, entry_columns, content_columns, setting_columns, note_columns, head_columns}
 use Rattle.vault_audit_model.specs.Limits.{IsInLimits}
 
 -- ---- the rows of a vault
 
+abbrev pub meta_as : Edition → Vault → MetaRow
+meta_as n v = record { schema = number_of n; last = v.last; next = next_id v }
+
 abbrev pub meta_of : Vault → MetaRow
-meta_of v = record { last = v.last; next = next_id v }
+meta_of = meta_as newest
 
 -- a bucket without its rules
 abbrev pub bucket_of : Bucket → BucketRow
@@ -105,22 +110,29 @@ pub record IsKept (v : Vault) : Type 0 where
 
 -- ---- the vault that the rows spell
 
--- The rows of each table are those of the vault, in any order. The running numbers and the heads tell nothing of a vault.
-pub record Spells (db : Database) (v : Vault) : Type 0 where
-  pub schema : db.schema ≡ vault_schema
-  pub meta : IsPermutation (meta_row (meta_of v) ∷ []) (map meta_columns (db.trees meta_tree))
+-- The rows of each table of that edition are those of the vault, in any order. The running numbers and the heads tell nothing of a vault.
+pub record SpellsAs (n : Edition) (db : Database) (v : Vault) : Type 0 where
+  pub schema : db.schema ≡ schema_of n
+  pub meta : IsPermutation (meta_row (meta_as n v) ∷ []) (map meta_columns (db.trees meta_tree))
   pub departments : IsPermutation (map (λ d. Text d) v.departments) (map (λ r. column r 1) (db.trees departments_tree))
   pub callers : IsPermutation (map caller_row v.callers) (map caller_columns (db.trees callers_tree))
   pub buckets : IsPermutation (map (λ b. bucket_row (bucket_of b)) v.buckets) (map bucket_columns (db.trees buckets_tree))
-  pub rules : IsPermutation (map rule_row (flat_map rules_in v.buckets)) (map rule_columns (db.trees rules_tree))
+  pub rules : IsPermutation (map rule_row (flat_map rules_in v.buckets)) (map (rule_columns_as n) (db.trees rules_tree))
   pub entries : IsPermutation (map (λ h. entry_row h.entry) v.histories) (map entry_columns (db.trees entries_tree))
   pub contents : IsPermutation (map content_row (flat_map contents_in v.histories)) (map content_columns (db.trees contents_tree))
   pub settings : IsPermutation (map setting_row (flat_map settings_in v.histories)) (map setting_columns (db.trees settings_tree))
   pub intake : IsPermutation (map note_row v.notes) (map note_columns (db.trees intake_tree))
   pub kept : IsKept v
 
--- The tables are sound: they spell this vault, and their running numbers and heads are those taken over its entries.
-pub record AreSound (db : Database) (v : Vault) : Type 0 where
-  pub spells : Spells db v
+abbrev pub Spells : Database → Vault → Type 0
+Spells = SpellsAs newest
+
+-- The tables of that edition are sound: they spell this vault, and their running numbers and heads are those taken over its entries.
+pub record AreSoundAs (n : Edition) (db : Database) (v : Vault) : Type 0 where
+  pub spells : SpellsAs n db v
   pub numbers : IsPermutation (map (λ d. department_row (department_in v d)) v.departments) (map department_columns (db.trees departments_tree))
   pub heads : IsPermutation (map head_row (heads_in v)) (map head_columns (db.trees heads_tree))
+
+-- the same of the newest
+abbrev pub AreSound : Database → Vault → Type 0
+AreSound = AreSoundAs newest

@@ -1,4 +1,4 @@
--- The ten tables, as a database knows them once they are made.
+-- The ten tables, as a database knows them once they are made. An edition differs from the one before it by columns at the end of a table.
 use Rattle.std.specs.Prelude.{ℕ, Bool, true, false, List, [], ◌∷◌, None, Some, Option, codes}
 use Rattle.sqlite_value.specs.Keys.{plain}
 use Rattle.sqlite_value.specs.declared.keys.Order.{Order}
@@ -12,6 +12,9 @@ use Rattle.sqlite_schema.specs.declared.schema.Reference.{Reference}
 use Rattle.sqlite_schema.specs.declared.schema.Action.TheVariants.{NoAction}
 use Rattle.sqlite.specs.Kind.TheVariants.{Integer, Text, Blob}
 use Rattle.sqlite_catalog.specs.Listing.{automatic}
+use Rattle.vault_audit_model.specs.declared.schema.Edition.{Edition}
+use Rattle.vault_audit_model.specs.declared.schema.Edition.TheVariants.{First, Second}
+use Rattle.vault_audit_model.specs.Editions.{newest}
 
 -- a column of a STRICT table, with no default
 abbrev pub column_as : Bool → List ℕ → Kind → Column
@@ -119,13 +122,21 @@ buckets =
     ∷ may_have (codes "years") Integer ∷ [])
     (refers 2 (codes "departments") (codes "name") ∷ [])
 
-abbrev pub rules : Table
-rules =
+-- the bounds of sizes
+abbrev pub bound_columns : Edition → List Column
+bound_columns First = []
+bound_columns Second = may_have (codes "larger") Integer ∷ may_have (codes "smaller") Integer ∷ []
+
+abbrev pub rules_as : Edition → Table
+rules_as n =
     table_by (1 ∷ 2 ∷ []) (codes "rules") rules_tree
     (has (codes "bucket") Text ∷ has (codes "n") Integer ∷ has (codes "id") Text ∷ has (codes "prefix") Text
     ∷ has (codes "enabled") Integer ∷ may_have (codes "days") Integer ∷ has (codes "lone") Integer
-    ∷ may_have (codes "nc_days") Integer ∷ may_have (codes "nc_keep") Integer ∷ [])
+    ∷ may_have (codes "nc_days") Integer ∷ may_have (codes "nc_keep") Integer ∷ bound_columns n)
     (refers 1 (codes "buckets") (codes "name") ∷ [])
+
+abbrev pub rules : Table
+rules = rules_as newest
 
 abbrev pub entries : Table
 entries =
@@ -168,12 +179,16 @@ heads =
 abbrev pub no_schema : Schema
 no_schema = record { tables = []; indexes = []; views = [] }
 
--- the schema of every vault, and no table, index or view beside it
-abbrev pub vault_schema : Schema
-vault_schema = record {
-  tables = meta ∷ departments ∷ callers ∷ buckets ∷ rules ∷ entries ∷ contents ∷ settings ∷ intake ∷ heads ∷ [];
+-- the schema of a vault's file, and no table, index or view beside it
+abbrev pub schema_of : Edition → Schema
+schema_of n = record {
+  tables = meta ∷ departments ∷ callers ∷ buckets ∷ rules_as n ∷ entries ∷ contents ∷ settings ∷ intake ∷ heads ∷ [];
   indexes = automatic departments 0 (1 ∷ []) 2 ∷ automatic callers 0 (1 ∷ []) 4 ∷ automatic buckets 0 (1 ∷ []) 6
-      ∷ automatic rules 0 (1 ∷ 2 ∷ []) 8 ∷ automatic entries 0 (2 ∷ 3 ∷ 0 ∷ []) 10 ∷ automatic settings 0 (1 ∷ 2 ∷ []) 13
+      ∷ automatic (rules_as n) 0 (1 ∷ 2 ∷ []) 8 ∷ automatic entries 0 (2 ∷ 3 ∷ 0 ∷ []) 10 ∷ automatic settings 0 (1 ∷ 2 ∷ []) 13
       ∷ automatic intake 0 (1 ∷ 2 ∷ 3 ∷ []) 15 ∷ automatic heads 0 (1 ∷ 2 ∷ []) 17 ∷ [];
   views = [];
 }
+
+-- the schema of every vault that is opened
+abbrev pub vault_schema : Schema
+vault_schema = schema_of newest

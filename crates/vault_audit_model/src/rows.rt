@@ -10,6 +10,8 @@ use vault_tally::row::Row;
 /// The one row of `meta`.
 #[derive(Clone, Copy)]
 pub struct MetaRow {
+    /// The number of the schema.
+    pub schema: u64,
     /// The last moment.
     pub last: Moment,
     /// The id that the next entry gets.

@@ -1,13 +1,34 @@
-//! The texts that make the tables.
+//! The editions of the schema, and the texts that make the tables of the newest.
 ghost use Rattle.std.specs.Prelude.{◌≡◌};
+ghost use Rattle.vault_audit_model.specs.Editions.{number_of};
 ghost use Rattle.vault_audit_model.specs.Texts.{creation_of};
 
 use vault_base::refusal::Table;
 
-/// The number of the schema.
-pub const SCHEMA: u64 = 1;
+/// An edition of the schema. New vaults have the newest; a file with another is not opened, and may be migrated.
+#[derive(Clone, Copy, Debug, PartialEq, Eq)]
+pub enum Edition {
+    First,
+    /// Rules have bounds of sizes.
+    Second,
+}
 
-/// The statement that makes a table. Tables are made in the order of `Table`'s variants.
+/// The newest edition.
+pub const NEWEST: Edition = Edition::Second;
+
+impl Edition {
+    /// The number of the schema, as `meta` has it.
+    pub fn number(self) -> u64
+        ensures { result ≡ number_of self }
+    {
+        match self {
+            Edition::First => 1,
+            Edition::Second => 2,
+        }
+    }
+}
+
+/// The statement that makes a table of the newest edition. Tables are made in the order of `Table`'s variants.
 pub fn creation(table: Table) -> &'static str
     ensures { result.now ≡ creation_of table }
 {
@@ -25,7 +46,7 @@ pub fn creation(table: Table) -> &'static str
             "CREATE TABLE buckets (name TEXT NOT NULL, dept TEXT NOT NULL REFERENCES departments (name), mode INTEGER NOT NULL, days INTEGER, years INTEGER, PRIMARY KEY (name)) STRICT"
         }
         Table::Rules => {
-            "CREATE TABLE rules (bucket TEXT NOT NULL REFERENCES buckets (name), n INTEGER NOT NULL, id TEXT NOT NULL, prefix TEXT NOT NULL, enabled INTEGER NOT NULL, days INTEGER, lone INTEGER NOT NULL, nc_days INTEGER, nc_keep INTEGER, PRIMARY KEY (bucket, n)) STRICT"
+            "CREATE TABLE rules (bucket TEXT NOT NULL REFERENCES buckets (name), n INTEGER NOT NULL, id TEXT NOT NULL, prefix TEXT NOT NULL, enabled INTEGER NOT NULL, days INTEGER, lone INTEGER NOT NULL, nc_days INTEGER, nc_keep INTEGER, larger INTEGER, smaller INTEGER, PRIMARY KEY (bucket, n)) STRICT"
         }
         Table::Entries => {
             "CREATE TABLE entries (id INTEGER PRIMARY KEY, bucket TEXT NOT NULL REFERENCES buckets (name), key TEXT NOT NULL, marker INTEGER NOT NULL, size INTEGER NOT NULL, digest BLOB, admitted INTEGER NOT NULL, by_rule INTEGER NOT NULL, admitted_by TEXT NOT NULL, removed INTEGER, cause INTEGER, cause_by TEXT, UNIQUE (bucket, key, id)) STRICT"

@@ -14,8 +14,8 @@ use Rattle.vault_core_model.specs.Vault.{Vault}
 use Rattle.vault_audit_model.specs.declared.rows.DepartmentRow.{DepartmentRow}
 use Rattle.vault_audit_model.specs.Limits.{IsPlainName, IsCaller, IsDepartmentRow}
 use Rattle.vault_audit_model.specs.Rows.{caller_row, caller_columns, department_row, department_columns}
-use Rattle.vault_audit_model.specs.Spells.{AreSound, department_in}
-use Rattle.vault_audit_model.specs.Tables.{vault_schema, callers_tree, departments_tree}
+use Rattle.vault_audit_model.specs.Spells.{AreSoundAs, department_in}
+use Rattle.vault_audit_model.specs.Tables.{schema_of, callers_tree, departments_tree}
 use Rattle.vault_audit_model.proofs.SameRows.{same_caller}
 use Rattle.vault_audit_walk.specs.Pass.{Takes, Refuses}
 use Rattle.vault_audit_walk.specs.Walk.{Walked}
@@ -25,6 +25,7 @@ use Rattle.vault_audit_names.specs.Names.{IsNextCaller, with_caller, TellCallers
 use Rattle.vault_audit_names.proofs.RiseLemmas.{ascending, in_limits, rise, fitting}
 use Rattle.vault_audit_names.proofs.RowLemmas.{same_department}
 use Rattle.vault_audit_names.proofs.TextLemmas.{callers_walk, callers_walk_is, callers_walk_plain, departments_walk, departments_walk_is, departments_walk_plain}
+use Rattle.vault_audit_model.specs.declared.schema.Edition.{Edition}
 
 -- ---- callers
 
@@ -34,9 +35,9 @@ callers_in db = map caller_columns (db.trees callers_tree)
 callers_first : (x y : Caller) → first_cmp (caller_row x) (caller_row y) ≡ name_cmp x.name y.name
 callers_first x y = value_cmp-Text x.name y.name
 
-callers_answer : (a b : State) → a.now.schema ≡ vault_schema → (rows : List Row) → Shown callers_walk [] a b rows → IsPermutation (callers_in a.now) rows × IsSorted first_cmp rows
-callers_answer a b schema rows shown =
-    walked callers_walk a b vault_schema schema callers_walk_plain callers_walk_is.1 3 1 (col 1 2 ∷ col 1 3 ∷ col 1 4 ∷ []) _ callers_walk_is.0 refl rows shown
+callers_answer : (n : Edition) → (a b : State) → a.now.schema ≡ schema_of n → (rows : List Row) → Shown callers_walk [] a b rows → IsPermutation (callers_in a.now) rows × IsSorted first_cmp rows
+callers_answer n a b schema rows shown =
+    walked callers_walk a b (schema_of n) schema (callers_walk_plain n) (callers_walk_is n).1 3 1 (col 1 2 ∷ col 1 3 ∷ col 1 4 ∷ []) _ (callers_walk_is n).0 refl rows shown
 
 -- ---- departments
 
@@ -46,27 +47,27 @@ departments_in db = map department_columns (db.trees departments_tree)
 departments_first : (x y : DepartmentRow) → first_cmp (department_row x) (department_row y) ≡ name_cmp x.name y.name
 departments_first x y = value_cmp-Text x.name y.name
 
-departments_answer : (a b : State) → a.now.schema ≡ vault_schema → (rows : List Row) → Shown departments_walk [] a b rows → IsPermutation (departments_in a.now) rows × IsSorted first_cmp rows
-departments_answer a b schema rows shown =
-    walked departments_walk a b vault_schema schema departments_walk_plain departments_walk_is.1 1 1 (col 1 2 ∷ col 1 3 ∷ col 1 4 ∷ col 1 5 ∷ col 1 6 ∷ []) _ departments_walk_is.0 refl rows shown
+departments_answer : (n : Edition) → (a b : State) → a.now.schema ≡ schema_of n → (rows : List Row) → Shown departments_walk [] a b rows → IsPermutation (departments_in a.now) rows × IsSorted first_cmp rows
+departments_answer n a b schema rows shown =
+    walked departments_walk a b (schema_of n) schema (departments_walk_plain n) (departments_walk_is n).1 1 1 (col 1 2 ∷ col 1 3 ∷ col 1 4 ∷ col 1 5 ∷ col 1 6 ∷ []) _ (departments_walk_is n).0 refl rows shown
 
 -- ---- the walks
 
-module _ (old new : State) (has : old.now.schema ≡ vault_schema) (r : Option (List ℕ)) where
+module _ (n : Edition) (old new : State) (has : old.now.schema ≡ schema_of n) (r : Option (List ℕ)) where
   callers_told : (told : Bool) → IsUnchanged old new → Walked (Takes caller_row IsNextCaller with_caller) (Refuses caller_row IsNextCaller with_caller) callers_walk old new None r told → TellCallers new.now told
   callers_told true same h =
-      let it = walk_yes caller_row IsNextCaller with_caller same_caller vault_schema callers_walk _ _ callers_walk_is.0 callers_in callers_answer old new has same None r h in
+      let it = walk_yes caller_row IsNextCaller with_caller same_caller (schema_of n) callers_walk _ _ (callers_walk_is n).0 callers_in (callers_answer n) old new has same None r h in
       (it.0, (it.1, ascending caller_row (λ (c : Caller). c.name) IsCaller callers_first None it.0 it.2, in_limits caller_row (λ (c : Caller). c.name) IsCaller callers_first None it.0 it.2))
   callers_told false same h = λ cs are.
-      walk_no caller_row IsNextCaller with_caller same_caller vault_schema callers_walk _ _ callers_walk_is.0 callers_in callers_answer old new has same None r
+      walk_no caller_row IsNextCaller with_caller same_caller (schema_of n) callers_walk _ _ (callers_walk_is n).0 callers_in (callers_answer n) old new has same None r
       (rise caller_row (λ (c : Caller). c.name) IsCaller callers_first None) h cs are.0 (fitting caller_row (λ (c : Caller). c.name) IsCaller callers_first cs are.1 are.2)
 
   departments_told : (told : Bool) → IsUnchanged old new → Walked (Takes department_row IsNextDepartment with_department) (Refuses department_row IsNextDepartment with_department) departments_walk old new None r told → TellDepartments new.now told
   departments_told true same h =
-      let it = walk_yes department_row IsNextDepartment with_department same_department vault_schema departments_walk _ _ departments_walk_is.0 departments_in departments_answer old new has same None r h in
+      let it = walk_yes department_row IsNextDepartment with_department same_department (schema_of n) departments_walk _ _ (departments_walk_is n).0 departments_in (departments_answer n) old new has same None r h in
       (it.0, (it.1, ascending department_row (λ (d : DepartmentRow). d.name) IsDepartmentRow departments_first None it.0 it.2, in_limits department_row (λ (d : DepartmentRow). d.name) IsDepartmentRow departments_first None it.0 it.2))
   departments_told false same h = λ ds are.
-      walk_no department_row IsNextDepartment with_department same_department vault_schema departments_walk _ _ departments_walk_is.0 departments_in departments_answer old new has same None r
+      walk_no department_row IsNextDepartment with_department same_department (schema_of n) departments_walk _ _ (departments_walk_is n).0 departments_in (departments_answer n) old new has same None r
       (rise department_row (λ (d : DepartmentRow). d.name) IsDepartmentRow departments_first None) h ds are.0 (fitting department_row (λ (d : DepartmentRow). d.name) IsDepartmentRow departments_first ds are.1 are.2)
 
   -- the same of the answers of such walks
@@ -80,8 +81,8 @@ module _ (old new : State) (has : old.now.schema ≡ vault_schema) (r : Option (
 
 -- ---- sound tables
 
-module _ (db : Database) (v : Vault) where
-  pub no_callers : TellCallers db false → ¬ AreSound db v
+module _ (n : Edition) (db : Database) (v : Vault) where
+  pub no_callers : TellCallers db false → ¬ AreSoundAs n db v
   no_callers none it = none v.callers (it.spells.callers, it.spells.kept.sound.ordered.callers, it.spells.kept.limits.callers)
 
   named : (ds : List (List ℕ)) → AllByRecursion IsPlainName ds → AllByRecursion IsDepartmentRow (map (department_in v) ds)
@@ -96,7 +97,7 @@ module _ (db : Database) (v : Vault) where
   in_order [] order = tt
   in_order (d ∷ ds) order = (later_names d ds order.0, in_order ds order.1)
 
-  pub no_departments : TellDepartments db false → ¬ AreSound db v
+  pub no_departments : TellDepartments db false → ¬ AreSoundAs n db v
   no_departments none it =
       none (map (department_in v) v.departments) (
         subst (λ rows. IsPermutation rows (departments_in db)) (sym (map-map department_row (department_in v) v.departments)) it.numbers,

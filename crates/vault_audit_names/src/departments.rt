@@ -3,14 +3,15 @@ ghost use Rattle.std.specs.Prelude.{◌≡◌, ◌↔◌, false, IsTrue, IfOk, I
 ghost use Rattle.sqlite.specs.State.{HasCleanDisk, IsUnchanged, Survives};
 ghost use Rattle.sqlite.specs.Held.{state};
 ghost use Rattle.vault_core_model.specs.Vault.{Vault};
-ghost use Rattle.vault_audit_model.specs.Spells.{AreSound};
-ghost use Rattle.vault_audit_model.specs.Tables.{vault_schema};
+ghost use Rattle.vault_audit_model.specs.Spells.{AreSoundAs};
+ghost use Rattle.vault_audit_model.specs.Tables.{schema_of};
 ghost use Rattle.vault_audit_model.specs.Relations.{IsAfter};
 ghost use Rattle.vault_audit_names.specs.Names.{TellDepartments};
 ghost use Rattle.vault_audit_walk.specs.Health.{IsHealthy, IsMemory};
 
 use sqlite::{Alter, Connection, Error, Row};
 use std::marker::Model;
+use vault_audit_model::schema::Edition;
 use vault_audit_rows::records::read_department;
 use vault_audit_tables::row_check::refused;
 use vault_audit_walk::walk::{Pass, walk};
@@ -65,10 +66,13 @@ impl Pass for DepartmentPass {
 }
 
 /// Whether the rows of `departments` tell departments with values in their limits, of which no two have one name.
-pub fn check_departments_by_name<S: Alter>(conn: &mut Connection<S>) -> Result<bool, Error>
-    requires { HasCleanDisk (state S.Store conn.old) → (state S.Store conn.old).now.schema ≡ vault_schema }
+pub fn check_departments_by_name<S: Alter>(
+    conn: &mut Connection<S>,
+    edition: Edition,
+) -> Result<bool, Error>
+    requires { HasCleanDisk (state S.Store conn.old) → (state S.Store conn.old).now.schema ≡ schema_of edition }
     ensures told { HasCleanDisk (state S.Store conn.new) → IfOk result (TellDepartments (state S.Store conn.new).now) }
-    ensures damaged { HasCleanDisk (state S.Store conn.new) → IfOk result (λ told. told ≡ false → (v : Vault) → ¬ AreSound (state S.Store conn.new).now v) }
+    ensures damaged { HasCleanDisk (state S.Store conn.new) → IfOk result (λ told. told ≡ false → (v : Vault) → ¬ AreSoundAs edition (state S.Store conn.new).now v) }
     ensures same { HasCleanDisk (state S.Store conn.new) → OnOk result (IsUnchanged (state S.Store conn.old) (state S.Store conn.new)) }
     ensures err { IsHealthy (state S.Store conn.new) → IfErr result IsMemory }
     ensures crash { Survives (state S.Store conn.old) (state S.Store conn.new) (λ _. ⊥) }

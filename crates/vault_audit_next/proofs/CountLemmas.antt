@@ -14,8 +14,8 @@ use Rattle.vault_core_model.specs.declared.records.History.{History}
 use Rattle.vault_core_model.specs.Vault.{Vault}
 use Rattle.vault_audit_model.specs.declared.rows.MetaRow.{MetaRow}
 use Rattle.vault_audit_model.specs.Rows.{meta_row, entry_row, entry_columns}
-use Rattle.vault_audit_model.specs.Spells.{AreSound, meta_of}
-use Rattle.vault_audit_model.specs.Tables.{vault_schema, entries_tree}
+use Rattle.vault_audit_model.specs.Spells.{AreSoundAs, meta_as}
+use Rattle.vault_audit_model.specs.Tables.{schema_of, entries_tree}
 use Rattle.vault_audit_model.proofs.SameRows.{same_meta}
 use Rattle.vault_audit_walk.specs.Walk.{Goes, Walked}
 use Rattle.vault_audit_walk.proofs.RecordLemmas.{Scans, scanned}
@@ -24,17 +24,18 @@ use Rattle.vault_audit_tables.specs.Meta.{IsMetaOf}
 use Rattle.vault_audit_next.specs.declared.RowCount.{RowCount}
 use Rattle.vault_audit_next.specs.Count.{CountsOne, TellNext}
 use Rattle.vault_audit_walk.specs.Health.{Asks}
+use Rattle.vault_audit_model.specs.declared.schema.Edition.{Edition}
 
 abbrev pub ids_text : List ℕ
 ids_text = codes "SELECT id FROM entries"
 
-pub ids_scan : Scans vault_schema ids_text 9 (col 1 0 ∷ []) (codes "id" ∷ [])
+pub ids_scan : (n : Edition) → Scans (schema_of n) ids_text 9 (col 1 0 ∷ []) (codes "id" ∷ [])
 unfolding understood everything
-ids_scan = record { command = refl; unlisted = refl; plain = (refl, refl) }
+ids_scan n = record { command = refl; unlisted = refl; plain = (refl, refl) }
 
-pub ids_asks : Asks vault_schema ids_text
+pub ids_asks : (n : Edition) → Asks (schema_of n) ids_text
 unfolding understood everything
-ids_asks = record { is = (omega (arith), refl, (refl, refl, refl, refl)); unlisted = refl }
+ids_asks n = record { is = (omega (arith), refl, (refl, refl, refl, refl)); unlisted = refl }
 
 abbrev Counting : RowCount → Row → RowCount → Type 0
 Counting p row q = CountsOne p q
@@ -44,22 +45,22 @@ counted p q [] goes = let same = ap (λ (c : RowCount). c.count) goes in omega (
 counted p q (r ∷ rows) (m, one, more) = let it = counted m q rows more in omega (arith, one, it)
 
 -- all rows were met, whatever the answer
-pub all_counted : (old new : State) → old.now.schema ≡ vault_schema → IsUnchanged old new → (p q : RowCount) → (whole : Bool) → Walked Counting (λ _ _. ⊥) ids_text old new p q whole → q.count ≡ p.count + length (new.now.trees entries_tree)
-all_counted old new has same p q true (rows, shown, goes) =
-    let each = scanned vault_schema ids_text _ _ _ ids_scan old new has refl rows shown in
+pub all_counted : (n : Edition) → (old new : State) → old.now.schema ≡ schema_of n → IsUnchanged old new → (p q : RowCount) → (whole : Bool) → Walked Counting (λ _ _. ⊥) ids_text old new p q whole → q.count ≡ p.count + length (new.now.trees entries_tree)
+all_counted n old new has same p q true (rows, shown, goes) =
+    let each = scanned (schema_of n) ids_text _ _ _ (ids_scan n) old new has refl rows shown in
     let a = length_permutation _ _ each in
     let b : length (map (shows (col 1 0 ∷ []) []) (old.now.trees entries_tree)) ≡ length (old.now.trees entries_tree) = simp length-map in
     let c = counted p q rows goes in
     let d : length (new.now.trees entries_tree) ≡ length (old.now.trees entries_tree) = ap (λ (x : Database). length (x.trees entries_tree)) same.0.now_is in
     omega (arith, a, b, c, d)
-all_counted old new has same p q false (rows, row, m, begins, goes, never) = absurd never
+all_counted n old new has same p q false (rows, row, m, begins, goes, never) = absurd never
 
 -- the next id of a vault that the tables are sound for is one above the number of rows
-pub next_of : (db : Database) (v : Vault) (m : MetaRow) → IsMetaOf db (Some m) → AreSound db v → m.next ≡ length (db.trees entries_tree) + 1
-next_of db v m is it =
+pub next_of : (n : Edition) → (db : Database) (v : Vault) (m : MetaRow) → IsMetaOf n db (Some m) → AreSoundAs n db v → m.next ≡ length (db.trees entries_tree) + 1
+next_of n db v m is it =
     let rows = one_permutation (meta_row m) _ (IsPermutation-trans _ _ _ is.0 (IsPermutation-sym _ _ it.spells.meta)) in
-    let first : meta_row (meta_of v) ≡ meta_row m = cc in
-    let same : meta_of v ≡ m = same_meta (meta_of v) m first in
+    let first : meta_row (meta_as n v) ≡ meta_row m = cc in
+    let same : meta_as n v ≡ m = same_meta (meta_as n v) m first in
     let next = ap (λ (x : MetaRow). x.next) same in
     let a = length_permutation _ _ it.spells.entries in
     let b : length (map (λ (h : History). entry_row h.entry) v.histories) ≡ length v.histories = simp length-map in

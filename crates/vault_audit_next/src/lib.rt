@@ -8,13 +8,14 @@ ghost use Rattle.sqlite.specs.State.{HasCleanDisk, IsUnchanged, Survives};
 ghost use Rattle.sqlite.specs.Held.{state};
 ghost use Rattle.vault_core_model.specs.Vault.{Vault};
 ghost use Rattle.vault_audit_model.specs.declared.rows.MetaRow.{MetaRow};
-ghost use Rattle.vault_audit_model.specs.Spells.{AreSound};
-ghost use Rattle.vault_audit_model.specs.Tables.{vault_schema};
+ghost use Rattle.vault_audit_model.specs.Spells.{AreSoundAs};
+ghost use Rattle.vault_audit_model.specs.Tables.{schema_of};
 ghost use Rattle.vault_audit_tables.specs.Meta.{IsMetaOf};
 ghost use Rattle.vault_audit_next.specs.Count.{TellNext};
 ghost use Rattle.vault_audit_walk.specs.Health.{IsHealthy, IsMemory};
 
 use sqlite::{Alter, Connection, Error, ErrorCode, Row};
+use vault_audit_model::schema::Edition;
 use vault_audit_walk::walk::{Pass, walk};
 
 /// The count of rows as it runs.
@@ -41,11 +42,15 @@ impl Pass for RowCount {
 }
 
 /// Whether this is one above the number of rows of `entries`, as the next id in `meta` has to be.
-pub fn check_next<S: Alter>(conn: &mut Connection<S>, next: u64) -> Result<bool, Error>
-    requires { HasCleanDisk (state S.Store conn.old) → (state S.Store conn.old).now.schema ≡ vault_schema }
+pub fn check_next<S: Alter>(
+    conn: &mut Connection<S>,
+    edition: Edition,
+    next: u64,
+) -> Result<bool, Error>
+    requires { HasCleanDisk (state S.Store conn.old) → (state S.Store conn.old).now.schema ≡ schema_of edition }
     ensures told { HasCleanDisk (state S.Store conn.new) → IfOk result (TellNext (state S.Store conn.new).now next) }
     ensures damaged { HasCleanDisk (state S.Store conn.new) → IfOk result (λ hold. hold ≡ false →
-        (m : MetaRow) → IsMetaOf (state S.Store conn.new).now (Some m) → m.next ≡ next → (v : Vault) → ¬ AreSound (state S.Store conn.new).now v) }
+        (m : MetaRow) → IsMetaOf edition (state S.Store conn.new).now (Some m) → m.next ≡ next → (v : Vault) → ¬ AreSoundAs edition (state S.Store conn.new).now v) }
     ensures same { HasCleanDisk (state S.Store conn.new) → OnOk result (IsUnchanged (state S.Store conn.old) (state S.Store conn.new)) }
     ensures err { IsHealthy (state S.Store conn.new) → IfErr result IsMemory }
     ensures crash { Survives (state S.Store conn.old) (state S.Store conn.new) (λ _. ⊥) }

@@ -22,12 +22,13 @@ use Rattle.vault_core_model.specs.IntakeOutcome.{is_line}
 use Rattle.vault_core_model.specs.Order.{IsAscending, name_cmp, caller_cmp, bucket_cmp, note_cmp}
 use Rattle.vault_core_model.specs.Sound.{Sound, AreIdsFrom, AreInOrder, IsInTime, HasItsBytes, IsWhole, IsWholeAs, IsPlaced, IsNoted, NamesItsVersion, HasLine, HasPeriod, HasRuleSet, IsInNameOrder, LiesBetween}
 use Rattle.vault_core_model.specs.Totals.{items_in}
-use Rattle.vault_core_model.specs.Vault.{Vault, config_in}
+use Rattle.vault_core_model.specs.Vault.{next_id, Vault, config_in}
+use Rattle.vault_audit_model.specs.declared.schema.Edition.{Edition}
 use Rattle.vault_audit_model.specs.declared.rows.MetaRow.{MetaRow}
 use Rattle.vault_audit_model.specs.Limits.{IsInLimits, IsHistory, IsEntry, IsSizedAs, IsSetting, IsBucket, AreRules, IsRule, IsNote}
 use Rattle.vault_audit_model.specs.Relations.{AreNumbered, IsPast, HasContent, HasContentAs, HasSettings, HasSettingsAs, NamesOneOf}
 use Rattle.vault_audit_model.specs.Rows.{meta_row, meta_columns, entry_row, entry_columns, content_row, content_columns, setting_row, setting_columns}
-use Rattle.vault_audit_model.specs.Spells.{Spells, IsKept, contents_in, settings_in, meta_of, entries_in}
+use Rattle.vault_audit_model.specs.Spells.{SpellsAs, IsKept, contents_in, settings_in, meta_as, entries_in}
 use Rattle.vault_audit_model.specs.Tables.{meta_tree, entries_tree, contents_tree, settings_tree}
 use Rattle.vault_audit_model.proofs.ListLemmas.{all_as, all_both}
 use Rattle.vault_audit_parts.specs.Parts.{AreParts, joined, vault_of}
@@ -93,7 +94,7 @@ line n (low, high) = grind (arith, low, high)
 
 -- ---- the vault
 
-module _ (db : Database) (m : MetaRow) (departments : List (List ℕ)) (callers : List Caller) (buckets : List Bucket) (notes : List Note) (entries : List Entry) (contents settings : List History) (are : AreParts db m departments callers buckets notes entries contents settings) where
+module _ (ed : Edition) (db : Database) (m : MetaRow) (departments : List (List ℕ)) (callers : List Caller) (buckets : List Bucket) (notes : List Note) (entries : List Entry) (contents settings : List History) (are : AreParts ed db m departments callers buckets notes entries contents settings) where
   abbrev hs : List History
   hs = joined contents settings
 
@@ -173,14 +174,16 @@ module _ (db : Database) (m : MetaRow) (departments : List (List ℕ)) (callers 
     histories = all_as limited hs each;
   }
 
-  meta_same : meta_row m ≡ meta_row (meta_of v)
-  meta_same = ap (λ n. meta_row (record { last = m.last; next = n })) (are.meta.2 ∙ ap (λ n. n + 1) (sym many))
+  meta_same : meta_row m ≡ meta_row (meta_as ed v)
+  meta_same =
+      ap (λ n. meta_row (record { schema = m.schema; last = m.last; next = n })) (are.meta.2 ∙ ap (λ n. n + 1) (sym many))
+      ∙ ap (λ n. meta_row (record { schema = n; last = m.last; next = next_id v })) are.meta.3
 
   entry_rows : IsPermutation (map (λ (h : History). entry_row h.entry) hs) (map entry_columns (db.trees entries_tree))
   entry_rows =
       subst (λ rows. IsPermutation rows (map entry_columns (db.trees entries_tree))) (sym (ap (map entry_row) hs_entries) ∙ map-map entry_row (λ (h : History). h.entry) hs) are.entries_are.0
 
-  pub spelled : Spells db v
+  pub spelled : SpellsAs ed db v
   spelled = record {
     schema = are.schema;
     meta = subst (λ r. IsPermutation (r ∷ []) (map meta_columns (db.trees meta_tree))) meta_same are.meta.0;

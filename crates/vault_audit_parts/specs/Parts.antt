@@ -13,11 +13,13 @@ use Rattle.vault_core_model.specs.declared.records.History.{History}
 use Rattle.vault_core_model.specs.declared.records.Note.{Note}
 use Rattle.vault_core_model.specs.Order.{IsAscending, name_cmp, caller_cmp}
 use Rattle.vault_core_model.specs.Vault.{Vault, config_in}
+use Rattle.vault_audit_model.specs.declared.schema.Edition.{Edition}
+use Rattle.vault_audit_model.specs.Editions.{number_of}
 use Rattle.vault_audit_model.specs.declared.rows.MetaRow.{MetaRow}
 use Rattle.vault_audit_model.specs.Limits.{IsMetaRow, IsPlainName, IsCaller}
 use Rattle.vault_audit_model.specs.Relations.{AreEntries, AreContents, AreSettings, AreNotes, AreBuckets, IsPast, IsWithin}
 use Rattle.vault_audit_model.specs.Rows.{meta_row, caller_row, meta_columns, caller_columns}
-use Rattle.vault_audit_model.specs.Tables.{vault_schema, meta_tree, departments_tree, callers_tree}
+use Rattle.vault_audit_model.specs.Tables.{schema_of, meta_tree, departments_tree, callers_tree}
 
 -- the rows of departments have these names
 abbrev pub AreDepartments : Database → List (List ℕ) → Type 0
@@ -31,10 +33,10 @@ AreCallers db cs =
     IsPermutation (map caller_row cs) (map caller_columns (db.trees callers_tree)) × IsAscending caller_cmp cs
     × AllByRecursion IsCaller cs
 
--- the row of meta is this one, whose next id is behind all entries
-abbrev pub IsMeta : Database → List Entry → MetaRow → Type 0
-IsMeta db es m =
-    IsPermutation (meta_row m ∷ []) (map meta_columns (db.trees meta_tree)) × IsMetaRow m × (m.next ≡ length es + 1)
+-- the row of meta is this one, of that edition, whose next id is behind all entries
+abbrev pub IsMeta : Edition → Database → List Entry → MetaRow → Type 0
+IsMeta ed db es m =
+    IsPermutation (meta_row m ∷ []) (map meta_columns (db.trees meta_tree)) × IsMetaRow m × (m.next ≡ length es + 1) × (m.schema ≡ number_of ed)
 
 -- the department of that name is one of these
 abbrev pub IsAmong : List (List ℕ) → List ℕ → Type 0
@@ -62,12 +64,12 @@ vault_of m departments callers buckets notes contents settings = record {
 }
 
 -- what each table tells by itself, and what ties them to each other
-pub record AreParts (db : Database) (m : MetaRow) (departments : List (List ℕ)) (callers : List Caller) (buckets : List Bucket) (notes : List Note) (entries : List Entry) (contents settings : List History) : Type 0 where
-  pub schema : db.schema ≡ vault_schema
-  pub meta : IsMeta db entries m
+pub record AreParts (ed : Edition) (db : Database) (m : MetaRow) (departments : List (List ℕ)) (callers : List Caller) (buckets : List Bucket) (notes : List Note) (entries : List Entry) (contents settings : List History) : Type 0 where
+  pub schema : db.schema ≡ schema_of ed
+  pub meta : IsMeta ed db entries m
   pub departments_are : AreDepartments db departments
   pub callers_are : AreCallers db callers
-  pub buckets_are : AreBuckets db buckets
+  pub buckets_are : AreBuckets ed db buckets
   pub entries_are : AreEntries db entries
   pub contents_are : AreContents db entries contents
   pub settings_are : AreSettings db entries settings

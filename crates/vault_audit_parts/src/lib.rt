@@ -10,13 +10,14 @@ ghost use Rattle.vault_core_model.specs.declared.records.Entry.{Entry};
 ghost use Rattle.vault_core_model.specs.declared.records.History.{History};
 ghost use Rattle.vault_core_model.specs.declared.records.Note.{Note};
 ghost use Rattle.vault_audit_model.specs.declared.rows.MetaRow.{MetaRow};
-ghost use Rattle.vault_audit_model.specs.Spells.{Spells};
+ghost use Rattle.vault_audit_model.specs.declared.schema.Edition.{Edition};
+ghost use Rattle.vault_audit_model.specs.Spells.{SpellsAs};
 ghost use Rattle.vault_audit_parts.specs.Parts.{AreParts, vault_of};
 
 /// The rows spell the vault that their parts make.
 pub fn parts_make_the_vault()
-    ensures { (db : Database) (m : MetaRow) (departments : List (List ℕ)) (callers : List Caller) (buckets : List Bucket)
+    ensures { (ed : Edition) (db : Database) (m : MetaRow) (departments : List (List ℕ)) (callers : List Caller) (buckets : List Bucket)
         (notes : List Note) (entries : List Entry) (contents settings : List History) →
-        AreParts db m departments callers buckets notes entries contents settings →
-        Spells db (vault_of m departments callers buckets notes contents settings) }
+        AreParts ed db m departments callers buckets notes entries contents settings →
+        SpellsAs ed db (vault_of m departments callers buckets notes contents settings) }
 {}

@@ -1,5 +1,6 @@
 -- Values that stand in several columns, and the digits of a caller's rights.
 use Rattle.std.proofs.Common.{◌≡◌, ◌≢◌, ◌<◌, ◌≤◌, ◌+◌, ◌*◌, ◌/◌, ◌%◌, ◌==◌, ◌^◌, ℕ, zero, suc, Bool, true, false, List, length, Option, Some, None, IfSome, arith, [], ◌∷◌, is_none, nat_lt, IsTrue, refl}
+use Rattle.std.proofs.lemmas.Bool.Decides.{nat_tests}
 use Rattle.sqlite_value.specs.declared.value.Value.{Value}
 use Rattle.vault_core_model.specs.declared.rights.Rights.{Rights}
 use Rattle.vault_core_model.specs.declared.records.Author.{Author}
@@ -8,7 +9,7 @@ use Rattle.vault_audit_model.specs.Rows.{bit, rights_number, author_kind}
 use Rattle.vault_core_model.specs.Checks.{most_content}
 use Rattle.vault_audit_model.specs.Limits.{IsSizedAs}
 use Rattle.vault_audit_model.specs.Values.{flag}
-use Rattle.vault_rules.specs.Rules.{fault_where, is_rule_set}
+use Rattle.vault_rules.specs.Rules.{fault_where, is_rule_set, are_bounds}
 use Rattle.vault_rules.specs.declared.rule.Rule.{Rule}
 use Rattle.vault_rules.specs.declared.rule_set.RuleFault.{RuleFault}
 
@@ -74,3 +75,17 @@ not_above n h = grind arith
 pub few : (rules : List Rule) → IsTrue (is_rule_set rules) → length rules ≤ 1000
 few [] h = omega arith
 few (r ∷ rs) h = not_above (length (r ∷ rs)) (no_fault _ _ _ h)
+
+-- bounds that a rule may have stand in columns of 32 bits
+larger_fits : (l s : Option ℕ) → IsTrue (are_bounds l s) → IfSome l (λ n. n < 2 ^ 32)
+larger_fits None s h = tt
+larger_fits (Some l) None h = grind (arith, nat_tests)
+larger_fits (Some l) (Some s) h = grind (arith, nat_tests)
+
+smaller_fits : (l s : Option ℕ) → IsTrue (are_bounds l s) → IfSome s (λ n. n < 2 ^ 32)
+smaller_fits l None h = tt
+smaller_fits None (Some s) h = grind (arith, nat_tests)
+smaller_fits (Some l) (Some s) h = grind (arith, nat_tests)
+
+pub bounds_fit : (l s : Option ℕ) → IsTrue (are_bounds l s) → IfSome l (λ n. n < 2 ^ 32) × IfSome s (λ n. n < 2 ^ 32)
+bounds_fit l s h = (larger_fits l s h, smaller_fits l s h)

@@ -8,7 +8,7 @@ ghost use Rattle.vault_lock.specs.declared.retention.Mode.{Mode};
 ghost use Rattle.vault_lock.specs.declared.retention.Period.{Period};
 ghost use Rattle.vault_lock.specs.declared.retention.Default.{Default};
 ghost use Rattle.vault_lock.specs.declared.retention.Retention.{Retention};
-ghost use Rattle.vault_rules.specs.Rules.{passes_if_given, is_days, is_newer, is_noncurrent_action};
+ghost use Rattle.vault_rules.specs.Rules.{passes_if_given, is_days, is_newer, is_noncurrent_action, are_bounds};
 ghost use Rattle.vault_rules.specs.declared.rule.Noncurrent.{Noncurrent};
 ghost use Rattle.vault_core_model.specs.declared.rights.Rights.{Rights};
 ghost use Rattle.vault_core_model.specs.declared.records.Author.{Author};
@@ -30,7 +30,7 @@ use vault_base::content::Digest;
 use vault_core_model::records::{Author, Cause, Removal};
 use vault_core_model::rights::Rights;
 use vault_lock::retention::{Default, Mode, Period, Retention};
-use vault_rules::rule::Noncurrent;
+use vault_rules::rule::{Noncurrent, are_bounds};
 
 /// The mode in a column, or none.
 pub fn mode(row: &Row, at: usize) -> Option<Option<Mode>>
@@ -157,6 +157,35 @@ pub fn noncurrent(row: &Row, days_at: usize, newer_at: usize) -> Option<Option<N
         Some(days) => Some(Some(Noncurrent { days, newer })),
         None => newer.is_none().then_some(None),
     }
+}
+
+/// The bounds of sizes of a rule.
+#[derive(Clone, Copy)]
+pub struct Bounds {
+    pub larger: Option<u64>,
+    pub smaller: Option<u64>,
+}
+
+/// The bound in a column of a rule, where it is below 2^32, or none.
+fn bound_or_null(row: &Row, at: usize) -> Option<Option<u64>>
+    ensures { MatchOption result ((o : Option ℕ) → IfSome o (λ n. n < 2 ^ 32) → column row.now at ≢ number_or_null o) (λ o. column row.now at ≡ number_or_null o) }
+{
+    match small_number_or_null(row, at)? {
+        Some(bound) => Some(Some(u64::from(bound))),
+        None => Some(None),
+    }
+}
+
+/// The bounds of sizes in two columns of a rule.
+#[tactic(auto, using(crate::proofs::PartLemmas::bounds_fit))]
+pub fn bounds_of(row: &Row, larger_at: usize, smaller_at: usize) -> Option<Bounds>
+    ensures { MatchOption result
+        ((l s : Option ℕ) → IsTrue (are_bounds l s) → column row.now larger_at ≡ number_or_null l → column row.now smaller_at ≢ number_or_null s)
+        (λ b. (column row.now larger_at ≡ number_or_null b.larger) × (column row.now smaller_at ≡ number_or_null b.smaller) × IsTrue (are_bounds b.larger b.smaller)) }
+{
+    let larger = bound_or_null(row, larger_at)?;
+    let smaller = bound_or_null(row, smaller_at)?;
+    are_bounds(larger, smaller).then_some(Bounds { larger, smaller })
 }
 
 /// Who admitted an entry, by two columns.

@@ -25,19 +25,19 @@ use crate::name::{
     rule_id,
 };
 use crate::part::{
-    Extent, author, days_or_null, default, extent_of, noncurrent, removal, retention, rights,
+    Bounds, Extent, author, bounds_of, days_or_null, default, extent_of, noncurrent, removal,
+    retention, rights,
 };
 use sqlite::Row;
 use vault_audit_model::rows::{
     BucketRow, ContentRow, DepartmentRow, HeadRow, MetaRow, RuleRow, SettingRow,
 };
-use vault_audit_model::schema::SCHEMA;
 use vault_core_model::records::{BucketConfig, Caller, Entry, Head, Note, Setting};
 use vault_lock::lock::Lock;
 use vault_rules::rule::Rule;
 use vault_tally::row::Row as Sums;
 
-/// The row of `meta`.
+/// The row of `meta`, of any edition.
 pub fn read_meta(row: &Row) -> Result<MetaRow, Misread>
     ensures ok { IfOk result (λ x. (row.now ≡ meta_row x) × IsMetaRow x) }
     ensures wrong { IfErr result (λ e. e ≡ Misread.Wrong → (x : MetaRow) → IsMetaRow x → row.now ≢ meta_row x) }
@@ -49,10 +49,10 @@ pub fn read_meta(row: &Row) -> Result<MetaRow, Misread>
     let schema = number(row, 1).ok_or(Misread::Wrong)?;
     let last = moment(row, 2).ok_or(Misread::Wrong)?;
     let next = number(row, 3).ok_or(Misread::Wrong)?;
-    if one != 1 || schema != SCHEMA {
+    if one != 1 {
         return Err(Misread::Wrong);
     }
-    Ok(MetaRow { last, next })
+    Ok(MetaRow { schema, last, next })
 }
 
 /// The five numbers of a department.
@@ -127,12 +127,12 @@ pub fn read_bucket(row: &Row) -> Result<BucketRow, Misread>
 }
 
 /// A row of `rules`.
-#[tactic(auto, using(crate::proofs::RowLemmas::row_of_9))]
+#[tactic(auto, using(crate::proofs::RowLemmas::row_of_11))]
 pub fn read_rule(row: &Row) -> Result<RuleRow, Misread>
     ensures ok { IfOk result (λ x. (row.now ≡ rule_row x) × IsRuleRow x) }
     ensures wrong { IfErr result (λ e. e ≡ Misread.Wrong → (x : RuleRow) → IsRuleRow x → row.now ≢ rule_row x) }
 {
-    if row.column_count() != 9 {
+    if row.column_count() != 11 {
         return Err(Misread::Wrong);
     }
     let place = number_within(row, 1, 1, 1_000).ok_or(Misread::Wrong)?;
@@ -140,6 +140,7 @@ pub fn read_rule(row: &Row) -> Result<RuleRow, Misread>
     let days = days_or_null(row, 5).ok_or(Misread::Wrong)?;
     let lone_markers = flag(row, 6).ok_or(Misread::Wrong)?;
     let noncurrent = noncurrent(row, 7, 8).ok_or(Misread::Wrong)?;
+    let Bounds { larger, smaller } = bounds_of(row, 9, 10).ok_or(Misread::Wrong)?;
     let bucket = bucket_name(row, 0)?;
     let id = rule_id(row, 2)?;
     let prefix = key_prefix(row, 3)?;
@@ -153,6 +154,8 @@ pub fn read_rule(row: &Row) -> Result<RuleRow, Misread>
             days,
             lone_markers,
             noncurrent,
+            larger,
+            smaller,
         },
     })
 }

@@ -8,8 +8,9 @@ use Rattle.vault_rules.specs.declared.rule.Rule.{Rule}
 use Rattle.vault_core_model.specs.Order.{name_cmp}
 use Rattle.vault_audit_model.specs.declared.rows.BucketRow.{BucketRow}
 use Rattle.vault_audit_model.specs.declared.rows.RuleRow.{RuleRow}
+use Rattle.vault_audit_model.specs.declared.schema.Edition.{Edition}
 use Rattle.vault_audit_model.specs.Limits.{IsBucketRow, IsRuleRow}
-use Rattle.vault_audit_model.specs.Rows.{bucket_row, rule_row, bucket_columns, rule_columns}
+use Rattle.vault_audit_model.specs.Rows.{bucket_row, rule_row, bucket_columns, rule_columns_as}
 use Rattle.vault_audit_model.specs.Tables.{buckets_tree, rules_tree}
 use Rattle.vault_audit_walk.specs.Pass.{AllFit, after}
 pub use Rattle.vault_audit_model.specs.Relations.{IsAfter}
@@ -61,17 +62,17 @@ abbrev pub no_rule : Run
 no_rule = record { bucket = None; rules = [] }
 
 -- the rows of rules are these, in any order
-abbrev pub AreRowsOf : Database → List RuleRow → Type 0
-AreRowsOf db xs = IsPermutation (map rule_row xs) (map rule_columns (db.trees rules_tree))
+abbrev pub AreRowsOf : Edition → Database → List RuleRow → Type 0
+AreRowsOf n db xs = IsPermutation (map rule_row xs) (map (rule_columns_as n) (db.trees rules_tree))
 
 -- each comes next behind those before it, and the last bucket's are whole
 abbrev pub AreRuns : List RuleRow → Type 0
 AreRuns xs = AllFit rule_row ComesNext with_rule no_rule xs × IsWhole (after rule_row ComesNext with_rule no_rule xs)
 
 -- whether the rules of each bucket stand at the places 1, 2, 3 and so on, and are a set that it may have
-abbrev pub TellRuns : Database → Bool → Type 0
-TellRuns db true = (xs : List RuleRow) × AreRowsOf db xs × AreRuns xs
-TellRuns db false = (xs : List RuleRow) → AreRowsOf db xs → ¬ AreRuns xs
+abbrev pub TellRuns : Edition → Database → Bool → Type 0
+TellRuns n db true = (xs : List RuleRow) × AreRowsOf n db xs × AreRuns xs
+TellRuns n db false = (xs : List RuleRow) → AreRowsOf n db xs → ¬ AreRuns xs
 
 -- the rule is of one of the buckets
 abbrev pub IsOfOne : List BucketRow → RuleRow → Type 0
@@ -82,5 +83,5 @@ abbrev pub Tell : Bool → Type 0 → Type 0
 Tell b P = MatchBool b P (¬ P)
 
 -- whether each rule has its bucket
-abbrev pub TellOwners : Database → Bool → Type 0
-TellOwners db b = (bs : List BucketRow) → AreBucketRows db bs → (xs : List RuleRow) → AreRowsOf db xs → Tell b (AllByRecursion (IsOfOne bs) xs)
+abbrev pub TellOwners : Edition → Database → Bool → Type 0
+TellOwners n db b = (bs : List BucketRow) → AreBucketRows db bs → (xs : List RuleRow) → AreRowsOf n db xs → Tell b (AllByRecursion (IsOfOne bs) xs)

@@ -2,8 +2,9 @@
 ghost use Rattle.std.specs.Prelude.{◌≡◌, ◌↔◌, ◌+◌, Some, [], length, IsTrue, IfOk, IfErr, OnOk};
 ghost use Rattle.sqlite.specs.State.{HasCleanDisk, IsUnchanged, Survives};
 ghost use Rattle.sqlite.specs.Held.{state};
-ghost use Rattle.vault_audit_model.specs.Tables.{vault_schema};
+ghost use Rattle.vault_audit_model.specs.Tables.{schema_of};
 ghost use Rattle.vault_audit_rules.specs.Runs.{IsWhole, TellRuns};
+ghost use Rattle.vault_audit_rules.specs.RulesWalk.{rules_walk};
 ghost use Rattle.vault_audit_walk.specs.Health.{IsHealthy, IsMemory};
 
 use crate::bucket_rows::is_after;
@@ -12,6 +13,7 @@ use std::alloc::Global;
 use std::marker::Model;
 use std::mem;
 use vault_audit_model::rows::RuleRow;
+use vault_audit_model::schema::Edition;
 use vault_audit_rows::misread::Misread;
 use vault_audit_rows::records::read_rule;
 use vault_audit_walk::walk::{Pass, walk};
@@ -98,11 +100,29 @@ impl Pass for RulePass {
     }
 }
 
+/// The query for the rules by bucket and place. What an edition has no column for is NULL.
+fn rules_walk(edition: Edition) -> &'static str
+    ensures { result.now ≡ rules_walk edition }
+{
+    match edition {
+        Edition::First => {
+            "SELECT bucket, n, id, prefix, enabled, days, lone, nc_days, nc_keep, NULL, NULL FROM rules ORDER BY bucket, n"
+        }
+        Edition::Second => {
+            "SELECT bucket, n, id, prefix, enabled, days, lone, nc_days, nc_keep, larger, smaller FROM rules ORDER BY bucket, n"
+        }
+    }
+}
+
 /// Whether the rows of `rules` tell rules in their limits, which stand at the places 1, 2, 3 ..
 /// of each bucket that has any, and are a set that a bucket may have.
-pub(crate) fn are_runs<S: Alter>(alloc: Global, conn: &mut Connection<S>) -> Result<bool, Error>
-    requires { HasCleanDisk (state S.Store conn.old) → (state S.Store conn.old).now.schema ≡ vault_schema }
-    ensures told { HasCleanDisk (state S.Store conn.new) → IfOk result (TellRuns (state S.Store conn.new).now) }
+pub(crate) fn are_runs<S: Alter>(
+    alloc: Global,
+    conn: &mut Connection<S>,
+    edition: Edition,
+) -> Result<bool, Error>
+    requires { HasCleanDisk (state S.Store conn.old) → (state S.Store conn.old).now.schema ≡ schema_of edition }
+    ensures told { HasCleanDisk (state S.Store conn.new) → IfOk result (TellRuns edition (state S.Store conn.new).now) }
     ensures same { HasCleanDisk (state S.Store conn.new) → OnOk result (IsUnchanged (state S.Store conn.old) (state S.Store conn.new)) }
     ensures err { IsHealthy (state S.Store conn.new) → IfErr result IsMemory }
     ensures crash { Survives (state S.Store conn.old) (state S.Store conn.new) (λ _. ⊥) }
@@ -112,11 +132,7 @@ pub(crate) fn are_runs<S: Alter>(alloc: Global, conn: &mut Connection<S>) -> Res
         bucket: None,
         rules: Vec::new(alloc),
     };
-    let whole = walk(
-        conn,
-        "SELECT bucket, n, id, prefix, enabled, days, lone, nc_days, nc_keep FROM rules ORDER BY bucket, n",
-        &mut pass,
-    )?;
+    let whole = walk(conn, rules_walk(edition), &mut pass)?;
     if !whole {
         return Ok(false);
     }

@@ -5,7 +5,8 @@ use Rattle.std.proofs.lemmas.Bool.{cases_order}
 use Rattle.vault_base.specs.declared.refusal.Table.{Table}
 use Rattle.vault_base.specs.declared.refusal.Table.TheVariants.{Meta, Departments, Callers, Buckets, Rules, Entries, Contents, Settings, Intake, Heads}
 use Rattle.sqlite.specs.Table.{Table as Made}
-use Rattle.vault_audit_model.specs.Tables.{vault_schema}
+use Rattle.vault_audit_model.specs.declared.schema.Edition.{Edition}
+use Rattle.vault_audit_model.specs.Tables.{schema_of}
 use Rattle.vault_audit_schema.specs.Compare.{IsFirstUnlike}
 use Rattle.vault_audit_schema.specs.Places.{place_of, IsInPlace, IsToldOf}
 use Rattle.vault_audit_schema.proofs.CompareLemmas.{unlike_not}
@@ -45,21 +46,21 @@ get_in_take (suc n) (x ∷ xs) (suc k) h = get_in_take n xs k (omega arith)
 agree_before : {X : Type 0} (xs ys : List X) (n k : ℕ) → take n xs ≡ take n ys → k < n → slice_get xs k ≡ slice_get ys k
 agree_before xs ys n k e h = sym (get_in_take n xs k h) ∙ ap (λ (l : List _). slice_get l k) e ∙ get_in_take n ys k h
 
-same_place : (tables : List Made) (at : ℕ) (t : Table) → IsFirstUnlike tables vault_schema.tables at
-    → ((u : Table) → place_of u < place_of t → IsInPlace tables u) → ¬ IsInPlace tables t → place_of t ≡ at
-same_place tables at t unlike before here = elim (cases_order (place_of t) at) [
+same_place : (n : Edition) (tables : List Made) (at : ℕ) (t : Table) → IsFirstUnlike tables (schema_of n).tables at
+    → ((u : Table) → place_of u < place_of t → IsInPlace n tables u) → ¬ IsInPlace n tables t → place_of t ≡ at
+same_place n tables at t unlike before here = elim (cases_order (place_of t) at) [
   | inl e ↦ e
-  | inr (inl less) ↦ absurd (here (agree_before tables vault_schema.tables at (place_of t) unlike.before less))
+  | inr (inl less) ↦ absurd (here (agree_before tables (schema_of n).tables at (place_of t) unlike.before less))
   | inr (inr more) ↦
       let below : place_of t < 10 = place_below t in
       let found : (u : Table) × (place_of u ≡ at) = placed at (omega arith) in
       let lower : place_of found.0 < place_of t = rw found.1 more in
-      absurd (unlike.differs (subst (λ (k : ℕ). slice_get tables k ≡ slice_get vault_schema.tables k) found.1 (before found.0 lower)))
+      absurd (unlike.differs (subst (λ (k : ℕ). slice_get tables k ≡ slice_get (schema_of n).tables k) found.1 (before found.0 lower)))
 ]
 
-pub told_of : (tables : List Made) (at : ℕ) (told : Table) → IsFirstUnlike tables vault_schema.tables at
-    → ((t : Table) → place_of t ≡ at → told ≡ t) → IsToldOf tables told
-told_of tables at told unlike named = record {
+pub told_of : (n : Edition) (tables : List Made) (at : ℕ) (told : Table) → IsFirstUnlike tables (schema_of n).tables at
+    → ((t : Table) → place_of t ≡ at → told ≡ t) → IsToldOf n tables told
+told_of n tables at told unlike named = record {
   differs = λ e. unlike_not unlike e;
-  first = λ t before here. named t (same_place tables at t unlike before here);
+  first = λ t before here. named t (same_place n tables at t unlike before here);
 }

@@ -3,14 +3,15 @@
 ghost use Rattle.std.specs.Prelude.{◌≡◌, ◌↔◌, ◌<◌, ℕ, None, Some, MatchOption};
 ghost use Rattle.sqlite.specs.Held.{state};
 ghost use Rattle.vault_base.specs.declared.refusal.Table.{Table};
-ghost use Rattle.vault_audit_model.specs.Tables.{vault_schema};
+ghost use Rattle.vault_audit_model.specs.Tables.{schema_of, vault_schema};
 ghost use Rattle.vault_audit_schema.specs.Places.{place_of, IsInPlace, IsToldOf};
 
 use crate::compare::first_unlike;
 use crate::index::INDEXES;
-use crate::table::TABLES;
+use crate::table::{TABLES, tables_of};
 use sqlite::{Alter, Connection};
 use sqlite_schema::schema::{self, Index, Schema};
+use vault_audit_model::schema::Edition;
 use vault_base::refusal::Table;
 
 /// The table at this place, or `meta` past the last.
@@ -24,10 +25,10 @@ fn table_at(at: usize) -> Table
 }
 
 /// The first table that is missing or of another form, or `meta` where another table stands beside them.
-fn table_difference(tables: &[schema::Table]) -> Option<Table>
-    ensures { MatchOption result (tables.now ≡ vault_schema.tables) (IsToldOf tables.now) }
+fn table_difference(edition: Edition, tables: &[schema::Table]) -> Option<Table>
+    ensures { MatchOption result (tables.now ≡ (schema_of edition).tables) (IsToldOf edition tables.now) }
 {
-    let at = first_unlike(tables, &TABLES)?;
+    let at = first_unlike(tables, tables_of(edition))?;
     Some(table_at(at))
 }
 
@@ -57,16 +58,16 @@ fn index_difference(indexes: &[Index]) -> Option<Table>
     Some(index_table(indexes, at))
 }
 
-/// The first table at which a schema differs from the vault's, or none where it is the vault's.
+/// The first table at which a schema differs from that of an edition, or none where it is that.
 ///
 /// A table that is none of the vault's is told as `meta`, and so are an index of such a table and a view.
-pub fn first_difference(schema: &Schema) -> Option<Table>
-    ensures found { (result ≡ None) ↔ (schema.now ≡ vault_schema) }
+pub fn first_difference(edition: Edition, schema: &Schema) -> Option<Table>
+    ensures found { (result ≡ None) ↔ (schema.now ≡ schema_of edition) }
 
     // The tables before this one are in their places, and this one isn't.
-    ensures first { (t : Table) → ((u : Table) → place_of u < place_of t → IsInPlace schema.now.tables u) → ¬ IsInPlace schema.now.tables t → result ≡ Some t }
+    ensures first { (t : Table) → ((u : Table) → place_of u < place_of t → IsInPlace edition schema.now.tables u) → ¬ IsInPlace edition schema.now.tables t → result ≡ Some t }
 {
-    if let Some(table) = table_difference(schema.tables.as_slice()) {
+    if let Some(table) = table_difference(edition, schema.tables.as_slice()) {
         return Some(table);
     }
     if let Some(table) = index_difference(schema.indexes.as_slice()) {
@@ -80,8 +81,8 @@ pub fn first_difference(schema: &Schema) -> Option<Table>
 }
 
 /// The first table at which the schema of a connection's file differs from the vault's, as `first_difference` tells it.
-pub fn check_schema<S: Alter>(conn: &Connection<S>) -> Option<Table>
-    ensures { (result ≡ None) ↔ ((state S.Store conn.now).now.schema ≡ vault_schema) }
+pub fn check_schema<S: Alter>(conn: &Connection<S>, edition: Edition) -> Option<Table>
+    ensures { (result ≡ None) ↔ ((state S.Store conn.now).now.schema ≡ schema_of edition) }
 {
-    first_difference(conn.schema())
+    first_difference(edition, conn.schema())
 }

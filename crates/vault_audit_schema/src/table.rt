@@ -1,6 +1,7 @@
 //! The ten tables, and the parts of a table that are no column.
 
-ghost use Rattle.std.specs.Prelude.{◌≡◌, ◌↔◌, [], ◌∷◌, Some, None, IsTrue};
+ghost use Rattle.std.specs.Prelude.{◌≡◌, ◌↔◌, [], ◌∷◌, Some, None, IsTrue, map};
+ghost use Rattle.vault_audit_model.specs.Tables.{schema_of};
 ghost use Rattle.sqlite_value.specs.Keys.{plain};
 ghost use Rattle.vault_audit_schema.specs.Forms.{table_of, key_of, primary_of, uniques_of, orders_of};
 ghost use Rattle.vault_audit_schema.specs.Parts.{HasKey, IsBare};
@@ -11,6 +12,7 @@ use crate::compare::{Form, have_forms};
 use sqlite_items::Items;
 use sqlite_schema::schema::{self, Kind};
 use sqlite_value::keys::Order;
+use vault_audit_model::schema::Edition;
 use vault_base::refusal::Table;
 
 /// What tells the rows of a table apart.
@@ -34,196 +36,265 @@ pub(crate) struct TableForm {
     pub(crate) references: &'static [ReferenceForm],
 }
 
-/// The tables in the order in which they are made.
-pub(crate) static TABLES: [TableForm; 10] = [
-    TableForm {
-        table: Table::Meta,
-        tree: 0,
-        key: KeyForm::Number,
-        columns: &[
-            MayHave("one", Kind::Integer),
-            Has("schema", Kind::Integer),
-            Has("last", Kind::Integer),
-            Has("next", Kind::Integer),
-        ],
-        references: &[],
-    },
-    TableForm {
-        table: Table::Departments,
-        tree: 1,
-        key: KeyForm::Places(&[1]),
-        columns: &[
-            Has("name", Kind::Text),
-            Has("admitted", Kind::Integer),
-            Has("held", Kind::Integer),
-            Has("removed", Kind::Integer),
-            Has("weighted", Kind::Integer),
-            Has("closed", Kind::Integer),
-        ],
-        references: &[],
-    },
-    TableForm {
-        table: Table::Callers,
-        tree: 3,
-        key: KeyForm::Places(&[1]),
-        columns: &[
-            Has("name", Kind::Text),
-            MayHave("dept", Kind::Text),
-            Has("rights", Kind::Integer),
-            Has("closed", Kind::Integer),
-        ],
-        references: &[ReferenceForm {
-            at: 2,
-            parent: Table::Departments,
-            column: "name",
-        }],
-    },
-    TableForm {
-        table: Table::Buckets,
-        tree: 5,
-        key: KeyForm::Places(&[1]),
-        columns: &[
-            Has("name", Kind::Text),
-            Has("dept", Kind::Text),
-            Has("mode", Kind::Integer),
-            MayHave("days", Kind::Integer),
-            MayHave("years", Kind::Integer),
-        ],
-        references: &[ReferenceForm {
-            at: 2,
-            parent: Table::Departments,
-            column: "name",
-        }],
-    },
-    TableForm {
-        table: Table::Rules,
-        tree: 7,
-        key: KeyForm::Places(&[1, 2]),
-        columns: &[
-            Has("bucket", Kind::Text),
-            Has("n", Kind::Integer),
-            Has("id", Kind::Text),
-            Has("prefix", Kind::Text),
-            Has("enabled", Kind::Integer),
-            MayHave("days", Kind::Integer),
-            Has("lone", Kind::Integer),
-            MayHave("nc_days", Kind::Integer),
-            MayHave("nc_keep", Kind::Integer),
-        ],
-        references: &[ReferenceForm {
+const META: TableForm = TableForm {
+    table: Table::Meta,
+    tree: 0,
+    key: KeyForm::Number,
+    columns: &[
+        MayHave("one", Kind::Integer),
+        Has("schema", Kind::Integer),
+        Has("last", Kind::Integer),
+        Has("next", Kind::Integer),
+    ],
+    references: &[],
+};
+
+const DEPARTMENTS: TableForm = TableForm {
+    table: Table::Departments,
+    tree: 1,
+    key: KeyForm::Places(&[1]),
+    columns: &[
+        Has("name", Kind::Text),
+        Has("admitted", Kind::Integer),
+        Has("held", Kind::Integer),
+        Has("removed", Kind::Integer),
+        Has("weighted", Kind::Integer),
+        Has("closed", Kind::Integer),
+    ],
+    references: &[],
+};
+
+const CALLERS: TableForm = TableForm {
+    table: Table::Callers,
+    tree: 3,
+    key: KeyForm::Places(&[1]),
+    columns: &[
+        Has("name", Kind::Text),
+        MayHave("dept", Kind::Text),
+        Has("rights", Kind::Integer),
+        Has("closed", Kind::Integer),
+    ],
+    references: &[ReferenceForm {
+        at: 2,
+        parent: Table::Departments,
+        column: "name",
+    }],
+};
+
+const BUCKETS: TableForm = TableForm {
+    table: Table::Buckets,
+    tree: 5,
+    key: KeyForm::Places(&[1]),
+    columns: &[
+        Has("name", Kind::Text),
+        Has("dept", Kind::Text),
+        Has("mode", Kind::Integer),
+        MayHave("days", Kind::Integer),
+        MayHave("years", Kind::Integer),
+    ],
+    references: &[ReferenceForm {
+        at: 2,
+        parent: Table::Departments,
+        column: "name",
+    }],
+};
+
+/// The rules of the first edition.
+const FIRST_RULES: TableForm = TableForm {
+    table: Table::Rules,
+    tree: 7,
+    key: KeyForm::Places(&[1, 2]),
+    columns: &[
+        Has("bucket", Kind::Text),
+        Has("n", Kind::Integer),
+        Has("id", Kind::Text),
+        Has("prefix", Kind::Text),
+        Has("enabled", Kind::Integer),
+        MayHave("days", Kind::Integer),
+        Has("lone", Kind::Integer),
+        MayHave("nc_days", Kind::Integer),
+        MayHave("nc_keep", Kind::Integer),
+    ],
+    references: &[ReferenceForm {
+        at: 1,
+        parent: Table::Buckets,
+        column: "name",
+    }],
+};
+
+const RULES: TableForm = TableForm {
+    table: Table::Rules,
+    tree: 7,
+    key: KeyForm::Places(&[1, 2]),
+    columns: &[
+        Has("bucket", Kind::Text),
+        Has("n", Kind::Integer),
+        Has("id", Kind::Text),
+        Has("prefix", Kind::Text),
+        Has("enabled", Kind::Integer),
+        MayHave("days", Kind::Integer),
+        Has("lone", Kind::Integer),
+        MayHave("nc_days", Kind::Integer),
+        MayHave("nc_keep", Kind::Integer),
+        MayHave("larger", Kind::Integer),
+        MayHave("smaller", Kind::Integer),
+    ],
+    references: &[ReferenceForm {
+        at: 1,
+        parent: Table::Buckets,
+        column: "name",
+    }],
+};
+
+const ENTRIES: TableForm = TableForm {
+    table: Table::Entries,
+    tree: 9,
+    key: KeyForm::NumberAnd(&[2, 3, 0]),
+    columns: &[
+        MayHave("id", Kind::Integer),
+        Has("bucket", Kind::Text),
+        Has("key", Kind::Text),
+        Has("marker", Kind::Integer),
+        Has("size", Kind::Integer),
+        MayHave("digest", Kind::Blob),
+        Has("admitted", Kind::Integer),
+        Has("by_rule", Kind::Integer),
+        Has("admitted_by", Kind::Text),
+        MayHave("removed", Kind::Integer),
+        MayHave("cause", Kind::Integer),
+        MayHave("cause_by", Kind::Text),
+    ],
+    references: &[ReferenceForm {
+        at: 2,
+        parent: Table::Buckets,
+        column: "name",
+    }],
+};
+
+const CONTENTS: TableForm = TableForm {
+    table: Table::Contents,
+    tree: 11,
+    key: KeyForm::Number,
+    columns: &[MayHave("id", Kind::Integer), Has("bytes", Kind::Blob)],
+    references: &[ReferenceForm {
+        at: 0,
+        parent: Table::Entries,
+        column: "id",
+    }],
+};
+
+const SETTINGS: TableForm = TableForm {
+    table: Table::Settings,
+    tree: 12,
+    key: KeyForm::Places(&[1, 2]),
+    columns: &[
+        Has("id", Kind::Integer),
+        Has("n", Kind::Integer),
+        Has("moment", Kind::Integer),
+        Has("caller", Kind::Text),
+        Has("mode", Kind::Integer),
+        MayHave("until", Kind::Integer),
+        Has("hold", Kind::Integer),
+        Has("bypass", Kind::Integer),
+    ],
+    references: &[ReferenceForm {
+        at: 1,
+        parent: Table::Entries,
+        column: "id",
+    }],
+};
+
+const INTAKE: TableForm = TableForm {
+    table: Table::Intake,
+    tree: 14,
+    key: KeyForm::Places(&[1, 2, 3]),
+    columns: &[
+        Has("bucket", Kind::Text),
+        Has("batch", Kind::Text),
+        Has("line", Kind::Integer),
+        Has("key", Kind::Text),
+        Has("size", Kind::Integer),
+        Has("digest", Kind::Blob),
+        Has("mode", Kind::Integer),
+        MayHave("until", Kind::Integer),
+        MayHave("hold", Kind::Integer),
+        Has("id", Kind::Integer),
+    ],
+    references: &[
+        ReferenceForm {
             at: 1,
             parent: Table::Buckets,
             column: "name",
-        }],
-    },
-    TableForm {
-        table: Table::Entries,
-        tree: 9,
-        key: KeyForm::NumberAnd(&[2, 3, 0]),
-        columns: &[
-            MayHave("id", Kind::Integer),
-            Has("bucket", Kind::Text),
-            Has("key", Kind::Text),
-            Has("marker", Kind::Integer),
-            Has("size", Kind::Integer),
-            MayHave("digest", Kind::Blob),
-            Has("admitted", Kind::Integer),
-            Has("by_rule", Kind::Integer),
-            Has("admitted_by", Kind::Text),
-            MayHave("removed", Kind::Integer),
-            MayHave("cause", Kind::Integer),
-            MayHave("cause_by", Kind::Text),
-        ],
-        references: &[ReferenceForm {
-            at: 2,
+        },
+        ReferenceForm {
+            at: 10,
+            parent: Table::Entries,
+            column: "id",
+        },
+    ],
+};
+
+const HEADS: TableForm = TableForm {
+    table: Table::Heads,
+    tree: 16,
+    key: KeyForm::Places(&[1, 2]),
+    columns: &[
+        Has("bucket", Kind::Text),
+        Has("key", Kind::Text),
+        Has("newest", Kind::Integer),
+        Has("count", Kind::Integer),
+    ],
+    references: &[
+        ReferenceForm {
+            at: 1,
             parent: Table::Buckets,
             column: "name",
-        }],
-    },
-    TableForm {
-        table: Table::Contents,
-        tree: 11,
-        key: KeyForm::Number,
-        columns: &[MayHave("id", Kind::Integer), Has("bytes", Kind::Blob)],
-        references: &[ReferenceForm {
-            at: 0,
+        },
+        ReferenceForm {
+            at: 3,
             parent: Table::Entries,
             column: "id",
-        }],
-    },
-    TableForm {
-        table: Table::Settings,
-        tree: 12,
-        key: KeyForm::Places(&[1, 2]),
-        columns: &[
-            Has("id", Kind::Integer),
-            Has("n", Kind::Integer),
-            Has("moment", Kind::Integer),
-            Has("caller", Kind::Text),
-            Has("mode", Kind::Integer),
-            MayHave("until", Kind::Integer),
-            Has("hold", Kind::Integer),
-            Has("bypass", Kind::Integer),
-        ],
-        references: &[ReferenceForm {
-            at: 1,
-            parent: Table::Entries,
-            column: "id",
-        }],
-    },
-    TableForm {
-        table: Table::Intake,
-        tree: 14,
-        key: KeyForm::Places(&[1, 2, 3]),
-        columns: &[
-            Has("bucket", Kind::Text),
-            Has("batch", Kind::Text),
-            Has("line", Kind::Integer),
-            Has("key", Kind::Text),
-            Has("size", Kind::Integer),
-            Has("digest", Kind::Blob),
-            Has("mode", Kind::Integer),
-            MayHave("until", Kind::Integer),
-            MayHave("hold", Kind::Integer),
-            Has("id", Kind::Integer),
-        ],
-        references: &[
-            ReferenceForm {
-                at: 1,
-                parent: Table::Buckets,
-                column: "name",
-            },
-            ReferenceForm {
-                at: 10,
-                parent: Table::Entries,
-                column: "id",
-            },
-        ],
-    },
-    TableForm {
-        table: Table::Heads,
-        tree: 16,
-        key: KeyForm::Places(&[1, 2]),
-        columns: &[
-            Has("bucket", Kind::Text),
-            Has("key", Kind::Text),
-            Has("newest", Kind::Integer),
-            Has("count", Kind::Integer),
-        ],
-        references: &[
-            ReferenceForm {
-                at: 1,
-                parent: Table::Buckets,
-                column: "name",
-            },
-            ReferenceForm {
-                at: 3,
-                parent: Table::Entries,
-                column: "id",
-            },
-        ],
-    },
+        },
+    ],
+};
+
+/// The tables of the first edition, in the order in which they are made.
+pub(crate) static FIRST_TABLES: [TableForm; 10] = [
+    META,
+    DEPARTMENTS,
+    CALLERS,
+    BUCKETS,
+    FIRST_RULES,
+    ENTRIES,
+    CONTENTS,
+    SETTINGS,
+    INTAKE,
+    HEADS,
 ];
+
+/// The tables of the newest edition, in the order in which they are made.
+pub(crate) static TABLES: [TableForm; 10] = [
+    META,
+    DEPARTMENTS,
+    CALLERS,
+    BUCKETS,
+    RULES,
+    ENTRIES,
+    CONTENTS,
+    SETTINGS,
+    INTAKE,
+    HEADS,
+];
+
+/// The tables of an edition, in the order in which they are made.
+pub(crate) fn tables_of(edition: Edition) -> &'static [TableForm]
+    ensures { map table_of result.now ≡ (schema_of edition).tables }
+{
+    match edition {
+        Edition::First => &FIRST_TABLES,
+        Edition::Second => &TABLES,
+    }
+}
 
 fn is_one_unique(uniques: &[Items<usize>], places: &[usize]) -> bool
     ensures { IsTrue result ↔ (uniques.now ≡ places.now ∷ []) }

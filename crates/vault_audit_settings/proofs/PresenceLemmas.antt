@@ -10,7 +10,7 @@ use Rattle.vault_core_model.specs.declared.records.Entry.{Entry}
 use Rattle.vault_audit_model.specs.declared.rows.SettingRow.{SettingRow}
 use Rattle.vault_audit_model.specs.Relations.{AreEntries}
 use Rattle.vault_audit_model.specs.Rows.{entry_row, entry_columns, setting_row, setting_columns}
-use Rattle.vault_audit_model.specs.Tables.{vault_schema, entries_tree, settings_tree}
+use Rattle.vault_audit_model.specs.Tables.{schema_of, entries_tree, settings_tree}
 use Rattle.vault_audit_model.specs.Values.{number}
 use Rattle.vault_audit_walk.specs.Records.{Checked}
 use Rattle.vault_audit_beside.specs.Beside.{TellsAbsence}
@@ -18,6 +18,7 @@ use Rattle.vault_audit_model.proofs.ValueLemmas.{agrees}
 use Rattle.vault_audit_beside.proofs.BesideLemmas.{agree_numbers, beside_row, beside_yes, beside_no, met_yes, met_no, met_as, of_records, of_stored, each}
 use Rattle.vault_audit_settings.specs.Places.{AreRowsOf, IsSetAs, IsOfOne, TellPresence, TellOwners}
 use Rattle.vault_audit_settings.proofs.TextLemmas.{settings_beside, settings_beside_is, entries_beside, entries_beside_is}
+use Rattle.vault_audit_model.specs.declared.schema.Edition.{Edition}
 
 -- ---- each entry beside its settings
 
@@ -59,11 +60,11 @@ module _ (db : Database) (es : List Entry) (are : AreEntries db es) (xs : List S
   owned_no all =
       of_stored setting_row setting_columns Owners xs (db.trees settings_tree) rows (each (λ x told. met_no (lit (Int (pos 0))) 0 0 (setting_row x) false (λ s. refl) Entries (owns x.id ∙ told)) xs all)
 
-module _ (old new : State) (has : old.now.schema ≡ vault_schema) (same : IsUnchanged old new) where
+module _ (n : Edition) (old new : State) (has : old.now.schema ≡ schema_of n) (same : IsUnchanged old new) where
   pub presence : (b : Bool) → Checked TellsAbsence settings_beside old new b → TellPresence new.now b
-  presence true h es are xs rows = set_yes new.now es are xs rows (beside_yes settings_beside_is (λ trees. (refl, refl)) TellsAbsence old new has same h)
-  presence false h es are xs rows = λ all. beside_no settings_beside_is (λ trees. (refl, refl)) TellsAbsence old new has same h (set_no new.now es are xs rows all)
+  presence true h es are xs rows = set_yes new.now es are xs rows (beside_yes (settings_beside_is n) (λ trees. (refl, refl)) TellsAbsence old new has same h)
+  presence false h es are xs rows = λ all. beside_no (settings_beside_is n) (λ trees. (refl, refl)) TellsAbsence old new has same h (set_no new.now es are xs rows all)
 
   pub owners : (b : Bool) → Checked TellsAbsence entries_beside old new b → TellOwners new.now b
-  owners true h es are xs rows = owned_yes new.now es are xs rows (beside_yes entries_beside_is (λ trees. (refl, refl)) TellsAbsence old new has same h)
-  owners false h es are xs rows = λ all. beside_no entries_beside_is (λ trees. (refl, refl)) TellsAbsence old new has same h (owned_no new.now es are xs rows all)
+  owners true h es are xs rows = owned_yes new.now es are xs rows (beside_yes (entries_beside_is n) (λ trees. (refl, refl)) TellsAbsence old new has same h)
+  owners false h es are xs rows = λ all. beside_no (entries_beside_is n) (λ trees. (refl, refl)) TellsAbsence old new has same h (owned_no new.now es are xs rows all)

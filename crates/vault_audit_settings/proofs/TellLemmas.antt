@@ -15,8 +15,8 @@ use Rattle.vault_audit_model.specs.declared.rows.SettingRow.{SettingRow}
 use Rattle.vault_audit_model.specs.Limits.{IsHistory}
 use Rattle.vault_audit_model.specs.Relations.{AreEntries, AreNumbered, AreSettings, TellSettings, HasSettingsAs, HasSettings}
 use Rattle.vault_audit_model.specs.Rows.{entry_row, entry_columns, setting_row, setting_columns}
-use Rattle.vault_audit_model.specs.Spells.{AreSound, settings_in}
-use Rattle.vault_audit_model.specs.Tables.{vault_schema, entries_tree, settings_tree}
+use Rattle.vault_audit_model.specs.Spells.{AreSoundAs, settings_in}
+use Rattle.vault_audit_model.specs.Tables.{schema_of, entries_tree, settings_tree}
 use Rattle.vault_audit_walk.specs.Pass.{Takes, Refuses}
 use Rattle.vault_audit_walk.specs.Walk.{Walked}
 use Rattle.vault_audit_walk.proofs.PairLemmas.{pair_walked, pair_cmp, pair_cmp_total}
@@ -30,21 +30,22 @@ use Rattle.vault_audit_settings.proofs.TextLemmas.{placed_walk, placed_walk_is, 
 use Rattle.vault_audit_settings.proofs.PresenceLemmas.{presence, owners}
 use Rattle.vault_audit_walk.specs.Records.{Checked}
 use Rattle.vault_audit_beside.specs.Beside.{TellsAbsence}
+use Rattle.vault_audit_model.specs.declared.schema.Edition.{Edition}
 
 -- ---- the walk
 
 abbrev source : Database → List Row
 source db = map setting_columns (db.trees settings_tree)
 
-answers : (a b : State) → a.now.schema ≡ vault_schema → (rows : List Row) → Shown placed_walk [] a b rows → IsPermutation (source a.now) rows × IsSorted pair_cmp rows
-answers a b schema rows shown = pair_walked placed_walk a b vault_schema schema placed_walk_plain placed_walk_is.1 settings_tree 1 2 (col 1 3 ∷ col 1 4 ∷ col 1 5 ∷ col 1 6 ∷ col 1 7 ∷ col 1 8 ∷ []) _ placed_walk_is.0 refl rows shown
+answers : (n : Edition) → (a b : State) → a.now.schema ≡ schema_of n → (rows : List Row) → Shown placed_walk [] a b rows → IsPermutation (source a.now) rows × IsSorted pair_cmp rows
+answers n a b schema rows shown = pair_walked placed_walk a b (schema_of n) schema (placed_walk_plain n) (placed_walk_is n).1 settings_tree 1 2 (col 1 3 ∷ col 1 4 ∷ col 1 5 ∷ col 1 6 ∷ col 1 7 ∷ col 1 8 ∷ []) _ (placed_walk_is n).0 refl rows shown
 
-module _ (old new : State) (has : old.now.schema ≡ vault_schema) (same : IsUnchanged old new) (r : SettingPass) where
+module _ (n : Edition) (old new : State) (has : old.now.schema ≡ schema_of n) (same : IsUnchanged old new) (r : SettingPass) where
   pub places : (b : Bool) → Walked (Takes setting_row ComesNext with_setting) (Refuses setting_row ComesNext with_setting) placed_walk old new no_setting r b → TellPlaces new.now b
   places true h =
-      let it = pass_yes setting_row ComesNext with_setting same_setting pair_cmp pair_cmp_total vault_schema placed_walk _ _ placed_walk_is.0 source answers old new has same no_setting r h in
+      let it = pass_yes setting_row ComesNext with_setting same_setting pair_cmp pair_cmp_total (schema_of n) placed_walk _ _ (placed_walk_is n).0 source (answers n) old new has same no_setting r h in
       (it.0, it.1, it.2)
-  places false h = pass_no setting_row ComesNext with_setting same_setting pair_cmp pair_cmp_total vault_schema placed_walk _ _ placed_walk_is.0 source answers old new has same no_setting r (rise no_setting) h
+  places false h = pass_no setting_row ComesNext with_setting same_setting pair_cmp pair_cmp_total (schema_of n) placed_walk _ _ (placed_walk_is n).0 source (answers n) old new has same no_setting r (rise no_setting) h
 
 -- ---- together
 
@@ -77,7 +78,7 @@ numbered : (next low last : ℕ) (hs : List History) → AreIdsFrom next hs → 
 numbered next low last [] ids order all = tt
 numbered next low last (h ∷ hs) ids order all = ((all.0.entry, (ids.0, order.0)), numbered (next + 1) h.entry.admitted last hs ids.1 order.1 all.1)
 
-module _ (db : Database) (v : Vault) (it : AreSound db v) where
+module _ (n : Edition) (db : Database) (v : Vault) (it : AreSoundAs n db v) where
   pub its_entries : AreEntries db (map (λ h. h.entry) v.histories)
   its_entries = (
     subst (λ rows. IsPermutation rows (map entry_columns (db.trees entries_tree))) (sym (map-map entry_row (λ h. h.entry) v.histories)) it.spells.entries,
@@ -88,23 +89,23 @@ module _ (db : Database) (v : Vault) (it : AreSound db v) where
   its_settings = (refl, it.spells.settings, have v.histories it.spells.kept.limits.histories it.spells.kept.sound.whole)
 
 -- so where they are not, the tables are sound for no vault
-pub unsound : (db : Database) → ((es : List Entry) → AreEntries db es → TellSettings db es false) → (v : Vault) → ¬ AreSound db v
-unsound db none v it = none (map (λ h. h.entry) v.histories) (its_entries db v it) v.histories (its_settings db v it)
+pub unsound : (n : Edition) → (db : Database) → ((es : List Entry) → AreEntries db es → TellSettings db es false) → (v : Vault) → ¬ AreSoundAs n db v
+unsound n db none v it = none (map (λ h. h.entry) v.histories) ((its_entries n) db v it) v.histories ((its_settings n) db v it)
 
 -- ---- the answers of the looks
 
-module _ (old new : State) (has : old.now.schema ≡ vault_schema) where
+module _ (n : Edition) (old new : State) (has : old.now.schema ≡ schema_of n) where
   pub places_if_ok : (r : SettingPass) (answer : Result Bool Error) → OnOk answer (IsUnchanged old new)
       → IfOk answer (Walked (Takes setting_row ComesNext with_setting) (Refuses setting_row ComesNext with_setting) placed_walk old new no_setting r) → IfOk answer (TellPlaces new.now)
-  places_if_ok r (Ok b) same h = places old new has same r b h
+  places_if_ok r (Ok b) same h = places n old new has same r b h
   places_if_ok r (Err e) same h = tt
 
   pub presence_if_ok : (answer : Result Bool Error) → OnOk answer (IsUnchanged old new) → IfOk answer (Checked TellsAbsence settings_beside old new) → IfOk answer (TellPresence new.now)
-  presence_if_ok (Ok b) same h = presence old new has same b h
+  presence_if_ok (Ok b) same h = (presence n) old new has same b h
   presence_if_ok (Err e) same h = tt
 
   pub owners_if_ok : (answer : Result Bool Error) → OnOk answer (IsUnchanged old new) → IfOk answer (Checked TellsAbsence entries_beside old new) → IfOk answer (TellOwners new.now)
-  owners_if_ok (Ok b) same h = owners old new has same b h
+  owners_if_ok (Ok b) same h = (owners n) old new has same b h
   owners_if_ok (Err e) same h = tt
 
 abbrev pub IsTold : Database → Bool → Type 0
@@ -118,7 +119,7 @@ last_told a b s same places present (Ok true) last owned =
     λ es are. all_hold s.now es are (subst (λ (d : Database). TellPlaces d true) first places) (subst (λ (d : Database). TellPresence d true) second present) owned
 last_told a b s same places present (Ok false) last owned = λ es are. not_owned s.now es are owned
 
-pub damaged_if_ok : (db : Database) (answer : Result Bool Error) → IfOk answer (IsTold db) → IfOk answer (λ found. found ≡ false → (v : Vault) → ¬ AreSound db v)
-damaged_if_ok db (Err e) h = tt
-damaged_if_ok db (Ok true) h = λ no. absurd cc
-damaged_if_ok db (Ok false) h = λ _ v. unsound db h v
+pub damaged_if_ok : (n : Edition) → (db : Database) (answer : Result Bool Error) → IfOk answer (IsTold db) → IfOk answer (λ found. found ≡ false → (v : Vault) → ¬ AreSoundAs n db v)
+damaged_if_ok n db (Err e) h = tt
+damaged_if_ok n db (Ok true) h = λ no. absurd cc
+damaged_if_ok n db (Ok false) h = λ _ v. (unsound n) db h v

@@ -22,13 +22,14 @@ use Rattle.vault_audit_model.specs.Limits.{IsBucket, IsBucketRow}
 use Rattle.vault_audit_model.specs.Relations.{AreBuckets}
 use Rattle.vault_audit_model.specs.Rows.{bucket_row, bucket_columns}
 use Rattle.vault_audit_model.specs.Spells.{bucket_of}
-use Rattle.vault_audit_model.specs.Tables.{vault_schema, buckets_tree}
+use Rattle.vault_audit_model.specs.Tables.{schema_of, buckets_tree}
 use Rattle.vault_audit_walk.specs.Records.{TellsOne}
 use Rattle.vault_audit_walk.specs.Walk.{Goes, Walked}
 use Rattle.vault_audit_walk.proofs.RecordLemmas.{scanned, records_of}
 use Rattle.vault_audit_tables.proofs.TextLemmas.{buckets_text, buckets_scan}
 use Rattle.vault_audit_sums.specs.declared.owned.OwnedPass.{OwnedPass}
 use Rattle.vault_audit_sums.specs.Owned.{name_where, GoesWith, TellsNone, AreOwnedBy}
+use Rattle.vault_audit_model.specs.declared.schema.Edition.{Edition}
 
 -- ---- what a row tells
 
@@ -121,18 +122,18 @@ mapped_any f test (x ∷ xs) = ap (λ t. test (f x) || t) (mapped_any f test xs)
 abbrev source : Database → List Values
 source db = map bucket_columns (db.trees buckets_tree)
 
-answered : (a b : State) → a.now.schema ≡ vault_schema → (rows : List Values) → Shown buckets_text [] a b rows → IsPermutation (source a.now) rows
-answered a b schema rows shown = scanned vault_schema buckets_text _ _ _ buckets_scan a b schema refl rows shown
+answered : (n : Edition) → (a b : State) → a.now.schema ≡ schema_of n → (rows : List Values) → Shown buckets_text [] a b rows → IsPermutation (source a.now) rows
+answered n a b schema rows shown = scanned (schema_of n) buckets_text _ _ _ (buckets_scan n) a b schema refl rows shown
 
 bucket_rows : (bs : List Bucket) → AllByRecursion IsBucket bs → AllByRecursion IsBucketRow (map bucket_of bs)
 bucket_rows [] all = tt
 bucket_rows (b ∷ bs) all = (record { name = all.0.name; config = all.0.config }, bucket_rows bs all.1)
 
-module _ (old new : State) (has : old.now.schema ≡ vault_schema) (same : IsUnchanged old new) (p r : OwnedPass) (none : p.names.items ≡ []) (bs : List Bucket) (are : AreBuckets new.now bs) where
+module _ (n : Edition) (old new : State) (has : old.now.schema ≡ schema_of n) (same : IsUnchanged old new) (p r : OwnedPass) (none : p.names.items ≡ []) (bs : List Bucket) (are : AreBuckets n new.now bs) where
   pub owned_yes : Walked GoesWith TellsNone buckets_text old new p r true → AreOwnedBy bs p.dept r.names.items
   owned_yes (rows, shown, goes) bucket =
       let f = λ (b : Bucket). bucket_row (bucket_of b) in
-      let whole = answered old new has rows shown in
+      let whole = (answered n) old new has rows shown in
       let buckets = subst (λ (d : Database). IsPermutation (map f bs) (source d)) same.0.now_is are.0 in
       let empty : list_any (λ n. bytes_eq n bucket) p.names.items ≡ false = ap (list_any (λ n. bytes_eq n bucket)) none in
       went p r rows bucket goes ∙ ap (λ t. t || list_any (owned p.dept bucket) rows) empty
@@ -141,5 +142,5 @@ module _ (old new : State) (has : old.now.schema ≡ vault_schema) (same : IsUnc
 
   pub owned_no : ¬ Walked GoesWith TellsNone buckets_text old new p r false
   owned_no (rows, row, m, begins, goes, never) =
-      let none_told = records_of bucket_row IsBucketRow vault_schema buckets_text _ _ _ buckets_scan old new has (λ trees. refl) same false (rows, row, begins, λ (it : TellsOne bucket_row IsBucketRow row). never it.0 it.2 it.1) in
+      let none_told = records_of bucket_row IsBucketRow (schema_of n) buckets_text _ _ _ (buckets_scan n) old new has (λ trees. refl) same false (rows, row, begins, λ (it : TellsOne bucket_row IsBucketRow row). never it.0 it.2 it.1) in
       none_told (map bucket_of bs) (subst (λ xs. IsPermutation xs (source new.now)) (sym (map-map bucket_row bucket_of bs)) are.0) (bucket_rows bs are.3)

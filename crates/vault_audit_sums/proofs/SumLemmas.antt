@@ -17,7 +17,7 @@ use Rattle.vault_core_laws.proofs.Bounds.{dated}
 use Rattle.vault_audit_model.specs.Limits.{IsEntry, IsRemoval}
 use Rattle.vault_audit_model.specs.Relations.{AreEntries, AreNumbered, IsPast}
 use Rattle.vault_audit_model.specs.Rows.{entry_row}
-use Rattle.vault_audit_model.specs.Tables.{vault_schema}
+use Rattle.vault_audit_model.specs.Tables.{schema_of}
 use Rattle.vault_audit_model.proofs.SameRows.{same_entry}
 use Rattle.vault_audit_walk.specs.Walk.{Goes, Walked}
 use Rattle.vault_audit_walk.proofs.ScanLemmas.{first_cmp, first_cmp_total, goes_on_to}
@@ -26,6 +26,7 @@ use Rattle.vault_audit_tables.proofs.TextLemmas.{numbers_walk, numbers_walk_is}
 use Rattle.vault_audit_sums.specs.declared.versions.SumPass.{SumPass}
 use Rattle.vault_audit_sums.specs.Versions.{item_told, counts, items_where, items_told, IsCounted, GoesIn, GoesBeyond, IsSumOf}
 use Rattle.vault_audit_sums.proofs.ItemLemmas.{bounded_with}
+use Rattle.vault_audit_model.specs.declared.schema.Edition.{Edition}
 
 -- ---- dates
 
@@ -114,22 +115,22 @@ in_limits next low (x ∷ front) back e are = in_limits (next + 1) x.admitted fr
 none_bounded : AreBounded []
 none_bounded = record { dated = refl; within = omega arith }
 
-module _ (old new : State) (has : old.now.schema ≡ vault_schema) (same : IsUnchanged old new) (p r : SumPass) (zero : IsRowOf p.sums []) (es : List Entry) (last : ℕ) (are : AreEntries new.now es) (past : AllByRecursion (IsPast last) es) where
+module _ (n : Edition) (old new : State) (has : old.now.schema ≡ schema_of n) (same : IsUnchanged old new) (p r : SumPass) (zero : IsRowOf p.sums []) (es : List Entry) (last : ℕ) (are : AreEntries new.now es) (past : AllByRecursion (IsPast last) es) where
   dates : AllByRecursion IsDated es
   dates = are_dated 1 0 last es are.1 past
 
   pub sums_yes : Walked GoesIn GoesBeyond numbers_walk old new p r true → IsSumOf p.names.items es (Some r.sums)
   sums_yes (rows, shown, goes) =
-      let whole = answers old new has rows shown in
+      let whole = (answers n) old new has rows shown in
       let entries = subst (λ d. IsPermutation (map entry_row es) (source d)) same.0.now_is are.0 in
       let order = sorted_unique first_cmp first_cmp_total (map entry_row es) rows (rising es are.1) (IsPermutation-trans _ _ _ entries whole.0) whole.1 in
       let it = went p r rows es [] order dates goes (zero, none_bounded) in (it.1.0, it.1.1.within)
 
   pub sums_no : Walked GoesIn GoesBeyond numbers_walk old new p r false → IsSumOf p.names.items es None
   sums_no (rows, row, m, begins, goes, beyond) =
-      let known : new.now.schema ≡ vault_schema = ap (λ (d : Database). d.schema) same.0.now_is ∙ has in
-      let on = goes_on_to numbers_walk new vault_schema known _ _ numbers_walk_is.0 same.0.is_open (rows ++ row ∷ []) begins in
-      let whole = answers new new known ((rows ++ row ∷ []) ++ on.0) on.1 in
+      let known : new.now.schema ≡ schema_of n = ap (λ (d : Database). d.schema) same.0.now_is ∙ has in
+      let on = goes_on_to numbers_walk new (schema_of n) known _ _ (numbers_walk_is n).0 same.0.is_open (rows ++ row ∷ []) begins in
+      let whole = (answers n) new new known ((rows ++ row ∷ []) ++ on.0) on.1 in
       let order = sorted_unique first_cmp first_cmp_total (map entry_row es) ((rows ++ row ∷ []) ++ on.0) (rising es are.1) (IsPermutation-trans _ _ _ are.0 whole.0) whole.1 in
       let parts = split rows on.0 row es (sym (append_assoc rows (row ∷ []) on.0) ∙ order) in
       let front = parts.0 in let e = parts.1 in let back = parts.2 in

@@ -10,11 +10,12 @@ use Rattle.vault_core_model.specs.declared.records.History.{History}
 use Rattle.vault_core_model.specs.Sound.{Sound, IsInTime}
 use Rattle.vault_core_model.specs.Vault.{Vault}
 use Rattle.vault_core_laws.proofs.Soundness.{admitted_by}
+use Rattle.vault_audit_model.specs.declared.schema.Edition.{Edition}
 use Rattle.vault_audit_model.specs.declared.rows.DepartmentRow.{DepartmentRow}
 use Rattle.vault_audit_model.specs.Limits.{IsPlainName, IsDepartmentRow}
 use Rattle.vault_audit_model.specs.Relations.{department_with, IsPast, IsWithin, AreBuckets, AreEntries, TellSums}
 use Rattle.vault_audit_model.specs.Rows.{department_row, department_columns}
-use Rattle.vault_audit_model.specs.Spells.{AreSound}
+use Rattle.vault_audit_model.specs.Spells.{AreSoundAs}
 use Rattle.vault_audit_model.specs.Tables.{departments_tree}
 use Rattle.vault_audit_contents.proofs.SoundLemmas.{sound_entries}
 use Rattle.vault_audit_names.proofs.RowLemmas.{same_department}
@@ -88,11 +89,11 @@ each_within v [] sound = tt
 each_within v (d ∷ ds) sound = (sound.within d, each_within v ds sound)
 
 -- where a department lacks its sums, whatever the buckets and the entries are, no vault has these tables
-pub no_sums : (db : Database)
-    → ((bs : List Bucket) (hs : List History) (last : ℕ) → AreBuckets db bs → AreEntries db (map (λ (h : History). h.entry) hs) → AllByRecursion (IsPast last) (map (λ (h : History). h.entry) hs) → TellSums db bs hs false)
-    → (v : Vault) → ¬ AreSound db v
-no_sums db told v it =
+pub no_sums : (n : Edition) (db : Database)
+    → ((bs : List Bucket) (hs : List History) (last : ℕ) → AreBuckets n db bs → AreEntries db (map (λ (h : History). h.entry) hs) → AllByRecursion (IsPast last) (map (λ (h : History). h.entry) hs) → TellSums db bs hs false)
+    → (v : Vault) → ¬ AreSoundAs n db v
+no_sums n db told v it =
     let kept = it.spells.kept in
-    told v.buckets v.histories v.last (it.spells.buckets, it.spells.rules, kept.sound.ordered.buckets, kept.limits.buckets) (sound_entries db v it)
+    told v.buckets v.histories v.last (it.spells.buckets, it.spells.rules, kept.sound.ordered.buckets, kept.limits.buckets) (sound_entries n db v it)
     (past_of v.last v.histories (admitted_by 0 v.last v.histories kept.sound.order) kept.sound.in_time)
     v.departments (it.numbers, kept.limits.departments, each_within v v.departments kept.sound)

@@ -3,13 +3,14 @@ ghost use Rattle.std.specs.Prelude.{◌≡◌, List, IfOk, IfErr, MatchOption, O
 ghost use Rattle.sqlite.specs.State.{HasCleanDisk, IsUnchanged, Survives};
 ghost use Rattle.sqlite.specs.Held.{state};
 ghost use Rattle.vault_audit_model.specs.declared.rows.DepartmentRow.{DepartmentRow};
-ghost use Rattle.vault_audit_model.specs.Tables.{vault_schema};
+ghost use Rattle.vault_audit_model.specs.Tables.{schema_of};
 ghost use Rattle.vault_audit_sums.specs.Listed.{AreListed};
 ghost use Rattle.vault_audit_walk.specs.Health.{IsHealthy, IsMemory};
 
 use sqlite::{Alter, Connection, Error, Row};
 use std::alloc::Global;
 use vault_audit_model::rows::DepartmentRow;
+use vault_audit_model::schema::Edition;
 use vault_audit_rows::records::read_department;
 use vault_audit_tables::row_check::refused;
 use vault_audit_walk::walk::{Pass, walk};
@@ -42,8 +43,9 @@ impl Pass for ListPass {
 pub fn list_departments<S: Alter>(
     alloc: Global,
     conn: &mut Connection<S>,
+    edition: Edition,
 ) -> Result<Option<Vec<DepartmentRow>>, Error>
-    requires { HasCleanDisk (state S.Store conn.old) → (state S.Store conn.old).now.schema ≡ vault_schema }
+    requires { HasCleanDisk (state S.Store conn.old) → (state S.Store conn.old).now.schema ≡ schema_of edition }
     ensures told { HasCleanDisk (state S.Store conn.new) → IfOk result (λ listed. MatchOption listed ((ds : List DepartmentRow) → ¬ AreListed (state S.Store conn.new).now ds) (λ ds. AreListed (state S.Store conn.new).now ds.items)) }
     ensures same { HasCleanDisk (state S.Store conn.new) → OnOk result (IsUnchanged (state S.Store conn.old) (state S.Store conn.new)) }
     ensures err { IsHealthy (state S.Store conn.new) → IfErr result IsMemory }

@@ -4,13 +4,14 @@ ghost use Rattle.sqlite.specs.State.{HasCleanDisk, IsUnchanged, Survives};
 ghost use Rattle.sqlite.specs.Held.{state};
 ghost use Rattle.vault_core_model.specs.declared.records.Bucket.{Bucket};
 ghost use Rattle.vault_audit_model.specs.Relations.{AreBuckets};
-ghost use Rattle.vault_audit_model.specs.Tables.{vault_schema};
+ghost use Rattle.vault_audit_model.specs.Tables.{schema_of};
 ghost use Rattle.vault_audit_sums.specs.Owned.{AreOwnedBy};
 ghost use Rattle.vault_audit_walk.specs.Health.{IsHealthy, IsMemory};
 
 use sqlite::{Alter, Connection, Error, Row};
 use std::alloc::Global;
 use vault_audit_model::rows::BucketRow;
+use vault_audit_model::schema::Edition;
 use vault_audit_rows::records::read_bucket;
 use vault_audit_tables::row_check::refused;
 use vault_audit_walk::walk::{Pass, walk};
@@ -50,10 +51,11 @@ impl Pass for OwnedPass {
 pub fn buckets_of<S: Alter>(
     alloc: Global,
     conn: &mut Connection<S>,
+    edition: Edition,
     dept: DeptName,
 ) -> Result<Option<Vec<BucketName>>, Error>
-    requires { HasCleanDisk (state S.Store conn.old) → (state S.Store conn.old).now.schema ≡ vault_schema }
-    ensures told { HasCleanDisk (state S.Store conn.new) → IfOk result (λ found. (bs : List Bucket) → AreBuckets (state S.Store conn.new).now bs → IsSomeAnd found (λ names. AreOwnedBy bs dept names.items)) }
+    requires { HasCleanDisk (state S.Store conn.old) → (state S.Store conn.old).now.schema ≡ schema_of edition }
+    ensures told { HasCleanDisk (state S.Store conn.new) → IfOk result (λ found. (bs : List Bucket) → AreBuckets edition (state S.Store conn.new).now bs → IsSomeAnd found (λ names. AreOwnedBy bs dept names.items)) }
     ensures same { HasCleanDisk (state S.Store conn.new) → OnOk result (IsUnchanged (state S.Store conn.old) (state S.Store conn.new)) }
     ensures err { IsHealthy (state S.Store conn.new) → IfErr result IsMemory }
     ensures crash { Survives (state S.Store conn.old) (state S.Store conn.new) (λ _. ⊥) }

@@ -7,8 +7,8 @@ ghost use Rattle.vault_core_model.specs.declared.records.Bucket.{Bucket};
 ghost use Rattle.vault_core_model.specs.declared.records.History.{History};
 ghost use Rattle.vault_audit_model.specs.Relations.{AreBuckets, AreEntries, IsPast, TellSums};
 ghost use Rattle.vault_core_model.specs.Vault.{Vault};
-ghost use Rattle.vault_audit_model.specs.Spells.{AreSound};
-ghost use Rattle.vault_audit_model.specs.Tables.{vault_schema};
+ghost use Rattle.vault_audit_model.specs.Spells.{AreSoundAs};
+ghost use Rattle.vault_audit_model.specs.Tables.{schema_of};
 ghost use Rattle.vault_audit_sums.specs.Department.{TellEach};
 ghost use Rattle.vault_audit_walk.specs.Health.{IsHealthy, IsMemory};
 
@@ -17,23 +17,25 @@ use crate::listed::list_departments;
 use sqlite::{Alter, Connection, Error};
 use std::alloc::Global;
 use vault_audit_model::rows::DepartmentRow;
+use vault_audit_model::schema::Edition;
 
 /// Whether each of these departments has the sums over its versions.
 fn check_each<S: Alter>(
     alloc: Global,
     conn: &mut Connection<S>,
+    edition: Edition,
     departments: &[DepartmentRow],
 ) -> Result<bool, Error>
-    requires { HasCleanDisk (state S.Store conn.old) → ((state S.Store conn.old).now.schema ≡ vault_schema) × IsTrue (state S.Store conn.old).is_open }
+    requires { HasCleanDisk (state S.Store conn.old) → ((state S.Store conn.old).now.schema ≡ schema_of edition) × IsTrue (state S.Store conn.old).is_open }
     ensures told { HasCleanDisk (state S.Store conn.new) → IfOk result (λ hold. (bs : List Bucket) (hs : List History) (last : ℕ) →
-        AreBuckets (state S.Store conn.new).now bs → AreEntries (state S.Store conn.new).now (map (λ (h : History). h.entry) hs) →
+        AreBuckets edition (state S.Store conn.new).now bs → AreEntries (state S.Store conn.new).now (map (λ (h : History). h.entry) hs) →
         AllByRecursion (IsPast last) (map (λ (h : History). h.entry) hs) → TellEach bs hs departments.now hold) }
     ensures same { HasCleanDisk (state S.Store conn.new) → OnOk result (IsUnchanged (state S.Store conn.old) (state S.Store conn.new)) }
     ensures err { IsHealthy (state S.Store conn.new) → IfErr result IsMemory }
     ensures crash { Survives (state S.Store conn.old) (state S.Store conn.new) (λ _. ⊥) }
 {
     for department in departments {
-        if !check_department(alloc, conn, department)? {
+        if !check_department(alloc, conn, edition, department)? {
             return Ok(false);
         }
     }
@@ -43,18 +45,22 @@ fn check_each<S: Alter>(
 /// Whether the rows of `departments` are departments with the five sums over the versions of their
 /// buckets, removed ones included, each within what a department may admit. It is told of buckets and
 /// entries that other looks found in order.
-pub fn check_sums<S: Alter>(alloc: Global, conn: &mut Connection<S>) -> Result<bool, Error>
-    requires { HasCleanDisk (state S.Store conn.old) → (state S.Store conn.old).now.schema ≡ vault_schema }
+pub fn check_sums<S: Alter>(
+    alloc: Global,
+    conn: &mut Connection<S>,
+    edition: Edition,
+) -> Result<bool, Error>
+    requires { HasCleanDisk (state S.Store conn.old) → (state S.Store conn.old).now.schema ≡ schema_of edition }
     ensures told { HasCleanDisk (state S.Store conn.new) → IfOk result (λ hold. (bs : List Bucket) (hs : List History) (last : ℕ) →
-        AreBuckets (state S.Store conn.new).now bs → AreEntries (state S.Store conn.new).now (map (λ (h : History). h.entry) hs) →
+        AreBuckets edition (state S.Store conn.new).now bs → AreEntries (state S.Store conn.new).now (map (λ (h : History). h.entry) hs) →
         AllByRecursion (IsPast last) (map (λ (h : History). h.entry) hs) → TellSums (state S.Store conn.new).now bs hs hold) }
-    ensures damaged { HasCleanDisk (state S.Store conn.new) → IfOk result (λ hold. hold ≡ false → (v : Vault) → ¬ AreSound (state S.Store conn.new).now v) }
+    ensures damaged { HasCleanDisk (state S.Store conn.new) → IfOk result (λ hold. hold ≡ false → (v : Vault) → ¬ AreSoundAs edition (state S.Store conn.new).now v) }
     ensures same { HasCleanDisk (state S.Store conn.new) → OnOk result (IsUnchanged (state S.Store conn.old) (state S.Store conn.new)) }
     ensures err { IsHealthy (state S.Store conn.new) → IfErr result IsMemory }
     ensures crash { Survives (state S.Store conn.old) (state S.Store conn.new) (λ _. ⊥) }
 {
-    let Some(departments) = list_departments(alloc, conn)? else {
+    let Some(departments) = list_departments(alloc, conn, edition)? else {
         return Ok(false);
     };
-    check_each(alloc, conn, &departments)
+    check_each(alloc, conn, edition, &departments)
 }

@@ -7,11 +7,12 @@ ghost use Rattle.sqlite.specs.State.{HasCleanDisk, IsUnchanged, Survives};
 ghost use Rattle.sqlite.specs.Held.{state};
 ghost use Rattle.vault_core_model.specs.declared.records.Entry.{Entry};
 ghost use Rattle.vault_audit_model.specs.Relations.{AreEntries, IsPast};
-ghost use Rattle.vault_audit_model.specs.Tables.{vault_schema};
+ghost use Rattle.vault_audit_model.specs.Tables.{schema_of};
 ghost use Rattle.vault_audit_sums.specs.Versions.{counts, IsSumWith, IsSumOf};
 ghost use Rattle.vault_audit_walk.specs.Health.{IsHealthy, IsMemory};
 
 use sqlite::{Alter, Connection, Error, Row};
+use vault_audit_model::schema::Edition;
 use vault_audit_rows::records::read_entry;
 use vault_audit_tables::row_check::refused;
 use vault_audit_walk::walk::{Pass, walk};
@@ -83,9 +84,10 @@ impl Pass for SumPass {
 /// where they are above what a department may admit.
 pub fn sum_versions<S: Alter>(
     conn: &mut Connection<S>,
+    edition: Edition,
     names: Vec<BucketName>,
 ) -> Result<Option<Sums>, Error>
-    requires { HasCleanDisk (state S.Store conn.old) → (state S.Store conn.old).now.schema ≡ vault_schema }
+    requires { HasCleanDisk (state S.Store conn.old) → (state S.Store conn.old).now.schema ≡ schema_of edition }
     ensures told { HasCleanDisk (state S.Store conn.new) → IfOk result (λ found. (es : List Entry) (last : ℕ) → AreEntries (state S.Store conn.new).now es → AllByRecursion (IsPast last) es → IsSumOf names.items es found) }
     ensures same { HasCleanDisk (state S.Store conn.new) → OnOk result (IsUnchanged (state S.Store conn.old) (state S.Store conn.new)) }
     ensures err { IsHealthy (state S.Store conn.new) → IfErr result IsMemory }

@@ -18,8 +18,9 @@ use Rattle.vault_core_model.specs.declared.records.History.{History}
 use Rattle.vault_core_model.specs.declared.records.Removal.{Removal}
 use Rattle.vault_core_model.specs.declared.records.Setting.{Setting}
 use Rattle.vault_audit_model.specs.Limits.{IsBucketName, IsCaller, IsBucket, IsRule, AreRules, IsHistory, IsSetting, IsNote, IsDepartmentRow, IsBucketRow, IsRuleRow, IsContentRow, IsSettingRow, IsHeadRow}
-use Rattle.vault_audit_model.specs.Rows.{department_row, caller_row, bucket_row, rule_row, entry_row, content_row, setting_row, note_row, head_row, department_columns, caller_columns, bucket_columns, rule_columns, entry_columns, content_columns, setting_columns, note_columns, head_columns}
-use Rattle.vault_audit_model.specs.Spells.{AreSound, meta_of, bucket_of, rules_from, rules_if_given, rules_in, content_if_given, contents_in, settings_from, settings_in, department_in, head_in, heads_in}
+use Rattle.vault_audit_model.specs.declared.schema.Edition.{Edition}
+use Rattle.vault_audit_model.specs.Rows.{department_row, caller_row, bucket_row, rule_row, entry_row, content_row, setting_row, note_row, head_row, department_columns, caller_columns, bucket_columns, rule_columns_as, entry_columns, content_columns, setting_columns, note_columns, head_columns}
+use Rattle.vault_audit_model.specs.Spells.{AreSoundAs, meta_as, bucket_of, rules_from, rules_if_given, rules_in, content_if_given, contents_in, settings_from, settings_in, department_in, head_in, heads_in}
 use Rattle.vault_audit_model.specs.Tables.{departments_tree, callers_tree, buckets_tree, rules_tree, entries_tree, contents_tree, settings_tree, intake_tree, heads_tree}
 use Rattle.vault_audit_walk.specs.Records.{AreRecords}
 use Rattle.vault_audit_rows.proofs.PartLemmas.{few}
@@ -113,66 +114,66 @@ numbers_of next low last (h ∷ hs) ids order all = ((all.0.entry, (ids.0, order
 
 -- ---- tables
 
-module _ (db : Database) (v : Vault) where
+module _ (n : Edition) (db : Database) (v : Vault) where
   abbrev entries_are : List Entry
   entries_are = map (λ h. h.entry) v.histories
 
-  as_entries : AreSound db v → IsPermutation (map entry_row entries_are) (map entry_columns (db.trees entries_tree))
+  as_entries : AreSoundAs n db v → IsPermutation (map entry_row entries_are) (map entry_columns (db.trees entries_tree))
   as_entries it = subst (λ rows. IsPermutation rows (map entry_columns (db.trees entries_tree))) (sym (map-map entry_row (λ h. h.entry) v.histories)) it.spells.entries
 
-  wholes : AreSound db v → AllByRecursion (λ h. IsHistory h × IsWhole h) v.histories
+  wholes : AreSoundAs n db v → AllByRecursion (λ h. IsHistory h × IsWhole h) v.histories
   wholes it = all_both IsHistory IsWhole v.histories it.spells.kept.limits.histories it.spells.kept.sound.whole
 
-  pub no_meta : IsMetaOf db None → ¬ AreSound db v
-  no_meta none it = none (meta_of v) it.spells.meta it.spells.kept.limits.last
+  pub no_meta : IsMetaOf n db None → ¬ AreSoundAs n db v
+  no_meta none it = none (meta_as n v) it.spells.meta (it.spells.kept.limits.last, refl)
 
-  pub no_departments : AreRecords department_row IsDepartmentRow (map department_columns (db.trees departments_tree)) false → ¬ AreSound db v
+  pub no_departments : AreRecords department_row IsDepartmentRow (map department_columns (db.trees departments_tree)) false → ¬ AreSoundAs n db v
   no_departments none it =
       none (map (department_in v) v.departments) (subst (λ rows. IsPermutation rows (map department_columns (db.trees departments_tree))) (sym (map-map department_row (department_in v) v.departments)) it.numbers)
       (all_mapped IsDepartmentRow (department_in v) v.departments it.spells.kept.limits.departments)
 
-  pub no_callers : AreRecords caller_row IsCaller (map caller_columns (db.trees callers_tree)) false → ¬ AreSound db v
+  pub no_callers : AreRecords caller_row IsCaller (map caller_columns (db.trees callers_tree)) false → ¬ AreSoundAs n db v
   no_callers none it = none v.callers it.spells.callers it.spells.kept.limits.callers
 
-  pub no_buckets : AreRecords bucket_row IsBucketRow (map bucket_columns (db.trees buckets_tree)) false → ¬ AreSound db v
+  pub no_buckets : AreRecords bucket_row IsBucketRow (map bucket_columns (db.trees buckets_tree)) false → ¬ AreSoundAs n db v
   no_buckets none it =
       none (map bucket_of v.buckets) (subst (λ rows. IsPermutation rows (map bucket_columns (db.trees buckets_tree))) (sym (map-map bucket_row bucket_of v.buckets)) it.spells.buckets)
       (all_mapped IsBucketRow bucket_of v.buckets (all_as (λ (b : Bucket) (is : IsBucket b). record { name = is.name; config = is.config }) v.buckets it.spells.kept.limits.buckets))
 
-  pub no_rules : AreRecords rule_row IsRuleRow (map rule_columns (db.trees rules_tree)) false → ¬ AreSound db v
+  pub no_rules : AreRecords rule_row IsRuleRow (map (rule_columns_as n) (db.trees rules_tree)) false → ¬ AreSoundAs n db v
   no_rules none it =
       none (flat_map rules_in v.buckets) it.spells.rules
       (all_flat IsRuleRow rules_in v.buckets (all_as (λ (b : Bucket) (is : IsBucket b). given_rules b.name b.rules is.name is.rules) v.buckets it.spells.kept.limits.buckets))
 
-  pub no_entries : (last : ℕ) → AreRecords entry_row (IsEntryBy last) (map entry_columns (db.trees entries_tree)) false → v.last ≡ last → ¬ AreSound db v
+  pub no_entries : (last : ℕ) → AreRecords entry_row (IsEntryBy last) (map entry_columns (db.trees entries_tree)) false → v.last ≡ last → ¬ AreSoundAs n db v
   no_entries last none same it =
       let past = (by_last 0 v.last v.histories it.spells.kept.sound.order).1 in
       let all = all_both IsHistory (λ (h : History). (h.entry.admitted ≤ v.last) × IsInTime v.last h) v.histories it.spells.kept.limits.histories (all_both (λ (h : History). h.entry.admitted ≤ v.last) (IsInTime v.last) v.histories past it.spells.kept.sound.in_time) in
       let each : AllByRecursion (λ (h : History). IsEntryBy v.last h.entry) v.histories = all_as (λ (h : History) (is : IsHistory h × ((h.entry.admitted ≤ v.last) × IsInTime v.last h)). (is.0.entry, is.1)) v.histories all in
       none entries_are (as_entries it) (subst (λ l. AllByRecursion (IsEntryBy l) entries_are) same (all_mapped (IsEntryBy v.last) (λ h. h.entry) v.histories each))
 
-  pub no_contents : AreRecords content_row IsContentRow (map content_columns (db.trees contents_tree)) false → ¬ AreSound db v
+  pub no_contents : AreRecords content_row IsContentRow (map content_columns (db.trees contents_tree)) false → ¬ AreSoundAs n db v
   no_contents none it = none (flat_map contents_in v.histories) it.spells.contents (all_flat IsContentRow contents_in v.histories (all_as content_rows v.histories (wholes it)))
 
-  pub no_settings : AreRecords setting_row IsSettingRow (map setting_columns (db.trees settings_tree)) false → ¬ AreSound db v
+  pub no_settings : AreRecords setting_row IsSettingRow (map setting_columns (db.trees settings_tree)) false → ¬ AreSoundAs n db v
   no_settings none it = none (flat_map settings_in v.histories) it.spells.settings (all_flat IsSettingRow settings_in v.histories (all_as setting_rows v.histories (wholes it)))
 
-  pub no_intake : AreRecords note_row IsNote (map note_columns (db.trees intake_tree)) false → ¬ AreSound db v
+  pub no_intake : AreRecords note_row IsNote (map note_columns (db.trees intake_tree)) false → ¬ AreSoundAs n db v
   no_intake none it = none v.notes it.spells.intake it.spells.kept.limits.notes
 
-  pub no_heads : AreRecords head_row IsHeadRow (map head_columns (db.trees heads_tree)) false → ¬ AreSound db v
+  pub no_heads : AreRecords head_row IsHeadRow (map head_columns (db.trees heads_tree)) false → ¬ AreSoundAs n db v
   no_heads none it =
       let held = all_filtered IsHistory (is_current v) v.histories it.spells.kept.limits.histories in
       let each : AllByRecursion (λ (h : History). IsHeadRow (head_in v h)) (filter (is_current v) v.histories) = all_as (λ (h : History) (is : IsHistory h). record { bucket = is.entry.bucket; key = is.entry.key; newest = is.entry.id }) (filter (is_current v) v.histories) held in
       none (heads_in v) it.heads (all_mapped IsHeadRow (head_in v) (filter (is_current v) v.histories) each)
 
-  numbers_are : AreSound db v → AreNumbered 1 0 entries_are
+  numbers_are : AreSoundAs n db v → AreNumbered 1 0 entries_are
   numbers_are it = numbers_of 1 0 v.last v.histories it.spells.kept.sound.ids it.spells.kept.sound.order it.spells.kept.limits.histories
 
-  pub no_numbers : AreEntriesUpTo db None → ¬ AreSound db v
+  pub no_numbers : AreEntriesUpTo db None → ¬ AreSoundAs n db v
   no_numbers none it = none entries_are (as_entries it) (numbers_are it)
 
-  pub next_of : (next : ℕ) → AreEntriesUpTo db (Some next) → AreSound db v → next_id v ≡ next
+  pub next_of : (next : ℕ) → AreEntriesUpTo db (Some next) → AreSoundAs n db v → next_id v ≡ next
   next_of next (es, are, numbers, count) it =
       let a = length_permutation _ _ (IsPermutation-trans _ _ _ (as_entries it) (IsPermutation-sym _ _ are)) in
       let b : length (map entry_row es) ≡ length es = simp length-map in

@@ -3,3 +3,4 @@ pub mod EntryLemmas
 pub mod MetaLemmas
 pub mod NumberLemmas
 pub mod TextLemmas
+mod RulesLemmas

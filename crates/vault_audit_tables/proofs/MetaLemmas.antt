@@ -9,7 +9,8 @@ use Rattle.sqlite.specs.Effect.{Database}
 use Rattle.sqlite.specs.State.{State, Shown, IsUnchanged}
 use Rattle.vault_audit_model.specs.declared.rows.MetaRow.{MetaRow}
 use Rattle.vault_audit_tables.specs.declared.meta.MetaPass.{MetaPass}
-use Rattle.vault_audit_model.specs.Tables.{vault_schema}
+use Rattle.vault_audit_model.specs.declared.schema.Edition.{Edition}
+use Rattle.vault_audit_model.specs.Tables.{schema_of}
 use Rattle.vault_audit_model.specs.Rows.{meta_row, meta_columns}
 use Rattle.vault_audit_model.proofs.SameRows.{same_meta}
 use Rattle.vault_audit_tables.specs.Meta.{IsFirstMeta, with_meta, IsMetaOf}
@@ -22,43 +23,43 @@ use Rattle.vault_audit_tables.proofs.TextLemmas.{meta_walk, meta_walk_is, meta_w
 abbrev source : Database → List Row
 source db = map meta_columns (db.trees 0)
 
-answers : (a b : State) → a.now.schema ≡ vault_schema → (rows : List Row) → Shown meta_walk [] a b rows → IsPermutation (source a.now) rows × IsSorted first_cmp rows
-answers a b schema rows shown = walked meta_walk a b vault_schema schema meta_walk_plain meta_walk_is.1 0 0 (col 1 2 ∷ col 1 3 ∷ col 1 4 ∷ []) _ meta_walk_is.0 refl rows shown
+answers : (n : Edition) (a b : State) → a.now.schema ≡ schema_of n → (rows : List Row) → Shown meta_walk [] a b rows → IsPermutation (source a.now) rows × IsSorted first_cmp rows
+answers n a b schema rows shown = walked meta_walk a b (schema_of n) schema (meta_walk_plain n) (meta_walk_is n).1 0 0 (col 1 2 ∷ col 1 3 ∷ col 1 4 ∷ []) _ (meta_walk_is n).0 refl rows shown
 
-abbrev start : MetaPass
-start = record { found = None }
+abbrev start : Edition → MetaPass
+start n = record { edition = n; found = None }
 
-rise : (xs : List MetaRow) → AllFit meta_row IsFirstMeta with_meta start xs → IsAscending (λ a b. first_cmp a b ≡ Less) (map meta_row xs)
-rise [] fit = tt
-rise (x ∷ []) fit = (tt, tt)
-rise (x ∷ y ∷ xs) fit = absurd (let never = fit.1.0.0 in cc)
+rise : (n : Edition) (xs : List MetaRow) → AllFit meta_row IsFirstMeta with_meta (start n) xs → IsAscending (λ a b. first_cmp a b ≡ Less) (map meta_row xs)
+rise n [] fit = tt
+rise n (x ∷ []) fit = (tt, tt)
+rise n (x ∷ y ∷ xs) fit = absurd (let never = fit.1.0.0 in cc)
 
-module _ (old new : State) (has : old.now.schema ≡ vault_schema) (same : IsUnchanged old new) (r : MetaPass) where
-  pub meta_yes : Walked (Takes meta_row IsFirstMeta with_meta) (Refuses meta_row IsFirstMeta with_meta) meta_walk old new start r true → (x : MetaRow) → r.found ≡ Some x → IsMetaOf new.now (Some x)
-  meta_yes h = one (walk_yes meta_row IsFirstMeta with_meta same_meta vault_schema meta_walk _ _ meta_walk_is.0 source answers old new has same start r h)
+module _ (n : Edition) (old new : State) (has : old.now.schema ≡ schema_of n) (same : IsUnchanged old new) (r : MetaPass) where
+  pub meta_yes : Walked (Takes meta_row IsFirstMeta with_meta) (Refuses meta_row IsFirstMeta with_meta) meta_walk old new (start n) r true → (x : MetaRow) → r.found ≡ Some x → IsMetaOf n new.now (Some x)
+  meta_yes h = one (walk_yes meta_row IsFirstMeta with_meta same_meta (schema_of n) meta_walk _ _ (meta_walk_is n).0 source (answers n) old new has same (start n) r h)
     where
-      one : (xs : List MetaRow) × IsPermutation (map meta_row xs) (source new.now) × AllFit meta_row IsFirstMeta with_meta start xs × (r ≡ after meta_row IsFirstMeta with_meta start xs) → (x : MetaRow) → r.found ≡ Some x → IsMetaOf new.now (Some x)
+      one : (xs : List MetaRow) × IsPermutation (map meta_row xs) (source new.now) × AllFit meta_row IsFirstMeta with_meta (start n) xs × (r ≡ after meta_row IsFirstMeta with_meta (start n) xs) → (x : MetaRow) → r.found ≡ Some x → IsMetaOf n new.now (Some x)
       one ([], are, fit, is) x found = absurd (let e = ap (λ (p : MetaPass). p.found) is in cc)
       one (y ∷ [], are, fit, is) x found =
           let same : y ≡ x = (let e = ap (λ (p : MetaPass). p.found) is in cc) in
-          subst (λ z. IsMetaOf new.now (Some z)) same (are, fit.0.1)
+          subst (λ z. IsMetaOf n new.now (Some z)) same (are, fit.0.1)
       one (y ∷ z ∷ more, are, fit, is) x found = absurd (let never = fit.1.0.0 in cc)
 
   -- no row at all
-  pub meta_none : Walked (Takes meta_row IsFirstMeta with_meta) (Refuses meta_row IsFirstMeta with_meta) meta_walk old new start r true → r.found ≡ None → IsMetaOf new.now None
-  meta_none h = one (walk_yes meta_row IsFirstMeta with_meta same_meta vault_schema meta_walk _ _ meta_walk_is.0 source answers old new has same start r h)
+  pub meta_none : Walked (Takes meta_row IsFirstMeta with_meta) (Refuses meta_row IsFirstMeta with_meta) meta_walk old new (start n) r true → r.found ≡ None → IsMetaOf n new.now None
+  meta_none h = one (walk_yes meta_row IsFirstMeta with_meta same_meta (schema_of n) meta_walk _ _ (meta_walk_is n).0 source (answers n) old new has same (start n) r h)
     where
-      one : (xs : List MetaRow) × IsPermutation (map meta_row xs) (source new.now) × AllFit meta_row IsFirstMeta with_meta start xs × (r ≡ after meta_row IsFirstMeta with_meta start xs) → r.found ≡ None → IsMetaOf new.now None
+      one : (xs : List MetaRow) × IsPermutation (map meta_row xs) (source new.now) × AllFit meta_row IsFirstMeta with_meta (start n) xs × (r ≡ after meta_row IsFirstMeta with_meta (start n) xs) → r.found ≡ None → IsMetaOf n new.now None
       one ([], are, fit, is) none x one_row head = absurd (let a = length_permutation _ _ are in let b = length_permutation _ _ one_row in omega arith)
       one (y ∷ [], are, fit, is) none x one_row head = absurd (let e = ap (λ (p : MetaPass). p.found) is in cc)
       one (y ∷ z ∷ more, are, fit, is) none x one_row head = absurd (let never = fit.1.0.0 in cc)
 
-  pub meta_no : Walked (Takes meta_row IsFirstMeta with_meta) (Refuses meta_row IsFirstMeta with_meta) meta_walk old new start r false → IsMetaOf new.now None
-  meta_no h x are head = walk_no meta_row IsFirstMeta with_meta same_meta vault_schema meta_walk _ _ meta_walk_is.0 source answers old new has same start r rise h (x ∷ []) are ((refl, head), tt)
+  pub meta_no : Walked (Takes meta_row IsFirstMeta with_meta) (Refuses meta_row IsFirstMeta with_meta) meta_walk old new (start n) r false → IsMetaOf n new.now None
+  meta_no h x are head = walk_no meta_row IsFirstMeta with_meta same_meta (schema_of n) meta_walk _ _ (meta_walk_is n).0 source (answers n) old new has same (start n) r (rise n) h (x ∷ []) are ((refl, head), tt)
 
-  pub meta_all : Walked (Takes meta_row IsFirstMeta with_meta) (Refuses meta_row IsFirstMeta with_meta) meta_walk old new start r true → IsMetaOf new.now r.found
+  pub meta_all : Walked (Takes meta_row IsFirstMeta with_meta) (Refuses meta_row IsFirstMeta with_meta) meta_walk old new (start n) r true → IsMetaOf n new.now r.found
   meta_all h = of r.found refl
     where
-      of : (o : Option MetaRow) → r.found ≡ o → IsMetaOf new.now o
+      of : (o : Option MetaRow) → r.found ≡ o → IsMetaOf n new.now o
       of (Some x) found = meta_yes h x found
       of None found = meta_none h found

@@ -10,7 +10,8 @@ use Rattle.sqlite.specs.State.{State, Shown, IsUnchanged}
 use Rattle.vault_core_model.specs.declared.records.Entry.{Entry}
 use Rattle.vault_audit_model.proofs.SameRows.{same_entry}
 use Rattle.vault_audit_model.specs.Rows.{entry_row, entry_columns}
-use Rattle.vault_audit_model.specs.Tables.{vault_schema, entries_tree}
+use Rattle.vault_audit_model.specs.declared.schema.Edition.{Edition}
+use Rattle.vault_audit_model.specs.Tables.{schema_of, entries_tree}
 use Rattle.vault_audit_walk.specs.Pass.{Takes, Refuses, AllFit, after}
 use Rattle.vault_audit_walk.specs.Walk.{Walked}
 use Rattle.vault_audit_walk.proofs.ScanLemmas.{walked, first_cmp}
@@ -54,9 +55,9 @@ rise p (e ∷ es) fit = (above (with_entry p e) e es (omega (arith, fit.0.1.0)) 
 abbrev pub source : Database → List Row
 source db = map entry_columns (db.trees entries_tree)
 
-pub answers : (a b : State) → a.now.schema ≡ vault_schema → (rows : List Row) → Shown numbers_walk [] a b rows → IsPermutation (source a.now) rows × IsSorted first_cmp rows
-answers a b schema rows shown =
-    walked numbers_walk a b vault_schema schema numbers_walk_plain numbers_walk_is.1 9 0 (col 1 2 ∷ col 1 3 ∷ col 1 4 ∷ col 1 5 ∷ col 1 6 ∷ col 1 7 ∷ col 1 8 ∷ col 1 9 ∷ col 1 10 ∷ col 1 11 ∷ col 1 12 ∷ []) _ numbers_walk_is.0 refl rows shown
+pub answers : (n : Edition) (a b : State) → a.now.schema ≡ schema_of n → (rows : List Row) → Shown numbers_walk [] a b rows → IsPermutation (source a.now) rows × IsSorted first_cmp rows
+answers n a b schema rows shown =
+    walked numbers_walk a b (schema_of n) schema (numbers_walk_plain n) (numbers_walk_is n).1 9 0 (col 1 2 ∷ col 1 3 ∷ col 1 4 ∷ col 1 5 ∷ col 1 6 ∷ col 1 7 ∷ col 1 8 ∷ col 1 9 ∷ col 1 10 ∷ col 1 11 ∷ col 1 12 ∷ []) _ (numbers_walk_is n).0 refl rows shown
 
 abbrev start : NumberPass
 start = record { next = 1; low = 0 }
@@ -65,13 +66,13 @@ start = record { next = 1; low = 0 }
 pub rising : (es : List Entry) → AreNumbered 1 0 es → IsAscending (λ a b. first_cmp a b ≡ Less) (map entry_row es)
 rising es are = rise start es (fitting start es are)
 
-module _ (old new : State) (has : old.now.schema ≡ vault_schema) (same : IsUnchanged old new) (r : NumberPass) where
+module _ (n : Edition) (old new : State) (has : old.now.schema ≡ schema_of n) (same : IsUnchanged old new) (r : NumberPass) where
   pub numbers_yes : Walked (Takes entry_row ComesNext with_entry) (Refuses entry_row ComesNext with_entry) numbers_walk old new start r true → AreEntriesUpTo new.now (Some r.next)
   numbers_yes h =
-      let it = walk_yes entry_row ComesNext with_entry same_entry vault_schema numbers_walk _ _ numbers_walk_is.0 source answers old new has same start r h in
+      let it = walk_yes entry_row ComesNext with_entry same_entry (schema_of n) numbers_walk _ _ (numbers_walk_is n).0 source (answers n) old new has same start r h in
       let next : r.next ≡ (end_of start it.0).next = ap (λ (p : NumberPass). p.next) it.3 in
       let count = counted start it.0 in
       (it.0, it.1, numbered start it.0 it.2, omega (arith, next, count))
 
   pub numbers_no : Walked (Takes entry_row ComesNext with_entry) (Refuses entry_row ComesNext with_entry) numbers_walk old new start r false → AreEntriesUpTo new.now None
-  numbers_no h es are numbers = walk_no entry_row ComesNext with_entry same_entry vault_schema numbers_walk _ _ numbers_walk_is.0 source answers old new has same start r (rise start) h es are (fitting start es numbers)
+  numbers_no h es are numbers = walk_no entry_row ComesNext with_entry same_entry (schema_of n) numbers_walk _ _ (numbers_walk_is n).0 source (answers n) old new has same start r (rise start) h es are (fitting start es numbers)

@@ -3,14 +3,15 @@ ghost use Rattle.std.specs.Prelude.{◌≡◌, ◌↔◌, None, IsTrue, IfOk, If
 ghost use Rattle.sqlite.specs.State.{HasCleanDisk, IsUnchanged, Survives};
 ghost use Rattle.sqlite.specs.Held.{state};
 ghost use Rattle.vault_core_model.specs.Vault.{Vault, next_id};
-ghost use Rattle.vault_audit_model.specs.Spells.{AreSound};
-ghost use Rattle.vault_audit_model.specs.Tables.{vault_schema};
+ghost use Rattle.vault_audit_model.specs.Spells.{AreSoundAs};
+ghost use Rattle.vault_audit_model.specs.Tables.{schema_of};
 ghost use Rattle.vault_audit_model.specs.Relations.{GoesOn};
 ghost use Rattle.vault_audit_tables.specs.Numbers.{AreEntriesUpTo};
 ghost use Rattle.vault_audit_walk.specs.Health.{IsHealthy, IsMemory};
 
 use crate::row_check::refused;
 use sqlite::{Alter, Connection, Error, Row};
+use vault_audit_model::schema::Edition;
 use vault_audit_rows::records::read_entry;
 use vault_audit_walk::walk::{Pass, walk};
 use vault_core_model::records::Entry;
@@ -61,11 +62,14 @@ impl Pass for NumberPass {
 
 /// The id that comes after all entries, or none where their ids aren't 1, 2, 3 .. or an admission
 /// goes back.
-pub fn check_numbers<S: Alter>(conn: &mut Connection<S>) -> Result<Option<u64>, Error>
-    requires { HasCleanDisk (state S.Store conn.old) → (state S.Store conn.old).now.schema ≡ vault_schema }
+pub fn check_numbers<S: Alter>(
+    conn: &mut Connection<S>,
+    edition: Edition,
+) -> Result<Option<u64>, Error>
+    requires { HasCleanDisk (state S.Store conn.old) → (state S.Store conn.old).now.schema ≡ schema_of edition }
     ensures told { HasCleanDisk (state S.Store conn.new) → IfOk result (AreEntriesUpTo (state S.Store conn.new).now) }
-    ensures damaged { HasCleanDisk (state S.Store conn.new) → IfOk result (λ found. found ≡ None → (v : Vault) → ¬ AreSound (state S.Store conn.new).now v) }
-    ensures next { HasCleanDisk (state S.Store conn.new) → IfOk result (λ found. IfSome found (λ next. (v : Vault) → AreSound (state S.Store conn.new).now v → next_id v ≡ next)) }
+    ensures damaged { HasCleanDisk (state S.Store conn.new) → IfOk result (λ found. found ≡ None → (v : Vault) → ¬ AreSoundAs edition (state S.Store conn.new).now v) }
+    ensures next { HasCleanDisk (state S.Store conn.new) → IfOk result (λ found. IfSome found (λ next. (v : Vault) → AreSoundAs edition (state S.Store conn.new).now v → next_id v ≡ next)) }
     ensures same { HasCleanDisk (state S.Store conn.new) → OnOk result (IsUnchanged (state S.Store conn.old) (state S.Store conn.new)) }
     ensures err { IsHealthy (state S.Store conn.new) → IfErr result IsMemory }
     ensures crash { Survives (state S.Store conn.old) (state S.Store conn.new) (λ _. ⊥) }

@@ -8,7 +8,7 @@ use Rattle.vault_core_rows.specs.Script.{by, ann, start, put, set_rules, run}
 
 abbrev from_noon-script : List Timed
 from_noon-script =
-    by ann 1388534400 (set_rules ((record { id = (codes "r1"); prefix = []; enabled = true; days = Some 3; lone_markers = false; noncurrent = None }) ∷ [])) ∷
+    by ann 1388534400 (set_rules ((record { id = (codes "r1"); prefix = []; enabled = true; days = Some 3; lone_markers = false; noncurrent = None; larger = None; smaller = None }) ∷ [])) ∷
     by ann 1389781800 (put (codes "a") (codes "x") None None) ∷
     by ann 1390089599 (run) ∷
     by ann 1390089600 (run) ∷ []
@@ -22,7 +22,7 @@ from_noon = refl
 
 abbrev from_midnight-script : List Timed
 from_midnight-script =
-    by ann 1388534400 (set_rules ((record { id = (codes "r1"); prefix = []; enabled = true; days = Some 3; lone_markers = false; noncurrent = None }) ∷ [])) ∷
+    by ann 1388534400 (set_rules ((record { id = (codes "r1"); prefix = []; enabled = true; days = Some 3; lone_markers = false; noncurrent = None; larger = None; smaller = None }) ∷ [])) ∷
     by ann 1389744000 (put (codes "a") (codes "x") None None) ∷
     by ann 1390003200 (run) ∷ []
 

@@ -9,7 +9,7 @@ use Rattle.vault_core_model.specs.Plan.{plan}
 use Rattle.vault_core_rows.specs.Script.{by, ann, docs, start, put, set_rules}
 
 abbrev rules : List Rule
-rules = (record { id = (codes "r1"); prefix = []; enabled = false; days = Some 1; lone_markers = false; noncurrent = None }) ∷ (record { id = (codes "r2"); prefix = codes "k"; enabled = true; days = Some 2; lone_markers = false; noncurrent = None }) ∷ (record { id = (codes "r3"); prefix = []; enabled = true; days = Some 1; lone_markers = false; noncurrent = None }) ∷ []
+rules = (record { id = (codes "r1"); prefix = []; enabled = false; days = Some 1; lone_markers = false; noncurrent = None; larger = None; smaller = None }) ∷ (record { id = (codes "r2"); prefix = codes "k"; enabled = true; days = Some 2; lone_markers = false; noncurrent = None; larger = None; smaller = None }) ∷ (record { id = (codes "r3"); prefix = []; enabled = true; days = Some 1; lone_markers = false; noncurrent = None; larger = None; smaller = None }) ∷ []
 
 third : key_plan rules (codes "k") ((record { id = 1; marker = false; size = 5; admitted = 1709280000; lock = record { retention = None; hold = false } }) ∷ []) 1709424000 ≡ step.Mark 2 ∷ []
 third = refl

@@ -10,7 +10,7 @@ use Rattle.vault_core_rows.specs.Script.{by, ann, docs, start, put, set_rules, r
 
 abbrev in_order-script : List Timed
 in_order-script =
-    by ann 1388534400 (set_rules ((record { id = (codes "r1"); prefix = []; enabled = true; days = Some 1; lone_markers = false; noncurrent = None }) ∷ [])) ∷
+    by ann 1388534400 (set_rules ((record { id = (codes "r1"); prefix = []; enabled = true; days = Some 1; lone_markers = false; noncurrent = None; larger = None; smaller = None }) ∷ [])) ∷
     by ann 1709280000 (put (codes "k0002") (codes "x") None None) ∷
     by ann 1709280000 (put (codes "k0000") (codes "x") None None) ∷
     by ann 1709280000 (put (codes "k0001") (codes "x") None None) ∷

@@ -15,4 +15,5 @@ mod Machine
 mod MarkAndRemoval
 mod MarkersOverLockedVersions
 mod NewerNoncurrentVersions
+mod SizeBounds
 mod StoppedRuns

@@ -9,7 +9,7 @@ use Rattle.vault_core_rows.specs.Script.{by, ann, start, put, delete, delete_ver
 
 abbrev at_once-script : List Timed
 at_once-script =
-    by ann 1388534400 (set_rules ((record { id = (codes "r1"); prefix = []; enabled = true; days = None; lone_markers = true; noncurrent = None }) ∷ [])) ∷
+    by ann 1388534400 (set_rules ((record { id = (codes "r1"); prefix = []; enabled = true; days = None; lone_markers = true; noncurrent = None; larger = None; smaller = None }) ∷ [])) ∷
     by ann 1709280000 (put (codes "k") [] None None) ∷
     by ann 1709280001 (delete (codes "k")) ∷
     by ann 1709280002 (delete_version (codes "k") 1 false) ∷
@@ -25,7 +25,7 @@ at_once = refl
 
 abbrev after_days-script : List Timed
 after_days-script =
-    by ann 1388534400 (set_rules ((record { id = (codes "r1"); prefix = []; enabled = true; days = Some 1; lone_markers = false; noncurrent = None }) ∷ [])) ∷
+    by ann 1388534400 (set_rules ((record { id = (codes "r1"); prefix = []; enabled = true; days = Some 1; lone_markers = false; noncurrent = None; larger = None; smaller = None }) ∷ [])) ∷
     by ann 1709280000 (delete (codes "k")) ∷
     by ann 1709423999 (run) ∷
     by ann 1709424000 (run) ∷ []
@@ -39,7 +39,7 @@ after_days = refl
 
 abbrev not_above_a_hold-script : List Timed
 not_above_a_hold-script =
-    by ann 1388534400 (set_rules ((record { id = (codes "r1"); prefix = []; enabled = true; days = None; lone_markers = true; noncurrent = Some (record { days = 1; newer = None }) }) ∷ [])) ∷
+    by ann 1388534400 (set_rules ((record { id = (codes "r1"); prefix = []; enabled = true; days = None; lone_markers = true; noncurrent = Some (record { days = 1; newer = None }); larger = None; smaller = None }) ∷ [])) ∷
     by ann 1709280000 (put (codes "k") (codes "x") None (Some true)) ∷
     by ann 1709280001 (delete (codes "k")) ∷
     by ann 1740816001 (run) ∷ []

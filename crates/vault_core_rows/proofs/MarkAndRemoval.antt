@@ -10,7 +10,7 @@ use Rattle.vault_core_rows.specs.Script.{by, ann, docs, start, put, set_rules, r
 
 abbrev in_one_run-script : List Timed
 in_one_run-script =
-    by ann 1388534400 (set_rules ((record { id = (codes "r1"); prefix = []; enabled = true; days = Some 1; lone_markers = false; noncurrent = Some (record { days = 1; newer = Some 1 }) }) ∷ [])) ∷
+    by ann 1388534400 (set_rules ((record { id = (codes "r1"); prefix = []; enabled = true; days = Some 1; lone_markers = false; noncurrent = Some (record { days = 1; newer = Some 1 }); larger = None; smaller = None }) ∷ [])) ∷
     by ann 1709280000 (put (codes "k") (codes "x") None None) ∷
     by ann 1709283600 (put (codes "k") (codes "y") None None) ∷
     by ann 1709424000 (run) ∷

@@ -12,7 +12,7 @@ use Rattle.vault_core_rows.specs.Script.{by, ann, docs, start, put, set_rules, r
 
 abbrev ranks-script : List Timed
 ranks-script =
-    by ann 1388534400 (set_rules ((record { id = (codes "r1"); prefix = []; enabled = true; days = None; lone_markers = false; noncurrent = Some (record { days = 1; newer = Some 2 }) }) ∷ [])) ∷
+    by ann 1388534400 (set_rules ((record { id = (codes "r1"); prefix = []; enabled = true; days = None; lone_markers = false; noncurrent = Some (record { days = 1; newer = Some 2 }); larger = None; smaller = None }) ∷ [])) ∷
     by ann 1709280000 (put (codes "k") (codes "x") None (Some true)) ∷
     by ann 1709283600 (put (codes "k") (codes "x") None None) ∷
     by ann 1709287200 (put (codes "k") (codes "x") None None) ∷

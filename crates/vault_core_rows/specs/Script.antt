@@ -98,7 +98,7 @@ intake line key content retention hold = command.Intake (record { batch = codes 
 
 -- an enabled rule for every key, with no action
 abbrev pub rule : List ℕ → Rule
-rule id = record { id = id; prefix = []; enabled = true; days = None; lone_markers = false; noncurrent = None }
+rule id = record { id = id; prefix = []; enabled = true; days = None; lone_markers = false; noncurrent = None; larger = None; smaller = None }
 
 abbrev pub ann_rights : Rights
 ann_rights = record { admin = false; config = true; put = true; retain = true; hold = true; get = true; list = true; delete = true; delete_version = true; run = true; report = true; bypass = false }

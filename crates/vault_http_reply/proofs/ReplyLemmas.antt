@@ -19,7 +19,7 @@ use Rattle.vault_lock.specs.declared.retention.Period.TheVariants.{Days, Years}
 use Rattle.vault_lock.specs.declared.retention.Retention.{Retention}
 use Rattle.vault_rules.specs.declared.rule.Noncurrent.{Noncurrent}
 use Rattle.vault_rules.specs.declared.rule.Rule.{Rule}
-use Rattle.vault_http_reply.specs.ReplyLine.{reply_text, reply_value, answer_value, refusal_value, retention_value, digest_value, version_value, head_value, period_value, default_value, if_there, expiration_of, noncurrent_value, rule_value, listed_value, whole}
+use Rattle.vault_http_reply.specs.ReplyLine.{reply_text, reply_value, answer_value, refusal_value, retention_value, digest_value, version_value, head_value, period_value, default_value, if_there, expiration_of, noncurrent_value, bounded_members, rule_value, listed_value, whole}
 
 retention-whole : (r : Option Retention) → has_float (retention_value r) ≡ false
 retention-whole None = refl
@@ -56,8 +56,11 @@ noncurrent-whole : (name : List ℕ) (n : Option Noncurrent) (others : Members) 
 noncurrent-whole name None others rest = rest
 noncurrent-whole name (Some n) others rest = rw (newer-whole _ n.newer _ refl) rest
 
+bounds-whole : (r : Rule) → members_have_float (bounded_members r) ≡ false
+bounds-whole r = newer-whole _ r.larger _ (newer-whole _ r.smaller _ refl)
+
 rule-whole : (r : Rule) → has_float (rule_value r) ≡ false
-rule-whole r = expiration-whole _ r.days r.lone_markers _ (noncurrent-whole _ r.noncurrent _ refl)
+rule-whole r = expiration-whole _ r.days r.lone_markers _ (noncurrent-whole _ r.noncurrent _ (bounds-whole r))
 
 rules-whole : (rules : List Rule) → items_have_float (items_of (map rule_value rules)) ≡ false
 rules-whole [] = refl

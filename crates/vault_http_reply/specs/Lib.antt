@@ -1,1 +1,2 @@
 pub mod ReplyLine
+pub mod Putting

@@ -95,16 +95,23 @@ expiration_of None false = None
 abbrev pub noncurrent_value : Noncurrent → Data
 noncurrent_value n = object (if_there (codes "NewerNoncurrentVersions") (option_map whole n.newer) (member (codes "NoncurrentDays") (whole n.days) no_members))
 
--- a rule with this expiration and this removal of noncurrent versions
-abbrev pub rule_members : Option Data → Option Data → Rule → Data
-rule_members expiration noncurrent r =
-    object (if_there (codes "Expiration") expiration
+-- the members of a rule, by their names; what is absent is left out
+abbrev pub named_members : Rule → Members
+named_members r = member (codes "Prefix") (text r.prefix) (member (codes "Status") (text (status_name r.enabled)) no_members)
+
+abbrev pub bounded_members : Rule → Members
+bounded_members r =
+    if_there (codes "ObjectSizeGreaterThan") (option_map whole r.larger)
+    (if_there (codes "ObjectSizeLessThan") (option_map whole r.smaller) (named_members r))
+
+abbrev pub rule_members : Rule → Members
+rule_members r =
+    if_there (codes "Expiration") (expiration_of r.days r.lone_markers)
     (member (codes "ID") (text r.id)
-    (if_there (codes "NoncurrentVersionExpiration") noncurrent
-    (member (codes "Prefix") (text r.prefix) (member (codes "Status") (text (status_name r.enabled)) no_members)))))
+    (if_there (codes "NoncurrentVersionExpiration") (option_map noncurrent_value r.noncurrent) (bounded_members r)))
 
 abbrev pub rule_value : Rule → Data
-rule_value r = rule_members (expiration_of r.days r.lone_markers) (option_map noncurrent_value r.noncurrent) r
+rule_value r = object (rule_members r)
 
 abbrev pub rules_value : List Rule → Data
 rules_value rules = object (member (codes "rules") (array (items_of (map rule_value rules))) no_members)

@@ -1,9 +1,10 @@
 //! Lifecycle rules as S3's JSON has them (API Reference, "GetBucketLifecycleConfiguration").
-ghost use Rattle.std.specs.Prelude.{◌≡◌, IfOk, None, Some, false, map, option_map, true};
-ghost use Rattle.serde_json.specs.View.{view};
+ghost use Rattle.std.specs.Prelude.{◌≡◌, IfOk, OnOk, None, Some, false, map, option_map, true};
+ghost use Rattle.serde_json.specs.View.{view, members_view};
+ghost use Rattle.vault_http_reply.specs.Putting.{put_if};
 ghost use Rattle.vault_http_reply.specs.ReplyLine as spec;
 
-use serde_json::{Value, json};
+use serde_json::{Map, Value, json, put};
 use std::alloc::{AllocError, Global};
 use vault_http_values::words::status_name;
 use vault_rules::rule::{Noncurrent, Rule};
@@ -28,76 +29,79 @@ fn rule_values(alloc: Global, rules: &[Rule]) -> Result<Vec<Value>, AllocError>
 }
 
 /// What is absent is left out; a prefix is printed also where it is empty.
-///
-/// The values are handed on to a function for each object, so that each has few ways out on which to drop them.
 fn rule_value(alloc: Global, rule: &Rule) -> Result<Value, AllocError>
     ensures { IfOk result (λ value. view value ≡ spec.rule_value rule.now) }
 {
-    match expiration_of(alloc, rule.days, rule.lone_markers)? {
-        None => lasting_value(alloc, rule),
-        Some(expiration) => expiring_value(alloc, expiration, rule),
-    }
+    Ok(Value::Object(rule_members(alloc, rule)?))
 }
 
-/// A rule without an expiration.
-fn lasting_value(alloc: Global, rule: &Rule) -> Result<Value, AllocError>
-    ensures { IfOk result (λ value. view value ≡ spec.rule_members None (option_map spec.noncurrent_value rule.now.noncurrent) rule.now) }
-{
-    match noncurrent_of(alloc, rule.noncurrent)? {
-        None => plain_value(alloc, rule),
-        Some(noncurrent) => removing_value(alloc, noncurrent, rule),
-    }
-}
-
-/// A rule with this expiration.
-fn expiring_value(alloc: Global, expiration: Value, rule: &Rule) -> Result<Value, AllocError>
-    ensures { IfOk result (λ value. view value ≡ spec.rule_members (Some (view expiration)) (option_map spec.noncurrent_value rule.now.noncurrent) rule.now) }
-{
-    match noncurrent_of(alloc, rule.noncurrent)? {
-        None => expiring_alone_value(alloc, expiration, rule),
-        Some(noncurrent) => whole_value(alloc, expiration, noncurrent, rule),
-    }
-}
-
-fn plain_value(alloc: Global, rule: &Rule) -> Result<Value, AllocError>
-    ensures { IfOk result (λ value. view value ≡ spec.rule_members None None rule.now) }
-{
-    let id = rule.id.as_str();
-    let prefix = rule.prefix.as_str();
-    let status = status_name(rule.enabled);
-    json!(in alloc; {"ID": id, "Prefix": prefix, "Status": status})
-}
-
-fn removing_value(alloc: Global, noncurrent: Value, rule: &Rule) -> Result<Value, AllocError>
-    ensures { IfOk result (λ value. view value ≡ spec.rule_members None (Some (view noncurrent)) rule.now) }
-{
-    let id = rule.id.as_str();
-    let prefix = rule.prefix.as_str();
-    let status = status_name(rule.enabled);
-    json!(in alloc; {"NoncurrentVersionExpiration": noncurrent, "ID": id, "Prefix": prefix, "Status": status})
-}
-
-fn expiring_alone_value(alloc: Global, expiration: Value, rule: &Rule) -> Result<Value, AllocError>
-    ensures { IfOk result (λ value. view value ≡ spec.rule_members (Some (view expiration)) None rule.now) }
-{
-    let id = rule.id.as_str();
-    let prefix = rule.prefix.as_str();
-    let status = status_name(rule.enabled);
-    json!(in alloc; {"Expiration": expiration, "ID": id, "Prefix": prefix, "Status": status})
-}
-
-fn whole_value(
+/// Puts in a member, where there is a value for it.
+fn put_if(
+    members: &mut Map<String, Value>,
     alloc: Global,
-    expiration: Value,
-    noncurrent: Value,
-    rule: &Rule,
-) -> Result<Value, AllocError>
-    ensures { IfOk result (λ value. view value ≡ spec.rule_members (Some (view expiration)) (Some (view noncurrent)) rule.now) }
+    name: &str,
+    value: Option<Value>,
+) -> Result<(), AllocError>
+    ensures { OnOk result (members_view members.new.entries ≡ put_if name.now (option_map view value) (members_view members.old.entries)) }
 {
-    let id = rule.id.as_str();
-    let prefix = rule.prefix.as_str();
-    let status = status_name(rule.enabled);
-    json!(in alloc; {"Expiration": expiration, "NoncurrentVersionExpiration": noncurrent, "ID": id, "Prefix": prefix, "Status": status})
+    match value {
+        Some(value) => put(members, alloc, name, value),
+        None => Ok(()),
+    }
+}
+
+/// The members of a rule that are always there, but for its id.
+fn named_members(alloc: Global, rule: &Rule) -> Result<Map<String, Value>, AllocError>
+    ensures { IfOk result (λ members. members_view members.entries ≡ spec.named_members rule.now) }
+{
+    let prefix = json!(in alloc; rule.prefix.as_str())?;
+    let status = json!(in alloc; status_name(rule.enabled))?;
+    let mut members = Map::new(alloc);
+    put(&mut members, alloc, "Status", status)?;
+    put(&mut members, alloc, "Prefix", prefix)?;
+    Ok(members)
+}
+
+fn size_value(alloc: Global, size: Option<u64>) -> Result<Option<Value>, AllocError>
+    ensures { IfOk result (λ value. option_map view value ≡ option_map spec.whole size) }
+{
+    match size {
+        Some(size) => Ok(Some(json!(in alloc; size)?)),
+        None => Ok(None),
+    }
+}
+
+/// Those, with the bounds of sizes.
+#[tactic(auto, using(crate::proofs::RuleLemmas::bounded))]
+fn bounded_members(alloc: Global, rule: &Rule) -> Result<Map<String, Value>, AllocError>
+    ensures { IfOk result (λ members. members_view members.entries ≡ spec.bounded_members rule.now) }
+{
+    let smaller = size_value(alloc, rule.smaller)?;
+    let larger = size_value(alloc, rule.larger)?;
+    let mut members = named_members(alloc, rule)?;
+    put_if(&mut members, alloc, "ObjectSizeLessThan", smaller)?;
+    put_if(&mut members, alloc, "ObjectSizeGreaterThan", larger)?;
+    Ok(members)
+}
+
+/// All members of a rule.
+#[tactic(auto, using(crate::proofs::RuleLemmas::all_members))]
+fn rule_members(alloc: Global, rule: &Rule) -> Result<Map<String, Value>, AllocError>
+    ensures { IfOk result (λ members. members_view members.entries ≡ spec.rule_members rule.now) }
+{
+    let noncurrent = noncurrent_of(alloc, rule.noncurrent)?;
+    let id = json!(in alloc; rule.id.as_str())?;
+    let expiration = expiration_of(alloc, rule.days, rule.lone_markers)?;
+    let mut members = bounded_members(alloc, rule)?;
+    put_if(
+        &mut members,
+        alloc,
+        "NoncurrentVersionExpiration",
+        noncurrent,
+    )?;
+    put(&mut members, alloc, "ID", id)?;
+    put_if(&mut members, alloc, "Expiration", expiration)?;
+    Ok(members)
 }
 
 fn expiration_of(

@@ -14,9 +14,9 @@ use Rattle.vault_http_values.specs.declared.rules.Expiration.{Expiration}
 use Rattle.vault_http_values.specs.declared.shape.Kind.TheVariants.{Text, OptionalText, Number, OptionalNumber, OptionalFlag, Rules}
 use Rattle.vault_http_values.specs.Fault.{◌>>=◌}
 use Rattle.vault_http_values.specs.Members.{items_of, text_of, flag_of}
-use Rattle.vault_http_values.specs.Rules.{rule_id_in, status_in, expiration_spelled, expiration_if, expiration_in, noncurrent_spelled, noncurrent_in, rule_of, rules_in, judged, rules_of}
-use Rattle.vault_http_values.specs.Shape.{fits, needed, optional, is_number, is_text, is_flag, is_within, is_expiration, may_have_expiration, is_noncurrent, may_have_noncurrent, has_rule_names, is_rule, all_items}
-use Rattle.vault_http_values.specs.Spelling.{IsAbsent, IsText, IsPrefix, IsSmall, IsOptionalSmall, IsFlag, IsExpiration, IsNoncurrent, IsRule, AreRules, IsRules}
+use Rattle.vault_http_values.specs.Rules.{rule_id_in, bounds_in, status_in, expiration_spelled, expiration_if, expiration_in, noncurrent_spelled, noncurrent_in, rule_of, rules_in, judged, rules_of}
+use Rattle.vault_http_values.specs.Shape.{fits, needed, optional, is_number, is_text, is_flag, is_within, is_expiration, may_have_expiration, is_noncurrent, may_have_noncurrent, may_have_bounds, has_rule_names, is_rule, all_items}
+use Rattle.vault_http_values.specs.Spelling.{IsAbsent, IsText, IsPrefix, IsSmall, IsOptionalSmall, IsFlag, IsExpiration, IsNoncurrent, AreBounds, IsRule, AreRules, IsRules}
 use Rattle.vault_http_values.specs.Values.{or_refused, or_invalid, if_given, number_of, optional_number_of, prefix_of}
 use Rattle.vault_http_values.specs.Words.{status_name, status_named}
 use Rattle.vault_http_values.proofs.LockLemmas.{reads-named}
@@ -75,19 +75,28 @@ reads-noncurrent d shape = noncurrent-found d (get (codes "NoncurrentVersionExpi
 
 -- ---- rules
 
+reads-bounds : (d : Data) → may_have_bounds d ≡ true → Reads (λ b. AreBounds d b.larger b.smaller) (bounds_in d)
+unfolding bounds_in
+reads-bounds d shape =
+    reads-then _ _ (optional_number_of (codes "ObjectSizeGreaterThan") d) _ (reads-optional-number (codes "ObjectSizeGreaterThan") d (left-of (optional is_number (get (codes "ObjectSizeGreaterThan") d)) _ shape)) (λ larger larger_is.
+    reads-then _ _ (optional_number_of (codes "ObjectSizeLessThan") d) _ (reads-optional-number (codes "ObjectSizeLessThan") d (right-of (optional is_number (get (codes "ObjectSizeGreaterThan") d)) _ shape)) (λ smaller smaller_is.
+    (larger_is, smaller_is)))
+
 reads-rule : (d : Data) → is_rule d ≡ true → Reads (IsRule d) (rule_of d)
 unfolding rule_of
 reads-rule d shape =
     let a = right-of (has_rule_names d) _ shape in
     let b = right-of (needed is_text (get (codes "ID") d)) _ a in
     let c = right-of (optional is_text (get (codes "Prefix") d)) _ b in
-    let e = right-of (needed is_text (get (codes "Status") d)) _ c in
+    let s = right-of (may_have_bounds d) _ c in
+    let e = right-of (needed is_text (get (codes "Status") d)) _ s in
     reads-then _ _ (rule_id_in d) _ (reads-rule-id d (left-of (needed is_text (get (codes "ID") d)) _ a)) (λ id id_is.
     reads-then _ _ (prefix_of (codes "Prefix") d) _ (reads-prefix (codes "Prefix") d (left-of (optional is_text (get (codes "Prefix") d)) _ b)) (λ prefix prefix_is.
-    reads-then _ _ (status_in d) _ (reads-status d (left-of (needed is_text (get (codes "Status") d)) _ c)) (λ enabled enabled_is.
+    reads-then _ _ (bounds_in d) _ (reads-bounds d (left-of (may_have_bounds d) _ c)) (λ bounds bounds_are.
+    reads-then _ _ (status_in d) _ (reads-status d (left-of (needed is_text (get (codes "Status") d)) _ s)) (λ enabled enabled_is.
     reads-then _ _ (expiration_in d) _ (reads-expiration d (left-of (may_have_expiration d) _ e)) (λ expiration expiration_is.
     reads-then _ _ (noncurrent_in d) _ (reads-noncurrent d (right-of (may_have_expiration d) _ e)) (λ noncurrent noncurrent_is.
-    (id_is, prefix_is, enabled_is, expiration_is, noncurrent_is))))))
+    (id_is, prefix_is, bounds_are, enabled_is, expiration_is, noncurrent_is)))))))
 
 reads-rules-in : (ds : Items) → all_items is_rule ds ≡ true → Reads (AreRules ds) (rules_in ds)
 reads-rules-in no_items shape = tt

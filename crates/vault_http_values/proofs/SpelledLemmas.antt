@@ -22,8 +22,8 @@ use Rattle.vault_http_values.specs.declared.members.Whole.TheVariants.{Natural}
 use Rattle.vault_http_values.specs.Fault.{◌>>=◌}
 use Rattle.vault_http_values.specs.Locks.{until_named, retention_spelled, retention_of, both_or_none, optional_retention_of, hold_of, optional_hold_of, bypass_of, default_spelled, default_of}
 use Rattle.vault_http_values.specs.Members.{text_of, optional_text_of, whole_of, optional_whole_of, as_texts, texts_of, items_of, flag_of}
-use Rattle.vault_http_values.specs.Rules.{rule_id_in, status_in, expiration_spelled, expiration_in, noncurrent_spelled, noncurrent_in, rule_of, rules_in, rules_of}
-use Rattle.vault_http_values.specs.Spelling.{IsAbsent, IsText, IsName, IsBucket, IsKey, IsPrefix, IsMoment, IsNumber, IsSmall, IsOptionalSmall, IsId, IsOptionalId, IsFlag, IsRights, IsContent, IsRetention, IsOptionalRetention, IsHold, IsOptionalHold, IsPeriod, IsDefault, IsExpiration, IsNoncurrent, IsRule, AreRules, IsRules, items_of_texts}
+use Rattle.vault_http_values.specs.Rules.{rule_id_in, bounds_in, status_in, expiration_spelled, expiration_in, noncurrent_spelled, noncurrent_in, rule_of, rules_in, rules_of}
+use Rattle.vault_http_values.specs.Spelling.{IsAbsent, IsText, IsName, IsBucket, IsKey, IsPrefix, IsMoment, IsNumber, IsSmall, IsOptionalSmall, IsId, IsOptionalId, IsFlag, IsRights, IsContent, IsRetention, IsOptionalRetention, IsHold, IsOptionalHold, IsPeriod, IsDefault, IsExpiration, IsNoncurrent, AreBounds, IsRule, AreRules, IsRules, items_of_texts}
 use Rattle.vault_http_values.specs.Values.{or_invalid, reading_of, asker_of, name_of, caller_of, dept_of, optional_dept_of, batch_of, bucket_of, key_of, prefix_named, prefix_of, below, number_of, optional_number_of, version_of, id_of, optional_id_of, rights_of, bytes_of, content_of}
 use Rattle.vault_http_values.specs.Words.{mode_name, mode_named, hold_name, hold_named, status_name, status_named}
 use Rattle.vault_http_values.proofs.RightsLemmas.{rights-ok}
@@ -237,10 +237,14 @@ unfolding noncurrent_in
 noncurrent-ok d None h = rw h refl
 noncurrent-ok d (Some n) h = rw (h.1, noncurrent-spelled-ok h.0 n h.2 h.3) refl
 
+bounds-ok : (d : Data) (larger smaller : Option ℕ) → AreBounds d larger smaller → bounds_in d ≡ Ok (record { larger = larger; smaller = smaller })
+unfolding bounds_in
+bounds-ok d larger smaller h = rw (optional-number-ok (codes "ObjectSizeGreaterThan") d larger h.0, optional-number-ok (codes "ObjectSizeLessThan") d smaller h.1) refl
+
 rule-ok : (d : Data) (rule : Rule) → IsRule d rule → rule_of d ≡ Ok rule
 unfolding rule_of
 rule-ok d rule h =
-    rw (rule-id-ok d rule h, prefix-ok (codes "Prefix") d rule.prefix h.1, status-ok d rule.enabled h.2, expiration-ok d rule.days rule.lone_markers h.3, noncurrent-ok d rule.noncurrent h.4) refl
+    rw (rule-id-ok d rule h, prefix-ok (codes "Prefix") d rule.prefix h.1, bounds-ok d rule.larger rule.smaller h.2, status-ok d rule.enabled h.3, expiration-ok d rule.days rule.lone_markers h.4, noncurrent-ok d rule.noncurrent h.5) refl
 
 rules-in-ok : (items : Items) (rules : List Rule) → AreRules items rules → rules_in items ≡ Ok rules
 rules-in-ok no_items [] h = refl

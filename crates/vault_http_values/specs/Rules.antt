@@ -13,6 +13,7 @@ use Rattle.vault_http_values.specs.Fault.{◌>>=◌}
 use Rattle.vault_http_values.specs.Members.{items_of, text_of, flag_of}
 use Rattle.vault_http_values.specs.Values.{or_refused, or_invalid, if_given, number_of, optional_number_of, prefix_of}
 use Rattle.vault_http_values.specs.Words.{status_named}
+use Rattle.vault_http_values.specs.declared.rules.Bounds.{Bounds}
 use Rattle.vault_http_values.specs.declared.rules.Expiration.{Expiration}
 
 unfoldable pub rule_id_in : Data → Result (List ℕ) Refusal
@@ -48,14 +49,22 @@ noncurrent_spelled d = do
 unfoldable pub noncurrent_in : Data → Result (Option Noncurrent) Refusal
 noncurrent_in d = if_given noncurrent_spelled (get (codes "NoncurrentVersionExpiration") d)
 
+-- the bounds of sizes; what is left out bounds nothing
+unfoldable pub bounds_in : Data → Result Bounds Refusal
+bounds_in d = do
+  larger ← optional_number_of (codes "ObjectSizeGreaterThan") d
+  smaller ← optional_number_of (codes "ObjectSizeLessThan") d
+  Ok (record { larger = larger; smaller = smaller })
+
 unfoldable pub rule_of : Data → Result Rule Refusal
 rule_of d = do
   id ← rule_id_in d
   prefix ← prefix_of (codes "Prefix") d
+  bounds ← bounds_in d
   enabled ← status_in d
   expiration ← expiration_in d
   noncurrent ← noncurrent_in d
-  Ok (record { id = id; prefix = prefix; enabled = enabled; days = expiration.days; lone_markers = expiration.lone_markers; noncurrent = noncurrent })
+  Ok (record { id = id; prefix = prefix; enabled = enabled; days = expiration.days; lone_markers = expiration.lone_markers; noncurrent = noncurrent; larger = bounds.larger; smaller = bounds.smaller })
 
 -- each rule, in order
 abbrev pub rules_in : Items → Result (List Rule) Refusal

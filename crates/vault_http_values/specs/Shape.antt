@@ -70,15 +70,22 @@ is_noncurrent d =
 abbrev pub may_have_noncurrent : Data → Bool
 may_have_noncurrent d = optional is_noncurrent (get (codes "NoncurrentVersionExpiration") d)
 
+abbrev pub may_have_bounds : Data → Bool
+may_have_bounds d = optional is_number (get (codes "ObjectSizeGreaterThan") d) && optional is_number (get (codes "ObjectSizeLessThan") d)
+
 abbrev pub has_rule_names : Data → Bool
-has_rule_names d = is_within (codes "ID" ∷ codes "Prefix" ∷ codes "Status" ∷ codes "Expiration" ∷ codes "NoncurrentVersionExpiration" ∷ []) d
+has_rule_names d =
+    is_within
+    (codes "ID" ∷ codes "Prefix" ∷ codes "ObjectSizeGreaterThan" ∷ codes "ObjectSizeLessThan" ∷ codes "Status" ∷ codes "Expiration"
+    ∷ codes "NoncurrentVersionExpiration" ∷ [])
+    d
 
 abbrev pub is_rule : Data → Bool
 is_rule d =
     has_rule_names d
     && (needed is_text (get (codes "ID") d)
     && (optional is_text (get (codes "Prefix") d)
-    && (needed is_text (get (codes "Status") d) && (may_have_expiration d && may_have_noncurrent d))))
+    && (may_have_bounds d && (needed is_text (get (codes "Status") d) && (may_have_expiration d && may_have_noncurrent d)))))
 
 abbrev pub are_rules : Data → Bool
 are_rules d = is_list_of is_rule d

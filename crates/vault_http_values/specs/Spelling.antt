@@ -139,10 +139,15 @@ IsNoncurrent d noncurrent =
     (IsAbsent d (codes "NoncurrentVersionExpiration"))
     (λ noncurrent. (e : Data) × (get (codes "NoncurrentVersionExpiration") d ≡ Some e) × IsSmall e (codes "NoncurrentDays") noncurrent.days × IsOptionalSmall e (codes "NewerNoncurrentVersions") noncurrent.newer)
 
+-- the bounds of sizes, each of which may be left out
+abbrev pub AreBounds : Data → Option ℕ → Option ℕ → Type 0
+AreBounds d larger smaller = IsOptionalSmall d (codes "ObjectSizeGreaterThan") larger × IsOptionalSmall d (codes "ObjectSizeLessThan") smaller
+
 abbrev pub IsRule : Data → Rule → Type 0
 IsRule d rule =
     (IsText d (codes "ID") rule.id × IsTrue (is_rule_id rule.id))
     × IsPrefix d (codes "Prefix") rule.prefix
+    × AreBounds d rule.larger rule.smaller
     × IsText d (codes "Status") (status_name rule.enabled)
     × IsExpiration d rule.days rule.lone_markers
     × IsNoncurrent d rule.noncurrent

@@ -3,6 +3,7 @@ ghost use Rattle.std.specs.Prelude.{◌≡◌, option_map};
 ghost use Rattle.serde_json.specs.View.{view, items_view};
 ghost use Rattle.vault_http_values.specs.Fault.{Gives};
 ghost use Rattle.vault_http_values.specs.Rules as spec;
+ghost use Rattle.vault_http_values.specs.Values.{optional_number_of};
 
 use crate::fault::LineFault;
 use crate::members::{flag_of, items_of, text_of};
@@ -20,6 +21,13 @@ use vault_rules::rule_set::RuleSet;
 struct Expiration {
     days: Option<u32>,
     lone_markers: bool,
+}
+
+/// The sizes that a rule is for.
+#[derive(Clone, Copy, Debug, PartialEq, Eq)]
+struct Bounds {
+    larger: Option<u64>,
+    smaller: Option<u64>,
 }
 
 #[tactic(auto, unfolding(crate::specs::Rules::rule_id_in))]
@@ -85,12 +93,31 @@ fn noncurrent_in(value: &Value) -> Result<Option<Noncurrent>, LineFault>
     }
 }
 
+fn optional_size(name: &str, value: &Value) -> Result<Option<u64>, LineFault>
+    ensures { Gives (λ x. x) result (optional_number_of name.now (view value.now)) }
+{
+    let Some(size) = optional_number_of(name, value)? else {
+        return Ok(None);
+    };
+    Ok(Some(u64::from(size)))
+}
+
+#[tactic(auto, unfolding(crate::specs::Rules::bounds_in))]
+fn bounds_in(value: &Value) -> Result<Bounds, LineFault>
+    ensures { Gives (λ x. x) result (spec.bounds_in (view value.now)) }
+{
+    let larger = optional_size("ObjectSizeGreaterThan", value)?;
+    let smaller = optional_size("ObjectSizeLessThan", value)?;
+    Ok(Bounds { larger, smaller })
+}
+
 #[tactic(auto, unfolding(crate::specs::Rules::rule_of))]
 fn rule(alloc: Global, value: &Value) -> Result<Rule, LineFault>
     ensures { Gives (λ x. x) result (spec.rule_of (view value.now)) }
 {
     let id = rule_id(alloc, value)?;
     let prefix = prefix(alloc, "Prefix", value)?;
+    let bounds = bounds_in(value)?;
     let enabled = status(value)?;
     let expiration = expiration_in(value)?;
     let noncurrent = noncurrent_in(value)?;
@@ -101,6 +128,8 @@ fn rule(alloc: Global, value: &Value) -> Result<Rule, LineFault>
         days: expiration.days,
         lone_markers: expiration.lone_markers,
         noncurrent,
+        larger: bounds.larger,
+        smaller: bounds.smaller,
     })
 }
 

@@ -160,6 +160,12 @@ fn may_have_noncurrent(value: &Value) -> bool
     }
 }
 
+fn may_have_bounds(value: &Value) -> bool
+    ensures { result ≡ spec.may_have_bounds (view value.now) }
+{
+    may_have_number("ObjectSizeGreaterThan", value) && may_have_number("ObjectSizeLessThan", value)
+}
+
 fn has_rule_names(value: &Value) -> bool
     ensures { result ≡ spec.has_rule_names (view value.now) }
 {
@@ -168,6 +174,8 @@ fn has_rule_names(value: &Value) -> bool
         &[
             "ID",
             "Prefix",
+            "ObjectSizeGreaterThan",
+            "ObjectSizeLessThan",
             "Status",
             "Expiration",
             "NoncurrentVersionExpiration",
@@ -181,6 +189,7 @@ fn is_rule(value: &Value) -> bool
     has_rule_names(value)
         && has_text("ID", value)
         && may_have_text("Prefix", value)
+        && may_have_bounds(value)
         && has_text("Status", value)
         && may_have_expiration(value)
         && may_have_noncurrent(value)

@@ -10,7 +10,7 @@ use Rattle.vault_rules.specs.declared.rule.Rule.{Rule}
 use Rattle.vault_rules.specs.declared.rule.Noncurrent.{Noncurrent}
 use Rattle.vault_rules.specs.declared.rule_set.RuleFault.{RuleFault}
 use Rattle.vault_rules.specs.declared.rule_set.RuleFault.TheVariants.{SameId, NoAction, DaysAndMarkers, OutOfRange, TooMany}
-use Rattle.vault_rules.specs.Rules.{is_days, is_newer, passes_if_given, is_noncurrent_action, is_in_range, has_id, has_action, has_days_and_markers, fault_where, fault_of, first_of_both, first_fault, is_rule_set}
+use Rattle.vault_rules.specs.Rules.{is_days, is_newer, passes_if_given, is_noncurrent_action, are_bounds, is_in_range, has_id, has_action, has_days_and_markers, fault_where, fault_of, first_of_both, first_fault, is_rule_set}
 use Rattle.vault_rules.specs.Due.{fits, noncurrent_has_passed, makes_noncurrent_due}
 use Rattle.vault_rules.specs.Walk.{Dues, dues}
 use Rattle.vault_rules.proofs.Truth.{both}
@@ -59,7 +59,8 @@ timed before r h =
     let kinds = fault_where (has_days_and_markers r) DaysAndMarkers range in
     let action = fault_where (not (has_action r)) NoAction kinds in
     let e = no_fault (not (is_in_range r)) OutOfRange None (no_fault (has_days_and_markers r) DaysAndMarkers range (no_fault (not (has_action r)) NoAction kinds (no_fault (has_id before r.id) SameId action h).1).1).1 in
-    days_of_action r.noncurrent (both (passes_if_given is_days r.days) (passes_if_given is_noncurrent_action r.noncurrent) (in_range (is_in_range r) e.0)).1
+    let numbers = both (passes_if_given is_days r.days && passes_if_given is_noncurrent_action r.noncurrent) (are_bounds r.larger r.smaller) (in_range (is_in_range r) e.0) in
+    days_of_action r.noncurrent (both (passes_if_given is_days r.days) (passes_if_given is_noncurrent_action r.noncurrent) numbers.0).1
 
 all_timed : (before rs : List Rule) → IsTrue (is_none (first_fault before rs)) → All IsTimed rs
 all_timed before [] h = All-nil IsTimed

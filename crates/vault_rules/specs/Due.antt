@@ -1,13 +1,23 @@
 -- Which entries the lifecycle rules make due at a moment.
-use Rattle.std.specs.Prelude.{ℕ, ◌+◌, ◌*◌, ◌&&◌, ◌||◌, Bool, false, nat_eq, nat_le, List, Option, Some, None, position, unwrap_or}
+use Rattle.std.specs.Prelude.{ℕ, ◌+◌, ◌*◌, ◌&&◌, ◌||◌, Bool, true, false, nat_eq, nat_lt, nat_le, List, Option, Some, None, position, unwrap_or}
 use Rattle.std.specs.List.{starts_with}
 use Rattle.vault_base.specs.Days.{day_length, midnight_from}
 use Rattle.vault_rules.specs.declared.rule.Noncurrent.{Noncurrent}
 use Rattle.vault_rules.specs.declared.rule.Rule.{Rule}
 
--- the rule is enabled and its prefix begins the key; entries of every size fit
+-- the size is above the bound ObjectSizeGreaterThan, where it is given
+abbrev pub is_larger : Option ℕ → ℕ → Bool
+is_larger None size = true
+is_larger (Some bound) size = nat_lt bound size
+
+-- the size is below the bound ObjectSizeLessThan, where it is given
+abbrev pub is_smaller : Option ℕ → ℕ → Bool
+is_smaller None size = true
+is_smaller (Some bound) size = nat_lt size bound
+
+-- the rule is enabled, its prefix begins the key, and the size is within its bounds (S3 User Guide, "Lifecycle configuration elements": filters by object size; both bounds are excluded)
 abbrev pub fits : Rule → List ℕ → ℕ → Bool
-fits r key size = r.enabled && starts_with nat_eq key r.prefix
+fits r key size = r.enabled && starts_with nat_eq key r.prefix && is_larger r.larger size && is_smaller r.smaller size
 
 -- the midnight has come that ends so many days from a moment (S3 User Guide, "Lifecycle configuration elements": How Amazon S3 calculates how long an object has been noncurrent, and rounding)
 abbrev pub have_passed : ℕ → ℕ → ℕ → Bool

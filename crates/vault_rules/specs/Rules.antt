@@ -23,6 +23,24 @@ passes_if_given test (Some x) = test x
 abbrev pub is_noncurrent_action : Noncurrent → Bool
 is_noncurrent_action n = is_days n.days && passes_if_given is_newer n.newer
 
+-- ObjectSizeGreaterThan is at most 1,048,576, which is the most that a version has
+abbrev pub is_lower_bound : ℕ → Bool
+is_lower_bound n = nat_le n 1048576
+
+-- ObjectSizeLessThan is 1 to 1,048,577
+abbrev pub is_upper_bound : ℕ → Bool
+is_upper_bound n = nat_le 1 n && nat_le n 1048577
+
+-- where both bounds are given, the lower one is below the upper one
+abbrev pub are_in_order : Option ℕ → Option ℕ → Bool
+are_in_order None smaller = true
+are_in_order (Some l) None = true
+are_in_order (Some l) (Some s) = nat_lt l s
+
+abbrev pub are_bounds : Option ℕ → Option ℕ → Bool
+are_bounds larger smaller =
+    passes_if_given is_lower_bound larger && passes_if_given is_upper_bound smaller && are_in_order larger smaller
+
 -- at least one action
 abbrev pub has_action : Rule → Bool
 has_action r = is_some r.days || r.lone_markers || is_some r.noncurrent
@@ -33,7 +51,8 @@ has_days_and_markers r = is_some r.days && r.lone_markers
 
 -- each number is in its range
 abbrev pub is_in_range : Rule → Bool
-is_in_range r = passes_if_given is_days r.days && passes_if_given is_noncurrent_action r.noncurrent
+is_in_range r =
+    passes_if_given is_days r.days && passes_if_given is_noncurrent_action r.noncurrent && are_bounds r.larger r.smaller
 
 -- the first of these faults whose test passes
 abbrev pub fault_where : Bool → RuleFault → Option RuleFault → Option RuleFault

@@ -1,7 +1,7 @@
 //! A lifecycle rule.
 ghost use Rattle.std.specs.Prelude.{◌≡◌};
-ghost use Rattle.vault_rules.specs.Rules.{is_days, is_newer, is_noncurrent_action, has_action, has_days_and_markers, is_in_range};
-ghost use Rattle.vault_rules.specs.Due.{have_passed, fits, days_have_passed, noncurrent_has_passed};
+ghost use Rattle.vault_rules.specs.Rules.{is_days, is_newer, is_noncurrent_action, is_lower_bound, is_upper_bound, are_in_order, are_bounds, has_action, has_days_and_markers, is_in_range};
+ghost use Rattle.vault_rules.specs.Due.{have_passed, is_larger, is_smaller, fits, days_have_passed, noncurrent_has_passed};
 
 use std::alloc::AllocError;
 use vault_base::moment::Moment;
@@ -27,6 +27,10 @@ pub struct Rule {
     /// Expiration by ExpiredObjectDeleteMarker.
     pub lone_markers: bool,
     pub noncurrent: Option<Noncurrent>,
+    /// ObjectSizeGreaterThan, in bytes: entries of this size or less don't fit.
+    pub larger: Option<u64>,
+    /// ObjectSizeLessThan, in bytes: entries of this size or more don't fit.
+    pub smaller: Option<u64>,
 }
 
 impl Clone for Rule {
@@ -40,6 +44,8 @@ impl Clone for Rule {
             days: self.days,
             lone_markers: self.lone_markers,
             noncurrent: self.noncurrent,
+            larger: self.larger,
+            smaller: self.smaller,
         })
     }
 }
@@ -56,6 +62,39 @@ fn is_newer(newer: u32) -> bool
     ensures { result ≡ is_newer newer }
 {
     1 <= newer && newer <= 100
+}
+
+/// Whether a lower bound of sizes that a rule names is at most 1,048,576.
+fn is_lower_bound(bound: u64) -> bool
+    ensures { result ≡ is_lower_bound bound }
+{
+    bound <= 1_048_576
+}
+
+/// Whether an upper bound of sizes that a rule names is from 1 to 1,048,577.
+fn is_upper_bound(bound: u64) -> bool
+    ensures { result ≡ is_upper_bound bound }
+{
+    1 <= bound && bound <= 1_048_577
+}
+
+/// Whether the lower bound is below the upper one, where both are given.
+fn are_in_order(larger: Option<u64>, smaller: Option<u64>) -> bool
+    ensures { result ≡ are_in_order larger smaller }
+{
+    match (larger, smaller) {
+        (Some(lower), Some(upper)) => lower < upper,
+        _ => true,
+    }
+}
+
+/// Whether a rule may name these bounds of sizes.
+pub fn are_bounds(larger: Option<u64>, smaller: Option<u64>) -> bool
+    ensures { result ≡ are_bounds larger smaller }
+{
+    larger.map_or(true, is_lower_bound)
+        && smaller.map_or(true, is_upper_bound)
+        && are_in_order(larger, smaller)
 }
 
 /// Whether the midnight has come that ends so many days from a moment.
@@ -96,14 +135,18 @@ impl Rule {
     {
         self.days.map_or(true, is_days)
             && self.noncurrent.map_or(true, |action| action.is_in_range())
+            && are_bounds(self.larger, self.smaller)
     }
 
     /// Whether it is for entries of that key and size.
-    pub(crate) fn fits(&self, key: &ObjectKey, _size: u64) -> bool
-        ensures { result ≡ fits self.now key.now _size }
+    pub(crate) fn fits(&self, key: &ObjectKey, size: u64) -> bool
+        ensures { result ≡ fits self.now key.now size }
     {
         let prefix = self.prefix.as_str().as_bytes();
-        self.enabled && key.as_str().as_bytes().starts_with(prefix)
+        self.enabled
+            && key.as_str().as_bytes().starts_with(prefix)
+            && self.larger.map_or(true, |bound| bound < size)
+            && self.smaller.map_or(true, |bound| size < bound)
     }
 
     /// Whether its Days have passed since that moment.

@@ -17,6 +17,7 @@ use Rattle.vault_core_model.specs.Order.{note_cmp, placed_if_given}
 use Rattle.vault_core_model.specs.Sound.{Sound}
 use Rattle.vault_core_model.specs.Totals.{items_of}
 use Rattle.vault_core_model.specs.Vault.{Vault, config_of}
+use Rattle.vault_audit_model.specs.Editions.{number_of, newest}
 use Rattle.vault_audit_model.specs.Rows.{meta_row, department_row, entry_row, content_row, setting_row, note_row}
 use Rattle.vault_audit_model.specs.Spells.{contents_in, settings_in, department_in, content_if_given}
 use Rattle.vault_store_model.specs.Rows.{rows_of}
@@ -68,8 +69,8 @@ sums_changed v w m o config there marker others =
 
 -- ---- the change
 
-next_after : (t : ℕ) (hs : List History) (h : History) → meta_row (record { last = t; next = length (hs ++ h ∷ []) + 1 }) ≡ meta_row (record { last = t; next = length hs + 1 + 1 })
-next_after t hs h = ap (λ n. meta_row (record { last = t; next = n + 1 })) (length-append hs (h ∷ []))
+next_after : (t : ℕ) (hs : List History) (h : History) → meta_row (record { schema = number_of newest; last = t; next = length (hs ++ h ∷ []) + 1 }) ≡ meta_row (record { schema = number_of newest; last = t; next = length hs + 1 + 1 })
+next_after t hs h = ap (λ n. meta_row (record { schema = number_of newest; last = t; next = n + 1 })) (length-append hs (h ∷ []))
 
 pub entry_admitted : (v : Vault) (t : ℕ) (a : Admission) → Sound v → IsAdmission v t a → AreSameBesideHeads (rows_of (changed v t (Admit a))) (edit_of v t (Admit a) (rows_of v))
 entry_admitted v t a sound is table.Meta beside = IsPermutation-same _ _ (ap (λ row. row ∷ []) (next_after t v.histories a.history))

@@ -18,6 +18,7 @@ use Rattle.vault_core_model.specs.Sound.{Sound, AreIdsFrom}
 use Rattle.vault_core_model.specs.Totals.{is_version_of, item_of, items_of}
 use Rattle.vault_core_model.specs.Vault.{Vault, history_of}
 use Rattle.vault_audit_model.specs.declared.rows.SettingRow.{SettingRow}
+use Rattle.vault_audit_model.specs.Editions.{number_of, newest}
 use Rattle.vault_audit_model.specs.Rows.{meta_row, entry_row, content_row, setting_row}
 use Rattle.vault_audit_model.specs.Spells.{settings_from, settings_in, contents_in}
 use Rattle.vault_store_model.specs.Rows.{rows_of}
@@ -106,8 +107,8 @@ items_kept v t id s d =
     items_mapped v.buckets d (with_setting id s) (version_kept v.buckets d id s) v.histories
     (all_of (λ h. is_version_of v.buckets d h ≡ true → item_of (with_setting id s h) ≡ item_of h) (λ h version. item_kept id s h) v.histories)
 
-pub next_kept : (t : ℕ) (f : History → History) (hs : List History) → meta_row (record { last = t; next = length (map f hs) + 1 }) ≡ meta_row (record { last = t; next = length hs + 1 })
-next_kept t f hs = ap (λ n. meta_row (record { last = t; next = n + 1 })) (length-map hs f)
+pub next_kept : (t : ℕ) (f : History → History) (hs : List History) → meta_row (record { schema = number_of newest; last = t; next = length (map f hs) + 1 }) ≡ meta_row (record { schema = number_of newest; last = t; next = length hs + 1 })
+next_kept t f hs = ap (λ n. meta_row (record { schema = number_of newest; last = t; next = n + 1 })) (length-map hs f)
 
 -- ---- the change
 

@@ -128,12 +128,14 @@ rule_params r = rule_row r
 
 pub puts_rule : (r : RuleRow) (old new : State) (count : ℕ) → old.now.schema ≡ vault_schema → Executes rule_text (rule_params r) old new (Ok count) → Leaves old new (with_row table.Rules (rule_row r))
 puts_rule r =
-    inserts table.Rules 4 rules rule_text (rule_params r) rule_terms 10 (Null ∷ rule_params r) (rule_row r) rule_is rule_plain (λ limit mode text db out h. h) refl refl
+    inserts table.Rules 4 rules rule_text (rule_params r) rule_terms 12 (Null ∷ rule_params r) (rule_row r) rule_is rule_plain (λ limit mode text db out h. h) refl refl
     (λ rows.
     let days : cast kind.Integer (number_or_null r.rule.days) ≡ number_or_null r.rule.days = cast_number_or_null _ in
     let old : cast kind.Integer (noncurrent_days r.rule.noncurrent) ≡ noncurrent_days r.rule.noncurrent = cast_number_or_null _ in
     let newer : cast kind.Integer (noncurrent_newer r.rule.noncurrent) ≡ noncurrent_newer r.rule.noncurrent = cast_number_or_null _ in
-    rw (cast_null, cast_number r.place, cast_flag r.rule.enabled, days, cast_flag r.rule.lone_markers, old, newer) refl)
+    let larger : cast kind.Integer (number_or_null r.rule.larger) ≡ number_or_null r.rule.larger = cast_number_or_null _ in
+    let smaller : cast kind.Integer (number_or_null r.rule.smaller) ≡ number_or_null r.rule.smaller = cast_number_or_null _ in
+    rw (cast_null, cast_number r.place, cast_flag r.rule.enabled, days, cast_flag r.rule.lone_markers, old, newer, larger, smaller) refl)
 
 pub drops_rules : (bucket : List ℕ) (old new : State) (count : ℕ) → IsApart (passes by_name (Text bucket ∷ [])) (old.now.trees rules_tree) → old.now.schema ≡ vault_schema → Executes no_rules_text (Text bucket ∷ []) old new (Ok count)
     → Leaves old new (without table.Rules (is_named bucket))

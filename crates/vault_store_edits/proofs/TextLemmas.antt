@@ -120,12 +120,12 @@ finds_bucket = record { names = codes "rowid" ∷ []; command = refl; unlisted =
 -- ---- rules
 
 abbrev pub rule_text : List ℕ
-rule_text = codes "INSERT INTO rules (bucket, n, id, prefix, enabled, days, lone, nc_days, nc_keep) VALUES (?1, ?2, ?3, ?4, ?5, ?6, ?7, ?8, ?9)"
+rule_text = codes "INSERT INTO rules (bucket, n, id, prefix, enabled, days, lone, nc_days, nc_keep, larger, smaller) VALUES (?1, ?2, ?3, ?4, ?5, ?6, ?7, ?8, ?9, ?10, ?11)"
 
 abbrev pub rule_terms : List Term
-rule_terms = lit Null ∷ col 0 0 ∷ col 0 1 ∷ col 0 2 ∷ col 0 3 ∷ col 0 4 ∷ col 0 5 ∷ col 0 6 ∷ col 0 7 ∷ col 0 8 ∷ []
+rule_terms = lit Null ∷ col 0 0 ∷ col 0 1 ∷ col 0 2 ∷ col 0 3 ∷ col 0 4 ∷ col 0 5 ∷ col 0 6 ∷ col 0 7 ∷ col 0 8 ∷ col 0 9 ∷ col 0 10 ∷ []
 
-pub rule_is : command_of (understood vault_schema rule_text) ≡ Insert 4 (Values rule_terms 10)
+pub rule_is : command_of (understood vault_schema rule_text) ≡ Insert 4 (Values rule_terms 12)
 unfolding understood everything
 rule_is = refl
 

@@ -11,7 +11,7 @@ ghost use Rattle.vault_store_model.specs.Edits.{with_row, without, Edits, with_e
 ghost use Rattle.vault_store_model.specs.Tests.{is_named};
 
 use crate::apart::check_apart;
-use crate::value::{noncurrent_days, noncurrent_newer};
+use crate::value::{bound, noncurrent_days, noncurrent_newer};
 use sqlite::{Alter, Error, ErrorCode, Transaction, params};
 use vault_base::name::BucketName;
 use vault_base::refusal::Table;
@@ -59,8 +59,10 @@ pub fn put_rule<S: Alter>(
         → OnErr result (KeepsCommit (state S.Store tx.old.conn.now) (state S.Store tx.new.conn.now)) }
     ensures survives { Survives (state S.Store tx.old.conn.now) (state S.Store tx.new.conn.now) (λ _. ⊥) }
 {
+    let larger = bound(rule.larger)?;
+    let smaller = bound(rule.smaller)?;
     tx.execute(
-        "INSERT INTO rules (bucket, n, id, prefix, enabled, days, lone, nc_days, nc_keep) VALUES (?1, ?2, ?3, ?4, ?5, ?6, ?7, ?8, ?9)",
+        "INSERT INTO rules (bucket, n, id, prefix, enabled, days, lone, nc_days, nc_keep, larger, smaller) VALUES (?1, ?2, ?3, ?4, ?5, ?6, ?7, ?8, ?9, ?10, ?11)",
         params![
             bucket.as_str(),
             place,
@@ -71,6 +73,8 @@ pub fn put_rule<S: Alter>(
             rule.lone_markers,
             noncurrent_days(rule.noncurrent),
             noncurrent_newer(rule.noncurrent),
+            larger,
+            smaller,
         ],
     )
 }

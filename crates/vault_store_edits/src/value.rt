@@ -22,6 +22,16 @@ pub fn whole(number: u64) -> Result<i64, Error>
     }
 }
 
+/// A bound of sizes, or none.
+pub fn bound(bound: Option<u64>) -> Result<Option<i64>, Error>
+    ensures { IfOk result (λ value. value ≡ option_map pos bound) }
+{
+    match bound {
+        Some(bound) => Ok(Some(whole(bound)?)),
+        None => Ok(None),
+    }
+}
+
 /// A moment, in seconds since 1970.
 pub fn seconds(moment: Moment) -> i64
     ensures { result ≡ pos moment }

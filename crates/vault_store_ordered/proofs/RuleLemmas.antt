@@ -85,7 +85,7 @@ abbrev test : List ℕ → Row → Bool
 test name c = is_true (binary (Compare Eq Binary) (column c 0) (Text name)) && true
 
 abbrev out : Row → Output
-out c = (column c 1 ∷ [], column c 0 ∷ column c 1 ∷ column c 2 ∷ column c 3 ∷ column c 4 ∷ column c 5 ∷ column c 6 ∷ column c 7 ∷ column c 8 ∷ [])
+out c = (column c 1 ∷ [], column c 0 ∷ column c 1 ∷ column c 2 ∷ column c 3 ∷ column c 4 ∷ column c 5 ∷ column c 6 ∷ column c 7 ∷ column c 8 ∷ column c 9 ∷ column c 10 ∷ [])
 
 abbrev pub query : Query
 query = select_of rules_tree rules_tests rules_shown rules_order no_limit

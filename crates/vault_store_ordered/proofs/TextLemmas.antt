@@ -43,20 +43,20 @@ setting_is = record { names = codes "n" ∷ codes "mode" ∷ codes "until" ∷ c
 -- ---- the rules of a bucket
 
 abbrev pub rules_text : List ℕ
-rules_text = codes "SELECT bucket, n, id, prefix, enabled, days, lone, nc_days, nc_keep FROM rules WHERE bucket = ?1 ORDER BY n"
+rules_text = codes "SELECT bucket, n, id, prefix, enabled, days, lone, nc_days, nc_keep, larger, smaller FROM rules WHERE bucket = ?1 ORDER BY n"
 
 abbrev pub rules_tests : List Term
 rules_tests = op2 (Compare Eq Binary) (col 1 1) (col 0 0) ∷ []
 
 abbrev pub rules_shown : List Term
-rules_shown = col 1 1 ∷ col 1 2 ∷ col 1 3 ∷ col 1 4 ∷ col 1 5 ∷ col 1 6 ∷ col 1 7 ∷ col 1 8 ∷ col 1 9 ∷ []
+rules_shown = col 1 1 ∷ col 1 2 ∷ col 1 3 ∷ col 1 4 ∷ col 1 5 ∷ col 1 6 ∷ col 1 7 ∷ col 1 8 ∷ col 1 9 ∷ col 1 10 ∷ col 1 11 ∷ []
 
 abbrev pub rules_order : List (Term × Key)
 rules_order = (col 1 2, ascending Binary) ∷ []
 
 pub rules_is : Selects rules_text (select_of rules_tree rules_tests rules_shown rules_order no_limit)
 unfolding understood everything
-rules_is = record { names = codes "bucket" ∷ codes "n" ∷ codes "id" ∷ codes "prefix" ∷ codes "enabled" ∷ codes "days" ∷ codes "lone" ∷ codes "nc_days" ∷ codes "nc_keep" ∷ []; is = refl; plain = (refl, refl); unlisted = refl }
+rules_is = record { names = codes "bucket" ∷ codes "n" ∷ codes "id" ∷ codes "prefix" ∷ codes "enabled" ∷ codes "days" ∷ codes "lone" ∷ codes "nc_days" ∷ codes "nc_keep" ∷ codes "larger" ∷ codes "smaller" ∷ []; is = refl; plain = (refl, refl); unlisted = refl }
 
 -- ---- the held entries of a key
 

@@ -62,7 +62,7 @@ pub fn rule_rows<S: Alter>(conn: &mut Connection<S>, bucket: &BucketName) -> Res
 {
     query_rows(
         conn,
-        "SELECT bucket, n, id, prefix, enabled, days, lone, nc_days, nc_keep FROM rules WHERE bucket = ?1 ORDER BY n",
+        "SELECT bucket, n, id, prefix, enabled, days, lone, nc_days, nc_keep, larger, smaller FROM rules WHERE bucket = ?1 ORDER BY n",
         params![bucket.as_str()],
     )
 }

@@ -20,7 +20,7 @@ returns-then-not-headed-clause-told g c clean v are =
     no_headed (state g.S.Store c.check_each_is_headed.new.conn).now v are (λ hs tell. rw missed at (c.in_ok-headed.ensures.told clean (entries_of v) hs are tell))
 
 pub returns-then-not-headed-clause-damaged : goal.returns-then-not-headed-clause-damaged
-returns-then-not-headed-clause-damaged g c clean same v = unsound (state g.S.Store c.check_each_is_headed.new.conn).now (returns-then-not-headed-clause-told g c clean) v
+returns-then-not-headed-clause-damaged g c clean same v = (unsound c.args.edition) (state g.S.Store c.check_each_is_headed.new.conn).now (returns-then-not-headed-clause-told g c clean) v
 
 pub returns-clause-told : goal.returns-clause-told
 returns-clause-told g c clean v are =
@@ -37,4 +37,4 @@ returns-clause-told g c clean v are =
     heads_told (state g.S.Store c.check_counts.new.conn).now v are c.in_ok-counted.counted found.0 found.1 over (λ hs tell. c.in_ok-counted.ensures.told clean es hs are tell)
 
 pub returns-clause-damaged : goal.returns-clause-damaged
-returns-clause-damaged g c clean missed v = unsound (state g.S.Store c.check_counts.new.conn).now (λ w are. rw missed at (returns-clause-told g c clean w are)) v
+returns-clause-damaged g c clean missed v = (unsound c.args.edition) (state g.S.Store c.check_counts.new.conn).now (λ w are. rw missed at (returns-clause-told g c clean w are)) v

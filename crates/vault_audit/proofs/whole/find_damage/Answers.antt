@@ -13,7 +13,7 @@ returns-in-Some-2-clause-told g c clean =
     let same = (c.in_ok-table.ensures.same clean).0.now_is in
     let meta = rw c.in-Some.is at (c.in_ok-meta.ensures.told early) in
     let told = rw c.in-Some-2.is at (c.in_ok-table.ensures.told clean) in
-    none_of_meta (state g.S.Store c.look_at_rows.new.conn).now c.in-Some.meta (subst (λ db. IsMetaOf db (Some c.in-Some.meta)) (sym same) meta) told
+    none_of_meta c.args.edition (state g.S.Store c.look_at_rows.new.conn).now c.in-Some.meta (subst (λ db. IsMetaOf c.args.edition db (Some c.in-Some.meta)) (sym same) meta) told
 
 pub returns-clause-told : goal.returns-clause-told
 returns-clause-told g c clean =
@@ -31,5 +31,5 @@ returns-clause-told g c clean =
     let found = rw sound at (c.in_ok-table-2.ensures.told clean) in
     let ours = ap (λ (db : Database). db.schema) (last ∙ middle ∙ first) ∙ c.requires start in
     let m = c.in-Some.meta in
-    sound_vault (state g.S.Store c.look_again.new.conn).now m ours (c.check_ties.ensures same.is_open ours)
-    (subst (λ db. IsMetaOf db (Some m)) (sym (last ∙ middle)) meta) (subst (λ db. ArePast db m.last) (sym last) past) found
+    sound_vault c.args.edition (state g.S.Store c.look_again.new.conn).now m ours (c.check_ties.ensures same.is_open ours)
+    (subst (λ db. IsMetaOf c.args.edition db (Some m)) (sym (last ∙ middle)) meta) (subst (λ db. ArePast db m.last) (sym last) past) found

@@ -10,7 +10,7 @@ use Rattle.vault_audit_contents.proofs.kept.check_held_contents.Goals as goal
 pub returns-in_default-clause-damaged : goal.returns-in_default-clause-damaged
 returns-in_default-clause-damaged g c clean same v =
     let none : c.in_ok-count.field-0 ≡ None = search rules in
-    unsound (state g.S.Store c.check_bytes.new.conn).now (λ es are. rw none at (c.in_ok-count.ensures.told clean es are)) v
+    (unsound c.args.edition) (state g.S.Store c.check_bytes.new.conn).now (λ es are. rw none at (c.in_ok-count.ensures.told clean es are)) v
 
 pub returns-clause-told : goal.returns-clause-told
 returns-clause-told g c clean es are =
@@ -24,4 +24,4 @@ returns-clause-told g c clean es are =
     decided new es are c.in_ok-held.held c.in-Some.count (c.in_ok-held.ensures.told clean es are) (subst (λ (d : Database). TellOfHeld d es (Some c.in-Some.count)) (sym db) told)
 
 pub returns-clause-damaged : goal.returns-clause-damaged
-returns-clause-damaged g c clean same v = unsound (state g.S.Store c.count_held.new.conn).now (λ es are. rw same at (returns-clause-told g c clean es are)) v
+returns-clause-damaged g c clean same v = (unsound c.args.edition) (state g.S.Store c.count_held.new.conn).now (λ es are. rw same at (returns-clause-told g c clean es are)) v

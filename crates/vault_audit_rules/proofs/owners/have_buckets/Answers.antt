@@ -9,12 +9,12 @@ use Rattle.vault_audit_rules.proofs.TextLemmas.{buckets_beside, buckets_beside_i
 use Rattle.vault_audit_rules.proofs.owners.have_buckets.Goals as goal
 
 pub check_rows-requires : goal.check_rows-requires
-check_rows-requires g c clean = subst (λ s. IsPlain (understood s buckets_beside)) (sym (c.requires clean)) buckets_beside_is.plain
+check_rows-requires g c clean = subst (λ s. IsPlain (understood s buckets_beside)) (sym (c.requires clean)) (buckets_beside_is c.args.edition).plain
 
 pub returns-clause-told : goal.returns-clause-told
 returns-clause-told g c clean =
     let early : HasCleanDisk (state g.S.Store c.args.conn.now) = omega (arith, c.check_rows.ensures.crash.clean) in
-    owners_if_ok (state g.S.Store c.args.conn.now) (state g.S.Store c.check_rows.new.conn) (c.requires early) c.check_rows.result (c.check_rows.ensures.same clean) (c.check_rows.ensures.checked clean)
+    owners_if_ok c.args.edition (state g.S.Store c.args.conn.now) (state g.S.Store c.check_rows.new.conn) (c.requires early) c.check_rows.result (c.check_rows.ensures.same clean) (c.check_rows.ensures.checked clean)
 
 pub returns-clause-err : goal.returns-clause-err
-returns-clause-err g c well = c.check_rows.ensures.err well (λ clean. subst (λ s. Asks s buckets_beside) (sym (c.requires clean)) buckets_beside_asks)
+returns-clause-err g c well = c.check_rows.ensures.err well (λ clean. subst (λ s. Asks s buckets_beside) (sym (c.requires clean)) (buckets_beside_asks c.args.edition))

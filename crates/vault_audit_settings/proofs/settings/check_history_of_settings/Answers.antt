@@ -12,7 +12,7 @@ returns-then-not-placed-clause-told g c clean =
     λ es are. not_placed db es are (subst (TellPlaces db) no (c.in_ok-placed.ensures.told clean))
 
 pub returns-then-not-placed-clause-damaged : goal.returns-then-not-placed-clause-damaged
-returns-then-not-placed-clause-damaged g c clean same = unsound (state g.S.Store c.are_placed.new.conn).now (returns-then-not-placed-clause-told g c clean)
+returns-then-not-placed-clause-damaged g c clean same = (unsound c.args.edition) (state g.S.Store c.are_placed.new.conn).now (returns-then-not-placed-clause-told g c clean)
 
 pub returns-then-not-present-clause-told : goal.returns-then-not-present-clause-told
 returns-then-not-present-clause-told g c clean =
@@ -21,7 +21,7 @@ returns-then-not-present-clause-told g c clean =
     λ es are. not_present db es are (subst (TellPresence db) no (c.in_ok-present.ensures.told clean))
 
 pub returns-then-not-present-clause-damaged : goal.returns-then-not-present-clause-damaged
-returns-then-not-present-clause-damaged g c clean same = unsound (state g.S.Store c.have_settings.new.conn).now (returns-then-not-present-clause-told g c clean)
+returns-then-not-present-clause-damaged g c clean same = (unsound c.args.edition) (state g.S.Store c.have_settings.new.conn).now (returns-then-not-present-clause-told g c clean)
 
 pub returns-clause-told : goal.returns-clause-told
 returns-clause-told g c clean =
@@ -35,4 +35,4 @@ returns-clause-told g c clean =
     c.have_entries.result (c.have_entries.ensures.same clean) (c.have_entries.ensures.told clean)
 
 pub returns-clause-damaged : goal.returns-clause-damaged
-returns-clause-damaged g c clean = damaged_if_ok (state g.S.Store c.have_entries.new.conn).now c.have_entries.result (returns-clause-told g c clean)
+returns-clause-damaged g c clean = (damaged_if_ok c.args.edition) (state g.S.Store c.have_entries.new.conn).now c.have_entries.result (returns-clause-told g c clean)

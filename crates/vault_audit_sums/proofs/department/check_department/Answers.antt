@@ -11,7 +11,7 @@ pub returns-in_default-2-clause-told : goal.returns-in_default-2-clause-told
 returns-in_default-2-clause-told g c clean bs hs last buckets entries past =
     let early : HasCleanDisk (state g.S.Store c.buckets_of.new.conn) = omega (arith, c.in_ok-found.ensures.crash.clean) in
     let same = c.in_ok-found.ensures.same clean in
-    let before = subst (λ db. AreBuckets db bs) same.0.now_is buckets in
+    let before = subst (λ db. AreBuckets c.args.edition db bs) same.0.now_is buckets in
     let copied : c.in_ok-clone.field-0 ≡ c.args.department.now.name = search rules in
     let owned = subst (λ d. AreOwnedBy bs d c.in-Some.names.items) copied (rw c.in-Some.is at (c.in_ok-names.ensures.told early bs before)) in
     let none : c.in_ok-found.field-0 ≡ None = search rules in
@@ -22,7 +22,7 @@ pub returns-clause-told : goal.returns-clause-told
 returns-clause-told g c clean bs hs last buckets entries past =
     let early : HasCleanDisk (state g.S.Store c.buckets_of.new.conn) = omega (arith, c.in_ok-found.ensures.crash.clean) in
     let same = c.in_ok-found.ensures.same clean in
-    let before = subst (λ db. AreBuckets db bs) same.0.now_is buckets in
+    let before = subst (λ db. AreBuckets c.args.edition db bs) same.0.now_is buckets in
     let copied : c.in_ok-clone.field-0 ≡ c.args.department.now.name = search rules in
     let owned = subst (λ d. AreOwnedBy bs d c.in-Some.names.items) copied (rw c.in-Some.is at (c.in_ok-names.ensures.told early bs before)) in
     let summed = rw c.in-Some-2.is at (c.in_ok-found.ensures.told clean (map (λ (h : History). h.entry) hs) last entries past) in

@@ -9,19 +9,19 @@ use Rattle.vault_audit_sums.proofs.ListedLemmas.{listed_yes, listed_no}
 use Rattle.vault_audit_sums.proofs.listed.list_departments.Goals as goal
 
 pub walk-requires : goal.walk-requires
-walk-requires g c clean = subst (λ s. IsPlain (understood s departments_text)) (sym (c.requires clean)) departments_scan.plain
+walk-requires g c clean = subst (λ s. IsPlain (understood s departments_text)) (sym (c.requires clean)) (departments_scan c.args.edition).plain
 
 pub returns-then-not-whole-clause-told : goal.returns-then-not-whole-clause-told
 returns-then-not-whole-clause-told g c clean =
     let early : HasCleanDisk (state g.S.Store c.args.conn.now) = omega (arith, c.in_ok-whole.ensures.crash.clean) in
     let no : c.in_ok-whole.whole ≡ false = search rules in
-    listed_no (state g.S.Store c.args.conn.now) (state g.S.Store c.walk.new.conn) (c.requires early) (c.in_ok-whole.ensures.same clean) _ c.walk.new.pass c.new.ensures.items (rw no at (c.in_ok-whole.ensures.walked clean))
+    (listed_no c.args.edition) (state g.S.Store c.args.conn.now) (state g.S.Store c.walk.new.conn) (c.requires early) (c.in_ok-whole.ensures.same clean) _ c.walk.new.pass c.new.ensures.items (rw no at (c.in_ok-whole.ensures.walked clean))
 
 pub returns-clause-told : goal.returns-clause-told
 returns-clause-told g c clean =
     let early : HasCleanDisk (state g.S.Store c.args.conn.now) = omega (arith, c.in_ok-whole.ensures.crash.clean) in
     let yes : c.in_ok-whole.whole ≡ true = search rules in
-    listed_yes (state g.S.Store c.args.conn.now) (state g.S.Store c.walk.new.conn) (c.requires early) (c.in_ok-whole.ensures.same clean) _ c.walk.new.pass c.new.ensures.items (rw yes at (c.in_ok-whole.ensures.walked clean))
+    (listed_yes c.args.edition) (state g.S.Store c.args.conn.now) (state g.S.Store c.walk.new.conn) (c.requires early) (c.in_ok-whole.ensures.same clean) _ c.walk.new.pass c.new.ensures.items (rw yes at (c.in_ok-whole.ensures.walked clean))
 
 pub returns-in_err-whole-clause-err : goal.returns-in_err-whole-clause-err
-returns-in_err-whole-clause-err g c well = let it : IsMemory c.in_err-whole.field-0.0 = c.in_err-whole.ensures.err well (λ clean. subst (λ s. Asks s departments_text) (sym (c.requires clean)) departments_asks) in search rules
+returns-in_err-whole-clause-err g c well = let it : IsMemory c.in_err-whole.field-0.0 = c.in_err-whole.ensures.err well (λ clean. subst (λ s. Asks s departments_text) (sym (c.requires clean)) (departments_asks c.args.edition)) in search rules

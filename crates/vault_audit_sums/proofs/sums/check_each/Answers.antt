@@ -26,7 +26,7 @@ loop-department-preserved g c =
             unchanged_then _ _ _ was.0 same,
             λ bs hs last buckets entries past.
                 let es = map (λ (h : History). h.entry) hs in
-                let before = was.1 bs hs last (subst (λ db. AreBuckets db bs) same.0.now_is buckets) (subst (λ db. AreEntries db es) same.0.now_is entries) past in
+                let before = was.1 bs hs last (subst (λ db. AreBuckets c.args.edition db bs) same.0.now_is buckets) (subst (λ db. AreEntries db es) same.0.now_is entries) past in
                 one_more_sum bs hs c.args.departments.now c.loop-department.department-index c.department-item.result c.loop-department-test.true c.department-item.is before
                 (rw yes at (one.told clean bs hs last buckets entries past)),
           ),

@@ -14,5 +14,5 @@ invariant-loop-department g l =
     let old = state g.S.Store l.fn.conn in
     let now = state g.S.Store l.conn in
     Survives old now (λ _. ⊥)
-    × (HasCleanDisk now → IsUnchanged old now × ((bs : List Bucket) (hs : List History) (last : ℕ) → AreBuckets now.now bs → AreEntries now.now (map (λ (h : History). h.entry) hs) → AllByRecursion (IsPast last) (map (λ (h : History). h.entry) hs)
+    × (HasCleanDisk now → IsUnchanged old now × ((bs : List Bucket) (hs : List History) (last : ℕ) → AreBuckets l.edition now.now bs → AreEntries now.now (map (λ (h : History). h.entry) hs) → AllByRecursion (IsPast last) (map (λ (h : History). h.entry) hs)
     → AllByRecursion (HasSums bs hs) (take l.department-index l.departments)))

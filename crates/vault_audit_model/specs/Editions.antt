@@ -1,0 +1,13 @@
+-- The editions of the schema.
+use Rattle.std.specs.Prelude.{ℕ}
+use Rattle.vault_audit_model.specs.declared.schema.Edition.{Edition}
+use Rattle.vault_audit_model.specs.declared.schema.Edition.TheVariants.{First, Second}
+
+-- the number that meta has
+abbrev pub number_of : Edition → ℕ
+number_of First = 1
+number_of Second = 2
+
+-- new vaults have it, and it alone is opened
+abbrev pub newest : Edition
+newest = Second
