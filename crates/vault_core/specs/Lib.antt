@@ -1,1 +1,2 @@
 pub mod FuseKeeper
+pub mod Told

@@ -1,5 +1,5 @@
 //! A run of the history machine.
-ghost use Rattle.std.specs.Prelude.{◌≡◌, ◌≤◌, ◌+◌, ℕ, List, IsTrue, IfOk, OnErr};
+ghost use Rattle.std.specs.Prelude.{◌≡◌, ◌≤◌, ◌+◌, ℕ, List, IsTrue, IfOk, OnErr, false};
 ghost use Rattle.std.specs.List.{list_any};
 ghost use Rattle.vault_core_model.specs.Halts.{is_device_reply, Rose};
 ghost use Rattle.vault_core_model.specs.Sound.{Sound};
@@ -19,7 +19,7 @@ use vault_core_model::reply::Reply;
 
 /// Carries out commands one after another, and answers one reply for each.
 ///
-/// The only error is want of memory for the replies; it comes before any command.
+/// The only error is want of memory for the replies; it comes before any command, and the keeper is as it was.
 pub fn run<K: Keeper>(
     alloc: Global,
     keeper: &mut K,
@@ -27,6 +27,8 @@ pub fn run<K: Keeper>(
 ) -> Result<Vec<Reply>, AllocError>
     ensures run { K.is_honest keeper.new → IfOk result (λ replies. Run (K.vault keeper.old) commands.now replies.items (K.vault keeper.new)) }
     ensures err { OnErr result (K.vault keeper.new ≡ K.vault keeper.old) }
+    // Nothing was asked of the keeper either.
+    ensures untouched { OnErr result (keeper.new ≡ keeper.old) }
     // A vault that is reached from a new one leads to such a vault.
     ensures reached { K.is_honest keeper.new → Reached (K.vault keeper.old) → Reached (K.vault keeper.new) }
     // Of every such vault, each removal was permitted, and each retention and hold was kept.
@@ -44,7 +46,9 @@ pub fn run<K: Keeper>(
     ensures conserved { (dept : List ℕ) → admitted_bytes (K.vault keeper.new) dept ≡ held_bytes (K.vault keeper.new) dept + removed_bytes (K.vault keeper.new) dept }
     ensures honest { K.is_honest keeper.new → K.is_honest keeper.old }
     ensures counted { K.count keeper.old ≤ K.count keeper.new }
+    // That the device failed is told only where its count of failures rose, or stands at its greatest value; where no reply tells it, the count is as it was.
     ensures device { IfOk result (λ replies. IsTrue (list_any is_device_reply replies.items) → Rose (K.count keeper.old) (K.count keeper.new)) }
+    ensures steady { IfOk result (λ replies. list_any is_device_reply replies.items ≡ false → K.count keeper.new ≡ K.count keeper.old) }
 {
     let mut replies = Vec::with_capacity(alloc, commands.len())?;
     for timed in commands {

@@ -1,5 +1,5 @@
 //! One step of the history machine.
-ghost use Rattle.std.specs.Prelude.{◌≡◌, ◌≤◌, ◌∷◌, [], IsTrue, Result};
+ghost use Rattle.std.specs.Prelude.{◌≡◌, ◌≤◌, ◌∷◌, [], IsTrue, Result, false};
 ghost use Rattle.vault_base.specs.declared.refusal.Refusal.{Refusal};
 ghost use Rattle.vault_core_model.specs.declared.reply.Answer.{Answer};
 ghost use Rattle.vault_core_model.specs.Halts.{Meets, is_device, is_device_reply, Rose};
@@ -54,6 +54,7 @@ pub fn step<K: Keeper>(
     ensures honest { K.is_honest keeper.new → K.is_honest keeper.old }
     ensures counted { K.count keeper.old ≤ K.count keeper.new }
     ensures device { IsTrue (is_device_reply result) → Rose (K.count keeper.old) (K.count keeper.new) }
+    ensures steady { is_device_reply result ≡ false → K.count keeper.new ≡ K.count keeper.old }
 {
     carry_out(alloc, keeper, at, who, command)
 }
@@ -70,6 +71,7 @@ fn carry_out<K: Keeper>(
     ensures honest { K.is_honest keeper.new → K.is_honest keeper.old }
     ensures counted { K.count keeper.old ≤ K.count keeper.new }
     ensures device { IsTrue (is_device_reply result) → Rose (K.count keeper.old) (K.count keeper.new) }
+    ensures steady { is_device_reply result ≡ false → K.count keeper.new ≡ K.count keeper.old }
 {
     match command {
         Command::AddDept(command) => reply_to(add_dept(keeper, at, who, command)),

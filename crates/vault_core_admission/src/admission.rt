@@ -35,6 +35,7 @@ pub(crate) fn find_access_to_put<K: Keeper>(
     ensures honest { K.is_honest keeper.new → K.is_honest keeper.old }
     ensures counted { K.count keeper.old ≤ K.count keeper.new }
     ensures device { IsTrue (is_device result) → Rose (K.count keeper.old) (K.count keeper.new) }
+    ensures steady { is_device result ≡ false → K.count keeper.new ≡ K.count keeper.old }
 {
     let access = find_access(keeper, at, who, &command.bucket, Right::Put)?;
     let may_retain = check_right_if(command.retention.is_some(), &access.caller, Right::Retain);
@@ -64,6 +65,7 @@ pub(crate) fn find_lock_to_admit<K: Keeper>(
     ensures honest { K.is_honest keeper.new → K.is_honest keeper.old }
     ensures counted { K.count keeper.old ≤ K.count keeper.new }
     ensures device { IsTrue (is_device result) → Rose (K.count keeper.old) (K.count keeper.new) }
+    ensures steady { is_device result ≡ false → K.count keeper.new ≡ K.count keeper.old }
 {
     check_size(&command.content)?;
     check_end(at, command.retention)?;

@@ -37,6 +37,7 @@ pub fn intake<K: Keeper>(
     ensures honest { K.is_honest keeper.new → K.is_honest keeper.old }
     ensures counted { K.count keeper.old ≤ K.count keeper.new }
     ensures device { IsTrue (is_device result) → Rose (K.count keeper.old) (K.count keeper.new) }
+    ensures steady { is_device result ≡ false → K.count keeper.new ≡ K.count keeper.old }
 {
     let access = find_access_to_put(keeper, at, who, &command.put)?;
     let answer = take_in_once(alloc, keeper, at, who, command, &access);
@@ -59,6 +60,7 @@ fn take_in_once<K: Keeper>(
     ensures honest { K.is_honest keeper.new → K.is_honest keeper.old }
     ensures counted { K.count keeper.old ≤ K.count keeper.new }
     ensures device { IsTrue (is_device result) → Rose (K.count keeper.old) (K.count keeper.new) }
+    ensures steady { is_device result ≡ false → K.count keeper.new ≡ K.count keeper.old }
 {
     let Some(note) = keeper.note(&command.put.bucket, &command.batch, command.line)? else {
         return take_in(alloc, keeper, at, who, command, access);
@@ -85,6 +87,7 @@ fn take_in<K: Keeper>(
     ensures honest { K.is_honest keeper.new → K.is_honest keeper.old }
     ensures counted { K.count keeper.old ≤ K.count keeper.new }
     ensures device { IsTrue (is_device result) → Rose (K.count keeper.old) (K.count keeper.new) }
+    ensures steady { is_device result ≡ false → K.count keeper.new ≡ K.count keeper.old }
 {
     let lock = find_lock_to_take_in(keeper, at, command, access)?;
     let id = find_id(keeper)?;
@@ -133,6 +136,7 @@ fn find_lock_to_take_in<K: Keeper>(
     ensures honest { K.is_honest keeper.new → K.is_honest keeper.old }
     ensures counted { K.count keeper.old ≤ K.count keeper.new }
     ensures device { IsTrue (is_device result) → Rose (K.count keeper.old) (K.count keeper.new) }
+    ensures steady { is_device result ≡ false → K.count keeper.new ≡ K.count keeper.old }
 {
     if command.line == 0 {
         return Err(Halt::Refused(Refusal::InvalidArgument));

@@ -1,5 +1,5 @@
 //! A put.
-ghost use Rattle.std.specs.Prelude.{◌≡◌, ◌≤◌, IsTrue};
+ghost use Rattle.std.specs.Prelude.{◌≡◌, ◌≤◌, IsTrue, false};
 ghost use Rattle.vault_core_model.specs.Halts.{Meets, is_device, Rose};
 ghost use Rattle.vault_core_model.specs.EntryOutcomes as outcome;
 
@@ -26,6 +26,7 @@ pub fn put<K: Keeper>(
     ensures honest { K.is_honest keeper.new → K.is_honest keeper.old }
     ensures counted { K.count keeper.old ≤ K.count keeper.new }
     ensures device { IsTrue (is_device result) → Rose (K.count keeper.old) (K.count keeper.new) }
+    ensures steady { is_device result ≡ false → K.count keeper.new ≡ K.count keeper.old }
 {
     let access = find_access_to_put(keeper, at, who, command)?;
     let found = find_lock_to_admit(keeper, at, command, &access);

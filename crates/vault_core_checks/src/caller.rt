@@ -29,6 +29,7 @@ fn check_clock<K: Keeper>(keeper: &mut K, at: Moment) -> Result<(), Halt>
     ensures honest { K.is_honest keeper.new → K.is_honest keeper.old }
     ensures counted { K.count keeper.old ≤ K.count keeper.new }
     ensures device { IsTrue (is_device result) → Rose (K.count keeper.old) (K.count keeper.new) }
+    ensures steady { is_device result ≡ false → K.count keeper.new ≡ K.count keeper.old }
 {
     let last = keeper.last()?;
     if last <= at {
@@ -49,6 +50,7 @@ pub fn find_caller<K: Keeper>(keeper: &mut K, at: Moment, who: &CallerName) -> R
     ensures honest { K.is_honest keeper.new → K.is_honest keeper.old }
     ensures counted { K.count keeper.old ≤ K.count keeper.new }
     ensures device { IsTrue (is_device result) → Rose (K.count keeper.old) (K.count keeper.new) }
+    ensures steady { is_device result ≡ false → K.count keeper.new ≡ K.count keeper.old }
 {
     check_clock(keeper, at)?;
     let Some(caller) = keeper.caller(who)? else {
@@ -99,6 +101,7 @@ pub fn find_administrator<K: Keeper>(
     ensures honest { K.is_honest keeper.new → K.is_honest keeper.old }
     ensures counted { K.count keeper.old ≤ K.count keeper.new }
     ensures device { IsTrue (is_device result) → Rose (K.count keeper.old) (K.count keeper.new) }
+    ensures steady { is_device result ≡ false → K.count keeper.new ≡ K.count keeper.old }
 {
     let caller = find_caller(keeper, at, who)?;
     check_right(&caller, Right::Admin)?;
@@ -133,6 +136,7 @@ pub fn find_access<K: Keeper>(
     ensures honest { K.is_honest keeper.new → K.is_honest keeper.old }
     ensures counted { K.count keeper.old ≤ K.count keeper.new }
     ensures device { IsTrue (is_device result) → Rose (K.count keeper.old) (K.count keeper.new) }
+    ensures steady { is_device result ≡ false → K.count keeper.new ≡ K.count keeper.old }
 {
     let caller = find_caller(keeper, at, who)?;
     let Some(bucket) = keeper.bucket(bucket)? else {

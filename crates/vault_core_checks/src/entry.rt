@@ -1,6 +1,6 @@
 //! Which entry is meant, and whether its lock permits its removal.
 ghost use Rattle.std.specs.Prelude.{◌≡◌, ◌≤◌, IsTrue, IfOk, IfErr, IfSome, false, Some, None, Err, option_map};
-ghost use Rattle.vault_core_model.specs.Halts.{Finds, is_device, is_device_refusal, is_refused, Rose};
+ghost use Rattle.vault_core_model.specs.Halts.{Finds, is_device, is_device_refusal, is_refused, is_device_given, Rose};
 ghost use Rattle.vault_core_model.specs.Places.{is_held_at, current};
 ghost use Rattle.vault_core_model.specs.Reads.{entry_of, lock_of, setting_of, count_by};
 ghost use Rattle.vault_core_model.specs.Sound.{Sound};
@@ -31,6 +31,7 @@ fn read_entry<K: Keeper>(keeper: &mut K, id: VersionId) -> Result<Option<Entry>,
     ensures honest { K.is_honest keeper.new → K.is_honest keeper.old }
     ensures counted { K.count keeper.old ≤ K.count keeper.new }
     ensures device { result ≡ Err Fault.Device → Rose (K.count keeper.old) (K.count keeper.new) }
+    ensures steady { is_device_given result ≡ false → K.count keeper.new ≡ K.count keeper.old }
 {
     keeper.entry(id)
 }
@@ -50,6 +51,7 @@ pub fn find_held<K: Keeper>(
     ensures honest { K.is_honest keeper.new → K.is_honest keeper.old }
     ensures counted { K.count keeper.old ≤ K.count keeper.new }
     ensures device { IsTrue (is_device result) → Rose (K.count keeper.old) (K.count keeper.new) }
+    ensures steady { is_device result ≡ false → K.count keeper.new ≡ K.count keeper.old }
 {
     let Some(entry) = read_entry(keeper, id)? else {
         return Err(Halt::Refused(Refusal::NoSuchVersion));
@@ -90,6 +92,7 @@ fn find_newest<K: Keeper>(
     ensures honest { K.is_honest keeper.new → K.is_honest keeper.old }
     ensures counted { K.count keeper.old ≤ K.count keeper.new }
     ensures device { result ≡ Err Fault.Device → Rose (K.count keeper.old) (K.count keeper.new) }
+    ensures steady { is_device_given result ≡ false → K.count keeper.new ≡ K.count keeper.old }
 {
     let Some(head) = keeper.head(bucket, key)? else {
         return Ok(None);
@@ -112,6 +115,7 @@ fn find_current<K: Keeper>(
     ensures honest { K.is_honest keeper.new → K.is_honest keeper.old }
     ensures counted { K.count keeper.old ≤ K.count keeper.new }
     ensures device { IsTrue (is_device result) → Rose (K.count keeper.old) (K.count keeper.new) }
+    ensures steady { is_device result ≡ false → K.count keeper.new ≡ K.count keeper.old }
 {
     let Some(entry) = find_newest(keeper, bucket, key)? else {
         return Err(Halt::Refused(Refusal::NoSuchKey(false)));
@@ -143,6 +147,7 @@ pub fn find_version<K: Keeper>(
     ensures honest { K.is_honest keeper.new → K.is_honest keeper.old }
     ensures counted { K.count keeper.old ≤ K.count keeper.new }
     ensures device { IsTrue (is_device result) → Rose (K.count keeper.old) (K.count keeper.new) }
+    ensures steady { is_device result ≡ false → K.count keeper.new ≡ K.count keeper.old }
 {
     let Some(id) = id else {
         return find_current(keeper, bucket, key);
@@ -160,6 +165,7 @@ pub fn find_setting<K: Keeper>(keeper: &mut K, id: VersionId) -> Result<LastSett
     ensures honest { K.is_honest keeper.new → K.is_honest keeper.old }
     ensures counted { K.count keeper.old ≤ K.count keeper.new }
     ensures device { IsTrue (is_device result) → Rose (K.count keeper.old) (K.count keeper.new) }
+    ensures steady { is_device result ≡ false → K.count keeper.new ≡ K.count keeper.old }
 {
     match keeper.setting(id)? {
         None => Ok(LastSetting {

@@ -24,6 +24,7 @@ pub fn check_quota<K: Keeper>(keeper: &mut K, dept: &DeptName, size: u64) -> Res
     ensures honest { K.is_honest keeper.new → K.is_honest keeper.old }
     ensures counted { K.count keeper.old ≤ K.count keeper.new }
     ensures device { IsTrue (is_device result) → Rose (K.count keeper.old) (K.count keeper.new) }
+    ensures steady { is_device result ≡ false → K.count keeper.new ≡ K.count keeper.old }
 {
     let row = keeper.totals(dept)?;
     if row.fits(size) {
@@ -42,6 +43,7 @@ pub fn find_id<K: Keeper>(keeper: &mut K) -> Result<VersionId, Halt>
     ensures honest { K.is_honest keeper.new → K.is_honest keeper.old }
     ensures counted { K.count keeper.old ≤ K.count keeper.new }
     ensures device { IsTrue (is_device result) → Rose (K.count keeper.old) (K.count keeper.new) }
+    ensures steady { is_device result ≡ false → K.count keeper.new ≡ K.count keeper.old }
 {
     let next = keeper.next_id()?;
     match id_of(next) {

@@ -27,6 +27,7 @@ pub fn certificate<K: Keeper>(
     ensures honest { K.is_honest keeper.new → K.is_honest keeper.old }
     ensures counted { K.count keeper.old ≤ K.count keeper.new }
     ensures device { IsTrue (is_device result) → Rose (K.count keeper.old) (K.count keeper.new) }
+    ensures steady { is_device result ≡ false → K.count keeper.new ≡ K.count keeper.old }
 {
     drop(find_access(keeper, at, who, &command.bucket, Right::Report)?);
     let entry = find_entry(keeper, &command.bucket, command.id)?;
@@ -41,6 +42,7 @@ fn find_entry<K: Keeper>(keeper: &mut K, bucket: &BucketName, id: VersionId) -> 
     ensures honest { K.is_honest keeper.new → K.is_honest keeper.old }
     ensures counted { K.count keeper.old ≤ K.count keeper.new }
     ensures device { IsTrue (is_device result) → Rose (K.count keeper.old) (K.count keeper.new) }
+    ensures steady { is_device result ≡ false → K.count keeper.new ≡ K.count keeper.old }
 {
     let Some(entry) = keeper.entry(id)? else {
         return Err(Halt::Refused(Refusal::NoSuchVersion));

@@ -1,6 +1,6 @@
 //! Listings of a bucket's versions: keys by their bytes, within a key newest first.
 ghost use Rattle.std.specs.Prelude.{◌≡◌, ◌≤◌, ◌&&◌, IsTrue, IfOk, [], Err, Some, if◌then◌else◌, flat_map, false};
-ghost use Rattle.vault_core_model.specs.Halts.{Finds, Meets, is_device, Rose};
+ghost use Rattle.vault_core_model.specs.Halts.{Finds, Meets, is_device, is_device_given, Rose};
 ghost use Rattle.vault_core_model.specs.Checks.{check};
 ghost use Rattle.vault_core_model.specs.Reads.{entry_of};
 ghost use Rattle.std.specs.Str.{bytes_eq};
@@ -39,6 +39,7 @@ pub fn list_versions<K: Keeper>(
     ensures honest { K.is_honest keeper.new → K.is_honest keeper.old }
     ensures counted { K.count keeper.old ≤ K.count keeper.new }
     ensures device { IsTrue (is_device result) → Rose (K.count keeper.old) (K.count keeper.new) }
+    ensures steady { is_device result ≡ false → K.count keeper.new ≡ K.count keeper.old }
 {
     drop(find_access(keeper, at, who, &command.bucket, Right::List)?);
     check_most(command.most)?;
@@ -70,6 +71,7 @@ fn find_page<K: Keeper>(
     ensures honest { K.is_honest keeper.new → K.is_honest keeper.old }
     ensures counted { K.count keeper.old ≤ K.count keeper.new }
     ensures device { result ≡ Err Fault.Device → Rose (K.count keeper.old) (K.count keeper.new) }
+    ensures steady { is_device_given result ≡ false → K.count keeper.new ≡ K.count keeper.old }
 {
     let mut page = Page {
         entries: Listing::new(alloc),
@@ -92,6 +94,7 @@ fn list_first<K: Keeper>(
     ensures honest { K.is_honest keeper.new → K.is_honest keeper.old }
     ensures counted { K.count keeper.old ≤ K.count keeper.new }
     ensures device { result ≡ Err Fault.Device → Rose (K.count keeper.old) (K.count keeper.new) }
+    ensures steady { is_device_given result ≡ false → K.count keeper.new ≡ K.count keeper.old }
 {
     if command.after_id.is_none() {
         return Ok(());
@@ -115,6 +118,7 @@ fn list_behind<K: Keeper>(
     ensures honest { K.is_honest keeper.new → K.is_honest keeper.old }
     ensures counted { K.count keeper.old ≤ K.count keeper.new }
     ensures device { result ≡ Err Fault.Device → Rose (K.count keeper.old) (K.count keeper.new) }
+    ensures steady { is_device_given result ≡ false → K.count keeper.new ≡ K.count keeper.old }
 {
     let mut after = command.after_key.clone()?;
     for _ in 0..MOST_PAGES {
@@ -139,6 +143,7 @@ fn list_keys_behind<K: Keeper>(
     ensures honest { K.is_honest keeper.new → K.is_honest keeper.old }
     ensures counted { K.count keeper.old ≤ K.count keeper.new }
     ensures device { result ≡ Err Fault.Device → Rose (K.count keeper.old) (K.count keeper.new) }
+    ensures steady { is_device_given result ≡ false → K.count keeper.new ≡ K.count keeper.old }
 {
     if page.more {
         return Ok(None);
@@ -167,6 +172,7 @@ fn list_keys<K: Keeper>(
     ensures honest { K.is_honest keeper.new → K.is_honest keeper.old }
     ensures counted { K.count keeper.old ≤ K.count keeper.new }
     ensures device { result ≡ Err Fault.Device → Rose (K.count keeper.old) (K.count keeper.new) }
+    ensures steady { is_device_given result ≡ false → K.count keeper.new ≡ K.count keeper.old }
 {
     for key in keys {
         list_key(keeper, page, command, key)?;
@@ -187,6 +193,7 @@ fn list_key<K: Keeper>(
     ensures honest { K.is_honest keeper.new → K.is_honest keeper.old }
     ensures counted { K.count keeper.old ≤ K.count keeper.new }
     ensures device { result ≡ Err Fault.Device → Rose (K.count keeper.old) (K.count keeper.new) }
+    ensures steady { is_device_given result ≡ false → K.count keeper.new ≡ K.count keeper.old }
 {
     if page.more || !has_prefix(command, key) {
         return Ok(());
@@ -215,6 +222,7 @@ fn list_entry<K: Keeper>(
     ensures honest { K.is_honest keeper.new → K.is_honest keeper.old }
     ensures counted { K.count keeper.old ≤ K.count keeper.new }
     ensures device { result ≡ Err Fault.Device → Rose (K.count keeper.old) (K.count keeper.new) }
+    ensures steady { is_device_given result ≡ false → K.count keeper.new ≡ K.count keeper.old }
 {
     if page.more || !is_asked(command, key, id) {
         return Ok(());

@@ -2,6 +2,7 @@
 use Rattle.std.specs.Prelude.{ℕ, ◌≡◌, ◌<◌, Bool, true, false, Result, Ok, Err}
 use Rattle.vault_base.specs.declared.refusal.Refusal.{Refusal}
 use Rattle.vault_base.specs.declared.refusal.Refusal.TheVariants as refusal
+use Rattle.vault_core_model.specs.declared.halt.Fault.{Fault}
 use Rattle.vault_core_model.specs.declared.halt.Fault.TheVariants as fault
 use Rattle.vault_core_model.specs.declared.halt.Halt.{Halt}
 use Rattle.vault_core_model.specs.declared.halt.Halt.TheVariants as halt
@@ -29,9 +30,17 @@ abbrev pub is_device_refusal : Refusal → Bool
 is_device_refusal refusal.Device = true
 is_device_refusal _ = false
 
+abbrev pub is_device_fault : Fault → Bool
+is_device_fault fault.Memory = false
+is_device_fault fault.Device = true
+
+-- what a keeper gave is that its device failed
+abbrev pub is_device_given : {X : Type 0} → Result X Fault → Bool
+is_device_given (Ok x) = false
+is_device_given (Err f) = is_device_fault f
+
 abbrev pub is_device_halt : Halt → Bool
-is_device_halt (halt.Fault fault.Device) = true
-is_device_halt (halt.Fault fault.Memory) = false
+is_device_halt (halt.Fault f) = is_device_fault f
 is_device_halt (halt.Refused r) = is_device_refusal r
 
 -- the answer is that the device failed

@@ -1,11 +1,11 @@
 //! What keeps a vault.
-ghost use Rattle.std.specs.Prelude.{◌≡◌, ◌≤◌, ◌<◌, ◌+◌, ℕ, List, length, IfOk, OnOk, OnErr};
+ghost use Rattle.std.specs.Prelude.{◌≡◌, ◌≤◌, ◌<◌, ◌+◌, ℕ, List, length, IfOk, OnOk, OnErr, false};
 ghost use Rattle.vault_core_model.specs.Vault.{Vault, caller_of, config_of, has_department, next_id, note_of, rules_of};
 ghost use Rattle.vault_core_model.specs.Reads.{content_of, entries_of, entry_of, head_of, keys_after, removed_entries, setting_of};
 ghost use Rattle.vault_core_model.specs.Change.{changed};
 ghost use Rattle.vault_core_model.specs.Allowed.{Allows};
 ghost use Rattle.vault_core_model.specs.Sound.{Sound};
-ghost use Rattle.vault_core_model.specs.Halts.{Rose};
+ghost use Rattle.vault_core_model.specs.Halts.{is_device_given, Rose};
 ghost use Rattle.vault_core_model.specs.Handing.{Hands, Taking};
 ghost use Rattle.vault_core_model.specs.Totals.{IsRowFor};
 
@@ -35,7 +35,7 @@ pub trait Sink {
 ///
 /// A read answers what its name says of the vault and changes nothing, also where it fails. What it says
 /// holds while the device has returned what was written (`is_honest`). `Device` comes only where the count
-/// of failures rose, or stands at its greatest value.
+/// of failures rose, or stands at its greatest value; and where the count rose, `Device` is what comes.
 pub trait Keeper {
     /// Its device has returned what was written; memory always has.
     ghost is_honest: { Self → Type 0 };
@@ -58,7 +58,8 @@ pub trait Keeper {
         ensures same { vault self.new ≡ vault self.old }
         ensures honest { is_honest self.new → is_honest self.old }
         ensures counted { count self.old ≤ count self.new }
-        ensures device { result ≡ Err Fault.Device → Rose (count self.old) (count self.new) };
+        ensures device { result ≡ Err Fault.Device → Rose (count self.old) (count self.new) }
+        ensures steady { is_device_given result ≡ false → count self.new ≡ count self.old };
 
     /// The id that the next entry gets.
     fn next_id(&mut self) -> Result<u64, Fault>
@@ -66,7 +67,8 @@ pub trait Keeper {
         ensures same { vault self.new ≡ vault self.old }
         ensures honest { is_honest self.new → is_honest self.old }
         ensures counted { count self.old ≤ count self.new }
-        ensures device { result ≡ Err Fault.Device → Rose (count self.old) (count self.new) };
+        ensures device { result ≡ Err Fault.Device → Rose (count self.old) (count self.new) }
+        ensures steady { is_device_given result ≡ false → count self.new ≡ count self.old };
 
     /// The caller of that name, open or closed.
     fn caller(&mut self, name: &CallerName) -> Result<Option<Caller>, Fault>
@@ -74,7 +76,8 @@ pub trait Keeper {
         ensures same { vault self.new ≡ vault self.old }
         ensures honest { is_honest self.new → is_honest self.old }
         ensures counted { count self.old ≤ count self.new }
-        ensures device { result ≡ Err Fault.Device → Rose (count self.old) (count self.new) };
+        ensures device { result ≡ Err Fault.Device → Rose (count self.old) (count self.new) }
+        ensures steady { is_device_given result ≡ false → count self.new ≡ count self.old };
 
     /// Whether there is such a department.
     fn dept(&mut self, name: &DeptName) -> Result<bool, Fault>
@@ -82,7 +85,8 @@ pub trait Keeper {
         ensures same { vault self.new ≡ vault self.old }
         ensures honest { is_honest self.new → is_honest self.old }
         ensures counted { count self.old ≤ count self.new }
-        ensures device { result ≡ Err Fault.Device → Rose (count self.old) (count self.new) };
+        ensures device { result ≡ Err Fault.Device → Rose (count self.old) (count self.new) }
+        ensures steady { is_device_given result ≡ false → count self.new ≡ count self.old };
 
     /// The department and the default retention of a bucket.
     fn bucket(&mut self, name: &BucketName) -> Result<Option<BucketConfig>, Fault>
@@ -90,7 +94,8 @@ pub trait Keeper {
         ensures same { vault self.new ≡ vault self.old }
         ensures honest { is_honest self.new → is_honest self.old }
         ensures counted { count self.old ≤ count self.new }
-        ensures device { result ≡ Err Fault.Device → Rose (count self.old) (count self.new) };
+        ensures device { result ≡ Err Fault.Device → Rose (count self.old) (count self.new) }
+        ensures steady { is_device_given result ≡ false → count self.new ≡ count self.old };
 
     /// The lifecycle rules of a bucket; none where it has none.
     fn rules(&mut self, bucket: &BucketName) -> Result<Option<RuleSet>, Fault>
@@ -98,7 +103,8 @@ pub trait Keeper {
         ensures same { vault self.new ≡ vault self.old }
         ensures honest { is_honest self.new → is_honest self.old }
         ensures counted { count self.old ≤ count self.new }
-        ensures device { result ≡ Err Fault.Device → Rose (count self.old) (count self.new) };
+        ensures device { result ≡ Err Fault.Device → Rose (count self.old) (count self.new) }
+        ensures steady { is_device_given result ≡ false → count self.new ≡ count self.old };
 
     /// The newest held entry of a key and how many are held; none where none is.
     fn head(&mut self, bucket: &BucketName, key: &ObjectKey) -> Result<Option<Head>, Fault>
@@ -106,7 +112,8 @@ pub trait Keeper {
         ensures same { vault self.new ≡ vault self.old }
         ensures honest { is_honest self.new → is_honest self.old }
         ensures counted { count self.old ≤ count self.new }
-        ensures device { result ≡ Err Fault.Device → Rose (count self.old) (count self.new) };
+        ensures device { result ≡ Err Fault.Device → Rose (count self.old) (count self.new) }
+        ensures steady { is_device_given result ≡ false → count self.new ≡ count self.old };
 
     /// The held entries of a key, oldest first.
     fn entries(&mut self, bucket: &BucketName, key: &ObjectKey) -> Result<Vec<Held>, Fault>
@@ -114,7 +121,8 @@ pub trait Keeper {
         ensures same { vault self.new ≡ vault self.old }
         ensures honest { is_honest self.new → is_honest self.old }
         ensures counted { count self.old ≤ count self.new }
-        ensures device { result ≡ Err Fault.Device → Rose (count self.old) (count self.new) };
+        ensures device { result ≡ Err Fault.Device → Rose (count self.old) (count self.new) }
+        ensures steady { is_device_given result ≡ false → count self.new ≡ count self.old };
 
     /// The entry of an id, held or removed.
     fn entry(&mut self, id: VersionId) -> Result<Option<Entry>, Fault>
@@ -122,7 +130,8 @@ pub trait Keeper {
         ensures same { vault self.new ≡ vault self.old }
         ensures honest { is_honest self.new → is_honest self.old }
         ensures counted { count self.old ≤ count self.new }
-        ensures device { result ≡ Err Fault.Device → Rose (count self.old) (count self.new) };
+        ensures device { result ≡ Err Fault.Device → Rose (count self.old) (count self.new) }
+        ensures steady { is_device_given result ≡ false → count self.new ≡ count self.old };
 
     /// The last setting of a version, and how many it has; a marker has none.
     fn setting(&mut self, id: VersionId) -> Result<Option<LastSetting>, Fault>
@@ -130,7 +139,8 @@ pub trait Keeper {
         ensures same { vault self.new ≡ vault self.old }
         ensures honest { is_honest self.new → is_honest self.old }
         ensures counted { count self.old ≤ count self.new }
-        ensures device { result ≡ Err Fault.Device → Rose (count self.old) (count self.new) };
+        ensures device { result ≡ Err Fault.Device → Rose (count self.old) (count self.new) }
+        ensures steady { is_device_given result ≡ false → count self.new ≡ count self.old };
 
     /// The bytes of a held version.
     fn content(&mut self, id: VersionId) -> Result<Option<Content>, Fault>
@@ -138,7 +148,8 @@ pub trait Keeper {
         ensures same { vault self.new ≡ vault self.old }
         ensures honest { is_honest self.new → is_honest self.old }
         ensures counted { count self.old ≤ count self.new }
-        ensures device { result ≡ Err Fault.Device → Rose (count self.old) (count self.new) };
+        ensures device { result ≡ Err Fault.Device → Rose (count self.old) (count self.new) }
+        ensures steady { is_device_given result ≡ false → count self.new ≡ count self.old };
 
     /// The first of the bucket's keys behind `after` that have a held entry, by their bytes: at most `most`.
     fn keys(
@@ -151,7 +162,8 @@ pub trait Keeper {
         ensures same { vault self.new ≡ vault self.old }
         ensures honest { is_honest self.new → is_honest self.old }
         ensures counted { count self.old ≤ count self.new }
-        ensures device { result ≡ Err Fault.Device → Rose (count self.old) (count self.new) };
+        ensures device { result ≡ Err Fault.Device → Rose (count self.old) (count self.new) }
+        ensures steady { is_device_given result ≡ false → count self.new ≡ count self.old };
 
     /// The note of an accepted line of an intake batch.
     fn note(
@@ -164,7 +176,8 @@ pub trait Keeper {
         ensures same { vault self.new ≡ vault self.old }
         ensures honest { is_honest self.new → is_honest self.old }
         ensures counted { count self.old ≤ count self.new }
-        ensures device { result ≡ Err Fault.Device → Rose (count self.old) (count self.new) };
+        ensures device { result ≡ Err Fault.Device → Rose (count self.old) (count self.new) }
+        ensures steady { is_device_given result ≡ false → count self.new ≡ count self.old };
 
     /// Hands on each removed entry by rising id: true after all of them, false where the sink refused.
     fn walk_removed<S: Sink>(&mut self, sink: &mut S) -> Result<bool, Fault>
@@ -172,7 +185,8 @@ pub trait Keeper {
         ensures same { vault self.new ≡ vault self.old }
         ensures honest { is_honest self.new → is_honest self.old }
         ensures counted { count self.old ≤ count self.new }
-        ensures device { result ≡ Err Fault.Device → Rose (count self.old) (count self.new) };
+        ensures device { result ≡ Err Fault.Device → Rose (count self.old) (count self.new) }
+        ensures steady { is_device_given result ≡ false → count self.new ≡ count self.old };
 
     /// The sums of a department.
     fn totals(&mut self, dept: &DeptName) -> Result<Row, Fault>
@@ -180,7 +194,8 @@ pub trait Keeper {
         ensures same { vault self.new ≡ vault self.old }
         ensures honest { is_honest self.new → is_honest self.old }
         ensures counted { count self.old ≤ count self.new }
-        ensures device { result ≡ Err Fault.Device → Rose (count self.old) (count self.new) };
+        ensures device { result ≡ Err Fault.Device → Rose (count self.old) (count self.new) }
+        ensures steady { is_device_given result ≡ false → count self.new ≡ count self.old };
 
     /// Makes a change at a moment, which becomes the last one; or changes nothing.
     fn apply(&mut self, at: Moment, change: &Change) -> Result<(), Fault>
@@ -190,7 +205,8 @@ pub trait Keeper {
         ensures err { OnErr result (vault self.new ≡ vault self.old) }
         ensures honest { is_honest self.new → is_honest self.old }
         ensures counted { count self.old ≤ count self.new }
-        ensures device { result ≡ Err Fault.Device → Rose (count self.old) (count self.new) };
+        ensures device { result ≡ Err Fault.Device → Rose (count self.old) (count self.new) }
+        ensures steady { is_device_given result ≡ false → count self.new ≡ count self.old };
 }
 
 /// Makes a change at a moment, as the keeper does, and drops it.
@@ -204,6 +220,7 @@ pub fn make_change<K: Keeper>(keeper: &mut K, at: Moment, change: Change) -> Res
     ensures honest { K.is_honest keeper.new → K.is_honest keeper.old }
     ensures counted { K.count keeper.old ≤ K.count keeper.new }
     ensures device { result ≡ Err Fault.Device → Rose (K.count keeper.old) (K.count keeper.new) }
+    ensures steady { is_device_given result ≡ false → K.count keeper.new ≡ K.count keeper.old }
 {
     keeper.apply(at, &change)
 }

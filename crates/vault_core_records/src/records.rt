@@ -1,6 +1,6 @@
 //! Departments, callers and buckets, and the report on a department.
-ghost use Rattle.std.specs.Prelude.{◌≡◌, ◌≤◌, IsTrue, IfOk, Err, IsSome};
-ghost use Rattle.vault_core_model.specs.Halts.{Meets, is_device, Rose};
+ghost use Rattle.std.specs.Prelude.{◌≡◌, ◌≤◌, IsTrue, IfOk, Err, IsSome, false};
+ghost use Rattle.vault_core_model.specs.Halts.{Meets, is_device, is_device_given, Rose};
 ghost use Rattle.vault_core_model.specs.Sound.{Sound};
 ghost use Rattle.vault_core_model.specs.RecordOutcomes as outcome;
 
@@ -28,6 +28,7 @@ pub fn add_dept<K: Keeper>(
     ensures honest { K.is_honest keeper.new → K.is_honest keeper.old }
     ensures counted { K.count keeper.old ≤ K.count keeper.new }
     ensures device { IsTrue (is_device result) → Rose (K.count keeper.old) (K.count keeper.new) }
+    ensures steady { is_device result ≡ false → K.count keeper.new ≡ K.count keeper.old }
 {
     drop(find_administrator(keeper, at, who)?);
     if keeper.dept(&command.dept)? {
@@ -48,6 +49,7 @@ pub fn add_caller<K: Keeper>(
     ensures honest { K.is_honest keeper.new → K.is_honest keeper.old }
     ensures counted { K.count keeper.old ≤ K.count keeper.new }
     ensures device { IsTrue (is_device result) → Rose (K.count keeper.old) (K.count keeper.new) }
+    ensures steady { is_device result ≡ false → K.count keeper.new ≡ K.count keeper.old }
 {
     drop(find_administrator(keeper, at, who)?);
     check_dept_if_given(keeper, &command.dept)?;
@@ -84,6 +86,7 @@ pub fn close_caller<K: Keeper>(
     ensures honest { K.is_honest keeper.new → K.is_honest keeper.old }
     ensures counted { K.count keeper.old ≤ K.count keeper.new }
     ensures device { IsTrue (is_device result) → Rose (K.count keeper.old) (K.count keeper.new) }
+    ensures steady { is_device result ≡ false → K.count keeper.new ≡ K.count keeper.old }
 {
     drop(find_administrator(keeper, at, who)?);
     let found = keeper.caller(&command.caller)?;
@@ -117,6 +120,7 @@ pub fn add_bucket<K: Keeper>(
     ensures honest { K.is_honest keeper.new → K.is_honest keeper.old }
     ensures counted { K.count keeper.old ≤ K.count keeper.new }
     ensures device { IsTrue (is_device result) → Rose (K.count keeper.old) (K.count keeper.new) }
+    ensures steady { is_device result ≡ false → K.count keeper.new ≡ K.count keeper.old }
 {
     drop(find_administrator(keeper, at, who)?);
     check_dept(keeper, &command.dept)?;
@@ -142,6 +146,7 @@ pub fn report<K: Keeper>(
     ensures honest { K.is_honest keeper.new → K.is_honest keeper.old }
     ensures counted { K.count keeper.old ≤ K.count keeper.new }
     ensures device { IsTrue (is_device result) → Rose (K.count keeper.old) (K.count keeper.new) }
+    ensures steady { is_device result ≡ false → K.count keeper.new ≡ K.count keeper.old }
 {
     let caller = find_caller(keeper, at, who)?;
     let allowed = check_report(&caller, &command.dept);
@@ -160,6 +165,7 @@ fn sums_of<K: Keeper>(keeper: &mut K, dept: &DeptName, at: Moment) -> Result<rep
     ensures honest { K.is_honest keeper.new → K.is_honest keeper.old }
     ensures counted { K.count keeper.old ≤ K.count keeper.new }
     ensures device { result ≡ Err Fault.Device → Rose (K.count keeper.old) (K.count keeper.new) }
+    ensures steady { is_device_given result ≡ false → K.count keeper.new ≡ K.count keeper.old }
 {
     let row = keeper.totals(dept)?;
     Ok(reply::Report {

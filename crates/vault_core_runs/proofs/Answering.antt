@@ -34,7 +34,8 @@ answers_stopped v b t ps (halt.Fault fault.Memory) y v2 m = by_fault v b t ps (h
 answers_stopped v b t ps (halt.Fault fault.Device) y v2 m = by_fault v b t ps (halt.Fault fault.Device) y v2 m
 answers_stopped v b t ps (halt.Refused r) y v2 m =
     let told : m.n ≡ y.changes = sym (m.counted ∙ zero-add m.n) in
-    (ps, refl, sym told ∙ m.why.1, subst (λ (n : ℕ). n < length ps) told m.why.2, subst (λ (n : ℕ). v2 ≡ made v b t (take n ps)) told m.left)
+    let P : Refusal → Type 0 = λ s. AnswersRun (Ok ps) v b t (Stopped y.changes (stop_of (halt.Refused s))) v2 in
+    subst P (sym m.why.0) (ps, refl, sym told ∙ m.why.1, subst (λ (n : ℕ). n < length ps) told m.why.2, subst (λ (n : ℕ). v2 ≡ made v b t (take n ps)) told m.left)
 
 -- a run over the bucket that is asked for answers as it is judged
 pub answers_as_judged : (v w v2 : Vault) (b : List ℕ) (t : ℕ) (r : BucketRun) (judged : Result (List Planned) Refusal) (reply : Reply)

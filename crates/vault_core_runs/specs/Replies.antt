@@ -1,6 +1,7 @@
 -- What a run begins with, and its replies.
 use Rattle.std.specs.Prelude.{◌≡◌, ℕ, List, [], Option, Some, None, Result, Ok, Err}
 use Rattle.vault_base.specs.declared.refusal.Refusal.{Refusal}
+use Rattle.vault_base.specs.declared.refusal.Refusal.TheVariants as refusal
 use Rattle.vault_rules.specs.KeyPlan.{Planned}
 use Rattle.vault_core_model.specs.declared.halt.Fault.TheVariants as fault
 use Rattle.vault_core_model.specs.declared.halt.Halt.{Halt}
@@ -40,6 +41,7 @@ not_begun (halt.Fault fault.Device) = reply.Stopped 0 stop.Device
 
 -- what stops a run that has begun
 abbrev pub stop_of : Halt → Stop
-stop_of (halt.Refused r) = stop.VaultFull
+stop_of (halt.Refused refusal.Device) = stop.Device
+stop_of (halt.Refused _) = stop.VaultFull
 stop_of (halt.Fault fault.Memory) = stop.Memory
 stop_of (halt.Fault fault.Device) = stop.Device

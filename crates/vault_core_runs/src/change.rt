@@ -1,5 +1,5 @@
 //! One step of a run, made as one change.
-ghost use Rattle.std.specs.Prelude.{◌≡◌, ◌≤◌, ◌<◌, ◌+◌, ℕ, List, length, IsTrue, IfOk, IfErr, IfSome, OnOk};
+ghost use Rattle.std.specs.Prelude.{◌≡◌, ◌≤◌, ◌<◌, ◌+◌, ℕ, List, length, IsTrue, IfOk, IfErr, IfSome, OnOk, false};
 ghost use Rattle.vault_base.specs.declared.refusal.Refusal.TheVariants as refusals;
 ghost use Rattle.vault_core_model.specs.declared.records.Author.TheVariants as author;
 ghost use Rattle.vault_core_model.specs.declared.records.Cause.TheVariants as cause;
@@ -46,6 +46,7 @@ pub fn make_step<K: Keeper>(
     ensures honest { K.is_honest keeper.new → K.is_honest keeper.old }
     ensures counted { K.count keeper.old ≤ K.count keeper.new }
     ensures device { IsTrue (is_device result) → Rose (K.count keeper.old) (K.count keeper.new) }
+    ensures steady { is_device result ≡ false → K.count keeper.new ≡ K.count keeper.old }
 {
     let Some(more) = one_more(counts, step) else {
         return Err(Halt::Fault(Fault::Memory));
@@ -117,6 +118,7 @@ fn find_change<K: Keeper>(
     ensures honest { K.is_honest keeper.new → K.is_honest keeper.old }
     ensures counted { K.count keeper.old ≤ K.count keeper.new }
     ensures device { IsTrue (is_device result) → Rose (K.count keeper.old) (K.count keeper.new) }
+    ensures steady { is_device result ≡ false → K.count keeper.new ≡ K.count keeper.old }
 {
     match *step {
         Step::Mark(rule) => find_mark(alloc, keeper, run, key, rule),
@@ -142,6 +144,7 @@ fn find_mark<K: Keeper>(
     ensures honest { K.is_honest keeper.new → K.is_honest keeper.old }
     ensures counted { K.count keeper.old ≤ K.count keeper.new }
     ensures device { IsTrue (is_device result) → Rose (K.count keeper.old) (K.count keeper.new) }
+    ensures steady { is_device result ≡ false → K.count keeper.new ≡ K.count keeper.old }
 {
     let id = find_id(keeper)?;
     let admission = Admission {

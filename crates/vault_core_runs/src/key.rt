@@ -1,5 +1,5 @@
 //! The steps of a run at one key.
-ghost use Rattle.std.specs.Prelude.{◌≡◌, ◌≤◌, ℕ, List, IsTrue, IfOk, OnOk};
+ghost use Rattle.std.specs.Prelude.{◌≡◌, ◌≤◌, ℕ, List, IsTrue, IfOk, OnOk, false};
 ghost use Rattle.vault_core_model.specs.Halts.{is_device, Rose};
 ghost use Rattle.vault_core_model.specs.Plan.{rules_in};
 ghost use Rattle.vault_core_model.specs.Reads.{entries_of};
@@ -29,6 +29,7 @@ pub fn run_key<K: Keeper>(
     ensures honest { K.is_honest keeper.new → K.is_honest keeper.old }
     ensures counted { K.count keeper.old ≤ K.count keeper.new }
     ensures device { IsTrue (is_device result) → Rose (K.count keeper.old) (K.count keeper.new) }
+    ensures steady { is_device result ≡ false → K.count keeper.new ≡ K.count keeper.old }
 {
     let held = keeper.entries(&run.bucket, key)?;
     let steps = plan_of(alloc, run, key, &held)?;
@@ -85,6 +86,7 @@ fn make_steps<K: Keeper>(
     ensures honest { K.is_honest keeper.new → K.is_honest keeper.old }
     ensures counted { K.count keeper.old ≤ K.count keeper.new }
     ensures device { IsTrue (is_device result) → Rose (K.count keeper.old) (K.count keeper.new) }
+    ensures steady { is_device result ≡ false → K.count keeper.new ≡ K.count keeper.old }
 {
     for step in steps {
         make_step(alloc, keeper, run, key, step, counts)?;

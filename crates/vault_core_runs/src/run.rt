@@ -1,6 +1,6 @@
 //! The command that runs the lifecycle rules over a bucket.
-ghost use Rattle.std.specs.Prelude.{◌≡◌, ◌≤◌, IsTrue};
-ghost use Rattle.vault_core_model.specs.Halts.{is_device, is_device_reply, Rose};
+ghost use Rattle.std.specs.Prelude.{◌≡◌, ◌≤◌, IsTrue, false};
+ghost use Rattle.vault_core_model.specs.Halts.{is_device, is_device_halt, is_device_reply, is_device_stop, Rose};
 ghost use Rattle.vault_core_model.specs.Plan.{plan, rules_in};
 ghost use Rattle.vault_core_model.specs.RunOutcome.{planned_run, AnswersRun};
 ghost use Rattle.vault_core_run_laws.specs.KeyRuns.{MayRun};
@@ -11,6 +11,7 @@ use crate::pages::run_pages;
 use std::alloc::Global;
 use vault_base::moment::Moment;
 use vault_base::name::CallerName;
+use vault_base::refusal::Refusal;
 use vault_base::right::Right;
 use vault_core_checks::caller::find_access;
 use vault_core_model::command::Run;
@@ -34,6 +35,7 @@ pub fn run_rules<K: Keeper>(
     ensures honest { K.is_honest keeper.new → K.is_honest keeper.old }
     ensures counted { K.count keeper.old ≤ K.count keeper.new }
     ensures device { IsTrue (is_device_reply result) → Rose (K.count keeper.old) (K.count keeper.new) }
+    ensures steady { is_device_reply result ≡ false → K.count keeper.new ≡ K.count keeper.old }
 {
     match find_run(keeper, at, who, command) {
         Ok(Some(run)) => run_bucket(alloc, keeper, &run),
@@ -61,6 +63,7 @@ fn find_run<K: Keeper>(
     ensures honest { K.is_honest keeper.new → K.is_honest keeper.old }
     ensures counted { K.count keeper.old ≤ K.count keeper.new }
     ensures device { IsTrue (is_device result) → Rose (K.count keeper.old) (K.count keeper.new) }
+    ensures steady { is_device result ≡ false → K.count keeper.new ≡ K.count keeper.old }
 {
     drop(find_access(keeper, at, who, &command.bucket, Right::Run)?);
     let Some(rules) = keeper.rules(&command.bucket)? else {
@@ -86,9 +89,11 @@ fn not_begun(halt: Halt) -> Reply
 
 /// What stops a run that has begun; the only check within it is that of the ids.
 fn stop_of(halt: Halt) -> Stop
-    ensures { result ≡ stop_of halt }
+    ensures told { result ≡ stop_of halt }
+    ensures device { is_device_stop result ≡ is_device_halt halt }
 {
     match halt {
+        Halt::Refused(Refusal::Device) => Stop::Device,
         Halt::Refused(_) => Stop::VaultFull,
         Halt::Fault(Fault::Memory) => Stop::Memory,
         Halt::Fault(Fault::Device) => Stop::Device,
@@ -103,6 +108,7 @@ fn run_bucket<K: Keeper>(alloc: Global, keeper: &mut K, run: &BucketRun) -> Repl
     ensures honest { K.is_honest keeper.new → K.is_honest keeper.old }
     ensures counted { K.count keeper.old ≤ K.count keeper.new }
     ensures device { IsTrue (is_device_reply result) → Rose (K.count keeper.old) (K.count keeper.new) }
+    ensures steady { is_device_reply result ≡ false → K.count keeper.new ≡ K.count keeper.old }
 {
     let mut counts = NO_CHANGE;
     match run_pages(alloc, keeper, run, &mut counts) {

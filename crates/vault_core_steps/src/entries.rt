@@ -1,6 +1,6 @@
 //! Entries: reading, delete markers, removal.
-ghost use Rattle.std.specs.Prelude.{◌≡◌, ◌≤◌, [], IsTrue, IfOk, OnOk, None, unwrap_or};
-ghost use Rattle.vault_core_model.specs.Halts.{Finds, Meets, is_device, Rose};
+ghost use Rattle.std.specs.Prelude.{◌≡◌, ◌≤◌, [], IsTrue, IfOk, OnOk, None, unwrap_or, false};
+ghost use Rattle.vault_core_model.specs.Halts.{Finds, Meets, is_device, is_device_given, Rose};
 ghost use Rattle.vault_core_model.specs.declared.records.Author.TheVariants as author;
 ghost use Rattle.vault_core_model.specs.Allowed.{IsAdmission, IsHeldId};
 ghost use Rattle.vault_core_model.specs.EntryOutcomes as outcome;
@@ -35,6 +35,7 @@ pub fn get<K: Keeper>(
     ensures honest { K.is_honest keeper.new → K.is_honest keeper.old }
     ensures counted { K.count keeper.old ≤ K.count keeper.new }
     ensures device { IsTrue (is_device result) → Rose (K.count keeper.old) (K.count keeper.new) }
+    ensures steady { is_device result ≡ false → K.count keeper.new ≡ K.count keeper.old }
 {
     drop(find_access(keeper, at, who, &command.bucket, Right::Get)?);
     let entry = find_version(keeper, &command.bucket, &command.key, command.id)?;
@@ -50,6 +51,7 @@ fn read_content<K: Keeper>(alloc: Global, keeper: &mut K, id: VersionId) -> Resu
     ensures honest { K.is_honest keeper.new → K.is_honest keeper.old }
     ensures counted { K.count keeper.old ≤ K.count keeper.new }
     ensures device { result ≡ Err Fault.Device → Rose (K.count keeper.old) (K.count keeper.new) }
+    ensures steady { is_device_given result ≡ false → K.count keeper.new ≡ K.count keeper.old }
 {
     match keeper.content(id)? {
         Some(content) => Ok(content),
@@ -68,6 +70,7 @@ pub fn head<K: Keeper>(
     ensures honest { K.is_honest keeper.new → K.is_honest keeper.old }
     ensures counted { K.count keeper.old ≤ K.count keeper.new }
     ensures device { IsTrue (is_device result) → Rose (K.count keeper.old) (K.count keeper.new) }
+    ensures steady { is_device result ≡ false → K.count keeper.new ≡ K.count keeper.old }
 {
     drop(find_access(keeper, at, who, &command.bucket, Right::Get)?);
     let entry = find_version(keeper, &command.bucket, &command.key, command.id)?;
@@ -87,6 +90,7 @@ pub fn delete<K: Keeper>(
     ensures honest { K.is_honest keeper.new → K.is_honest keeper.old }
     ensures counted { K.count keeper.old ≤ K.count keeper.new }
     ensures device { IsTrue (is_device result) → Rose (K.count keeper.old) (K.count keeper.new) }
+    ensures steady { is_device result ≡ false → K.count keeper.new ≡ K.count keeper.old }
 {
     let id = find_marker_id(keeper, at, who, command)?;
     let marker = Admission {
@@ -111,6 +115,7 @@ fn find_marker_id<K: Keeper>(
     ensures honest { K.is_honest keeper.new → K.is_honest keeper.old }
     ensures counted { K.count keeper.old ≤ K.count keeper.new }
     ensures device { IsTrue (is_device result) → Rose (K.count keeper.old) (K.count keeper.new) }
+    ensures steady { is_device result ≡ false → K.count keeper.new ≡ K.count keeper.old }
 {
     drop(find_access(keeper, at, who, &command.bucket, Right::Delete)?);
     find_id(keeper)
@@ -155,6 +160,7 @@ pub fn delete_version<K: Keeper>(
     ensures honest { K.is_honest keeper.new → K.is_honest keeper.old }
     ensures counted { K.count keeper.old ≤ K.count keeper.new }
     ensures device { IsTrue (is_device result) → Rose (K.count keeper.old) (K.count keeper.new) }
+    ensures steady { is_device result ≡ false → K.count keeper.new ≡ K.count keeper.old }
 {
     let access = find_access(keeper, at, who, &command.bucket, Right::DeleteVersion)?;
     let found = find_removable(keeper, at, &access, command);
@@ -178,6 +184,7 @@ fn find_removable<K: Keeper>(
     ensures honest { K.is_honest keeper.new → K.is_honest keeper.old }
     ensures counted { K.count keeper.old ≤ K.count keeper.new }
     ensures device { IsTrue (is_device result) → Rose (K.count keeper.old) (K.count keeper.new) }
+    ensures steady { is_device result ≡ false → K.count keeper.new ≡ K.count keeper.old }
 {
     let entry = find_held(keeper, &command.bucket, &command.key, command.id)?;
     let marker = entry.marker;

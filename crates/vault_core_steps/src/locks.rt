@@ -1,5 +1,5 @@
 //! Retention and legal hold of a version.
-ghost use Rattle.std.specs.Prelude.{◌≡◌, ◌≤◌, IsTrue, IfOk, OnOk, Some};
+ghost use Rattle.std.specs.Prelude.{◌≡◌, ◌≤◌, IsTrue, IfOk, OnOk, Some, false};
 ghost use Rattle.vault_core_model.specs.Halts.{Finds, Meets, is_device, Rose};
 ghost use Rattle.vault_core_model.specs.Allowed.{IsNextSetting};
 ghost use Rattle.vault_core_model.specs.LockOutcomes as outcome;
@@ -33,6 +33,7 @@ pub fn get_retention<K: Keeper>(
     ensures honest { K.is_honest keeper.new → K.is_honest keeper.old }
     ensures counted { K.count keeper.old ≤ K.count keeper.new }
     ensures device { IsTrue (is_device result) → Rose (K.count keeper.old) (K.count keeper.new) }
+    ensures steady { is_device result ≡ false → K.count keeper.new ≡ K.count keeper.old }
 {
     drop(find_access(keeper, at, who, &command.bucket, Right::Get)?);
     let version = find_version(keeper, &command.bucket, &command.key, command.id)?;
@@ -53,6 +54,7 @@ pub fn get_hold<K: Keeper>(
     ensures honest { K.is_honest keeper.new → K.is_honest keeper.old }
     ensures counted { K.count keeper.old ≤ K.count keeper.new }
     ensures device { IsTrue (is_device result) → Rose (K.count keeper.old) (K.count keeper.new) }
+    ensures steady { is_device result ≡ false → K.count keeper.new ≡ K.count keeper.old }
 {
     drop(find_access(keeper, at, who, &command.bucket, Right::Get)?);
     let version = find_version(keeper, &command.bucket, &command.key, command.id)?;
@@ -73,6 +75,7 @@ pub fn set_retention<K: Keeper>(
     ensures honest { K.is_honest keeper.new → K.is_honest keeper.old }
     ensures counted { K.count keeper.old ≤ K.count keeper.new }
     ensures device { IsTrue (is_device result) → Rose (K.count keeper.old) (K.count keeper.new) }
+    ensures steady { is_device result ≡ false → K.count keeper.new ≡ K.count keeper.old }
 {
     let access = find_access(keeper, at, who, &command.bucket, Right::Retain)?;
     let found = find_next_retention(keeper, at, who, command, &access);
@@ -93,6 +96,7 @@ pub fn set_hold<K: Keeper>(
     ensures honest { K.is_honest keeper.new → K.is_honest keeper.old }
     ensures counted { K.count keeper.old ≤ K.count keeper.new }
     ensures device { IsTrue (is_device result) → Rose (K.count keeper.old) (K.count keeper.new) }
+    ensures steady { is_device result ≡ false → K.count keeper.new ≡ K.count keeper.old }
 {
     drop(find_access(keeper, at, who, &command.bucket, Right::Hold)?);
     let NextSetting { id, setting } = find_next_hold(keeper, at, who, command)?;
@@ -115,6 +119,7 @@ fn find_next_retention<K: Keeper>(
     ensures honest { K.is_honest keeper.new → K.is_honest keeper.old }
     ensures counted { K.count keeper.old ≤ K.count keeper.new }
     ensures device { IsTrue (is_device result) → Rose (K.count keeper.old) (K.count keeper.new) }
+    ensures steady { is_device result ≡ false → K.count keeper.new ≡ K.count keeper.old }
 {
     check_end(at, Some(command.retention))?;
     let version = find_version(keeper, &command.bucket, &command.key, command.id)?;
@@ -153,6 +158,7 @@ fn find_next_hold<K: Keeper>(
     ensures honest { K.is_honest keeper.new → K.is_honest keeper.old }
     ensures counted { K.count keeper.old ≤ K.count keeper.new }
     ensures device { IsTrue (is_device result) → Rose (K.count keeper.old) (K.count keeper.new) }
+    ensures steady { is_device result ≡ false → K.count keeper.new ≡ K.count keeper.old }
 {
     let version = find_version(keeper, &command.bucket, &command.key, command.id)?;
     let id = version.id;

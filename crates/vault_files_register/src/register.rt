@@ -4,11 +4,12 @@
 //! version,bucket,key,kind,size,sha256,admitted,admitted_by,removed,cause,cause_by,days
 //! 2,docs,k,marker,0,,2024-03-01T08:00:01Z,ann,2024-03-01T08:00:03Z,rule,r1,0
 //! ```
-ghost use Rattle.std.specs.Prelude.{◌≡◌, ◌≢◌, ◌≤◌, OnOk, OnErr, true, Ok};
+ghost use Rattle.std.specs.Prelude.{◌≡◌, ◌≢◌, ◌≤◌, OnOk, OnErr, true, false, Ok};
 ghost use Rattle.std.specs.List.{flat_map};
 ghost use Rattle.std.specs.Io.KnownBytes.{Appends};
-ghost use Rattle.vault_core_model.specs.Halts.{Rose};
+ghost use Rattle.vault_core_model.specs.Halts.{is_device_given, Rose};
 ghost use Rattle.vault_core_model.specs.Reads.{removed_entries};
+ghost use Rattle.vault_files_register.specs.Faults.{is_device_met};
 ghost use Rattle.vault_files_register.specs.Register as spec;
 ghost use Rattle.vault_io.specs.Begins.{Begins};
 
@@ -37,6 +38,7 @@ fn walk_rows<K: Keeper, W: Write>(
     ensures honest { K.is_honest keeper.new → K.is_honest keeper.old }
     ensures counted { K.count keeper.old ≤ K.count keeper.new }
     ensures device { result ≡ Err Fault.Device → Rose (K.count keeper.old) (K.count keeper.new) }
+    ensures steady { is_device_given result ≡ false → K.count keeper.new ≡ K.count keeper.old }
 {
     keeper.walk_removed(rows)
 }
@@ -53,6 +55,7 @@ fn write_rows<K: Keeper, W: Write>(
     ensures honest { K.is_honest keeper.new → K.is_honest keeper.old }
     ensures counted { K.count keeper.old ≤ K.count keeper.new }
     ensures device { result ≡ Err ExportFault.Device → Rose (K.count keeper.old) (K.count keeper.new) }
+    ensures steady { is_device_met result ≡ false → K.count keeper.new ≡ K.count keeper.old }
 {
     let mut rows = RegisterRows::new(alloc, writer);
     if walk_rows(keeper, &mut rows)? {
@@ -66,7 +69,7 @@ fn write_rows<K: Keeper, W: Write>(
 /// default form of CSV. Each entry's record is written before the next entry is read.
 ///
 /// `Write` comes where the writer fails, `Memory` where room for a record was refused, and `Device` where the
-/// vault's device failed. The vault is never changed. What stands written after a fault is a beginning of the
+/// vault's device failed, and there always. The vault is never changed. What stands written after a fault is a beginning of the
 /// register.
 pub fn export_register<K: Keeper, W: Write>(
     alloc: Global,
@@ -79,6 +82,7 @@ pub fn export_register<K: Keeper, W: Write>(
     ensures honest { K.is_honest keeper.new → K.is_honest keeper.old }
     ensures counted { K.count keeper.old ≤ K.count keeper.new }
     ensures device { result ≡ Err ExportFault.Device → Rose (K.count keeper.old) (K.count keeper.new) }
+    ensures steady { is_device_met result ≡ false → K.count keeper.new ≡ K.count keeper.old }
 {
     write_bytes(writer, HEADER)?;
     write_rows(alloc, keeper, writer)?;

@@ -11,7 +11,7 @@ use Rattle.vault_worm_laws.proofs.Once.{extends_itself}
 use Rattle.vault_worm_laws.proofs.Repeated.{run-begins, run-completes}
 use Rattle.vault_worm_laws.proofs.Reached.{reached-permitted, reached-Worm, run-Sound, run-extends}
 use Rattle.vault_worm_laws.proofs.Stored.{Sound-stands_once, Sound-conserved}
-use Rattle.vault_core.proofs.Device.{any_last, Rose-before, Rose-after}
+use Rattle.vault_core.proofs.Device.{any_last, none_last, Rose-before, Rose-after}
 use Rattle.vault_core.proofs.run.run.Goals as goal
 
 -- the run so far goes on by this step
@@ -30,6 +30,10 @@ loop-timed-preserved g c = record {
         | inl before ↦ Rose-before _ _ _ (c.loop-timed.invariant.device before) c.step-reply.ensures.counted
         | inr now ↦ Rose-after _ _ _ c.loop-timed.invariant.counted c.step-reply.ensures.counted (c.step-reply.ensures.device now)
       ];
+  steady = λ none.
+      let split = sym (list_any-append is_device_reply c.loop-timed.replies.items (c.step-reply.result ∷ [])) ∙ (sym (ap (list_any is_device_reply) c.in_ok-push.ensures.items) ∙ none) in
+      let neither = none_last c.loop-timed.replies.items c.step-reply.result split in
+      c.step-reply.ensures.steady neither.1 ∙ c.loop-timed.invariant.steady neither.0;
 }
 
 -- the run to the vault before, and then this one

@@ -1,4 +1,4 @@
-use Rattle.std.proofs.Common.{◌≡◌, ◌≤◌, IsTrue, length, take, vec_capacity, vec_len}
+use Rattle.std.proofs.Common.{◌≡◌, ◌≤◌, false, IsTrue, length, take, vec_capacity, vec_len}
 use Rattle.std.specs.List.{list_any}
 use Rattle.vault_core_model.specs.Halts.{is_device_reply, Rose}
 use Rattle.vault_core_model.specs.Step.{Run}
@@ -13,4 +13,5 @@ invariant-loop-timed g l = record {
   room : length l.commands ≤ vec_capacity l.replies;
   told : vec_len l.replies ≡ l.timed-index;
   device : IsTrue (list_any is_device_reply l.replies.items) → Rose (g.K.Keeper.count l.fn.keeper) (g.K.Keeper.count l.keeper);
+  steady : list_any is_device_reply l.replies.items ≡ false → g.K.Keeper.count l.keeper ≡ g.K.Keeper.count l.fn.keeper;
 }

@@ -8,6 +8,7 @@ loop-init g c = record {
   same = search rules;
   honest = search rules;
   counted = search rules;
+  steady = search rules;
   left = λ honest. ap (completed (g.K.Keeper.vault c.args.keeper.now) c.args.command.now c.args.page.now) c.in_ok-after.ensures.cases;
   few = λ honest. let few = few_keys (g.K.Keeper.vault c.args.keeper.now) c.args.command.now.bucket c.in_ok-after.after (c.requires honest) in omega arith;
 }
@@ -23,6 +24,7 @@ loop-preserved g c = record {
   same = search rules;
   honest = search rules;
   counted = search rules;
+  steady = search rules;
   left = λ honest. (walk_goes_on (g.K.Keeper.vault c.args.keeper.now) (g.K.Keeper.vault c.loop.keeper) c.args.command.now c.args.page.now c.loop.page c.list_keys_behind.new.page c.loop.after c.in_ok-next.field-0 c.in-Some.next
       c.loop.invariant.same c.in-Some.is (c.loop.invariant.left (c.list_keys_behind.ensures.honest honest)) (c.in_ok-next.ensures.value honest)).0;
   few = λ honest.

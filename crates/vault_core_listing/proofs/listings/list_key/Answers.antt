@@ -18,6 +18,7 @@ loop-held-init g c = record {
   same = search rules;
   honest = search rules;
   counted = search rules;
+  steady = search rules;
   left = λ honest. all_left (g.K.Keeper.vault c.args.keeper.now) c.args.command.now c.args.key.now c.args.page.now c.in_ok-newest_first.newest_first.items c.deref-held-items.result.now
       (c.requires (c.entries.ensures.honest honest)) (c.in_ok-newest_first.ensures.value honest) (c.deref-held-items.ensures.value ∙ c.reverse.ensures.items);
 }
@@ -27,6 +28,7 @@ loop-held-preserved g c = record {
   same = search rules;
   honest = search rules;
   counted = search rules;
+  steady = search rules;
   left = λ honest. item_listed (g.K.Keeper.vault c.args.keeper.now) (g.K.Keeper.vault c.loop-held.keeper) c.args.command.now c.args.key.now c.loop-held.current c.loop-held.page c.list_entry.new.page
       (filled c.args.command.now.most c.args.page.now (asked_at (g.K.Keeper.vault c.args.keeper.now) c.args.command.now c.args.key.now)) c.deref-held-items.result.now c.loop-held.held-index c.held-item.result
       c.loop-held.invariant.same c.loop-held-test.true c.held-item.is (c.in_ok-list_entry.ensures.value honest) (c.loop-held.invariant.left (c.list_entry.ensures.honest honest));

@@ -9,5 +9,6 @@ invariant-loop-held g l = record {
   same : g.K.Keeper.vault l.keeper ≡ g.K.Keeper.vault l.fn.keeper;
   honest : g.K.Keeper.is_honest l.keeper → g.K.Keeper.is_honest l.fn.keeper;
   counted : g.K.Keeper.count l.fn.keeper ≤ g.K.Keeper.count l.keeper;
+  steady : g.K.Keeper.count l.keeper ≡ g.K.Keeper.count l.fn.keeper;
   left : g.K.Keeper.is_honest l.keeper → IsLeft (g.K.Keeper.vault l.fn.keeper) l.command l.key l.current l.page (filled l.command.most l.fn.page (asked_at (g.K.Keeper.vault l.fn.keeper) l.command l.key)) (drop l.held-index l.held-items);
 }

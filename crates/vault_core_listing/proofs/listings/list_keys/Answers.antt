@@ -7,6 +7,7 @@ loop-key-preserved g c = record {
   same = search rules;
   honest = search rules;
   counted = search rules;
+  steady = search rules;
   so_far = λ honest. key_filled (g.K.Keeper.vault c.args.keeper.now) (g.K.Keeper.vault c.loop-key.keeper) c.args.command.now c.args.page.now c.loop-key.page c.list_key.new.page c.args.keys.now c.loop-key.key-index c.key-item.result
       c.loop-key.invariant.same c.loop-key-test.true c.key-item.is (c.loop-key.invariant.so_far (c.list_key.ensures.honest honest)) (c.in_ok-list_key.ensures.value honest);
 }

@@ -9,5 +9,6 @@ invariant-loop-key g l = record {
   same : g.K.Keeper.vault l.keeper ≡ g.K.Keeper.vault l.fn.keeper;
   honest : g.K.Keeper.is_honest l.keeper → g.K.Keeper.is_honest l.fn.keeper;
   counted : g.K.Keeper.count l.fn.keeper ≤ g.K.Keeper.count l.keeper;
+  steady : g.K.Keeper.count l.keeper ≡ g.K.Keeper.count l.fn.keeper;
   so_far : g.K.Keeper.is_honest l.keeper → l.page ≡ filled l.command.most l.fn.page (flat_map (asked_at (g.K.Keeper.vault l.fn.keeper) l.command) (take l.key-index l.keys));
 }

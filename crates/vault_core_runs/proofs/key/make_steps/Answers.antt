@@ -31,6 +31,7 @@ pub loop-step-preserved : goal.loop-step-preserved
 loop-step-preserved g c = record {
   honest = λ h. c.loop-step.invariant.honest (c.make_step.ensures.honest h);
   counted = search rules;
+  steady = search rules;
   makes = λ h. next_step (g.K.Keeper.vault c.args.keeper.now) (g.K.Keeper.vault c.loop-step.keeper) (g.K.Keeper.vault c.make_step.new.keeper) c.args.run.now.bucket c.args.run.now.at c.args.key.now c.args.steps.now c.loop-step.step-index
       c.step-item.result c.args.counts.now c.loop-step.counts c.make_step.new.counts c.loop-step-test.true c.step-item.is (c.loop-step.invariant.makes (c.make_step.ensures.honest h)) (c.in_ok-make_step.ensures.makes h);
 }

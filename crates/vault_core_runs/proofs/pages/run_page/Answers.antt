@@ -20,6 +20,7 @@ pub loop-key-preserved : goal.loop-key-preserved
 loop-key-preserved g c = record {
   honest = λ h. c.loop-key.invariant.honest (c.run_key.ensures.honest h);
   counted = search rules;
+  steady = search rules;
   makes = λ h.
       let h1 = c.run_key.ensures.honest h in
       let h0 = c.loop-key.invariant.honest h1 in

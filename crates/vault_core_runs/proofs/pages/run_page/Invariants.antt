@@ -1,4 +1,4 @@
-use Rattle.std.proofs.Common.{◌≤◌, take}
+use Rattle.std.proofs.Common.{◌≡◌, ◌≤◌, take}
 use Rattle.vault_core_run_laws.specs.KeyRuns.{plans_at}
 use Rattle.vault_core_runs.specs.Making.{MakesAll}
 use Rattle.vault_core_runs.proofs.pages.run_page.Given as goal
@@ -8,5 +8,6 @@ abbrev pub invariant-loop-key : goal.invariant-loop-key
 invariant-loop-key g l = record {
   honest : g.K.Keeper.is_honest l.keeper → g.K.Keeper.is_honest l.fn.keeper;
   counted : g.K.Keeper.count l.fn.keeper ≤ g.K.Keeper.count l.keeper;
+  steady : g.K.Keeper.count l.keeper ≡ g.K.Keeper.count l.fn.keeper;
   makes : g.K.Keeper.is_honest l.keeper → MakesAll (g.K.Keeper.vault l.fn.keeper) l.run.bucket l.run.at (plans_at (g.K.Keeper.vault l.fn.keeper) l.run.bucket l.run.at (take l.key-index l.keys)) l.fn.counts l.counts (g.K.Keeper.vault l.keeper);
 }

@@ -133,6 +133,7 @@ pub loop-preserved : goal.loop-preserved
 loop-preserved g c = record {
   honest = λ h. c.loop.invariant.honest (c.keys.ensures.honest (c.run_page.ensures.honest h));
   counted = search rules;
+  steady = search rules;
   done = λ h.
       let hk = c.run_page.ensures.honest h in
       let h1 = c.keys.ensures.honest hk in
