@@ -1,5 +1,6 @@
 pub mod ByKey
 pub mod Keys
+pub mod Noncurrent
 pub mod Plain
 pub mod Repeating
 pub mod RunLaws

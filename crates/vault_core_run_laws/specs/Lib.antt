@@ -1,3 +1,4 @@
 pub mod KeyRuns
+pub mod Noncurrent
 pub mod Repeats
 pub mod RunLaws

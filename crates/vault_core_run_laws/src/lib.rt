@@ -2,6 +2,7 @@
 //! function that does nothing.
 #![tactic(auto)]
 
+ghost use Rattle.vault_core_run_laws.specs.Noncurrent.{PlacesAgree};
 ghost use Rattle.vault_core_run_laws.specs.Repeats.{CutRunsAddUp, RunsRepeat, VaultPlansRepeat};
 ghost use Rattle.vault_core_run_laws.specs.RunLaws.{EntriesRise, KeyRunsGoOn, KeyStepsAreAllowed, KeysRise, LaterKeysAreOthers, NextStepsAreAllowed, OtherKeysStay, PagesGoOn, RunsGoOn, VaultPlansAreKeyByKey};
 
@@ -11,6 +12,12 @@ pub fn plans_go_key_by_key()
     ensures plans { VaultPlansAreKeyByKey }
     ensures keys { KeysRise }
     ensures entries { EntriesRise }
+{}
+
+/// What a run finds in the list of a key is what the vault tells, of each entry of a sound vault: which
+/// entries are newer, whether it is current, since when it is noncurrent, and how many stand above it.
+pub fn places_agree()
+    ensures { PlacesAgree }
 {}
 
 /// After the first steps at some keys, each mark with an id, the vault is sound and the rest of the

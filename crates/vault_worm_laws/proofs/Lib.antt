@@ -15,3 +15,4 @@ pub mod RunChanges
 pub mod Settings
 pub mod StepChanges
 pub mod Stored
+pub mod SumBounds

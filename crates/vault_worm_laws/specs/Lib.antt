@@ -6,4 +6,5 @@ pub mod Permits
 pub mod Removals
 pub mod Repeated
 pub mod Stored
+pub mod SumBounds
 pub mod Worm

@@ -16,6 +16,7 @@ ghost use Rattle.vault_worm_laws.specs.Once.{Extends};
 ghost use Rattle.vault_worm_laws.specs.Removals.{RemovalsWerePermitted};
 ghost use Rattle.vault_worm_laws.specs.Repeated.{BeginRun, CompleteRun};
 ghost use Rattle.vault_worm_laws.specs.Stored.{EachStandsOnce, stored_bytes};
+ghost use Rattle.vault_worm_laws.specs.SumBounds.{DepartmentsAreFarBelow, RowsAreFarBelow};
 ghost use Rattle.vault_worm_laws.specs.Worm.{Worm};
 
 /// A step leaves the vault as it was, or makes a change that the vault allows and that the lock rules
@@ -49,6 +50,13 @@ pub fn bytes_are_conserved()
     ensures each { (v : Vault) → Sound v → EachStandsOnce v }
     ensures total { (v : Vault) (dept : List ℕ) → Sound v →
         admitted_bytes v dept ≡ stored_bytes v dept + removed_bytes v dept }
+{}
+
+/// The sums by days of a department's row, and what a charge adds up of them, stay below 2^63: so they never
+/// come near what 64 bits hold. Days are in range, as every moment that can be read is.
+pub fn sums_stay_far_below()
+    ensures rows { RowsAreFarBelow }
+    ensures departments { DepartmentsAreFarBelow }
 {}
 
 /// Over any run from a sound vault, each history stays at its place: its entry is never altered, but for
