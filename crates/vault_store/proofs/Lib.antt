@@ -1,2 +1,6 @@
 pub mod SoundProp
 pub mod KeptLemmas
+mod AcknowledgedLemmas
+mod RollbackLemmas
+mod TableLemmas
+mod CreateLemmas

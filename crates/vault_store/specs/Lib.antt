@@ -1,2 +1,4 @@
 pub mod Blame
 pub mod Kept
+pub mod Acknowledged
+pub mod Tables

@@ -1,6 +1,6 @@
 //! What a refusal of the store is to a keeper.
-ghost use Rattle.std.specs.Prelude.{◌≡◌, ◌≤◌};
-ghost use Rattle.vault_core_model.specs.Halts.{Rose};
+ghost use Rattle.std.specs.Prelude.{◌≡◌, ◌≤◌, false};
+ghost use Rattle.vault_core_model.specs.Halts.{is_device_fault, Rose};
 ghost use Rattle.vault_store.specs.Blame.{fault_of};
 
 use sqlite::{Error, ErrorCode};
@@ -12,6 +12,7 @@ pub fn blame(faults: &mut u64, error: Error) -> Fault
     ensures counted { faults.old ≤ faults.new }
     ensures device { result ≡ Fault.Device → Rose faults.old faults.new }
     ensures memory { result ≡ Fault.Memory → faults.new ≡ faults.old }
+    ensures steady { is_device_fault result ≡ false → faults.new ≡ faults.old }
 {
     match error {
         Error::SqliteFailure(ErrorCode::OutOfMemory) => Fault::Memory,

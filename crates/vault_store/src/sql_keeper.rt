@@ -1,27 +1,26 @@
 //! A keeper over the tables of a connection.
-ghost use Rattle.std.specs.Prelude.{◌≡◌, ◌≢◌, ◌≤◌, false, Err, IfOk, IfErr, OnOk, OnErr};
+ghost use Rattle.std.specs.Prelude.{◌≡◌, ◌≢◌, ◌≤◌, false, Err, IsTrue, IfOk, IfErr, IsErrAnd, OnOk, OnErr};
 ghost use Rattle.sqlite.specs.Held.{state};
 ghost use Rattle.sqlite.specs.State.{HasCleanDisk, IsUnchanged, Survives};
-ghost use Rattle.sqlite_trees.specs.Tree.{Trees};
 ghost use Rattle.vault_base.specs.declared.refusal.Table.{Table};
 ghost use Rattle.vault_audit_model.specs.Tables.{no_schema};
 ghost use Rattle.vault_audit_walk.specs.Health.{IsHealthy};
 ghost use Rattle.vault_audit.specs.Whole.{IsTold};
-ghost use Rattle.vault_store_create.specs.Create.{AreOpening, IsFault};
+ghost use Rattle.vault_store_create.specs.Create.{IsFault};
 ghost use Rattle.vault_core_model.specs.Vault.{Vault, opening};
 ghost use Rattle.vault_core_model.specs.Allowed.{Allows};
 ghost use Rattle.vault_core_model.specs.Change.{changed};
-ghost use Rattle.vault_core_model.specs.Halts.{Rose};
-ghost use Rattle.vault_store_model.specs.Keeping.{Keeps};
-ghost use Rattle.vault_store_apply.specs.Applies.{IsChanged};
+ghost use Rattle.vault_core_model.specs.Halts.{is_device_given, Rose};
+ghost use Rattle.vault_store_apply.specs.Left.{IsFoundIn, LeavesAlone};
 ghost use Rattle.vault_audit_model.specs.Spells.{AreSound};
 ghost use Rattle.vault_store.specs.Kept.{kept_vault, IsSettled, StandsFor};
+ghost use Rattle.vault_store.specs.Tables.{HasTablesOf};
 
 use crate::blame::blame;
+use crate::look::look;
 use http_server::Log;
 use sqlite::{Alter, Connection};
 use std::alloc::Global;
-use vault_audit::audit;
 use vault_base::content::Content;
 use vault_base::moment::Moment;
 use vault_base::name::{
@@ -100,8 +99,8 @@ impl<S: Alter> SqlKeeper<S> {
     /// Opens a vault that was made before: its tables have to be sound. No table is changed.
     ///
     /// `Damaged` with the first table that isn't sound. `Memory` where the store wanted memory. `Device`
-    /// where it refused for another cause, as for a connection inside a transaction. The connection comes
-    /// back with each of them.
+    /// where it refused for another cause, and for a connection inside a transaction, which is left as it
+    /// was. The connection comes back with each of them, outside a transaction if it came so.
     pub fn open(
         alloc: Global,
         mut conn: Connection<S>,
@@ -110,19 +109,25 @@ impl<S: Alter> SqlKeeper<S> {
         ensures sound { IfOk result (λ k. HasCleanDisk (state S.Store k.conn) → AreSound (state S.Store k.conn).now (kept_vault S.Store k.opening.at.items k.opening.known k.made.items)) }
         ensures same { IfOk result (λ k. HasCleanDisk (state S.Store k.conn) → IsUnchanged (state S.Store conn) (state S.Store k.conn)) }
         ensures crash { IfOk result (λ k. Survives (state S.Store conn) (state S.Store k.conn) (λ _. ⊥)) }
+        // A crash leaves that vault after that, and nothing else.
+        ensures alone { IfOk result (λ k. HasCleanDisk (state S.Store k.conn) → LeavesAlone (state S.Store k.conn) (kept_vault S.Store k.opening.at.items k.opening.known k.made.items)) }
         ensures counted { IfOk result (λ k. k.faults ≡ 0) }
         ensures told { IfErr result (λ e. IsTold e.0) }
         // A store that works, outside a transaction, is never told as one that failed.
         ensures healthy { conn.in_transaction ≡ false → IfErr result (λ e. IsHealthy (state S.Store e.1) → e.0 ≢ Refusal.Device) }
         ensures damaged { IfErr result (λ e. HasCleanDisk (state S.Store e.1) → (t : Table) → e.0 ≡ Refusal.Damaged t → (v : Vault) → ¬ AreSound (state S.Store conn).now v) }
         ensures harmless { IfErr result (λ e. Survives (state S.Store conn) (state S.Store e.1) (λ _. ⊥)) }
+        // Inside a transaction it is refused, and that is left as it was; else none is open behind it, and no table was changed.
+        ensures inside { IsTrue conn.in_transaction → IsErrAnd result (λ e. (e.0 ≡ Refusal.Device) × (e.1 ≡ conn)) }
+        ensures outside { conn.in_transaction ≡ false → IfErr result (λ e. HasCleanDisk (state S.Store e.1) → e.1.in_transaction ≡ false) }
+        ensures tables { conn.in_transaction ≡ false → IfErr result (λ e. HasCleanDisk (state S.Store e.1) → HasTablesOf (state S.Store conn) (state S.Store e.1)) }
     {
-        match audit(alloc, &mut conn) {
-            Ok(()) => {}
-            Err(refusal) => return Err((refusal, conn)),
-        }
         if !conn.is_autocommit() {
             return Err((Refusal::Device, conn));
+        }
+        match look(alloc, &mut conn) {
+            Ok(()) => {}
+            Err(refusal) => return Err((refusal, conn)),
         }
         Ok(SqlKeeper::over(alloc, conn))
     }
@@ -130,21 +135,27 @@ impl<S: Alter> SqlKeeper<S> {
     /// Makes a new vault in an empty store: its tables, and the one caller `registrar`.
     ///
     /// `NameTaken` where the store has a table, an index or a view. `Memory` where the store wanted memory.
-    /// `Device` where it refused for another cause. The connection comes back with each of them.
+    /// `Device` where it refused for another cause, and inside a transaction, which is left as it was. The
+    /// connection comes back with each of them, outside a transaction if it came so.
     pub fn create(
         alloc: Global,
         mut conn: Connection<S>,
     ) -> Result<SqlKeeper<S>, (Refusal, Connection<S>)>
         ensures opening { IfOk result (λ k. HasCleanDisk (state S.Store k.conn) → kept_vault S.Store k.opening.at.items k.opening.known k.made.items ≡ opening) }
         ensures sound { IfOk result (λ k. HasCleanDisk (state S.Store k.conn) → AreSound (state S.Store k.conn).now opening) }
-        // What a crash may leave after that is a new vault alone.
-        ensures alone { IfOk result (λ k. HasCleanDisk (state S.Store k.conn) → (db : Trees) → (state S.Store k.conn).may_leave db → AreOpening db) }
+        // A crash leaves a new vault after that, and nothing else.
+        ensures alone { IfOk result (λ k. HasCleanDisk (state S.Store k.conn) → LeavesAlone (state S.Store k.conn) opening) }
         ensures counted { IfOk result (λ k. k.faults ≡ 0) }
         ensures taken { (state S.Store conn).now.schema ≢ no_schema → IfErr result (λ e. e.0 ≡ Refusal.NameTaken) }
         ensures free { IfErr result (λ e. e.0 ≡ Refusal.NameTaken → (state S.Store conn).now.schema ≢ no_schema) }
         ensures faults { IfErr result (λ e. e.0 ≢ Refusal.NameTaken → IsFault e.0) }
-        ensures crash { IfOk result (λ k. Survives (state S.Store conn) (state S.Store k.conn) AreOpening) }
-        ensures harmless { IfErr result (λ e. Survives (state S.Store conn) (state S.Store e.1) AreOpening) }
+        // A crash leaves what it could leave before, or a new vault.
+        ensures crash { IfOk result (λ k. Survives (state S.Store conn) (state S.Store k.conn) (IsFoundIn opening)) }
+        ensures harmless { IfErr result (λ e. Survives (state S.Store conn) (state S.Store e.1) (IsFoundIn opening)) }
+        // Inside a transaction it is refused, and that is left as it was; else none is open behind it, and no table was changed.
+        ensures inside { IsTrue conn.in_transaction → IsErrAnd result (λ e. e.1 ≡ conn) }
+        ensures outside { conn.in_transaction ≡ false → IfErr result (λ e. e.1.in_transaction ≡ false) }
+        ensures tables { conn.in_transaction ≡ false → IfErr result (λ e. HasCleanDisk (state S.Store e.1) → HasTablesOf (state S.Store conn) (state S.Store e.1)) }
     {
         match fill(&mut conn) {
             Ok(()) => Ok(SqlKeeper::over(alloc, conn)),
@@ -160,12 +171,14 @@ impl<S: Alter> SqlKeeper<S> {
         requires allowed { HasCleanDisk (state S.Store self.old.conn) → Allows (kept_vault S.Store self.old.opening.at.items self.old.opening.known self.old.made.items) at change.now }
         ensures ok { OnOk result (kept_vault S.Store self.new.opening.at.items self.new.opening.known self.new.made.items ≡ changed (kept_vault S.Store self.old.opening.at.items self.old.opening.known self.old.made.items) at change.now) }
         ensures err { OnErr result (kept_vault S.Store self.new.opening.at.items self.new.opening.known self.new.made.items ≡ kept_vault S.Store self.old.opening.at.items self.old.opening.known self.old.made.items) }
-        // A crash leaves what it could leave before, or the vault with the change; once that is acknowledged, the change alone.
-        ensures crash { (v : Vault) → Keeps (state S.Store self.old.conn) v → Survives (state S.Store self.old.conn) (state S.Store self.new.conn) (IsChanged (state S.Store self.old.conn) v at change.now) }
-        ensures alone { HasCleanDisk (state S.Store self.new.conn) → OnOk result ((trees : Trees) → (state S.Store self.new.conn).may_leave trees → trees ≡ (state S.Store self.new.conn).now.trees) }
         ensures honest { HasCleanDisk (state S.Store self.new.conn) → HasCleanDisk (state S.Store self.old.conn) }
         ensures counted { self.old.faults ≤ self.new.faults }
         ensures device { result ≡ Err Fault.Device → Rose self.old.faults self.new.faults }
+        ensures steady { is_device_given result ≡ false → self.new.faults ≡ self.old.faults }
+        // A crash leaves what it could leave before, or the vault with the change; once that is acknowledged, this vault alone.
+        ensures crash { HasCleanDisk (state S.Store self.new.conn) → ∥ Survives (state S.Store self.old.conn) (state S.Store self.new.conn) (IsFoundIn (changed (kept_vault S.Store self.old.opening.at.items self.old.opening.known self.old.made.items) at change.now)) ∥₁ }
+        ensures alone { HasCleanDisk (state S.Store self.new.conn) → OnOk result (∥ LeavesAlone (state S.Store self.new.conn) (kept_vault S.Store self.new.opening.at.items self.new.opening.known self.new.made.items) ∥₁) }
+        ensures open { HasCleanDisk (state S.Store self.new.conn) → OnOk result (IsTrue (state S.Store self.new.conn).is_open) }
     {
         match apply_change(&mut self.conn, self.alloc, at, change) {
             Ok(()) => {
@@ -303,7 +316,20 @@ impl<S: Alter> Keeper for SqlKeeper<S> {
         }
     }
 
-    fn apply(&mut self, at: Moment, change: &Change) -> Result<(), Fault> {
+    fn apply(&mut self, at: Moment, change: &Change) -> Result<(), Fault>
+        requires in_time { HasCleanDisk (state S.Store self.old.conn) → (kept_vault S.Store self.old.opening.at.items self.old.opening.known self.old.made.items).last ≤ at }
+        requires allowed { HasCleanDisk (state S.Store self.old.conn) → Allows (kept_vault S.Store self.old.opening.at.items self.old.opening.known self.old.made.items) at change.now }
+        ensures ok { OnOk result (kept_vault S.Store self.new.opening.at.items self.new.opening.known self.new.made.items ≡ changed (kept_vault S.Store self.old.opening.at.items self.old.opening.known self.old.made.items) at change.now) }
+        ensures err { OnErr result (kept_vault S.Store self.new.opening.at.items self.new.opening.known self.new.made.items ≡ kept_vault S.Store self.old.opening.at.items self.old.opening.known self.old.made.items) }
+        ensures honest { HasCleanDisk (state S.Store self.new.conn) → HasCleanDisk (state S.Store self.old.conn) }
+        ensures counted { self.old.faults ≤ self.new.faults }
+        ensures device { result ≡ Err Fault.Device → Rose self.old.faults self.new.faults }
+        ensures steady { is_device_given result ≡ false → self.new.faults ≡ self.old.faults }
+        // What `make` says of a crash.
+        ensures crash { HasCleanDisk (state S.Store self.new.conn) → ∥ Survives (state S.Store self.old.conn) (state S.Store self.new.conn) (IsFoundIn (changed (kept_vault S.Store self.old.opening.at.items self.old.opening.known self.old.made.items) at change.now)) ∥₁ }
+        ensures alone { HasCleanDisk (state S.Store self.new.conn) → OnOk result (∥ LeavesAlone (state S.Store self.new.conn) (kept_vault S.Store self.new.opening.at.items self.new.opening.known self.new.made.items) ∥₁) }
+        ensures open { HasCleanDisk (state S.Store self.new.conn) → OnOk result (IsTrue (state S.Store self.new.conn).is_open) }
+    {
         self.make(at, change)
     }
 }

@@ -1,7 +1,7 @@
 -- A committed edit that is the edit of a change makes that change.
-use Rattle.std.proofs.Common.{◌≡◌, ℕ, ◌≤◌, IsTrue, IsPermutation, Result, Ok, Err, OnOk, subst, refl}
+use Rattle.std.proofs.Common.{◌≡◌, ℕ, ◌≤◌, IsTrue, IsPermutation, Result, Ok, Err, OnOk, sym, subst, refl}
 use Rattle.sqlite_trees.specs.Tree.{Trees}
-use Rattle.sqlite.specs.Effect.{Database}
+use Rattle.sqlite.specs.Effect.{Database, IsDatabase}
 use Rattle.sqlite.specs.State.{State, Survives}
 use Rattle.sqlite.proofs.StateLemmas.{survives_weaker}
 use Rattle.vault_base.specs.Days.{last_moment}
@@ -11,26 +11,37 @@ use Rattle.vault_core_model.specs.Allowed.{Allows}
 use Rattle.vault_core_model.specs.Change.{changed}
 use Rattle.vault_audit_model.specs.Tables.{vault_schema}
 use Rattle.vault_store_model.specs.Rows.{Rows, AreSameRows, rows_in}
-use Rattle.vault_store_model.specs.Keeping.{Keeps, AreTreesOf}
+use Rattle.vault_audit_model.specs.Spells.{AreSound}
+use Rattle.vault_store_model.specs.Keeping.{Keeps}
 use Rattle.vault_store_model.proofs.RowsLemmas.{sound_is_rows}
 use Rattle.vault_store_changes.specs.Edits.{edit_of}
 use Rattle.vault_store_changes.specs.Limits.{IsChangeInLimits}
 use Rattle.vault_store_head_changes.proofs.ChangeLemmas.{rows_told}
 use Rattle.vault_store_transaction.specs.Commits.{Commits, MayCommit}
+use Rattle.vault_store_apply.specs.Left.{IsFoundIn}
 use Rattle.vault_store_apply.specs.Applies.{IsEditOf, ChangesBy, AreChangedBy, IsChanged}
 
 -- the edit makes of the rows what the change makes of them
 edited : (from : Rows) (to : Rows) (edit : Rows → Rows) (v : Vault) (t : ℕ) (c : Change) → IsEditOf edit v t c → AreSameRows (edit from) to → AreSameRows (edit_of v t c from) to
 edited from to edit v t c is rows u = subst (λ l. IsPermutation l (to u)) (is from u) (rows u)
 
-pub commits_change : (old new : State) (t : ℕ) (edit : Rows → Rows) → IsTrue old.is_open → (old.now.schema ≡ vault_schema → Commits old new edit) → t ≤ last_moment → ChangesBy old new t edit
-commits_change old new t edit was_open commits low v c given was later allowed is is_open =
+-- the vault of sound tables is found again in their trees
+pub found_again : (db : Database) (v : Vault) (trees : Trees) → db.schema ≡ vault_schema → AreSound db v → IsDatabase db → trees ≡ db.trees → IsFoundIn v trees
+found_again db v trees schema sound listed same = subst (IsFoundIn v) (sym same) (record {
+  spelled = subst (λ s. AreSound (record { schema = s; trees = db.trees }) v) schema sound;
+  listed = subst (λ s. IsDatabase (record { schema = s; trees = db.trees })) schema listed;
+})
+
+pub commits_change : (old new : State) (t : ℕ) (edit : Rows → Rows) → IsTrue old.is_open → (old.now.schema ≡ vault_schema → Commits old new edit)
+    → ((trees : Trees) → new.may_leave trees → trees ≡ new.now.trees) → t ≤ last_moment → ChangesBy old new t edit
+commits_change old new t edit was_open commits alone low v c given was later allowed is =
     let kept = was was_open in
     let schema = kept.0.spells.schema in
     let did = commits schema in
     let has = (sound_is_rows old.now v).0 kept.0 in
     let told = rows_told old.now new.now v t c has later low allowed given (did.schema schema) (edited (rows_in old.now) (rows_in new.now) edit v t c (is was_open) (did.rows schema)) in
-    ((sound_is_rows new.now (changed v t c)).1 told, did.committed)
+    let sound = (sound_is_rows new.now (changed v t c)).1 told in
+    (λ is_open. (sound, did.committed), λ trees may. found_again new.now (changed v t c) trees (did.schema schema) sound (did.listed schema) (alone trees may))
 
 pub may_commit_change : (old : State) (t : ℕ) (edit : Rows → Rows) (trees : Trees) → IsTrue old.is_open → (old.now.schema ≡ vault_schema → MayCommit old edit trees) → t ≤ last_moment → AreChangedBy old t edit trees
 may_commit_change old t edit trees was_open commits low v c given was later allowed is =
@@ -40,11 +51,11 @@ may_commit_change old t edit trees was_open commits low v c given was later allo
     let has = (sound_is_rows old.now v).0 kept.0 in
     let db : Database = record { schema = vault_schema; trees = trees } in
     let told = rows_told old.now db v t c has later low allowed given refl (edited (rows_in old.now) (rows_in db) edit v t c (is was_open) (did.rows schema)) in
-    (sound_is_rows db (changed v t c)).1 told
+    record { spelled = (sound_is_rows db (changed v t c)).1 told; listed = did.listed schema }
 
-pub on_ok_both : {A E : Type 0} {P Q : Type 0} (R : Type 0) (r : Result A E) → OnOk r P → OnOk r Q → (P → Q → R) → OnOk r R
-on_ok_both R (Ok a) p q f = f p q
-on_ok_both R (Err e) p q f = tt
+pub on_ok_all : {A E : Type 0} {P Q R : Type 0} (T : Type 0) (r : Result A E) → OnOk r P → OnOk r Q → OnOk r R → (P → Q → R → T) → OnOk r T
+on_ok_all T (Ok a) p q s f = f p q s
+on_ok_all T (Err e) p q s f = tt
 
 pub on_ok_then : {A E : Type 0} {P : Type 0} (R : Type 0) (r : Result A E) → OnOk r P → (P → R) → OnOk r R
 on_ok_then R (Ok a) p f = f p

@@ -1,6 +1,5 @@
 //! A transaction that makes a change.
 ghost use Rattle.std.specs.Prelude.{◌≡◌, false, IsTrue, OnOk, OnErr};
-ghost use Rattle.sqlite_trees.specs.Tree.{Trees};
 ghost use Rattle.sqlite.specs.Held.{state};
 ghost use Rattle.sqlite.specs.State.{HasCleanDisk, Survives};
 ghost use Rattle.vault_core_model.specs.Vault.{Vault};
@@ -23,7 +22,6 @@ pub fn commit_part<S: Alter, P: Part<S>>(
     ensures open { HasCleanDisk (state S.Store conn.new) → OnOk result (IsTrue (state S.Store conn.new).is_open) }
     ensures done { HasCleanDisk (state S.Store conn.new) → OnOk result (ChangesBy (state S.Store conn.old) (state S.Store conn.new) at (P.edit part.now)) }
     ensures nothing { HasCleanDisk (state S.Store conn.new) → OnErr result ((v : Vault) → Keeps (state S.Store conn.old) v → Keeps (state S.Store conn.new) v) }
-    ensures alone { HasCleanDisk (state S.Store conn.new) → OnOk result ((trees : Trees) → (state S.Store conn.new).may_leave trees → trees ≡ (state S.Store conn.new).now.trees) }
     ensures crash { Survives (state S.Store conn.old) (state S.Store conn.new) (AreChangedBy (state S.Store conn.old) at (P.edit part.now)) }
 {
     let _in_range = at.secs();

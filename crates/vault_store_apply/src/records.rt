@@ -3,7 +3,6 @@
 //! Each is made in a transaction of its own: where it fails, nothing is changed. What it brings has to be
 //! in its limits, as `vault_store_limits` tells.
 ghost use Rattle.std.specs.Prelude.{◌≡◌, ℕ, List, false, IsTrue, OnOk, OnErr};
-ghost use Rattle.sqlite_trees.specs.Tree.{Trees};
 ghost use Rattle.sqlite.specs.Held.{state};
 ghost use Rattle.sqlite.specs.State.{HasCleanDisk, Survives};
 ghost use Rattle.vault_core_model.specs.declared.change.Change.TheVariants as change;
@@ -36,7 +35,6 @@ pub fn add_department<S: Alter>(
     ensures open { HasCleanDisk (state S.Store conn.new) → OnOk result (IsTrue (state S.Store conn.new).is_open) }
     ensures done { HasCleanDisk (state S.Store conn.new) → IsChangeInLimits (change.AddDept name.now) → OnOk result (Changes (state S.Store conn.old) (state S.Store conn.new) at (change.AddDept name.now)) }
     ensures nothing { HasCleanDisk (state S.Store conn.new) → OnErr result ((v : Vault) → Keeps (state S.Store conn.old) v → Keeps (state S.Store conn.new) v) }
-    ensures alone { HasCleanDisk (state S.Store conn.new) → OnOk result ((trees : Trees) → (state S.Store conn.new).may_leave trees → trees ≡ (state S.Store conn.new).now.trees) }
     ensures crash { IsChangeInLimits (change.AddDept name.now) → Survives (state S.Store conn.old) (state S.Store conn.new) (AreChanged (state S.Store conn.old) at (change.AddDept name.now)) }
 {
     commit_part(conn, at, &NewDepartment { at, name })
@@ -53,7 +51,6 @@ pub fn add_caller<S: Alter>(
     ensures open { HasCleanDisk (state S.Store conn.new) → OnOk result (IsTrue (state S.Store conn.new).is_open) }
     ensures done { HasCleanDisk (state S.Store conn.new) → IsChangeInLimits (change.AddCaller caller.now) → OnOk result (Changes (state S.Store conn.old) (state S.Store conn.new) at (change.AddCaller caller.now)) }
     ensures nothing { HasCleanDisk (state S.Store conn.new) → OnErr result ((v : Vault) → Keeps (state S.Store conn.old) v → Keeps (state S.Store conn.new) v) }
-    ensures alone { HasCleanDisk (state S.Store conn.new) → OnOk result ((trees : Trees) → (state S.Store conn.new).may_leave trees → trees ≡ (state S.Store conn.new).now.trees) }
     ensures crash { IsChangeInLimits (change.AddCaller caller.now) → Survives (state S.Store conn.old) (state S.Store conn.new) (AreChanged (state S.Store conn.old) at (change.AddCaller caller.now)) }
 {
     commit_part(conn, at, &NewCaller { at, caller })
@@ -70,7 +67,6 @@ pub fn close_caller<S: Alter>(
     ensures open { HasCleanDisk (state S.Store conn.new) → OnOk result (IsTrue (state S.Store conn.new).is_open) }
     ensures done { HasCleanDisk (state S.Store conn.new) → IsChangeInLimits (change.CloseCaller name.now) → OnOk result (Changes (state S.Store conn.old) (state S.Store conn.new) at (change.CloseCaller name.now)) }
     ensures nothing { HasCleanDisk (state S.Store conn.new) → OnErr result ((v : Vault) → Keeps (state S.Store conn.old) v → Keeps (state S.Store conn.new) v) }
-    ensures alone { HasCleanDisk (state S.Store conn.new) → OnOk result ((trees : Trees) → (state S.Store conn.new).may_leave trees → trees ≡ (state S.Store conn.new).now.trees) }
     ensures crash { IsChangeInLimits (change.CloseCaller name.now) → Survives (state S.Store conn.old) (state S.Store conn.new) (AreChanged (state S.Store conn.old) at (change.CloseCaller name.now)) }
 {
     commit_part(conn, at, &ClosedCaller { at, name })
@@ -88,7 +84,6 @@ pub fn add_bucket<S: Alter>(
     ensures open { HasCleanDisk (state S.Store conn.new) → OnOk result (IsTrue (state S.Store conn.new).is_open) }
     ensures done { HasCleanDisk (state S.Store conn.new) → IsChangeInLimits (change.AddBucket name.now dept.now) → OnOk result (Changes (state S.Store conn.old) (state S.Store conn.new) at (change.AddBucket name.now dept.now)) }
     ensures nothing { HasCleanDisk (state S.Store conn.new) → OnErr result ((v : Vault) → Keeps (state S.Store conn.old) v → Keeps (state S.Store conn.new) v) }
-    ensures alone { HasCleanDisk (state S.Store conn.new) → OnOk result ((trees : Trees) → (state S.Store conn.new).may_leave trees → trees ≡ (state S.Store conn.new).now.trees) }
     ensures crash { IsChangeInLimits (change.AddBucket name.now dept.now) → Survives (state S.Store conn.old) (state S.Store conn.new) (AreChanged (state S.Store conn.old) at (change.AddBucket name.now dept.now)) }
 {
     commit_part(conn, at, &NewBucket { at, name, dept })
@@ -106,7 +101,6 @@ pub fn set_default<S: Alter>(
     ensures open { HasCleanDisk (state S.Store conn.new) → OnOk result (IsTrue (state S.Store conn.new).is_open) }
     ensures done { HasCleanDisk (state S.Store conn.new) → IsChangeInLimits (change.SetDefault name.now default) → OnOk result (Changes (state S.Store conn.old) (state S.Store conn.new) at (change.SetDefault name.now default)) }
     ensures nothing { HasCleanDisk (state S.Store conn.new) → OnErr result ((v : Vault) → Keeps (state S.Store conn.old) v → Keeps (state S.Store conn.new) v) }
-    ensures alone { HasCleanDisk (state S.Store conn.new) → OnOk result ((trees : Trees) → (state S.Store conn.new).may_leave trees → trees ≡ (state S.Store conn.new).now.trees) }
     ensures crash { IsChangeInLimits (change.SetDefault name.now default) → Survives (state S.Store conn.old) (state S.Store conn.new) (AreChanged (state S.Store conn.old) at (change.SetDefault name.now default)) }
 {
     commit_part(conn, at, &NewDefault { at, name, default })
@@ -124,7 +118,6 @@ pub fn set_rules<S: Alter>(
     ensures open { HasCleanDisk (state S.Store conn.new) → OnOk result (IsTrue (state S.Store conn.new).is_open) }
     ensures done { HasCleanDisk (state S.Store conn.new) → IsChangeInLimits (change.SetRules name.now rules.now) → OnOk result (Changes (state S.Store conn.old) (state S.Store conn.new) at (change.SetRules name.now rules.now)) }
     ensures nothing { HasCleanDisk (state S.Store conn.new) → OnErr result ((v : Vault) → Keeps (state S.Store conn.old) v → Keeps (state S.Store conn.new) v) }
-    ensures alone { HasCleanDisk (state S.Store conn.new) → OnOk result ((trees : Trees) → (state S.Store conn.new).may_leave trees → trees ≡ (state S.Store conn.new).now.trees) }
     ensures crash { IsChangeInLimits (change.SetRules name.now rules.now) → Survives (state S.Store conn.old) (state S.Store conn.new) (AreChanged (state S.Store conn.old) at (change.SetRules name.now rules.now)) }
 {
     let rules = rules_given(rules);

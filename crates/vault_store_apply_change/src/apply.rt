@@ -1,12 +1,14 @@
 //! A change of any kind.
-ghost use Rattle.std.specs.Prelude.{◌≡◌, false, IsTrue, OnOk, OnErr};
-ghost use Rattle.sqlite_trees.specs.Tree.{Trees};
+ghost use Rattle.std.specs.Prelude.{◌≡◌, ◌≤◌, false, IsTrue, OnOk, OnErr};
 ghost use Rattle.sqlite.specs.Held.{state};
 ghost use Rattle.sqlite.specs.State.{HasCleanDisk, Survives};
+ghost use Rattle.vault_core_model.specs.Allowed.{Allows};
+ghost use Rattle.vault_core_model.specs.Change.{changed};
 ghost use Rattle.vault_core_model.specs.Vault.{Vault};
 ghost use Rattle.vault_store_model.specs.Keeping.{Keeps};
 ghost use Rattle.vault_store_changes.specs.Limits.{IsChangeInLimits};
 ghost use Rattle.vault_store_apply.specs.Applies.{Changes, IsChanged};
+ghost use Rattle.vault_store_apply.specs.Left.{IsFoundIn};
 
 use sqlite::{Alter, Connection, Error, ErrorCode};
 use std::alloc::Global;
@@ -16,6 +18,7 @@ use vault_store_apply::records::{
     add_bucket, add_caller, add_department, close_caller, set_default, set_rules,
 };
 use vault_store_apply_entries::entries::admit;
+use vault_store_apply_entries::open::check_open;
 use vault_store_apply_entries::removal::remove;
 use vault_store_apply_entries::settings::add_setting;
 use vault_store_limits::change::is_in_limits;
@@ -29,7 +32,6 @@ fn make<S: Alter>(conn: &mut Connection<S>, at: Moment, change: &Change) -> Resu
     ensures done { HasCleanDisk (state S.Store conn.new) → OnOk result (Changes (state S.Store conn.old) (state S.Store conn.new) at change.now) }
     ensures nothing { HasCleanDisk (state S.Store conn.new) → OnErr result ((v : Vault) → Keeps (state S.Store conn.old) v → Keeps (state S.Store conn.new) v) }
     ensures honest { HasCleanDisk (state S.Store conn.new) → HasCleanDisk (state S.Store conn.old) }
-    ensures alone { HasCleanDisk (state S.Store conn.new) → OnOk result ((trees : Trees) → (state S.Store conn.new).may_leave trees → trees ≡ (state S.Store conn.new).now.trees) }
     ensures crash { (v : Vault) → Keeps (state S.Store conn.old) v → Survives (state S.Store conn.old) (state S.Store conn.new) (IsChanged (state S.Store conn.old) v at change.now) }
 {
     match change {
@@ -58,16 +60,17 @@ pub fn apply_change<S: Alter>(
     requires { conn.old.in_transaction ≡ false }
     ensures mode { conn.new.in_transaction ≡ false }
     ensures open { HasCleanDisk (state S.Store conn.new) → OnOk result (IsTrue (state S.Store conn.new).is_open) }
+    // The change is made, and a crash leaves the changed vault alone.
     ensures done { HasCleanDisk (state S.Store conn.new) → OnOk result (Changes (state S.Store conn.old) (state S.Store conn.new) at change.now) }
     ensures nothing { HasCleanDisk (state S.Store conn.new) → OnErr result ((v : Vault) → Keeps (state S.Store conn.old) v → Keeps (state S.Store conn.new) v) }
     ensures honest { HasCleanDisk (state S.Store conn.new) → HasCleanDisk (state S.Store conn.old) }
-    // What a crash may leave after that are these tables alone.
-    ensures alone { HasCleanDisk (state S.Store conn.new) → OnOk result ((trees : Trees) → (state S.Store conn.new).may_leave trees → trees ≡ (state S.Store conn.new).now.trees) }
     // What a crash may leave, at any moment of the call: what it could leave before, or the changed vault.
-    ensures crash { (v : Vault) → Keeps (state S.Store conn.old) v → Survives (state S.Store conn.old) (state S.Store conn.new) (IsChanged (state S.Store conn.old) v at change.now) }
+    ensures crash { (v : Vault) → Keeps (state S.Store conn.old) v → v.last ≤ at → Allows v at change.now → Survives (state S.Store conn.old) (state S.Store conn.new) (IsFoundIn (changed v at change.now)) }
 {
     if !is_in_limits(alloc, change)? {
         return Err(Error::SqliteFailure(ErrorCode::TooBig));
     }
+    // What a read of a connection that a failure has shut leaves is told by no clause.
+    check_open(conn)?;
     make(conn, at, change)
 }

@@ -5,6 +5,7 @@
 #![tactic(auto)]
 
 pub mod entries;
+pub mod open;
 mod place;
 pub mod removal;
 pub mod settings;

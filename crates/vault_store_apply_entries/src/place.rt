@@ -7,27 +7,13 @@ ghost use Rattle.vault_core_model.specs.Totals.{IsRowFor};
 ghost use Rattle.vault_core_model.specs.Vault.{Vault, config_of};
 ghost use Rattle.vault_store_model.specs.Keeping.{Keeps};
 
+use crate::open::check_open;
 use sqlite::{Alter, Connection, Error};
 use vault_base::name::{BucketName, DeptName, ObjectKey};
 use vault_core_model::records::{BucketConfig, Head};
 use vault_store_reads::heads::read_head;
 use vault_store_reads::names::{read_bucket, read_totals};
 use vault_tally::row::Row;
-
-/// Refuses a connection that a failure has shut.
-///
-/// A read doesn't tell that it left the connection open, on which it rests what a crash in the next read
-/// may leave.
-pub fn check_open<S: Alter>(conn: &mut Connection<S>) -> Result<(), Error>
-    ensures open { HasCleanDisk (state S.Store conn.new) → OnOk result (IsTrue (state S.Store conn.new).is_open) }
-    ensures same { HasCleanDisk (state S.Store conn.new) → (v : Vault) → Keeps (state S.Store conn.old) v → Keeps (state S.Store conn.new) v }
-    ensures honest { HasCleanDisk (state S.Store conn.new) → HasCleanDisk (state S.Store conn.old) }
-    ensures mode { conn.old.in_transaction ≡ false → conn.new.in_transaction ≡ false }
-    ensures survives { Survives (state S.Store conn.old) (state S.Store conn.new) (λ _. ⊥) }
-{
-    let _statement = conn.prepare("SELECT last FROM meta")?;
-    Ok(())
-}
 
 /// The configuration of a bucket; an error where there is no such bucket.
 fn read_config<S: Alter>(

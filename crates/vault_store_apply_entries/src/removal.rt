@@ -1,6 +1,5 @@
 //! An entry that is removed.
 ghost use Rattle.std.specs.Prelude.{◌≡◌, false, Some, IsTrue, IfOk, OnOk, OnErr};
-ghost use Rattle.sqlite_trees.specs.Tree.{Trees};
 ghost use Rattle.sqlite.specs.Held.{state};
 ghost use Rattle.sqlite.specs.State.{HasCleanDisk, Survives};
 ghost use Rattle.vault_base.specs.Days.{day};
@@ -14,7 +13,8 @@ ghost use Rattle.vault_store_ordered.specs.Shown.{newest_but};
 ghost use Rattle.vault_store_apply.specs.Applies.{Changes, IsChanged};
 ghost use Rattle.vault_store_apply_entries.specs.Heads.{head_without};
 
-use crate::place::{check_open, read_place};
+use crate::open::check_open;
+use crate::place::read_place;
 use sqlite::{Alter, Connection, Error};
 use vault_base::moment::Moment;
 use vault_base::name::VersionId;
@@ -91,7 +91,6 @@ pub fn remove<S: Alter>(
     ensures done { HasCleanDisk (state S.Store conn.new) → IsChangeInLimits (change.Remove id removal.now) → OnOk result (Changes (state S.Store conn.old) (state S.Store conn.new) at (change.Remove id removal.now)) }
     ensures nothing { HasCleanDisk (state S.Store conn.new) → OnErr result ((v : Vault) → Keeps (state S.Store conn.old) v → Keeps (state S.Store conn.new) v) }
     ensures honest { HasCleanDisk (state S.Store conn.new) → HasCleanDisk (state S.Store conn.old) }
-    ensures alone { HasCleanDisk (state S.Store conn.new) → OnOk result ((trees : Trees) → (state S.Store conn.new).may_leave trees → trees ≡ (state S.Store conn.new).now.trees) }
     ensures crash { IsChangeInLimits (change.Remove id removal.now) → (v : Vault) → Keeps (state S.Store conn.old) v → Survives (state S.Store conn.old) (state S.Store conn.new) (IsChanged (state S.Store conn.old) v at (change.Remove id removal.now)) }
 {
     let entry = find_entry(conn, id)?;

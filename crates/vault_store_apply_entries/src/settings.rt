@@ -1,6 +1,5 @@
 //! One setting more of a version.
 ghost use Rattle.std.specs.Prelude.{◌≡◌, ◌+◌, ◌≤◌, false, IsTrue, IfOk, OnOk, OnErr};
-ghost use Rattle.sqlite_trees.specs.Tree.{Trees};
 ghost use Rattle.sqlite.specs.Held.{state};
 ghost use Rattle.sqlite.specs.State.{HasCleanDisk, Survives};
 ghost use Rattle.vault_core_model.specs.declared.change.Change.TheVariants as change;
@@ -45,7 +44,6 @@ pub fn add_setting<S: Alter>(
     ensures done { HasCleanDisk (state S.Store conn.new) → IsChangeInLimits (change.AddSetting id setting.now) → OnOk result (Changes (state S.Store conn.old) (state S.Store conn.new) at (change.AddSetting id setting.now)) }
     ensures nothing { HasCleanDisk (state S.Store conn.new) → OnErr result ((v : Vault) → Keeps (state S.Store conn.old) v → Keeps (state S.Store conn.new) v) }
     ensures honest { HasCleanDisk (state S.Store conn.new) → HasCleanDisk (state S.Store conn.old) }
-    ensures alone { HasCleanDisk (state S.Store conn.new) → OnOk result ((trees : Trees) → (state S.Store conn.new).may_leave trees → trees ≡ (state S.Store conn.new).now.trees) }
     ensures crash { IsChangeInLimits (change.AddSetting id setting.now) → (v : Vault) → Keeps (state S.Store conn.old) v → Survives (state S.Store conn.old) (state S.Store conn.new) (IsChanged (state S.Store conn.old) v at (change.AddSetting id setting.now)) }
 {
     let last = read_setting(conn, id)?;

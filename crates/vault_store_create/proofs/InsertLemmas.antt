@@ -69,8 +69,8 @@ meta_put old new count was h =
     let did = subst (λ s. Does old.step_limit (mode_of old) [] (record old.now { schema = s }) text None command (Ok (w.tally, new.now))) was.schema w.changed in
     let it = added old.step_limit (mode_of old) vault_schema meta [] (place_of table.Meta) (Values meta_row_terms 5) old.now.trees w.tally new.now did in
     let rows = ap (λ all. edited old.now.trees (edit_of old.now.trees meta [] Chosen 0 all)) it.1.1 in
-    let stored : new.now.trees meta_tree ≡ (Int (pos 1) ∷ Null ∷ Int (pos 1) ∷ Int (pos 0) ∷ Int (pos 1) ∷ []) ∷ [] =
-    it.2.rows ∙ rows ∙ rw (was.rows.0, cast_int (pos 1), cast_int (pos 0), cast_null) refl in
+    let stored : new.now.trees meta_tree ≡ (Int (pos 1) ∷ Null ∷ Int (pos 2) ∷ Int (pos 0) ∷ Int (pos 1) ∷ []) ∷ [] =
+    it.2.rows ∙ rows ∙ rw (was.rows.0, cast_int (pos 1), cast_int (pos 2), cast_int (pos 0), cast_null) refl in
     record {
       schema = it.3;
       meta = ap (map meta_columns) stored;

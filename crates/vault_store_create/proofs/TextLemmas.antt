@@ -82,13 +82,13 @@ creates table.Heads = (_, heads_made)
 -- ---- the first rows
 
 abbrev pub meta_row_text : List ℕ
-meta_row_text = codes "INSERT INTO meta (one, schema, last, next) VALUES (1, 1, 0, 1)"
+meta_row_text = codes "INSERT INTO meta (one, schema, last, next) VALUES (1, 2, 0, 1)"
 
 abbrev pub registrar_text : List ℕ
 registrar_text = codes "INSERT INTO callers (name, dept, rights, closed) VALUES ('registrar', NULL, 1, 0)"
 
 abbrev pub meta_row_terms : List Term
-meta_row_terms = lit (Int (pos 1)) ∷ lit Null ∷ lit (Int (pos 1)) ∷ lit (Int (pos 0)) ∷ lit (Int (pos 1)) ∷ []
+meta_row_terms = lit (Int (pos 1)) ∷ lit Null ∷ lit (Int (pos 2)) ∷ lit (Int (pos 0)) ∷ lit (Int (pos 1)) ∷ []
 
 abbrev pub registrar_terms : List Term
 registrar_terms = lit Null ∷ lit (Text (codes "registrar")) ∷ lit Null ∷ lit (Int (pos 1)) ∷ lit (Int (pos 0)) ∷ []

@@ -16,7 +16,7 @@ pub fn put_meta<S: Alter>(tx: &mut Transaction<'_, S>) -> Result<usize, Error>
     ensures survives { Survives (state S.Store tx.old.conn.now) (state S.Store tx.new.conn.now) (λ _. ⊥) }
 {
     tx.execute(
-        "INSERT INTO meta (one, schema, last, next) VALUES (1, 1, 0, 1)",
+        "INSERT INTO meta (one, schema, last, next) VALUES (1, 2, 0, 1)",
         &[],
     )
 }

@@ -64,13 +64,14 @@ module _ {S : Type 0} (g : Ghosts S) (old : Held S) where
       (subst (λ db. AreSound db v) (sym (now ∙ keeps.1)) keeps.0, committed)
 
   -- the parts, and then the commit
-  module _ (last : State) (edit : Rows → Rows) (parts : Edits begun last edit) where
+  module _ (last : State) (edit : Rows → Rows) (parts : Edits begun last edit) (sound : IsDatabase last.now) where
     pub commit_keeps : (end : State) → Shows last end last.now last.now false → Commits (state g old) end edit
     commit_keeps end done = record {
       was_open = parts.was_open;
       is_open = done.is_open;
       committed = done.committed_is ∙ sym done.now_is;
       schema = λ has. ap (λ (d : Database). d.schema) done.now_is ∙ parts.schema has;
+      listed = λ has. subst IsDatabase (sym done.now_is) sound;
       rows = λ has. subst (λ db. AreSameRows (edit (rows_in (state g old).now)) (rows_in db)) (sym done.now_is) (parts.rows has);
       ignores = parts.ignores;
     }
@@ -78,6 +79,7 @@ module _ {S : Type 0} (g : Ghosts S) (old : Held S) where
     pub commit_leaves : (trees : Trees) → trees ≡ last.now.trees → MayCommit (state g old) edit trees
     commit_leaves trees same = record {
       was_open = parts.was_open;
+      listed = λ has. rw same (subst (λ s. IsDatabase (record { schema = s; trees = last.now.trees })) (parts.schema has) sound);
       rows = λ has. rw same (parts.rows has);
       ignores = parts.ignores;
     }

@@ -1,22 +1,25 @@
 -- What a transaction that makes an edit of the tables leaves.
 use Rattle.std.specs.Prelude.{◌≡◌, IsTrue}
 use Rattle.sqlite_trees.specs.Tree.{Trees}
+use Rattle.sqlite.specs.Effect.{IsDatabase}
 use Rattle.sqlite.specs.State.{State}
 use Rattle.vault_audit_model.specs.Tables.{vault_schema}
 use Rattle.vault_store_model.specs.Rows.{Rows, AreSameRows, rows_in}
 use Rattle.vault_store_model.specs.Edits.{IgnoresOrder}
 
--- the tables are edited, and that is committed
+-- the tables are edited, list their schema and obey it, and that is committed
 pub record Commits (old new : State) (edit : Rows → Rows) : Type 0 where
   pub was_open : IsTrue old.is_open
   pub is_open : IsTrue new.is_open
   pub committed : new.committed ≡ new.now
   pub schema : old.now.schema ≡ vault_schema → new.now.schema ≡ vault_schema
+  pub listed : old.now.schema ≡ vault_schema → IsDatabase new.now
   pub rows : old.now.schema ≡ vault_schema → AreSameRows (edit (rows_in old.now)) (rows_in new.now)
   pub ignores : IgnoresOrder edit
 
--- trees of the edited tables
+-- trees of the edited tables, which list their schema and obey it
 pub record MayCommit (old : State) (edit : Rows → Rows) (trees : Trees) : Type 0 where
   pub was_open : IsTrue old.is_open
+  pub listed : old.now.schema ≡ vault_schema → IsDatabase (record { schema = vault_schema; trees = trees })
   pub rows : old.now.schema ≡ vault_schema → AreSameRows (edit (rows_in old.now)) (rows_in (record { schema = vault_schema; trees = trees }))
   pub ignores : IgnoresOrder edit

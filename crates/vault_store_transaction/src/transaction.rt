@@ -1,6 +1,7 @@
 //! An edit of the tables, made as a whole or not at all.
 ghost use Rattle.std.specs.Prelude.{◌≡◌, false, IsTrue, OnOk, OnErr};
 ghost use Rattle.sqlite_trees.specs.Tree.{Trees};
+ghost use Rattle.sqlite.specs.Effect.{IsDatabase};
 ghost use Rattle.sqlite.specs.Held.{state};
 ghost use Rattle.sqlite.specs.State.{HasCleanDisk, IsLive, IsUnchanged, KeepsCommit, Survives};
 ghost use Rattle.vault_core_model.specs.Vault.{Vault};
@@ -22,7 +23,7 @@ pub trait Part<S: Alter> {
     fn make(&self, tx: &mut Transaction<'_, S>) -> Result<(), Error>
         ensures same_reference { tx.new.conn.ghost_name ≡ tx.old.conn.ghost_name }
         ensures edits { HasCleanDisk (state S.Store tx.new.conn.now) → IsTrue tx.old.conn.now.in_transaction → IsReady (state S.Store tx.old.conn.now)
-            → OnOk result (Edits (state S.Store tx.old.conn.now) (state S.Store tx.new.conn.now) (edit self.now)) }
+            → OnOk result (Edits (state S.Store tx.old.conn.now) (state S.Store tx.new.conn.now) (edit self.now) × IsDatabase (state S.Store tx.new.conn.now).now) }
         ensures kept { HasCleanDisk (state S.Store tx.new.conn.now) → IsTrue tx.old.conn.now.in_transaction → IsReady (state S.Store tx.old.conn.now)
             → OnErr result (KeepsCommit (state S.Store tx.old.conn.now) (state S.Store tx.new.conn.now)) }
         ensures survives { Survives (state S.Store tx.old.conn.now) (state S.Store tx.new.conn.now) (λ _. ⊥) };
@@ -43,7 +44,7 @@ fn check_open<S: Alter>(tx: &mut Transaction<'_, S>) -> Result<(), Error>
 fn make_open<S: Alter, P: Part<S>>(tx: &mut Transaction<'_, S>, part: &P) -> Result<(), Error>
     ensures same_reference { tx.new.conn.ghost_name ≡ tx.old.conn.ghost_name }
     ensures edits { HasCleanDisk (state S.Store tx.new.conn.now) → IsTrue tx.old.conn.now.in_transaction → IsLive (state S.Store tx.old.conn.now)
-        → OnOk result (IsTrue (state S.Store tx.old.conn.now).is_open × ((state S.Store tx.old.conn.now).now.schema ≡ vault_schema → Edits (state S.Store tx.old.conn.now) (state S.Store tx.new.conn.now) (P.edit part.now))) }
+        → OnOk result (IsTrue (state S.Store tx.old.conn.now).is_open × ((state S.Store tx.old.conn.now).now.schema ≡ vault_schema → Edits (state S.Store tx.old.conn.now) (state S.Store tx.new.conn.now) (P.edit part.now) × IsDatabase (state S.Store tx.new.conn.now).now)) }
     ensures kept { HasCleanDisk (state S.Store tx.new.conn.now) → IsTrue tx.old.conn.now.in_transaction → IsLive (state S.Store tx.old.conn.now)
         → OnErr result ((IsTrue (state S.Store tx.old.conn.now).is_open → (state S.Store tx.old.conn.now).now.schema ≡ vault_schema) → KeepsCommit (state S.Store tx.old.conn.now) (state S.Store tx.new.conn.now)) }
     ensures survives { Survives (state S.Store tx.old.conn.now) (state S.Store tx.new.conn.now) (λ _. ⊥) }

@@ -1,4 +1,5 @@
 use Rattle.std.proofs.Common.{◌≡◌, IsTrue, arith, ◌∙◌}
+use Rattle.sqlite.specs.Effect.{IsDatabase}
 use Rattle.sqlite.specs.State.{HasCleanDisk, KeepsCommit}
 use Rattle.sqlite.specs.Held.{state}
 use Rattle.vault_audit_model.specs.Tables.{vault_schema}
@@ -14,8 +15,8 @@ returns-clause-edits g c clean inside live =
     let new = state g.S.Store c.make.new.tx.conn.now in
     let early : HasCleanDisk mid = omega (arith, clean, c.make.ensures.survives.clean) in
     let same = c.in_ok-check_open.ensures.open early in
-    on_ok_given (Edits old new (g.P.Part.edit c.args.part.now)) c.make.result same.0.was_open (λ has.
-    on_ok_then c.make.result (c.make.ensures.edits clean (same.0.mode ∙ inside) (ready_there old mid same live has)) (λ e. edits_there old mid new _ same e))
+    on_ok_given (Edits old new (g.P.Part.edit c.args.part.now) × IsDatabase new.now) c.make.result same.0.was_open (λ has.
+    on_ok_then c.make.result (c.make.ensures.edits clean (same.0.mode ∙ inside) (ready_there old mid same live has)) (λ e. (edits_there old mid new _ same e.0, e.1)))
 
 pub returns-clause-kept : goal.returns-clause-kept
 returns-clause-kept g c clean inside live =

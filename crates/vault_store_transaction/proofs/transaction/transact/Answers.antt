@@ -36,7 +36,7 @@ returns-clause-done g c clean =
     let early : HasCleanDisk last = omega (arith, c.commit.ensures.survives.clean) in
     let parts = rw begun at (c.in_ok-make_open.ensures.edits early (rw begun refl) (rw begun c.schema-schema.ensures.live)) in
     on_ok_then c.commit.result (c.commit.ensures.ok late) (λ fin has.
-    subst (λ h. Commits (state g.S.Store old) (state g.S.Store h) edit) same (commit_keeps g.S.Store old last edit (parts.1 has) (state g.S.Store end) fin.1))
+    subst (λ h. Commits (state g.S.Store old) (state g.S.Store h) edit) same (commit_keeps g.S.Store old last edit (parts.1 has).0 (parts.1 has).1 (state g.S.Store end) fin.1))
 
 pub returns-clause-nothing : goal.returns-clause-nothing
 returns-clause-nothing g c clean =
@@ -50,7 +50,7 @@ returns-clause-nothing g c clean =
     let early : HasCleanDisk last = omega (arith, c.commit.ensures.survives.clean) in
     let parts = rw begun at (c.in_ok-make_open.ensures.edits early (rw begun refl) (rw begun c.schema-schema.ensures.live)) in
     on_err_then c.commit.result (c.commit.ensures.err late) (λ e failed (v : Vault) was.
-    subst (λ h. Keeps (state g.S.Store h) v) same (refused_keeps g.S.Store old last edit (parts.1 (was parts.0).0.spells.schema) (state g.S.Store end) e failed v was))
+    subst (λ h. Keeps (state g.S.Store h) v) same (let part = parts.1 (was parts.0).0.spells.schema in refused_keeps g.S.Store old last edit part.0 part.1 (state g.S.Store end) e failed v was))
 
 pub returns-clause-crash : goal.returns-clause-crash
 returns-clause-crash g c =
@@ -65,7 +65,7 @@ returns-clause-crash g c =
     (λ late trees is.
     let early : HasCleanDisk last = omega (arith, c.commit.ensures.survives.clean) in
     let parts = rw begun at (c.in_ok-make_open.ensures.edits early (rw begun refl) (rw begun c.schema-schema.ensures.live)) in
-    (parts.0, λ has. commit_leaves g.S.Store old last edit (parts.1 has) trees is))
+    (parts.0, λ has. commit_leaves g.S.Store old last edit (parts.1 has).0 (parts.1 has).1 trees is))
     (survives_begin g.S.Store old last _ (rw begun at c.make_open.ensures.survives)) c.commit.ensures.survives in
     subst (λ h. Survives (state g.S.Store old) (state g.S.Store h) P) same whole
 

@@ -1,9 +1,11 @@
 use Rattle.std.proofs.Common.{sym, subst}
 use Rattle.sqlite.specs.Held.{state}
-use Rattle.sqlite.specs.State.{HasCleanDisk}
+use Rattle.sqlite.specs.State.{HasCleanDisk, Survives}
 use Rattle.vault_core_model.specs.Vault.{opening}
 use Rattle.vault_audit_laws.proofs.Uniqueness.{same_vault}
 use Rattle.vault_audit_model.specs.Spells.{AreSound}
+use Rattle.vault_store_apply.specs.Left.{IsFoundIn, LeavesAlone}
+use Rattle.vault_store.proofs.CreateLemmas.{opening_found, leaves_opening}
 use Rattle.vault_store.proofs.sql_keeper.SqlKeeper.create.Goals as goal
 
 pub returns-in-Ok-clause-sound : goal.returns-in-Ok-clause-sound
@@ -16,3 +18,19 @@ returns-in-Ok-clause-opening g c clean =
     let kept = c.over.ensures.keeps before in
     let made = c.in-Ok.ensures.opening before in
     same_vault _ _ opening kept.spells made.spells
+
+pub returns-in-Ok-clause-alone : goal.returns-in-Ok-clause-alone
+returns-in-Ok-clause-alone g c =
+    subst (λ h. HasCleanDisk (state g.S.Store h) → LeavesAlone (state g.S.Store h) opening) (sym c.over.ensures.same)
+    (λ clean trees may. opening_found trees (c.in-Ok.ensures.alone clean trees may))
+
+pub returns-in-Ok-clause-crash : goal.returns-in-Ok-clause-crash
+returns-in-Ok-clause-crash g c =
+    let old = state g.S.Store c.args.conn in
+    subst (λ h. Survives old (state g.S.Store h) (IsFoundIn opening)) (sym c.over.ensures.same) (leaves_opening old (state g.S.Store c.fill.new.conn) c.fill.ensures.crash)
+
+pub returns-in-Err-clause-harmless : goal.returns-in-Err-clause-harmless
+returns-in-Err-clause-harmless g c = leaves_opening (state g.S.Store c.args.conn) (state g.S.Store c.fill.new.conn) c.fill.ensures.crash
+
+pub returns-in-Err-clause-tables : goal.returns-in-Err-clause-tables
+returns-in-Err-clause-tables g c outside clean was_open is_open = c.in-Err.ensures.nothing clean is_open

@@ -1,7 +1,12 @@
 use Rattle.std.proofs.Common.{sym, subst}
-use Rattle.vault_audit_model.specs.Spells.{AreSound}
+use Rattle.sqlite.specs.Held.{state}
+use Rattle.sqlite.specs.State.{HasCleanDisk}
+use Rattle.vault_store_apply.specs.Left.{LeavesAlone}
+use Rattle.vault_store.specs.Kept.{kept_vault}
 use Rattle.vault_store.proofs.sql_keeper.SqlKeeper.open.Goals as goal
 
-pub returns-in-Err-clause-damaged : goal.returns-in-Err-clause-damaged
-returns-in-Err-clause-damaged g c clean t told v is =
-    c.in-Err.ensures.damaged clean t told v (subst (λ db. AreSound db v) (sym (c.in-Err.ensures.kept clean (t, told))) is)
+pub returns-clause-alone : goal.returns-clause-alone
+returns-clause-alone g c clean =
+    let v = kept_vault g.S.Store c.over.result.opening.at.items c.over.result.opening.known c.over.result.made.items in
+    let before = subst (λ h. HasCleanDisk (state g.S.Store h)) c.over.ensures.same clean in
+    subst (λ h. LeavesAlone (state g.S.Store h) v) (sym c.over.ensures.same) (c.in-Ok.ensures.alone before v (c.over.ensures.keeps before))

@@ -19,7 +19,7 @@ returns-clause-edits g c clean inside ready =
     let d2 = c.in_ok-set_sums_of.ensures.edits c2 d1.0.inside d1.1 in
     let d3 = c.in_ok-leave_head.ensures.edits c3 d2.0.inside d2.1 in
     let end = c.in_ok-set_last.ensures.edits clean d3.0.inside d3.1.sound in
-    edits_then old s1 new _ _ d1.0 (edits_then s1 s2 new _ _ d2.0 (edits_then s2 s3 new _ _ d3.0 end))
+    (edits_then old s1 new _ _ d1.0 (edits_then s1 s2 new _ _ d2.0 (edits_then s2 s3 new _ _ d3.0 end)), c.in_ok-set_last.ensures.sound clean d3.0.inside d3.1.sound d3.1.schema)
 
 pub returns-in_err-set_sums_of-clause-kept : goal.returns-in_err-set_sums_of-clause-kept
 returns-in_err-set_sums_of-clause-kept g c clean inside ready =

@@ -15,5 +15,7 @@ returns-clause-edits g c clean inside ready =
     let first = c.in_ok-delete_rules.ensures.edits early inside in
     let sound = c.in_ok-delete_rules.ensures.sound early inside ready.schema in
     let second = c.in_ok-put_rules.ensures.edits late first.inside first.is_open in
-    let sound_too = c.in_ok-put_rules.ensures.sound late first.inside (first.schema ready.schema) sound in
-    edits_then old mid new _ _ first (edits_then mid next new _ _ second (c.in_ok-set_last.ensures.edits clean second.inside sound_too))
+    let sound_too = c.in_ok-put_rules.ensures.sound late first.inside (first.schema ready.schema) sound in (
+      edits_then old mid new _ _ first (edits_then mid next new _ _ second (c.in_ok-set_last.ensures.edits clean second.inside sound_too)),
+      c.in_ok-set_last.ensures.sound clean second.inside sound_too (second.schema (first.schema ready.schema)),
+    )

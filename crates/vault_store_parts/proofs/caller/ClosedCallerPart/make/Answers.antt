@@ -13,7 +13,7 @@ returns-clause-edits g c clean inside ready =
     let early : HasCleanDisk mid = omega (arith, clean, c.set_last.ensures.survives.clean) in
     let first = c.in_ok-close_caller.ensures.edits early inside ready.sound in
     let sound = c.in_ok-close_caller.ensures.sound early inside ready.sound ready.schema in
-    edits_then old mid new _ _ first (c.in_ok-set_last.ensures.edits clean first.inside sound)
+    (edits_then old mid new _ _ first (c.in_ok-set_last.ensures.edits clean first.inside sound), c.in_ok-set_last.ensures.sound clean first.inside sound (first.schema ready.schema))
 
 pub returns-in_err-set_last-clause-kept : goal.returns-in_err-set_last-clause-kept
 returns-in_err-set_last-clause-kept g c clean inside ready =

@@ -12,4 +12,4 @@ returns-clause-edits g c clean inside ready =
     let early : HasCleanDisk mid = omega (arith, clean, c.set_last.ensures.survives.clean) in
     let first = c.in_ok-put_department.ensures.edits early inside in
     let sound = c.in_ok-put_department.ensures.sound early inside ready.schema in
-    edits_then old mid new _ _ first (c.in_ok-set_last.ensures.edits clean first.inside sound)
+    (edits_then old mid new _ _ first (c.in_ok-set_last.ensures.edits clean first.inside sound), c.in_ok-set_last.ensures.sound clean first.inside sound (first.schema ready.schema))

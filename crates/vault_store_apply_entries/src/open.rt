@@ -1,0 +1,23 @@
+//! Whether a failure has shut a connection.
+ghost use Rattle.std.specs.Prelude.{◌≡◌, false, IsTrue, OnOk};
+ghost use Rattle.sqlite.specs.Held.{state};
+ghost use Rattle.sqlite.specs.State.{HasCleanDisk, Survives};
+ghost use Rattle.vault_core_model.specs.Vault.{Vault};
+ghost use Rattle.vault_store_model.specs.Keeping.{Keeps};
+
+use sqlite::{Alter, Connection, Error};
+
+/// Refuses a connection that a failure has shut.
+///
+/// A read doesn't tell that it left the connection open, on which it rests what a crash in the next read
+/// may leave.
+pub fn check_open<S: Alter>(conn: &mut Connection<S>) -> Result<(), Error>
+    ensures open { HasCleanDisk (state S.Store conn.new) → OnOk result (IsTrue (state S.Store conn.new).is_open) }
+    ensures same { HasCleanDisk (state S.Store conn.new) → (v : Vault) → Keeps (state S.Store conn.old) v → Keeps (state S.Store conn.new) v }
+    ensures honest { HasCleanDisk (state S.Store conn.new) → HasCleanDisk (state S.Store conn.old) }
+    ensures mode { conn.old.in_transaction ≡ false → conn.new.in_transaction ≡ false }
+    ensures survives { Survives (state S.Store conn.old) (state S.Store conn.new) (λ _. ⊥) }
+{
+    let _statement = conn.prepare("SELECT last FROM meta")?;
+    Ok(())
+}
