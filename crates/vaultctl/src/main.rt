@@ -1,16 +1,41 @@
 //! The vault's program: reads its words, carries out what they ask for, and answers the status.
 #![tactic(auto)]
 
+ghost use Rattle.std.specs.Prelude.{◌≡◌, true, []};
+
+use sqlite::{Start, Unknown};
 use std::io::{self, BufWriter, Read, Write};
 use std::process::ExitCode;
+use vaultctl_machine::starts::Starts;
 use vaultctl_perform::answer_words;
 
 /// How many bytes of replies are held back until they are written together.
 const HELD_BACK: usize = 65_536;
 
+/// The same as `Unknown`, as a type of its own: two openings of one type could be shown to disagree.
+#[derive(Drop)]
+struct UnknownToo;
+
+impl Start for UnknownToo {
+    ghost log = { [] };
+
+    ghost db = { [] };
+
+    ghost is_mixing = { true };
+
+    fn mixes() -> bool {
+        true
+    }
+}
+
 fn main(rt: HostRuntime) -> ExitCode {
     let mut err = rt.stderr();
-    match run(&rt, &mut err) {
+    // Here alone the types have names. What is proved of the calls below holds for any contents of the files.
+    let starts = Starts {
+        first: Unknown,
+        second: UnknownToo,
+    };
+    match run(&rt, starts, &mut err) {
         Ok(status) => ExitCode::from(status),
         Err(_) => {
             // Where even this can't be written, the status tells alone.
@@ -22,20 +47,25 @@ fn main(rt: HostRuntime) -> ExitCode {
 
 /// The status of what the words ask for. No clause stands here: one would have the call's proof carry all that the
 /// machine's reader and writer hold.
-fn answer<R: Read, W: Write, E: Write>(
+fn answer<A: Start, B: Start, R: Read, W: Write, E: Write>(
     rt: &HostRuntime,
+    starts: Starts<A, B>,
     words: &[String],
     reader: &mut R,
     out: &mut W,
     err: &mut E,
 ) -> u8 {
-    answer_words(rt, words, reader, out, err)
+    answer_words(rt, starts, words, reader, out, err)
 }
 
 /// The same of the program's words; an error where room for them was refused.
-fn run<E: Write>(rt: &HostRuntime, err: &mut E) -> io::Result<u8> {
+fn run<A: Start, B: Start, E: Write>(
+    rt: &HostRuntime,
+    starts: Starts<A, B>,
+    err: &mut E,
+) -> io::Result<u8> {
     let words: Vec<String> = std::env::args(rt)?.collect(rt.alloc())?;
     let mut out = BufWriter::with_capacity(rt.alloc(), HELD_BACK, io::writer(rt))?;
     let mut reader = rt.reader();
-    Ok(answer(rt, words.as_slice(), &mut reader, &mut out, err))
+    Ok(answer(rt, starts, words.as_slice(), &mut reader, &mut out, err))
 }

@@ -1,5 +1,6 @@
 //! What the program uses of the machine: its terminal, and vaults in files.
 #![tactic(auto)]
 
+pub mod starts;
 pub mod terminal;
 pub mod vaults;

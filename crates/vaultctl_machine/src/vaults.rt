@@ -1,23 +1,26 @@
 //! Vaults in files.
 ghost use Rattle.std.specs.Prelude.{◌≡◌, ◌+◌, ◌-◌, ◌^◌, IfOk, min};
-ghost use Rattle.sqlite.specs.Files.{file_state, over_files};
+ghost use Rattle.sqlite.specs.Files.{file_state, over_files, IsOpened};
+ghost use Rattle.sqlite.specs.Start.{FindsIn};
 ghost use Rattle.sqlite.specs.State.{HasCleanDisk};
+ghost use Rattle.sqlite_wal.specs.Files.{image_at};
 ghost use Rattle.vault_audit_model.specs.Spells.{AreSound};
-ghost use Rattle.vault_core_model.specs.Vault.{opening};
+ghost use Rattle.vault_core_model.specs.Vault.{Vault, opening};
 ghost use Rattle.vault_store.specs.Kept.{kept_vault};
 ghost use Rattle.vaultctl_machine.specs.Faults as spec;
+ghost use Rattle.vaultctl_machine.specs.Files.{IsFoundIn, IsHeldIn};
 
-use sqlite::{Connection, Error, ErrorCode, FileFrom, FileStore, Wary};
+use sqlite::{Connection, Error, ErrorCode, FileFrom, FileStore, Start};
+use std::alloc::Global;
 use std::fs;
 use vault_base::refusal::{Refusal, Table};
 use vault_store::sql_keeper::SqlKeeper;
 
-/// The store of a vault in a file. A write that a crash cuts short may leave any bytes, as `Wary` supposes, so each
-/// change is synced twice.
-pub type VaultStore = FileStore<FileFrom<Wary>>;
+/// The store of a vault in files, which held what `S` says when they were opened.
+pub type VaultStore<S> = FileStore<FileFrom<S>>;
 
-/// A vault in a file.
-pub type FileVault = SqlKeeper<VaultStore>;
+/// A vault in files.
+pub type FileVault<S> = SqlKeeper<VaultStore<S>>;
 
 /// The files of the machine, and how many vaults were looked for there.
 #[derive(Drop)]
@@ -49,8 +52,15 @@ fn unmade(error: Error) -> Refusal
     }
 }
 
-fn connect(rt: &HostRuntime, path: &str) -> Result<Connection<VaultStore>, Error> {
-    match Connection::open_from(rt, path, false, Wary) {
+fn connect<S: Start>(
+    rt: &HostRuntime,
+    path: &str,
+    start: S,
+) -> Result<Connection<VaultStore<S>>, Error>
+    ensures opened { IfOk result (λ conn. HasCleanDisk (file_state conn) → IsOpened conn) }
+    ensures found { IfOk result (λ conn. HasCleanDisk (file_state conn) → FindsIn (image_at S.Start) (file_state conn)) }
+{
+    match Connection::open_from(rt, path, false, start) {
         Ok(conn) => Ok(conn),
         Err((error, left)) => {
             if let Some(left) = left {
@@ -64,13 +74,50 @@ fn connect(rt: &HostRuntime, path: &str) -> Result<Connection<VaultStore>, Error
 /// Closes a connection, so that all that it committed stands in its file.
 ///
 /// Where that fails, what was committed stands in the log beside the file, and the next open finds it there.
-fn close(conn: Connection<VaultStore>) {
+fn close<S: Start>(conn: Connection<VaultStore<S>>) {
     let _ = conn.close();
 }
 
 /// Closes a vault.
-pub fn close_vault(vault: FileVault) {
+pub fn close_vault<S: Start>(vault: FileVault<S>) {
     close(vault.into_connection());
+}
+
+/// The vault in the tables of a connection that was opened just now. One whose tables aren't sound is closed.
+fn found_in<S: Start>(
+    alloc: Global,
+    conn: Connection<VaultStore<S>>,
+) -> Result<FileVault<S>, Refusal>
+    requires opened { HasCleanDisk (file_state conn) → IsOpened conn }
+    requires found { HasCleanDisk (file_state conn) → FindsIn (image_at S.Start) (file_state conn) }
+    ensures sound { IfOk result (λ vault. HasCleanDisk (file_state vault.conn) → AreSound (file_state vault.conn).now (kept_vault over_files vault.opening.at.items vault.opening.known vault.made.items)) }
+    ensures found { IfOk result (λ vault. HasCleanDisk (file_state vault.conn) → IsFoundIn (image_at S.Start) (kept_vault over_files vault.opening.at.items vault.opening.known vault.made.items)) }
+    ensures held { (v : Vault) → IsHeldIn (image_at S.Start) v → IfOk result (λ vault. HasCleanDisk (file_state vault.conn) → kept_vault over_files vault.opening.at.items vault.opening.known vault.made.items ≡ v) }
+{
+    match SqlKeeper::open(alloc, conn) {
+        Ok(vault) => Ok(vault),
+        Err((refusal, conn)) => {
+            close(conn);
+            Err(refusal)
+        }
+    }
+}
+
+/// A new vault in the empty store of a connection. One in which a vault can't be made is closed.
+fn made_in<S: Start>(
+    alloc: Global,
+    conn: Connection<VaultStore<S>>,
+) -> Result<FileVault<S>, Refusal>
+    ensures opening { IfOk result (λ vault. HasCleanDisk (file_state vault.conn) → kept_vault over_files vault.opening.at.items vault.opening.known vault.made.items ≡ opening) }
+    ensures sound { IfOk result (λ vault. HasCleanDisk (file_state vault.conn) → AreSound (file_state vault.conn).now opening) }
+{
+    match SqlKeeper::create(alloc, conn) {
+        Ok(vault) => Ok(vault),
+        Err((refusal, conn)) => {
+            close(conn);
+            Err(refusal)
+        }
+    }
 }
 
 impl<'a> Machine<'a> {
@@ -94,14 +141,18 @@ impl<'a> Machine<'a> {
         self.rt
     }
 
-    /// Opens the vault in a file: its tables have to be sound.
+    /// Opens the vault in a file: its tables have to be sound. `start` stands for what the file and its log hold.
     ///
     /// `Damaged` with the first table that isn't; with `meta` where the file isn't there, or is no store of
     /// tables whose rows keep its own schema. No file is made. `Memory` where memory was refused, and `Device`
     /// where the file can't be read or another program has it.
-    pub fn open(&mut self, path: &str) -> Result<FileVault, Refusal>
+    pub fn open<S: Start>(&mut self, path: &str, start: S) -> Result<FileVault<S>, Refusal>
         ensures looked { self.new.looked ≡ min (self.old.looked + 1) (2 ^ 64 - 1) }
         ensures sound { IfOk result (λ vault. HasCleanDisk (file_state vault.conn) → AreSound (file_state vault.conn).now (kept_vault over_files vault.opening.at.items vault.opening.known vault.made.items)) }
+        // The vault that is opened is the one that the tables spell which were found in the files.
+        ensures found { IfOk result (λ vault. HasCleanDisk (file_state vault.conn) → IsFoundIn (image_at S.Start) (kept_vault over_files vault.opening.at.items vault.opening.known vault.made.items)) }
+        // Where the files held a vault, it is that one.
+        ensures held { (v : Vault) → IsHeldIn (image_at S.Start) v → IfOk result (λ vault. HasCleanDisk (file_state vault.conn) → kept_vault over_files vault.opening.at.items vault.opening.known vault.made.items ≡ v) }
     {
         let rt = self.look();
         match fs::exists(rt, path) {
@@ -109,38 +160,25 @@ impl<'a> Machine<'a> {
             Ok(false) => return Err(Refusal::Damaged(Table::Meta)),
             Err(_) => return Err(Refusal::Device),
         }
-        let conn = match connect(rt, path) {
-            Ok(conn) => conn,
-            Err(error) => return Err(unopened(error)),
-        };
-        match SqlKeeper::open(rt.alloc(), conn) {
-            Ok(vault) => Ok(vault),
-            Err((refusal, conn)) => {
-                close(conn);
-                Err(refusal)
-            }
+        match connect(rt, path, start) {
+            Ok(conn) => found_in(rt.alloc(), conn),
+            Err(error) => Err(unopened(error)),
         }
     }
 
-    /// Makes a new vault in a file that isn't there or is empty.
+    /// Makes a new vault in a file that isn't there or is empty. `start` stands for what the file and its log hold.
     ///
     /// `NameTaken` where something is in it, `Memory` where memory was refused, and `Device` where the file
     /// can't be made.
-    pub fn make(&mut self, path: &str) -> Result<FileVault, Refusal>
+    pub fn make<S: Start>(&mut self, path: &str, start: S) -> Result<FileVault<S>, Refusal>
         ensures looked { self.new.looked ≡ min (self.old.looked + 1) (2 ^ 64 - 1) }
         ensures opening { IfOk result (λ vault. HasCleanDisk (file_state vault.conn) → kept_vault over_files vault.opening.at.items vault.opening.known vault.made.items ≡ opening) }
+        ensures sound { IfOk result (λ vault. HasCleanDisk (file_state vault.conn) → AreSound (file_state vault.conn).now opening) }
     {
         let rt = self.look();
-        let conn = match connect(rt, path) {
-            Ok(conn) => conn,
-            Err(error) => return Err(unmade(error)),
-        };
-        match SqlKeeper::create(rt.alloc(), conn) {
-            Ok(vault) => Ok(vault),
-            Err((refusal, conn)) => {
-                close(conn);
-                Err(refusal)
-            }
+        match connect(rt, path, start) {
+            Ok(conn) => made_in(rt.alloc(), conn),
+            Err(error) => Err(unmade(error)),
         }
     }
 }

@@ -9,6 +9,7 @@ ghost use Rattle.vaultctl_perform.specs.Asked as spec;
 ghost use Rattle.vaultctl_values.specs.declared.asked.Asked.{Asked as AskedOf};
 
 use crate::telling::{status, tell_fault, tell_unopened, tell_value};
+use sqlite::Start;
 use std::alloc::Global;
 use std::io::Write;
 use std::time::Clock;
@@ -74,9 +75,9 @@ fn ask_keeper<K: Keeper, W: Write>(
 }
 
 /// Asks it of a vault, and closes the vault.
-fn ask_vault<W: Write>(
+fn ask_vault<S: Start, W: Write>(
     rt: &HostRuntime,
-    vault: FileVault,
+    vault: FileVault<S>,
     asked: &Asked,
     out: &mut W,
 ) -> Result<Outcome, JobFault>
@@ -91,10 +92,11 @@ fn ask_vault<W: Write>(
 }
 
 /// Asks it of the vault in a file.
-fn ask_in_file<W: Write, E: Write>(
+fn ask_in_file<S: Start, W: Write, E: Write>(
     machine: &mut Machine<'_>,
     subcommand: &str,
     file: &str,
+    start: S,
     asked: &Asked,
     out: &mut W,
     err: &mut E,
@@ -103,17 +105,18 @@ fn ask_in_file<W: Write, E: Write>(
     ensures status { result ≢ 2 }
 {
     let rt = machine.runtime();
-    match machine.open(file) {
+    match machine.open(file, start) {
         Ok(vault) => status(err, subcommand, ask_vault(rt, vault, asked, out)),
         Err(refusal) => tell_unopened(err, "open", refusal),
     }
 }
 
 /// The same as `ask`, of what was read by another.
-fn ask_read<W: Write, E: Write>(
+fn ask_read<S: Start, W: Write, E: Write>(
     machine: &mut Machine<'_>,
     subcommand: &str,
     file: &str,
+    start: S,
     asked: &Result<Asked, LineFault>,
     out: &mut W,
     err: &mut E,
@@ -124,7 +127,7 @@ fn ask_read<W: Write, E: Write>(
 {
     let alloc = machine.runtime().alloc();
     match asked {
-        Ok(asked) => ask_in_file(machine, subcommand, file, asked, out, err),
+        Ok(asked) => ask_in_file(machine, subcommand, file, start, asked, out, err),
         Err(LineFault::Memory) => tell_fault(err, subcommand, JobFault::Memory),
         Err(LineFault::Refused(refusal)) => tell_value(alloc, subcommand, *refusal, out, err),
     }
@@ -132,10 +135,11 @@ fn ask_read<W: Write, E: Write>(
 
 /// Carries out what a job's words ask of the vault in a file, where their values are such; else prints the
 /// refusal of the first that isn't, and looks for no file.
-pub fn ask<W: Write, E: Write>(
+pub fn ask<S: Start, W: Write, E: Write>(
     machine: &mut Machine<'_>,
     subcommand: &str,
     file: &str,
+    start: S,
     asked: Result<Asked, LineFault>,
     out: &mut W,
     err: &mut E,
@@ -145,5 +149,5 @@ pub fn ask<W: Write, E: Write>(
     ensures told { result ≡ 0 → TellsReply Outcome.Done (W.contents out.old) (W.contents out.new) }
     ensures status { result ≢ 2 }
 {
-    ask_read(machine, subcommand, file, &asked, out, err)
+    ask_read(machine, subcommand, file, start, &asked, out, err)
 }

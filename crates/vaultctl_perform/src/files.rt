@@ -6,6 +6,7 @@ ghost use Rattle.std.specs.Prelude.{◌≡◌, ◌≢◌};
 ghost use Rattle.vaultctl_perform.specs.Status as spec;
 
 use crate::telling::{status, tell_unopened};
+use sqlite::Start;
 use std::alloc::Global;
 use std::io::{Read, Write};
 use vault_base::refusal::Refusal;
@@ -19,8 +20,8 @@ use vaultctl_replay::{ReplayFault, replay};
 use vaultctl_serve::{PortFault, serve};
 
 /// Makes the vault in a file and closes it.
-fn make(machine: &mut Machine<'_>, file: &str) -> Result<(), Refusal> {
-    close_vault(machine.make(file)?);
+fn make<S: Start>(machine: &mut Machine<'_>, file: &str, start: S) -> Result<(), Refusal> {
+    close_vault(machine.make(file, start)?);
     Ok(())
 }
 
@@ -35,10 +36,10 @@ fn tell_made<E: Write>(err: &mut E, made: Result<(), Refusal>) -> u8
 }
 
 /// Makes a new vault in a file, and prints nothing.
-pub fn init<E: Write>(machine: &mut Machine<'_>, file: &str, err: &mut E) -> u8
+pub fn init<S: Start, E: Write>(machine: &mut Machine<'_>, file: &str, start: S, err: &mut E) -> u8
     ensures status { result ≢ 2 }
 {
-    let made = make(machine, file);
+    let made = make(machine, file, start);
     tell_made(err, made)
 }
 
@@ -63,9 +64,9 @@ fn export<K: Keeper, W: Write>(
 }
 
 /// Writes a vault's register, and closes the vault.
-fn write_register<W: Write>(
+fn write_register<S: Start, W: Write>(
     alloc: Global,
-    vault: FileVault,
+    vault: FileVault<S>,
     out: &mut W,
 ) -> Result<Outcome, JobFault> {
     let mut vault = vault;
@@ -75,16 +76,17 @@ fn write_register<W: Write>(
 }
 
 /// Prints the register of a vault's removals.
-pub fn register<W: Write, E: Write>(
+pub fn register<S: Start, W: Write, E: Write>(
     machine: &mut Machine<'_>,
     file: &str,
+    start: S,
     out: &mut W,
     err: &mut E,
 ) -> u8
     ensures status { result ≢ 2 }
 {
     let alloc = machine.runtime().alloc();
-    match machine.open(file) {
+    match machine.open(file, start) {
         Ok(vault) => status(err, "register", write_register(alloc, vault, out)),
         Err(refusal) => tell_unopened(err, "open", refusal),
     }
@@ -112,9 +114,9 @@ fn answer_over<K: Keeper, R: Read, W: Write>(
 }
 
 /// Answers a script over a vault, and closes the vault.
-fn answer_script<R: Read, W: Write>(
+fn answer_script<S: Start, R: Read, W: Write>(
     alloc: Global,
-    vault: FileVault,
+    vault: FileVault<S>,
     reader: &mut R,
     out: &mut W,
 ) -> Result<Outcome, JobFault> {
@@ -125,9 +127,10 @@ fn answer_script<R: Read, W: Write>(
 }
 
 /// Answers the script that the reader gives over the vault in a file.
-pub fn replay_file<R: Read, W: Write, E: Write>(
+pub fn replay_file<S: Start, R: Read, W: Write, E: Write>(
     machine: &mut Machine<'_>,
     file: &str,
+    start: S,
     reader: &mut R,
     out: &mut W,
     err: &mut E,
@@ -135,7 +138,7 @@ pub fn replay_file<R: Read, W: Write, E: Write>(
     ensures status { result ≢ 2 }
 {
     let alloc = machine.runtime().alloc();
-    match machine.open(file) {
+    match machine.open(file, start) {
         Ok(vault) => status(err, "replay", answer_script(alloc, vault, reader, out)),
         Err(refusal) => tell_unopened(err, "open", refusal),
     }
@@ -161,9 +164,9 @@ fn serve_over<K: Keeper>(
 }
 
 /// Serves requests over a vault, and closes the vault.
-fn serve_vault(
+fn serve_vault<S: Start>(
     rt: &HostRuntime,
-    vault: FileVault,
+    vault: FileVault<S>,
     port: u16,
     count: u32,
 ) -> Result<Outcome, JobFault> {
@@ -174,9 +177,10 @@ fn serve_vault(
 }
 
 /// Serves requests over the vault in a file, at a port of 127.0.0.1.
-pub fn serve_file<E: Write>(
+pub fn serve_file<S: Start, E: Write>(
     machine: &mut Machine<'_>,
     file: &str,
+    start: S,
     port: u16,
     count: u32,
     err: &mut E,
@@ -184,7 +188,7 @@ pub fn serve_file<E: Write>(
     ensures status { result ≢ 2 }
 {
     let rt = machine.runtime();
-    match machine.open(file) {
+    match machine.open(file, start) {
         Ok(vault) => status(err, "serve", serve_vault(rt, vault, port, count)),
         Err(refusal) => tell_unopened(err, "open", refusal),
     }

@@ -8,6 +8,7 @@ ghost use Rattle.vaultctl_values.specs.declared.asked.AskedIntake.{AskedIntake a
 
 use crate::asked::reading;
 use crate::telling::{status, tell_fault, tell_unopened, tell_value};
+use sqlite::Start;
 use std::alloc::Global;
 use std::io::Write;
 use vault_base::refusal::Refusal;
@@ -99,9 +100,9 @@ fn take_in_keeper<K: Keeper, W: Write>(
 }
 
 /// Takes in the list, and closes the vault.
-fn take_in_vault<W: Write>(
+fn take_in_vault<S: Start, W: Write>(
     rt: &HostRuntime,
-    vault: FileVault,
+    vault: FileVault<S>,
     asked: &AskedIntake,
     job: &Intake,
     out: &mut W,
@@ -116,8 +117,9 @@ fn take_in_vault<W: Write>(
     outcome
 }
 
-fn take_in_file<W: Write, E: Write>(
+fn take_in_file<S: Start, W: Write, E: Write>(
     machine: &mut Machine<'_>,
+    start: S,
     asked: &AskedIntake,
     job: &Intake,
     out: &mut W,
@@ -127,15 +129,16 @@ fn take_in_file<W: Write, E: Write>(
     ensures status { result ≢ 2 }
 {
     let rt = machine.runtime();
-    match machine.open(job.file.as_str()) {
+    match machine.open(job.file.as_str(), start) {
         Ok(vault) => status(err, "intake", take_in_vault(rt, vault, asked, job, out)),
         Err(refusal) => tell_unopened(err, "open", refusal),
     }
 }
 
 /// The same as `take_in`, of what was read by another.
-fn take_in_asked<W: Write, E: Write>(
+fn take_in_asked<S: Start, W: Write, E: Write>(
     machine: &mut Machine<'_>,
+    start: S,
     asked: &Result<AskedIntake, LineFault>,
     job: &Intake,
     out: &mut W,
@@ -147,7 +150,7 @@ fn take_in_asked<W: Write, E: Write>(
 {
     let alloc = machine.runtime().alloc();
     match asked {
-        Ok(asked) => take_in_file(machine, asked, job, out, err),
+        Ok(asked) => take_in_file(machine, start, asked, job, out, err),
         Err(LineFault::Memory) => tell_fault(err, "intake", JobFault::Memory),
         Err(LineFault::Refused(refusal)) => tell_value(alloc, "intake", *refusal, out, err),
     }
@@ -155,8 +158,9 @@ fn take_in_asked<W: Write, E: Write>(
 
 /// Takes in files of a folder by a list, where the values of the job's words are such; else prints the refusal
 /// of the first that isn't, and looks for no file.
-pub fn take_in<W: Write, E: Write>(
+pub fn take_in<S: Start, W: Write, E: Write>(
     machine: &mut Machine<'_>,
+    start: S,
     asked: Result<AskedIntake, LineFault>,
     job: &Intake,
     out: &mut W,
@@ -167,5 +171,5 @@ pub fn take_in<W: Write, E: Write>(
     ensures told { result ≡ 0 → TellsIntake Outcome.Done (W.contents out.old) (W.contents out.new) }
     ensures status { result ≢ 2 }
 {
-    take_in_asked(machine, &asked, job, out, err)
+    take_in_asked(machine, start, &asked, job, out, err)
 }

@@ -17,15 +17,18 @@ mod replay;
 mod telling;
 mod verify;
 
+use sqlite::Start;
 use std::io::{Read, Write};
 use vaultctl_job::fault::WordsFault;
 use vaultctl_job::job::{Job, Replay};
 use vaultctl_job::words::job_of;
+use vaultctl_machine::starts::Starts;
 use vaultctl_machine::vaults::Machine;
 use vaultctl_values::asked as values;
 
-fn replay_script<R: Read, W: Write, E: Write>(
+fn replay_script<S: Start, R: Read, W: Write, E: Write>(
     machine: &mut Machine<'_>,
+    start: S,
     job: &Replay,
     reader: &mut R,
     out: &mut W,
@@ -35,14 +38,15 @@ fn replay_script<R: Read, W: Write, E: Write>(
     ensures status { result ≢ 2 }
 {
     match &job.file {
-        Some(file) => files::replay_file(machine, file.as_str(), reader, out, err),
+        Some(file) => files::replay_file(machine, file.as_str(), start, reader, out, err),
         None => replay::from_new(machine.runtime().alloc(), reader, out, err),
     }
 }
 
 /// Carries a job out over the files of a machine.
-fn carry_out<R: Read, W: Write, E: Write>(
+fn carry_out<S: Start, R: Read, W: Write, E: Write>(
     machine: &mut Machine<'_>,
+    start: S,
     job: &Job,
     reader: &mut R,
     out: &mut W,
@@ -55,37 +59,52 @@ fn carry_out<R: Read, W: Write, E: Write>(
 {
     let alloc = machine.runtime().alloc();
     match job {
-        Job::Init(job) => files::init(machine, job.file.as_str(), err),
+        Job::Init(job) => files::init(machine, job.file.as_str(), start, err),
         Job::Dept(job) => {
             let asked = values::dept(alloc, job);
-            asked::ask(machine, "dept", job.file.as_str(), asked, out, err)
+            asked::ask(machine, "dept", job.file.as_str(), start, asked, out, err)
         }
         Job::Caller(job) => {
             let asked = values::caller(alloc, job);
-            asked::ask(machine, "caller", job.file.as_str(), asked, out, err)
+            asked::ask(machine, "caller", job.file.as_str(), start, asked, out, err)
         }
         Job::Bucket(job) => {
             let asked = values::bucket(alloc, job);
-            asked::ask(machine, "bucket", job.file.as_str(), asked, out, err)
+            asked::ask(machine, "bucket", job.file.as_str(), start, asked, out, err)
         }
-        Job::Intake(job) => intake::take_in(machine, values::intake(alloc, job), job, out, err),
+        Job::Intake(job) => intake::take_in(
+            machine,
+            start,
+            values::intake(alloc, job),
+            job,
+            out,
+            err,
+        ),
         Job::Run(job) => {
             let asked = values::run(alloc, job);
-            asked::ask(machine, "run", job.file.as_str(), asked, out, err)
+            asked::ask(machine, "run", job.file.as_str(), start, asked, out, err)
         }
         Job::Report(job) => {
             let asked = values::report(alloc, job);
-            asked::ask(machine, "report", job.file.as_str(), asked, out, err)
+            asked::ask(machine, "report", job.file.as_str(), start, asked, out, err)
         }
         Job::Certificate(job) => {
             let asked = values::certificate(alloc, job);
-            asked::ask(machine, "certificate", job.file.as_str(), asked, out, err)
+            asked::ask(
+                machine,
+                "certificate",
+                job.file.as_str(),
+                start,
+                asked,
+                out,
+                err,
+            )
         }
-        Job::Register(job) => files::register(machine, job.file.as_str(), out, err),
-        Job::Verify(job) => verify::verify(machine, job.file.as_str(), out, err),
-        Job::Replay(job) => replay_script(machine, job, reader, out, err),
+        Job::Register(job) => files::register(machine, job.file.as_str(), start, out, err),
+        Job::Verify(job) => verify::verify(machine, job.file.as_str(), start, out, err),
+        Job::Replay(job) => replay_script(machine, start, job, reader, out, err),
         Job::Serve(job) => {
-            files::serve_file(machine, job.file.as_str(), job.port, job.count, err)
+            files::serve_file(machine, job.file.as_str(), start, job.port, job.count, err)
         }
     }
 }
@@ -96,8 +115,9 @@ fn carry_out<R: Read, W: Write, E: Write>(
 /// What a job answers goes to `out`. A fault is named on `err`, as `replay: Read`, and why a vault can't be
 /// opened or made, as `open: Damaged meta`. Faults are found in this order: values of words, the vault's file,
 /// an intake's list or a port, the clock, and what is asked.
-pub fn perform<R: Read, W: Write, E: Write>(
+pub fn perform<A: Start, B: Start, R: Read, W: Write, E: Write>(
     rt: &HostRuntime,
+    starts: Starts<A, B>,
     job: &Job,
     reader: &mut R,
     out: &mut W,
@@ -112,15 +132,18 @@ pub fn perform<R: Read, W: Write, E: Write>(
     ensures status { result ≢ 2 }
 {
     let mut machine = Machine::new(rt);
-    carry_out(&mut machine, job, reader, out, err)
+    let Starts { first, second } = starts;
+    drop(second);
+    carry_out(&mut machine, first, job, reader, out, err)
 }
 
 /// Reads the words, of which the first is the program's name, and carries out their job.
 ///
 /// The exit status is that of the job. It is 2 where the words are refused, and the text that says why
 /// goes to `err`; where memory for reading them was refused, it is 1 and `err` gets `words: Memory`.
-pub fn answer_words<R: Read, W: Write, E: Write>(
+pub fn answer_words<A: Start, B: Start, R: Read, W: Write, E: Write>(
     rt: &HostRuntime,
+    starts: Starts<A, B>,
     words: &[String],
     reader: &mut R,
     out: &mut W,
@@ -134,7 +157,7 @@ pub fn answer_words<R: Read, W: Write, E: Write>(
     ensures told { (job : AnyJob) → job_for (map string_bytes words.now) ≡ Some job → result ≡ 0 → IsTold job (W.contents out.old) (W.contents out.new) }
 {
     match job_of(rt.alloc(), words) {
-        Ok(job) => perform(rt, &job, reader, out, err),
+        Ok(job) => perform(rt, starts, &job, reader, out, err),
         Err(WordsFault::Refused(text)) => {
             // Where even this can't be written, the status tells alone.
             let _ = write!(err, "{text}");

@@ -4,6 +4,7 @@ ghost use Rattle.std.specs.Io.KnownBytes.{Appends};
 ghost use Rattle.vaultctl_perform.specs.Told as spec;
 
 use crate::telling::{status, tell_unopened};
+use sqlite::Start;
 use std::alloc::{AllocError, Global};
 use std::io::Write;
 use vault_base::refusal::{Refusal, Table};
@@ -60,15 +61,16 @@ fn tell_opened<W: Write, E: Write>(
 }
 
 /// Opens the vault in a file and closes it.
-fn look(machine: &mut Machine<'_>, file: &str) -> Result<(), Refusal> {
-    close_vault(machine.open(file)?);
+fn look<S: Start>(machine: &mut Machine<'_>, file: &str, start: S) -> Result<(), Refusal> {
+    close_vault(machine.open(file, start)?);
     Ok(())
 }
 
 /// Opens a vault's file, and prints `sound`, or `damaged` and the first table that isn't.
-pub fn verify<W: Write, E: Write>(
+pub fn verify<S: Start, W: Write, E: Write>(
     machine: &mut Machine<'_>,
     file: &str,
+    start: S,
     out: &mut W,
     err: &mut E,
 ) -> u8
@@ -76,6 +78,6 @@ pub fn verify<W: Write, E: Write>(
     ensures told { result ≡ 0 → Appends (W.contents out.old) (W.contents out.new) spec.sound_line }
     ensures status { result ≢ 2 }
 {
-    let opened = look(machine, file);
+    let opened = look(machine, file, start);
     tell_opened(machine.runtime().alloc(), opened, out, err)
 }
