@@ -32,6 +32,7 @@ fn is_admitted(reply: Option<&Reply>, number: u32) -> bool {
     matches!(reply, Some(Reply::Done(Answer::Admitted(id))) if id.number() == number)
 }
 
+/// As commands that are given to `run`, which no script calls.
 #[test]
 fn a_version_has_up_to_1048576_bytes(rt: HostRuntime) -> Result<(), Fail> {
     let alloc = rt.alloc();
@@ -58,33 +59,6 @@ fn a_version_has_up_to_1048576_bytes(rt: HostRuntime) -> Result<(), Fail> {
   {"ok":{"admitted":1048577,"at":"2024-01-15T10:30:00Z","byte_days":0,"dept":"records","held":1048577,"removed":0}}
 "#,
     )
-}
-
-#[test]
-fn a_key_has_up_to_1024_bytes(rt: HostRuntime) -> Result<(), Fail> {
-    let alloc = rt.alloc();
-    let mut keeper = opened(alloc)?;
-    let keys = [
-        ("a".repeat(alloc, 1_024)?, "{\"ok\":{\"version_id\":1}}\n"),
-        (
-            "a".repeat(alloc, 1_025)?,
-            "{\"error\":{\"code\":\"KeyTooLongError\",\"n\":14}}\n",
-        ),
-        // Bytes count, and not characters.
-        ("é".repeat(alloc, 512)?, "{\"ok\":{\"version_id\":2}}\n"),
-        (
-            "é".repeat(alloc, 513)?,
-            "{\"error\":{\"code\":\"KeyTooLongError\",\"n\":14}}\n",
-        ),
-    ];
-    for (key, want) in &keys {
-        let line = format!(in alloc;
-            "{{\"at\":\"2024-01-15T10:30:00Z\",\"as\":\"ann\",\"do\":\"put\",\"bucket\":\"docs\",\"key\":\"{key}\",\"text\":\"\"}}"
-        )?;
-        let reply = replies(alloc, &mut keeper, line.as_bytes())?;
-        assert_eq!(rt; reply.as_str(), *want);
-    }
-    Ok(())
 }
 
 /// A change that passes all checks is asked of the keeper, which refuses it with `Memory`.

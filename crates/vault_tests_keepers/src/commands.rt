@@ -1,5 +1,5 @@
 //! Commands that are carried out over the tables of a connection, from tables to tables.
-use crate::keepers::{let_go, new_files};
+use crate::files::{let_go, new_files};
 use sqlite::{Alter, Connection, Error};
 use std::alloc::{AllocError, Global};
 use std::test::Fail;

@@ -1,5 +1,5 @@
 //! What a new vault's tables hold, and which stores are left as they are.
-use crate::keepers::{closed, connected, let_go, new_files};
+use crate::files::{closed, connected, let_go, new_files};
 use sqlite::{Alter, Connection, Error};
 use std::process::Abort;
 use std::test::Fail;
@@ -27,7 +27,7 @@ fn made<S: Alter>(conn: &mut Connection<S>) -> Result<(), Refusal> {
 fn has_first_rows<S: Alter>(conn: &mut Connection<S>) -> Result<bool, Error> {
     let meta = number(
         conn,
-        "SELECT count(*) FROM meta WHERE one = 1 AND schema = 1 AND last = 0 AND next = 1",
+        "SELECT count(*) FROM meta WHERE one = 1 AND schema = 2 AND last = 0 AND next = 1",
     )?;
     let registrar = number(
         conn,

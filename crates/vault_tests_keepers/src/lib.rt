@@ -1,5 +1,5 @@
-//! Tests of vaults that are made, opened and kept: whole scripts over each kind of keeper, in files that stay open
-//! or are opened again.
+//! Tests of vaults that are made, opened and kept: rows over tables in memory, runs that a device stops over each
+//! kind of keeper, commands over tables, and which stores are made and opened.
 #![tactic(auto)]
 
 #[cfg(test)]
@@ -7,8 +7,18 @@ mod commands;
 #[cfg(test)]
 mod create;
 #[cfg(test)]
-mod keepers;
+mod exchange;
+#[cfg(test)]
+mod files;
+#[cfg(test)]
+mod intake;
 #[cfg(test)]
 mod opens;
 #[cfg(test)]
-mod scripts;
+mod over_keepers;
+#[cfg(test)]
+mod rows;
+#[cfg(test)]
+mod rows_texts;
+#[cfg(test)]
+mod stopped;

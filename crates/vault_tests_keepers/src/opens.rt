@@ -1,5 +1,5 @@
 //! Which stores are opened as a vault, and what comes back with a refusal.
-use crate::keepers::{let_go, new_files};
+use crate::files::{let_go, new_files};
 use sqlite::{Alter, Connection, Error};
 use std::alloc::Global;
 use std::test::Fail;

@@ -21,6 +21,8 @@ struct Asked<'a> {
     days: Option<u32>,
     lone_markers: bool,
     noncurrent: Option<Noncurrent>,
+    larger: Option<u64>,
+    smaller: Option<u64>,
 }
 
 /// An enabled rule for every key, without an action.
@@ -31,6 +33,8 @@ const PLAIN: Asked<'static> = Asked {
     days: None,
     lone_markers: false,
     noncurrent: None,
+    larger: None,
+    smaller: None,
 };
 
 fn rule(alloc: Global, asked: &Asked<'_>) -> Result<Rule, Fail> {
@@ -43,6 +47,8 @@ fn rule(alloc: Global, asked: &Asked<'_>) -> Result<Rule, Fail> {
         days: asked.days,
         lone_markers: asked.lone_markers,
         noncurrent: asked.noncurrent,
+        larger: asked.larger,
+        smaller: asked.smaller,
     })
 }
 
@@ -265,5 +271,89 @@ fn faults(rt: HostRuntime) -> Result<(), Fail> {
     for (asked, wanted) in &rows {
         assert_eq!(rt; fault(rt.alloc(), asked)?, Some(*wanted));
     }
+    Ok(())
+}
+
+/// Which of three kinds of entry is due by a rule, where each has that many bytes: content that is current,
+/// content that isn't, and a lone marker.
+fn dues_of_size(alloc: Global, asked: &Asked<'_>, size: u64) -> Result<[bool; 3], Fail> {
+    let came = Moment::read("2024-03-01T08:00:00Z")?;
+    let now = Moment::read("2024-03-05T00:00:00Z")?;
+    let key = key(alloc)?;
+    let rules = rule_set(alloc, &[*asked])?;
+    Ok([
+        due_current(&rules, &key, size, came, now).is_some(),
+        due_noncurrent(&rules, &key, size, came, 0, now).is_some(),
+        due_marker(&rules, &key, size, came, now).is_some(),
+    ])
+}
+
+/// A size is above the one bound and below the other: that of a bound isn't.
+#[test]
+fn bounds_are_excluded(rt: HostRuntime) -> Result<(), Fail> {
+    let both_actions = Asked {
+        days: Some(1),
+        noncurrent: Some(Noncurrent {
+            days: 1,
+            newer: None,
+        }),
+        ..PLAIN
+    };
+    let rows = [
+        (None, None, 0, true),
+        (Some(4), None, 4, false),
+        (Some(4), None, 5, true),
+        (None, Some(5), 5, false),
+        (None, Some(5), 4, true),
+        (Some(4), Some(6), 5, true),
+        (Some(4), Some(5), 4, false),
+        (Some(4), Some(5), 5, false),
+        (Some(0), None, 0, false),
+        (None, Some(1), 0, true),
+        (Some(1_048_575), None, 1_048_576, true),
+        (None, Some(1_048_577), 1_048_576, true),
+    ];
+    for (larger, smaller, size, due) in &rows {
+        let asked = Asked {
+            larger: *larger,
+            smaller: *smaller,
+            ..both_actions
+        };
+        assert_eq!(rt; dues_of_size(rt.alloc(), &asked, *size)?, [*due; 3]);
+    }
+    Ok(())
+}
+
+/// Each bound at its limits, both beside each other, and bounds of a rule without an action.
+#[test]
+fn bounds_are_read(rt: HostRuntime) -> Result<(), Fail> {
+    let out_of_range = Some(RuleFault::OutOfRange);
+    let rows = [
+        (Some(0), None, None),
+        (Some(1_048_576), None, None),
+        (Some(1_048_577), None, out_of_range),
+        (None, Some(0), out_of_range),
+        (None, Some(1), None),
+        (None, Some(1_048_577), None),
+        (None, Some(1_048_578), out_of_range),
+        (Some(4), Some(3), out_of_range),
+        (Some(4), Some(4), out_of_range),
+        (Some(4), Some(5), None),
+        (Some(1_048_576), Some(1_048_577), None),
+    ];
+    for (larger, smaller, wanted) in &rows {
+        let asked = Asked {
+            days: Some(1),
+            larger: *larger,
+            smaller: *smaller,
+            ..PLAIN
+        };
+        assert_eq!(rt; fault(rt.alloc(), &[asked])?, *wanted);
+    }
+    let idle = Asked {
+        larger: Some(1_048_577),
+        ..PLAIN
+    };
+    assert_eq!(rt; fault(rt.alloc(), &[idle])?, Some(RuleFault::NoAction));
     Ok(())
 }

@@ -1,5 +1,5 @@
-//! Tests of lifecycle runs: stopped ones, pages of keys, vaults that are full; and of what a vault keeps of
-//! removed entries.
+//! Tests of lifecycle runs: what is asked of the keeper over pages of keys, vaults that are full; and of what a vault
+//! keeps of removed entries.
 #![tactic(auto)]
 
 #[cfg(test)]
@@ -12,5 +12,3 @@ mod noting_keeper;
 mod pages;
 #[cfg(test)]
 mod removed;
-#[cfg(test)]
-mod stopped;

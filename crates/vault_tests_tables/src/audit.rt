@@ -5,16 +5,17 @@ use std::alloc::Global;
 use std::process::Abort;
 use std::test::Fail;
 use vault_audit::audit;
+use vault_audit_model::schema::NEWEST;
 use vault_base::refusal::{Refusal, Table};
 
-// A department with a bucket of four entries: two held versions of one key, a removed one, and a marker. Its
-// sums are of days 10, 20 and 30.
-const ROWS: &str = "
+/// A department with a bucket of four entries: two held versions of one key, a removed one, and a marker. Its
+/// sums are of days 10, 20 and 30. Its rules have no bounds on sizes, so that they are rows of either edition.
+pub const ROWS: &str = "
 INSERT INTO departments VALUES ('records', 12, 8, 4, 110, 40);
 INSERT INTO callers VALUES ('clerk', 'records', 60, 0);
 INSERT INTO buckets VALUES ('papers', 'records', 1, 30, NULL);
-INSERT INTO rules VALUES ('papers', 1, 'old', 'tmp/', 1, 30, 0, NULL, NULL);
-INSERT INTO rules VALUES ('papers', 2, 'keep', '', 1, NULL, 0, 7, NULL);
+INSERT INTO rules (bucket, n, id, prefix, enabled, days, lone, nc_days, nc_keep) VALUES ('papers', 1, 'old', 'tmp/', 1, 30, 0, NULL, NULL);
+INSERT INTO rules (bucket, n, id, prefix, enabled, days, lone, nc_days, nc_keep) VALUES ('papers', 2, 'keep', '', 1, NULL, 0, 7, NULL);
 INSERT INTO entries VALUES (1, 'papers', 'a', 0, 5, x'2cf24dba5fb0a30e26e83b2ac5b9e29e1b161e5c1fa7425e73043362938b9824', 864000, 0, 'clerk', NULL, NULL, NULL);
 INSERT INTO entries VALUES (2, 'papers', 'a', 0, 3, x'3fc4ccfe745870e2c0d99f71f30ff0656c8dedd41cc1d7d3d376b0dbe685e2f3', 1728000, 0, 'clerk', NULL, NULL, NULL);
 INSERT INTO entries VALUES (3, 'papers', 'b', 0, 4, x'283bb9deef02e6843abfb538efa1eca70801bd8a701c3f98191e123496339247', 1728005, 0, 'clerk', 2592000, 0, 'clerk');
@@ -32,7 +33,7 @@ UPDATE meta SET last = 2592000, next = 5";
 
 // It has no clause, so that the proof of a test does not carry the state of the call.
 fn judged<S: Alter>(alloc: Global, conn: &mut Connection<S>) -> Result<(), Refusal> {
-    audit(alloc, conn)
+    audit(alloc, conn, NEWEST)
 }
 
 /// What is told of the vault with these changes in its file.
@@ -112,7 +113,8 @@ fn faults_of_meta_are_told(rt: HostRuntime) -> Result<(), Fail> {
     let changes = [
         "INSERT INTO meta VALUES (2, 1, 2592000, 5)",
         "DELETE FROM meta",
-        "UPDATE meta SET schema = 2",
+        "UPDATE meta SET schema = 1",
+        "UPDATE meta SET schema = 3",
         "UPDATE meta SET last = -1",
         "UPDATE meta SET next = 6",
         "UPDATE meta SET next = 0",
@@ -128,6 +130,7 @@ fn faults_of_departments_are_told(rt: HostRuntime) -> Result<(), Fail> {
         "UPDATE departments SET admitted = 13",
         "UPDATE departments SET held = 9",
         "UPDATE departments SET removed = 5",
+        "UPDATE departments SET weighted = 111",
         "UPDATE departments SET weighted = 109",
         "UPDATE departments SET closed = 41",
     ];
@@ -157,6 +160,27 @@ fn faults_of_rules_are_told(rt: HostRuntime) -> Result<(), Fail> {
         "DELETE FROM rules WHERE n = 1",
         "UPDATE rules SET id = 'old' WHERE n = 2",
         "UPDATE rules SET days = NULL WHERE n = 1",
+    ];
+    are_told(&rt, rt.alloc(), &changes, Table::Rules)
+}
+
+#[test]
+fn rules_with_bounds_are_sound(rt: HostRuntime) -> Result<(), Fail> {
+    let least = "UPDATE rules SET larger = 0, smaller = 1 WHERE n = 1";
+    let most = "UPDATE rules SET larger = 1048576, smaller = 1048577 WHERE n = 2";
+    is_sound(&rt, rt.alloc(), &[ROWS, least, most])
+}
+
+#[test]
+fn bounds_beyond_their_limits_are_told(rt: HostRuntime) -> Result<(), Fail> {
+    let changes = [
+        "UPDATE rules SET larger = -1 WHERE n = 1",
+        "UPDATE rules SET larger = 1048577 WHERE n = 1",
+        "UPDATE rules SET smaller = 0 WHERE n = 1",
+        "UPDATE rules SET smaller = 1048578 WHERE n = 1",
+        // The lower one isn't below the upper one.
+        "UPDATE rules SET larger = 4, smaller = 4 WHERE n = 2",
+        "UPDATE rules SET larger = 5, smaller = 4 WHERE n = 2",
     ];
     are_told(&rt, rt.alloc(), &changes, Table::Rules)
 }
@@ -360,7 +384,7 @@ INSERT INTO intake SELECT bucket, 'batch', id, key, size, digest, 0, NULL, NULL,
 INSERT INTO heads SELECT bucket, key, id, 1 FROM entries;
 INSERT INTO callers SELECT 'c' || id, NULL, 0, 0 FROM entries;
 INSERT INTO buckets SELECT 'b-' || id, 'records', 0, NULL, NULL FROM entries;
-INSERT INTO rules SELECT 'b-' || id, 1, 'old', '', 1, 30, 0, NULL, NULL FROM entries;
+INSERT INTO rules SELECT 'b-' || id, 1, 'old', '', 1, 30, 0, NULL, NULL, NULL, NULL FROM entries;
 UPDATE meta SET last = 1600000000, next = 161";
 
 /// Each table but two has 160 rows or more.

@@ -1,10 +1,12 @@
-//! Tests over tables in memory: the schema, the audit, reads by key, and how much is read.
+//! Tests over tables in memory: the schema, the audit, editions, reads by key, and how much is read.
 #![tactic(auto)]
 
 #[cfg(test)]
 mod audit;
 #[cfg(test)]
 mod calls;
+#[cfg(test)]
+mod editions;
 #[cfg(test)]
 mod reads;
 #[cfg(test)]

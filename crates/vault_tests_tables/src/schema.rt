@@ -4,7 +4,7 @@ use sqlite::{Alter, Connection, Error};
 use std::alloc::Global;
 use std::process::Abort;
 use std::test::Fail;
-use vault_audit_model::schema::creation;
+use vault_audit_model::schema::{NEWEST, creation};
 use vault_audit_schema::{check_schema, first_difference};
 use vault_base::refusal::Table;
 
@@ -43,7 +43,8 @@ fn told_with<S: Alter>(
     Ok(difference(conn))
 }
 
-fn make_tables<S: Alter>(
+/// Makes the ten tables, but this one by `text`, or not at all if it is empty.
+pub fn make_tables<S: Alter>(
     conn: &mut Connection<S>,
     changed: Table,
     text: &str,
@@ -68,7 +69,7 @@ fn batch<S: Alter>(conn: &mut Connection<S>, sql: &str) -> Result<(), Error> {
 }
 
 fn difference<S: Alter>(conn: &mut Connection<S>) -> Option<Table> {
-    check_schema(conn)
+    check_schema(conn, NEWEST)
 }
 
 /// What is told of the vault's tables with this beside them.
@@ -79,7 +80,7 @@ fn told_beside(alloc: Global, more: &[&str]) -> Result<Option<Table>, Error> {
 #[test]
 fn no_table_is_meta(rt: HostRuntime) -> Result<(), Fail> {
     let conn = Connection::open_in_memory(rt.alloc())?;
-    let told = first_difference(conn.schema());
+    let told = first_difference(NEWEST, conn.schema());
     drop(conn);
     assert_eq!(rt; told, Some(Table::Meta));
     Ok(())
@@ -120,7 +121,17 @@ fn a_changed_table_is_told(rt: HostRuntime) -> Result<(), Fail> {
         // The key has another column.
         (
             Table::Rules,
-            "CREATE TABLE rules (bucket TEXT NOT NULL REFERENCES buckets (name), n INTEGER NOT NULL, id TEXT NOT NULL, prefix TEXT NOT NULL, enabled INTEGER NOT NULL, days INTEGER, lone INTEGER NOT NULL, nc_days INTEGER, nc_keep INTEGER, PRIMARY KEY (bucket, id)) STRICT",
+            "CREATE TABLE rules (bucket TEXT NOT NULL REFERENCES buckets (name), n INTEGER NOT NULL, id TEXT NOT NULL, prefix TEXT NOT NULL, enabled INTEGER NOT NULL, days INTEGER, lone INTEGER NOT NULL, nc_days INTEGER, nc_keep INTEGER, larger INTEGER, smaller INTEGER, PRIMARY KEY (bucket, id)) STRICT",
+        ),
+        // It has no columns for bounds on sizes.
+        (
+            Table::Rules,
+            "CREATE TABLE rules (bucket TEXT NOT NULL REFERENCES buckets (name), n INTEGER NOT NULL, id TEXT NOT NULL, prefix TEXT NOT NULL, enabled INTEGER NOT NULL, days INTEGER, lone INTEGER NOT NULL, nc_days INTEGER, nc_keep INTEGER, PRIMARY KEY (bucket, n)) STRICT",
+        ),
+        // The two bounds are in the other order.
+        (
+            Table::Rules,
+            "CREATE TABLE rules (bucket TEXT NOT NULL REFERENCES buckets (name), n INTEGER NOT NULL, id TEXT NOT NULL, prefix TEXT NOT NULL, enabled INTEGER NOT NULL, days INTEGER, lone INTEGER NOT NULL, nc_days INTEGER, nc_keep INTEGER, smaller INTEGER, larger INTEGER, PRIMARY KEY (bucket, n)) STRICT",
         ),
         // It refers to no entry.
         (
