@@ -1,4 +1,0 @@
-//! Certificates of destruction, asked for by calls.
-mod asking;
-mod certified;
-mod refused;
