@@ -1,5 +1,5 @@
 #!/bin/sh
-# Each request that docs/FORMATS.md has, by curl, to a serving program: what is answered stands in requests.out,
+# Each request that docs/formats/HTTP.md has, by curl, to a serving program: what is answered stands in requests.out,
 # but for the date and the moments of admission.
 #
 #   examples/requests.sh PROGRAM
