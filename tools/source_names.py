@@ -106,5 +106,6 @@ def words():
     """Every word that the sources, tests, tools and examples have outside comments."""
     kinds = ["crates/*/src/**/*.rt", "crates/*/specs/**/*.antt", "crates/*/proofs/**/*.antt", "crates.txt", "vault"]
     kinds += ["tools/*", "bench/*", ".ci/*", "examples/**/*.*"]
-    paths = [it for kind in kinds for it in files(kind) if it.is_file()]
+    # The wrong names that this tool plants are no names.
+    paths = [it for kind in kinds for it in files(kind) if it.is_file() and it.name != "check-claims"]
     return {word for it in paths for word in WORD.findall(without_comments(it))}
