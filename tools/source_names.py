@@ -14,7 +14,7 @@ ITEM = re.compile(r"^\s*(?:pub(?:\([a-z]+\))? )?(struct|enum|trait|type|const|st
 GHOST = re.compile(r"^\s*(?:pub )?ghost (?:type )?(\w+)\s*[:={]")
 FIELD = re.compile(r"^\s+(?:pub(?:\([a-z]+\))? )?(\w+): ")
 VARIANT = re.compile(r"^    ([A-Z]\w*)\s*(?:[({,=]|$)")
-DEFINITION = re.compile(r"^\s*(?:(?:abbrev|unfoldable|opaque|fn|record|data|postulate) )?pub (?:record |data )?(\w+)(?: |$)")
+DEFINITION = re.compile(r"^\s*(?:(?:abbrev|unfoldable|opaque) )?pub (?:record |data )?(\w+)(?: |$)")
 WORD = re.compile(r"[A-Za-z_]\w*")
 
 
