@@ -42,6 +42,7 @@ def listed():
     return found
 
 
+@functools.cache
 def files(pattern):
     """The paths of the repository's files of that form, without what was built."""
     return sorted(it for it in TOP.glob(pattern) if "out" not in it.relative_to(TOP).parts)
