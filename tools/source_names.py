@@ -16,6 +16,8 @@ FIELD = re.compile(r"^\s+(?:pub(?:\([a-z]+\))? )?(\w+): ")
 VARIANT = re.compile(r"^    ([A-Z]\w*)\s*(?:[({,=]|$)")
 DEFINITION = re.compile(r"^\s*(?:(?:abbrev|unfoldable|opaque) )?pub (?:record |data )?(\w+)(?: |$)")
 WORD = re.compile(r"[A-Za-z_]\w*")
+TEXT = re.compile(r'"((?:[^"\\]|\\.)*)"')
+USE = re.compile(r"^\s*(?:pub )?(?:ghost )?use [^;\n]*(?:\{[^}]*\})?", re.M)
 
 
 @dataclasses.dataclass
@@ -102,11 +104,21 @@ def without_comments(path):
     return re.sub(mark, "", text) if mark else text
 
 
+def words_in(path):
+    """The words that a file has outside comments."""
+    return WORD.findall(without_comments(path))
+
+
 @functools.cache
-def words():
-    """Every word that the sources, tests, tools and examples have outside comments."""
-    kinds = ["crates/*/src/**/*.rt", "crates/*/specs/**/*.antt", "crates/*/proofs/**/*.antt", "crates.txt", "vault"]
-    kinds += ["tools/*", "bench/*", ".ci/*", "examples/**/*.*"]
+def known():
+    """Every name: what the sources define or bring in, the words of their texts, and those of tools and examples."""
+    found = set(places()) | set(listed()).union(*listed().values())
+    for path in files("crates/*/src/**/*.rt") + files("crates/*/specs/**/*.antt"):
+        text = without_comments(path)
+        found.add(path.stem)
+        found.update(word for said in TEXT.findall(text) for word in WORD.findall(said))
+        found.update(word for line in USE.findall(text) for word in WORD.findall(line))
+    others = ["crates.txt", "vault", "tools/*", "bench/*", ".ci/*", "examples/**/*.*"]
+    paths = [it for kind in others for it in files(kind) if it.is_file()]
     # The wrong names that this tool plants are no names.
-    paths = [it for kind in kinds for it in files(kind) if it.is_file() and it.name != "check-claims"]
-    return {word for it in paths for word in WORD.findall(without_comments(it))}
+    return found.union(*(words_in(it) for it in paths if it.name != "check-claims"))
