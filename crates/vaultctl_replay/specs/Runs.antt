@@ -1,6 +1,8 @@
 -- Lines that are carried out one after another, and what is written of their replies.
-use Rattle.std.specs.Prelude.{◌≡◌, ◌≤◌, ℕ, List, [], ◌∷◌, ◌++◌, length, IsTrue, Option, ◌⊎◌}
+use Rattle.std.specs.Prelude.{◌≡◌, ◌≤◌, ℕ, List, [], ◌∷◌, ◌++◌, length, Option, ◌⊎◌, false}
 use Rattle.std.specs.Io.KnownBytes.{Appends}
+use Rattle.std.specs.List.{flat_map, list_any}
+use Rattle.vault_core.specs.Told.{CountAsTold}
 use Rattle.vault_core_model.specs.Halts.{is_device_reply}
 use Rattle.vault_core_model.specs.Step.{Step}
 use Rattle.vault_core_model.specs.Vault.{Vault}
@@ -9,41 +11,48 @@ use Rattle.vault_core_model.specs.declared.reply.Reply.TheVariants as reply
 use Rattle.vault_http_script.specs.ReplyLine.{reply_text}
 use Rattle.vault_http_script.specs.declared.read_line.Line.{Line}
 use Rattle.vault_http_script.specs.declared.read_line.Line.TheVariants.{Skip, Command, Refused}
+use Rattle.vault_io.specs.Begins.{Begins}
 use Rattle.vaultctl_replay.specs.Lines.{AskFor, AskSoFar, EndedAskFor}
 
--- A line that asks for this may be answered by these bytes, and lead from v to v': an empty one by none, a command by the reply to its step. That the device failed is told only where it did.
-abbrev pub Answers : Type 0 → Vault → Line → List ℕ → Vault → Type 0
-Answers Failed v Skip out v' = (out ≡ []) × (v' ≡ v)
-Answers Failed v (Refused r) out v' = (out ≡ reply_text (reply.Refused r)) × (v' ≡ v)
-Answers Failed v (Command c) out v' = (r : Reply) × Step v c.at c.who c.command r v' × (out ≡ reply_text r) × (IsTrue (is_device_reply r) → Failed)
+-- A line that asks for this may be answered by these bytes, and lead from v to v': an empty one by none, a command by the reply to its step. The keeper's count of failures goes from n to n': the reply tells that the device failed just where the count rose, or can rise no further; where it doesn't, the count is as it was. Here and below Honest says that the device has returned what was written; what is said of a step holds then.
+abbrev pub Answers : Type 0 → Vault → ℕ → Line → List ℕ → Vault → ℕ → Type 0
+Answers Honest v n Skip out v' n' = (out ≡ []) × (v' ≡ v) × (n' ≡ n)
+Answers Honest v n (Refused r) out v' n' = (out ≡ reply_text (reply.Refused r)) × (v' ≡ v) × (n' ≡ n)
+Answers Honest v n (Command c) out v' n' =
+    (r : Reply) × (Honest → Step v c.at c.who c.command r v') × (out ≡ reply_text r) × (n ≤ n') × CountAsTold n n' (is_device_reply r)
 
 -- the line was carried out or not, and nothing of its reply is written
-abbrev pub Unwritten : Type 0 → Vault → Line → Vault → Type 0
-Unwritten Failed v asked v' = (v' ≡ v) ⊎ ((out : List ℕ) × Answers Failed v asked out v')
+abbrev pub Unwritten : Type 0 → Vault → ℕ → Line → Vault → ℕ → Type 0
+Unwritten Honest v n asked v' n' = ((v' ≡ v) × (n' ≡ n)) ⊎ ((out : List ℕ) × Answers Honest v n asked out v' n')
 
 -- the lines lead from v to v', one after another, and these are their replies
-abbrev pub Runs : Type 0 → Vault → List Line → List ℕ → Vault → Type 0
-Runs Failed v [] out v' = (out ≡ []) × (v' ≡ v)
-Runs Failed v (asked ∷ later) out v' = (mid : Vault) × (first : List ℕ) × (others : List ℕ) × Answers Failed v asked first mid × Runs Failed mid later others v' × (out ≡ first ++ others)
+abbrev pub Runs : Type 0 → Vault → ℕ → List Line → List ℕ → Vault → ℕ → Type 0
+Runs Honest v n [] out v' n' = (out ≡ []) × (v' ≡ v) × (n' ≡ n)
+Runs Honest v n (asked ∷ later) out v' n' =
+    (mid : Vault) × (between : ℕ) × (first : List ℕ) × (others : List ℕ) × Answers Honest v n asked first mid between × Runs Honest mid between later others v' n' × (out ≡ first ++ others)
 
 -- the lines were carried out, and their replies written
-abbrev pub Finished : Type 0 → Vault → Option (List ℕ) → List Line → Vault → Option (List ℕ) → Type 0
-Finished Failed v w asked v' w' = (out : List ℕ) × Runs Failed v asked out v' × Appends w w' out
+abbrev pub Finished : Type 0 → Vault → ℕ → Option (List ℕ) → List Line → Vault → ℕ → Option (List ℕ) → Type 0
+Finished Honest v n w asked v' n' w' = (out : List ℕ) × Runs Honest v n asked out v' n' × Appends w w' out
 
 -- The first lines were carried out and their replies written; of one line more, or of none, a beginning of its reply. Those behind it weren't begun.
-abbrev pub Began : Type 0 → Vault → Option (List ℕ) → List Line → Vault → Option (List ℕ) → Type 0
-Began Failed v w asked v' w' =
+abbrev pub Began : Type 0 → Vault → ℕ → Option (List ℕ) → List Line → Vault → ℕ → Option (List ℕ) → Type 0
+Began Honest v n w asked v' n' w' =
     (answered : List Line) × (begun : List Line) × (later : List Line) × (asked ≡ answered ++ begun ++ later) × (length begun ≤ 1)
-    × (mid : Vault) × (out : List ℕ) × (sent : List ℕ) × (unsent : List ℕ) × Runs Failed v answered out mid × Runs Failed mid begun (sent ++ unsent) v' × Appends w w' (out ++ sent)
+    × (mid : Vault) × (between : ℕ) × (out : List ℕ) × (sent : List ℕ) × (unsent : List ℕ) × Runs Honest v n answered out mid between × Runs Honest mid between begun (sent ++ unsent) v' n' × Appends w w' (out ++ sent)
 
 -- all lines of the input were carried out, and their replies written
-abbrev pub AnswersAll : Type 0 → Vault → Option (List ℕ) → List ℕ → Vault → Option (List ℕ) → Type 0
-AnswersAll Failed v w input v' w' = (asked : List Line) × AskFor input asked × Finished Failed v w asked v' w'
+abbrev pub AnswersAll : Type 0 → Vault → ℕ → Option (List ℕ) → List ℕ → Vault → ℕ → Option (List ℕ) → Type 0
+AnswersAll Honest v n w input v' n' w' = (asked : List Line) × AskFor input asked × Finished Honest v n w asked v' n' w'
 
 -- each line that ends in these bytes was carried out, and their replies written
-abbrev pub AnswersEnded : Type 0 → Vault → Option (List ℕ) → List ℕ → Vault → Option (List ℕ) → Type 0
-AnswersEnded Failed v w taken v' w' = (asked : List Line) × EndedAskFor taken asked × Finished Failed v w asked v' w'
+abbrev pub AnswersEnded : Type 0 → Vault → ℕ → Option (List ℕ) → List ℕ → Vault → ℕ → Option (List ℕ) → Type 0
+AnswersEnded Honest v n w taken v' n' w' = (asked : List Line) × EndedAskFor taken asked × Finished Honest v n w asked v' n' w'
 
 -- the first lines were answered, and at most one more was begun
-abbrev pub AnswersSome : Type 0 → Type 0 → Vault → Option (List ℕ) → List ℕ → Vault → Option (List ℕ) → Type 0
-AnswersSome Failed AtEnd v w taken v' w' = (asked : List Line) × AskSoFar AtEnd taken asked × Began Failed v w asked v' w'
+abbrev pub AnswersSome : Type 0 → Type 0 → Vault → ℕ → Option (List ℕ) → List ℕ → Vault → ℕ → Option (List ℕ) → Type 0
+AnswersSome Honest AtEnd v n w taken v' n' w' = (asked : List Line) × AskSoFar AtEnd taken asked × Began Honest v n w asked v' n' w'
+
+-- These are the replies that were made, and what is written is their lines, or a beginning of those. Where none of them tells that the device failed, the count of failures is as it was.
+abbrev pub Steady : ℕ → Option (List ℕ) → ℕ → Option (List ℕ) → Type 0
+Steady n w n' w' = (replies : List Reply) × Begins w w' (flat_map reply_text replies) × (list_any is_device_reply replies ≡ false → n' ≡ n)

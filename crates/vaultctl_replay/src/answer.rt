@@ -1,6 +1,5 @@
 //! One line: what it asks for is carried out, and its reply written.
 ghost use Rattle.std.specs.Prelude.{◌≡◌, ◌≤◌, [], ◌∷◌, IfOk, OnOk, OnErr, string_bytes};
-ghost use Rattle.vault_core_model.specs.Halts.{Rose};
 ghost use Rattle.vault_http_script.specs.ReadLine.{line_of};
 ghost use Rattle.vault_http_script.specs.ReplyLine.{reply_text};
 ghost use Rattle.vault_http_script.specs.declared.read_line.Line.TheVariants.{Command};
@@ -30,8 +29,8 @@ fn told(alloc: Global, reply: Reply) -> Result<String, AllocError>
 
 /// Carries out a command. Its reply is a line.
 fn carried_out<K: Keeper>(alloc: Global, keeper: &mut K, timed: Timed) -> Result<String, AllocError>
-    ensures ok { K.is_honest keeper.new → IfOk result (λ text. Answers (Rose (K.count keeper.old) (K.count keeper.new)) (K.vault keeper.old) (Command timed) (string_bytes text) (K.vault keeper.new)) }
-    ensures err { K.is_honest keeper.new → OnErr result (Unwritten (Rose (K.count keeper.old) (K.count keeper.new)) (K.vault keeper.old) (Command timed) (K.vault keeper.new)) }
+    ensures ok { IfOk result (λ text. Answers (K.is_honest keeper.new) (K.vault keeper.old) (K.count keeper.old) (Command timed) (string_bytes text) (K.vault keeper.new) (K.count keeper.new)) }
+    ensures err { OnErr result (Unwritten (K.is_honest keeper.new) (K.vault keeper.old) (K.count keeper.old) (Command timed) (K.vault keeper.new) (K.count keeper.new)) }
     ensures honest { K.is_honest keeper.new → K.is_honest keeper.old }
     ensures counted { K.count keeper.old ≤ K.count keeper.new }
 {
@@ -42,8 +41,8 @@ fn carried_out<K: Keeper>(alloc: Global, keeper: &mut K, timed: Timed) -> Result
 
 /// Carries out what a line asks for. Its reply is a line, or nothing where the line is empty.
 fn reply_to<K: Keeper>(alloc: Global, keeper: &mut K, asked: Line) -> Result<String, AllocError>
-    ensures ok { K.is_honest keeper.new → IfOk result (λ reply. Answers (Rose (K.count keeper.old) (K.count keeper.new)) (K.vault keeper.old) asked (string_bytes reply) (K.vault keeper.new)) }
-    ensures err { K.is_honest keeper.new → OnErr result (Unwritten (Rose (K.count keeper.old) (K.count keeper.new)) (K.vault keeper.old) asked (K.vault keeper.new)) }
+    ensures ok { IfOk result (λ reply. Answers (K.is_honest keeper.new) (K.vault keeper.old) (K.count keeper.old) asked (string_bytes reply) (K.vault keeper.new) (K.count keeper.new)) }
+    ensures err { OnErr result (Unwritten (K.is_honest keeper.new) (K.vault keeper.old) (K.count keeper.old) asked (K.vault keeper.new) (K.count keeper.new)) }
     ensures honest { K.is_honest keeper.new → K.is_honest keeper.old }
     ensures counted { K.count keeper.old ≤ K.count keeper.new }
 {
@@ -61,8 +60,8 @@ fn answer<K: Keeper, W: Write>(
     writer: &mut W,
     asked: Line,
 ) -> Result<(), ReplayFault>
-    ensures ok { K.is_honest keeper.new → OnOk result (Finished (Rose (K.count keeper.old) (K.count keeper.new)) (K.vault keeper.old) (W.contents writer.old) (asked ∷ []) (K.vault keeper.new) (W.contents writer.new)) }
-    ensures err { K.is_honest keeper.new → OnErr result (Began (Rose (K.count keeper.old) (K.count keeper.new)) (K.vault keeper.old) (W.contents writer.old) (asked ∷ []) (K.vault keeper.new) (W.contents writer.new)) }
+    ensures ok { OnOk result (Finished (K.is_honest keeper.new) (K.vault keeper.old) (K.count keeper.old) (W.contents writer.old) (asked ∷ []) (K.vault keeper.new) (K.count keeper.new) (W.contents writer.new)) }
+    ensures err { OnErr result (Began (K.is_honest keeper.new) (K.vault keeper.old) (K.count keeper.old) (W.contents writer.old) (asked ∷ []) (K.vault keeper.new) (K.count keeper.new) (W.contents writer.new)) }
     ensures kind { ¬ (result ≡ Err ReplayFault.Read) }
     ensures honest { K.is_honest keeper.new → K.is_honest keeper.old }
     ensures counted { K.count keeper.old ≤ K.count keeper.new }
@@ -80,8 +79,8 @@ pub fn answer_line<K: Keeper, W: Write>(
     writer: &mut W,
     line: &[u8],
 ) -> Result<(), ReplayFault>
-    ensures ok { K.is_honest keeper.new → OnOk result (Finished (Rose (K.count keeper.old) (K.count keeper.new)) (K.vault keeper.old) (W.contents writer.old) (line_of line.now ∷ []) (K.vault keeper.new) (W.contents writer.new)) }
-    ensures err { K.is_honest keeper.new → OnErr result (Began (Rose (K.count keeper.old) (K.count keeper.new)) (K.vault keeper.old) (W.contents writer.old) (line_of line.now ∷ []) (K.vault keeper.new) (W.contents writer.new)) }
+    ensures ok { OnOk result (Finished (K.is_honest keeper.new) (K.vault keeper.old) (K.count keeper.old) (W.contents writer.old) (line_of line.now ∷ []) (K.vault keeper.new) (K.count keeper.new) (W.contents writer.new)) }
+    ensures err { OnErr result (Began (K.is_honest keeper.new) (K.vault keeper.old) (K.count keeper.old) (W.contents writer.old) (line_of line.now ∷ []) (K.vault keeper.new) (K.count keeper.new) (W.contents writer.new)) }
     ensures kind { ¬ (result ≡ Err ReplayFault.Read) }
     ensures honest { K.is_honest keeper.new → K.is_honest keeper.old }
     ensures counted { K.count keeper.old ≤ K.count keeper.new }
@@ -99,8 +98,8 @@ pub fn answer_unended<K: Keeper, W: Write>(
     writer: &mut W,
     line: &[u8],
 ) -> Result<(), ReplayFault>
-    ensures ok { K.is_honest keeper.new → OnOk result (Finished (Rose (K.count keeper.old) (K.count keeper.new)) (K.vault keeper.old) (W.contents writer.old) (unended_of line.now ∷ []) (K.vault keeper.new) (W.contents writer.new)) }
-    ensures err { K.is_honest keeper.new → OnErr result (Began (Rose (K.count keeper.old) (K.count keeper.new)) (K.vault keeper.old) (W.contents writer.old) (unended_of line.now ∷ []) (K.vault keeper.new) (W.contents writer.new)) }
+    ensures ok { OnOk result (Finished (K.is_honest keeper.new) (K.vault keeper.old) (K.count keeper.old) (W.contents writer.old) (unended_of line.now ∷ []) (K.vault keeper.new) (K.count keeper.new) (W.contents writer.new)) }
+    ensures err { OnErr result (Began (K.is_honest keeper.new) (K.vault keeper.old) (K.count keeper.old) (W.contents writer.old) (unended_of line.now ∷ []) (K.vault keeper.new) (K.count keeper.new) (W.contents writer.new)) }
     ensures kind { ¬ (result ≡ Err ReplayFault.Read) }
     ensures honest { K.is_honest keeper.new → K.is_honest keeper.old }
     ensures counted { K.count keeper.old ≤ K.count keeper.new }

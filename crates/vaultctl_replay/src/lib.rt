@@ -3,9 +3,8 @@
 
 ghost use Rattle.std.specs.Prelude.{◌≡◌, ◌≤◌, ℕ, List, [], OnOk, OnErr};
 ghost use Rattle.std.specs.Io.KnownBytes.{Consumes, IsAtEnd};
-ghost use Rattle.vault_core_model.specs.Halts.{Rose};
 ghost use Rattle.vault_core_model.specs.Step.{Reached};
-ghost use Rattle.vaultctl_replay.specs.Runs.{AnswersAll, AnswersEnded, AnswersSome};
+ghost use Rattle.vaultctl_replay.specs.Runs.{AnswersAll, AnswersEnded, AnswersSome, Steady};
 
 mod answer;
 mod fault;
@@ -14,6 +13,7 @@ mod lines;
 mod writing;
 
 use crate::lines::{feed, finish};
+use crate::writing::flush;
 pub use fault::ReplayFault;
 use std::alloc::Global;
 use std::io::{Read, Write};
@@ -25,9 +25,10 @@ use vault_io::retry::read_retrying;
 /// to be too long.
 const KEPT: usize = LONGEST_LINE + 1;
 
-/// Answers the whole input, a line at a time, and flushes the writer.
+/// Answers the whole input, a line at a time.
 ///
-/// A line ends with LF; the last one may lack it. However the reader cuts the input into pieces,
+/// The writer is flushed before each read, so that whoever waits for replies before they write on has them,
+/// and at the end. A line ends with LF; the last one may lack it. However the reader cuts the input into pieces,
 /// the answer is the same. `Read` comes where the reader fails, or gives `u64::MAX` pieces without
 /// an end; `Write` where the writer fails; `Memory` where room for a line or a reply was refused.
 pub fn replay<R: Read, W: Write, K: Keeper>(
@@ -39,16 +40,19 @@ pub fn replay<R: Read, W: Write, K: Keeper>(
     // What is read is the whole input, and what is written is the replies to its lines. Whatever comes of the
     // input, a reply tells that the device failed only where its count of failures rose, or stands at its
     // greatest value.
-    ensures ok { K.is_honest keeper.new → OnOk result ((input : List ℕ) × Consumes (R.remaining reader.old) (R.remaining reader.new) input
+    ensures ok { OnOk result ((input : List ℕ) × Consumes (R.remaining reader.old) (R.remaining reader.new) input
         × IsAtEnd (R.remaining reader.new)
-        × AnswersAll (Rose (K.count keeper.old) (K.count keeper.new)) (K.vault keeper.old) (W.contents writer.old) input (K.vault keeper.new) (W.contents writer.new)) }
+        × AnswersAll (K.is_honest keeper.new) (K.vault keeper.old) (K.count keeper.old) (W.contents writer.old) input (K.vault keeper.new) (K.count keeper.new) (W.contents writer.new)) }
     // The first lines were carried out and their replies written, and of at most one more a beginning of its reply.
     // What is read behind the last LF is a line only where the reader is at its end.
-    ensures err { K.is_honest keeper.new → OnErr result ((taken : List ℕ) × Consumes (R.remaining reader.old) (R.remaining reader.new) taken
-        × AnswersSome (Rose (K.count keeper.old) (K.count keeper.new)) (IsAtEnd (R.remaining reader.new)) (K.vault keeper.old) (W.contents writer.old) taken (K.vault keeper.new) (W.contents writer.new)) }
+    ensures err { OnErr result ((taken : List ℕ) × Consumes (R.remaining reader.old) (R.remaining reader.new) taken
+        × AnswersSome (K.is_honest keeper.new) (IsAtEnd (R.remaining reader.new)) (K.vault keeper.old) (K.count keeper.old) (W.contents writer.old) taken (K.vault keeper.new) (K.count keeper.new) (W.contents writer.new)) }
     // Where the reader failed, that beginning is each line whose LF was read, and all their replies are written.
-    ensures read { K.is_honest keeper.new → result ≡ Err ReplayFault.Read → (taken : List ℕ) × Consumes (R.remaining reader.old) (R.remaining reader.new) taken
-        × AnswersEnded (Rose (K.count keeper.old) (K.count keeper.new)) (K.vault keeper.old) (W.contents writer.old) taken (K.vault keeper.new) (W.contents writer.new) }
+    ensures read { result ≡ Err ReplayFault.Read → (taken : List ℕ) × Consumes (R.remaining reader.old) (R.remaining reader.new) taken
+        × AnswersEnded (K.is_honest keeper.new) (K.vault keeper.old) (K.count keeper.old) (W.contents writer.old) taken (K.vault keeper.new) (K.count keeper.new) (W.contents writer.new) }
+    // Whatever comes of the input and of the device: where no reply tells that the device failed, the count of its
+    // failures is as it was.
+    ensures steady { Steady (K.count keeper.old) (W.contents writer.old) (K.count keeper.new) (W.contents writer.new) }
     // Whatever comes of the input, a vault that runs lead to from a new one is left as such a vault.
     ensures reached { K.is_honest keeper.new → Reached (K.vault keeper.old) → Reached (K.vault keeper.new) }
     ensures honest { K.is_honest keeper.new → K.is_honest keeper.old }
@@ -57,6 +61,7 @@ pub fn replay<R: Read, W: Write, K: Keeper>(
     let mut part = Vec::new(alloc);
     let mut piece = [0u8; 65_536];
     for _turn in 0..u64::MAX {
+        flush(writer)?;
         match read_retrying(reader, &mut piece) {
             Ok(0) => return finish(alloc, keeper, writer, part.as_slice()),
             Ok(n) => feed(alloc, keeper, writer, &mut part, KEPT, &piece[..n])?,

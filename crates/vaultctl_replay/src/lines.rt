@@ -1,6 +1,5 @@
 //! The lines of an input, whatever pieces it comes in.
 ghost use Rattle.std.specs.Prelude.{◌≡◌, ◌≤◌, [], ◌∷◌, ◌++◌, take, IfErr, OnOk, OnErr, vec_len};
-ghost use Rattle.vault_core_model.specs.Halts.{Rose};
 ghost use Rattle.vaultctl_replay.specs.Lines.{advance, asked_in, last_of};
 ghost use Rattle.vaultctl_replay.specs.Runs.{Began, Finished};
 
@@ -35,9 +34,9 @@ fn take_byte<K: Keeper, W: Write>(
     byte: u8,
 ) -> Result<(), ReplayFault>
     requires { vec_len part.old ≤ most }
-    ensures ok { K.is_honest keeper.new → OnOk result (Finished (Rose (K.count keeper.old) (K.count keeper.new)) (K.vault keeper.old) (W.contents writer.old) (asked_in most part.old.items (byte ∷ [])) (K.vault keeper.new) (W.contents writer.new)) }
+    ensures ok { OnOk result (Finished (K.is_honest keeper.new) (K.vault keeper.old) (K.count keeper.old) (W.contents writer.old) (asked_in most part.old.items (byte ∷ [])) (K.vault keeper.new) (K.count keeper.new) (W.contents writer.new)) }
     ensures part { OnOk result (part.new.items ≡ (advance most part.old.items (byte ∷ [])).1) }
-    ensures err { K.is_honest keeper.new → OnErr result (Began (Rose (K.count keeper.old) (K.count keeper.new)) (K.vault keeper.old) (W.contents writer.old) (asked_in most part.old.items (byte ∷ [])) (K.vault keeper.new) (W.contents writer.new)) }
+    ensures err { OnErr result (Began (K.is_honest keeper.new) (K.vault keeper.old) (K.count keeper.old) (W.contents writer.old) (asked_in most part.old.items (byte ∷ [])) (K.vault keeper.new) (K.count keeper.new) (W.contents writer.new)) }
     ensures bound { vec_len part.new ≤ most }
     ensures kind { ¬ (result ≡ Err ReplayFault.Read) }
     ensures honest { K.is_honest keeper.new → K.is_honest keeper.old }
@@ -62,9 +61,9 @@ pub fn feed<K: Keeper, W: Write>(
     piece: &[u8],
 ) -> Result<(), ReplayFault>
     requires { vec_len part.old ≤ most }
-    ensures ok { K.is_honest keeper.new → OnOk result (Finished (Rose (K.count keeper.old) (K.count keeper.new)) (K.vault keeper.old) (W.contents writer.old) (asked_in most part.old.items piece.now) (K.vault keeper.new) (W.contents writer.new)) }
+    ensures ok { OnOk result (Finished (K.is_honest keeper.new) (K.vault keeper.old) (K.count keeper.old) (W.contents writer.old) (asked_in most part.old.items piece.now) (K.vault keeper.new) (K.count keeper.new) (W.contents writer.new)) }
     ensures part { OnOk result (part.new.items ≡ (advance most part.old.items piece.now).1) }
-    ensures err { K.is_honest keeper.new → OnErr result (Began (Rose (K.count keeper.old) (K.count keeper.new)) (K.vault keeper.old) (W.contents writer.old) (asked_in most part.old.items piece.now) (K.vault keeper.new) (W.contents writer.new)) }
+    ensures err { OnErr result (Began (K.is_honest keeper.new) (K.vault keeper.old) (K.count keeper.old) (W.contents writer.old) (asked_in most part.old.items piece.now) (K.vault keeper.new) (K.count keeper.new) (W.contents writer.new)) }
     ensures bound { vec_len part.new ≤ most }
     ensures kind { ¬ (result ≡ Err ReplayFault.Read) }
     ensures honest { K.is_honest keeper.new → K.is_honest keeper.old }
@@ -83,8 +82,8 @@ fn answer_last<K: Keeper, W: Write>(
     writer: &mut W,
     part: &[u8],
 ) -> Result<(), ReplayFault>
-    ensures ok { K.is_honest keeper.new → OnOk result (Finished (Rose (K.count keeper.old) (K.count keeper.new)) (K.vault keeper.old) (W.contents writer.old) (last_of part.now) (K.vault keeper.new) (W.contents writer.new)) }
-    ensures err { K.is_honest keeper.new → OnErr result (Began (Rose (K.count keeper.old) (K.count keeper.new)) (K.vault keeper.old) (W.contents writer.old) (last_of part.now) (K.vault keeper.new) (W.contents writer.new)) }
+    ensures ok { OnOk result (Finished (K.is_honest keeper.new) (K.vault keeper.old) (K.count keeper.old) (W.contents writer.old) (last_of part.now) (K.vault keeper.new) (K.count keeper.new) (W.contents writer.new)) }
+    ensures err { OnErr result (Began (K.is_honest keeper.new) (K.vault keeper.old) (K.count keeper.old) (W.contents writer.old) (last_of part.now) (K.vault keeper.new) (K.count keeper.new) (W.contents writer.new)) }
     ensures kind { ¬ (result ≡ Err ReplayFault.Read) }
     ensures honest { K.is_honest keeper.new → K.is_honest keeper.old }
     ensures counted { K.count keeper.old ≤ K.count keeper.new }
@@ -103,8 +102,8 @@ pub fn finish<K: Keeper, W: Write>(
     writer: &mut W,
     part: &[u8],
 ) -> Result<(), ReplayFault>
-    ensures ok { K.is_honest keeper.new → OnOk result (Finished (Rose (K.count keeper.old) (K.count keeper.new)) (K.vault keeper.old) (W.contents writer.old) (last_of part.now) (K.vault keeper.new) (W.contents writer.new)) }
-    ensures err { K.is_honest keeper.new → OnErr result (Began (Rose (K.count keeper.old) (K.count keeper.new)) (K.vault keeper.old) (W.contents writer.old) (last_of part.now) (K.vault keeper.new) (W.contents writer.new)) }
+    ensures ok { OnOk result (Finished (K.is_honest keeper.new) (K.vault keeper.old) (K.count keeper.old) (W.contents writer.old) (last_of part.now) (K.vault keeper.new) (K.count keeper.new) (W.contents writer.new)) }
+    ensures err { OnErr result (Began (K.is_honest keeper.new) (K.vault keeper.old) (K.count keeper.old) (W.contents writer.old) (last_of part.now) (K.vault keeper.new) (K.count keeper.new) (W.contents writer.new)) }
     ensures kind { ¬ (result ≡ Err ReplayFault.Read) }
     ensures honest { K.is_honest keeper.new → K.is_honest keeper.old }
     ensures counted { K.count keeper.old ≤ K.count keeper.new }

@@ -1,6 +1,5 @@
 use Rattle.std.proofs.Common.{◌≡◌, ◌≤◌, ℕ, List, [], vec_len}
 use Rattle.std.specs.Io.KnownBytes.{Consumes}
-use Rattle.vault_core_model.specs.Halts.{Rose}
 use Rattle.vaultctl_replay.specs.Lines.{advance, asked_in}
 use Rattle.vaultctl_replay.specs.Runs.{Finished}
 use Rattle.vaultctl_replay.proofs.replay.Given as goal
@@ -11,7 +10,7 @@ invariant-loop-turn g l = record {
   read : Consumes (g.R.Read.remaining l.fn.reader) (g.R.Read.remaining l.reader) taken;
   honest : g.K.Keeper.is_honest l.keeper → g.K.Keeper.is_honest l.fn.keeper;
   counted : g.K.Keeper.count l.fn.keeper ≤ g.K.Keeper.count l.keeper;
-  finished : g.K.Keeper.is_honest l.keeper → Finished (Rose (g.K.Keeper.count l.fn.keeper) (g.K.Keeper.count l.keeper)) (g.K.Keeper.vault l.fn.keeper) (g.W.Write.contents l.fn.writer) (asked_in 4_194_305 [] taken) (g.K.Keeper.vault l.keeper) (g.W.Write.contents l.writer);
+  finished : Finished (g.K.Keeper.is_honest l.keeper) (g.K.Keeper.vault l.fn.keeper) (g.K.Keeper.count l.fn.keeper) (g.W.Write.contents l.fn.writer) (asked_in 4_194_305 [] taken) (g.K.Keeper.vault l.keeper) (g.K.Keeper.count l.keeper) (g.W.Write.contents l.writer);
   rest : l.part.items ≡ (advance 4_194_305 [] taken).1;
   bound : vec_len l.part ≤ 4_194_305;
 }

@@ -2,10 +2,16 @@ use Rattle.vaultctl_replay.proofs.RunLemmas.{command_answered, command_unwritten
 use Rattle.vaultctl_replay.proofs.answer.carried_out.Goals as goal
 
 pub returns-clause-err : goal.returns-clause-err
-returns-clause-err g c = λ h.
+returns-clause-err g c =
+    let before = c.args.keeper.now in
+    let step = c.step-reply in
     on_err c.told.result
-    (command_unwritten _ (g.K.Keeper.vault c.args.keeper.now) (g.K.Keeper.vault c.step-reply.new.keeper) c.args.timed c.step-reply.result (c.step-reply.ensures.step h) c.step-reply.ensures.device)
+    (command_unwritten _ (g.K.Keeper.vault before) (g.K.Keeper.vault step.new.keeper) (g.K.Keeper.count before) (g.K.Keeper.count step.new.keeper) c.args.timed step.result
+    step.ensures.step step.ensures.counted step.ensures.device step.ensures.steady)
 
 pub returns-clause-ok : goal.returns-clause-ok
-returns-clause-ok g c = λ h.
-    command_answered _ (g.K.Keeper.vault c.args.keeper.now) (g.K.Keeper.vault c.step-reply.new.keeper) c.args.timed c.step-reply.result c.told.result (c.step-reply.ensures.step h) c.step-reply.ensures.device c.told.ensures
+returns-clause-ok g c =
+    let before = c.args.keeper.now in
+    let step = c.step-reply in
+    command_answered _ (g.K.Keeper.vault before) (g.K.Keeper.vault step.new.keeper) (g.K.Keeper.count before) (g.K.Keeper.count step.new.keeper) c.args.timed step.result
+    step.ensures.step step.ensures.counted step.ensures.device step.ensures.steady c.told.result c.told.ensures

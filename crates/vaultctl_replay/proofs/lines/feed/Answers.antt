@@ -1,5 +1,4 @@
 use Rattle.std.proofs.Common.{◌<◌, ◌+◌, [], ◌∷◌, ◌++◌, take, drop, get_or, length, arith}
-use Rattle.vault_core_model.specs.Halts.{Rose}
 use Rattle.vaultctl_replay.specs.Lines.{asked_in}
 use Rattle.vaultctl_replay.specs.Runs.{Began}
 use Rattle.vaultctl_replay.proofs.LineLemmas.{take_next, whole_cut}
@@ -7,11 +6,10 @@ use Rattle.vaultctl_replay.proofs.RunLemmas.{on_err, next_ok, next_part, next_er
 use Rattle.vaultctl_replay.proofs.lines.feed.Goals as goal
 
 pub returns-in_err-take_byte-clause-err : goal.returns-in_err-take_byte-clause-err
-returns-in_err-take_byte-clause-err g c = λ h.
-    let i = c.loop-byte.byte-index in
+returns-in_err-take_byte-clause-err g c =
+    let at = c.loop-byte.byte-index in
     let s = c.args.piece.now in
-    let within : i < length s = omega arith in
-    let before = c.take_byte.ensures.honest h in
+    let within : at < length s = omega arith in
     let inv = c.loop-byte.invariant in
     let n = g.K.Keeper.count c.args.keeper.now in
     let o = g.K.Keeper.count c.loop-byte.keeper in
@@ -19,21 +17,23 @@ returns-in_err-take_byte-clause-err g c = λ h.
     let first = g.K.Keeper.vault c.args.keeper.now in
     let mid = g.K.Keeper.vault c.loop-byte.keeper in
     let last = g.K.Keeper.vault c.take_byte.new.keeper in
+    let H = g.K.Keeper.is_honest c.loop-byte.keeper in
+    let G = g.K.Keeper.is_honest c.take_byte.new.keeper in
     let u = g.W.Write.contents c.args.writer.now in
     let v = g.W.Write.contents c.loop-byte.writer in
     let w = g.W.Write.contents c.take_byte.new.writer in
     let most = c.args.most in
     let part = c.args.part.now.items in
     let now = c.loop-byte.part.items in
-    let done = next_err n o p inv.counted c.take_byte.ensures.counted first mid last u v w most part now (take i s) (get_or s i 0 ∷ []) (inv.finished before) inv.rest (c.in_err-take_byte.ensures.err h) in
-    let whole = err_more most part (take i s ++ get_or s i 0 ∷ []) (drop (i + 1) s) (Rose n p) first last u w done in
-    on_err {P = Began (Rose n p) first u (asked_in most part s) last w} c.from_residual.result (rw (← whole_cut s i within) at whole)
+    let done = next_err H G c.take_byte.ensures.honest first mid last n o p u v w most part now (take at s) (get_or s at 0 ∷ []) inv.finished inv.rest c.in_err-take_byte.ensures.err in
+    let whole = err_more most part (take at s ++ get_or s at 0 ∷ []) (drop (at + 1) s) G first last n p u w done in
+    on_err {P = Began G first n u (asked_in most part s) last p w} c.from_residual.result (rw (← whole_cut s at within) at whole)
 
 pub loop-byte-preserved : goal.loop-byte-preserved
 loop-byte-preserved g c =
-    let i = c.loop-byte.byte-index in
+    let at = c.loop-byte.byte-index in
     let s = c.args.piece.now in
-    let within : i < length s = omega arith in
+    let within : at < length s = omega arith in
     let inv = c.loop-byte.invariant in
     let n = g.K.Keeper.count c.args.keeper.now in
     let o = g.K.Keeper.count c.loop-byte.keeper in
@@ -41,19 +41,20 @@ loop-byte-preserved g c =
     let first = g.K.Keeper.vault c.args.keeper.now in
     let mid = g.K.Keeper.vault c.loop-byte.keeper in
     let last = g.K.Keeper.vault c.take_byte.new.keeper in
+    let H = g.K.Keeper.is_honest c.loop-byte.keeper in
+    let G = g.K.Keeper.is_honest c.take_byte.new.keeper in
     let u = g.W.Write.contents c.args.writer.now in
     let v = g.W.Write.contents c.loop-byte.writer in
     let w = g.W.Write.contents c.take_byte.new.writer in
     let most = c.args.most in
     let part = c.args.part.now.items in
     let now = c.loop-byte.part.items in
-    let left = next_part most part (take i s) (get_or s i 0 ∷ []) now c.take_byte.new.part.items inv.rest c.in_ok-take_byte.ensures.part in
+    let done = next_ok H G c.take_byte.ensures.honest first mid last n o p u v w most part now (take at s) (get_or s at 0 ∷ []) inv.finished inv.rest c.in_ok-take_byte.ensures.ok in
+    let left = next_part most part (take at s) (get_or s at 0 ∷ []) now c.take_byte.new.part.items inv.rest c.in_ok-take_byte.ensures.part in
     record {
       honest = λ h. inv.honest (c.take_byte.ensures.honest h);
       counted = omega (arith, inv.counted, c.take_byte.ensures.counted);
-      finished = λ h.
-          let done = next_ok n o p inv.counted c.take_byte.ensures.counted first mid last u v w most part now (take i s) (get_or s i 0 ∷ []) (inv.finished (c.take_byte.ensures.honest h)) inv.rest (c.in_ok-take_byte.ensures.ok h) in
-          rw (← take_next s i within) at done;
-      rest = rw (← take_next s i within) at left;
+      finished = rw (← take_next s at within) at done;
+      rest = rw (← take_next s at within) at left;
       bound = c.take_byte.ensures.bound;
     }

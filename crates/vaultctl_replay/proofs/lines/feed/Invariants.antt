@@ -1,5 +1,4 @@
 use Rattle.std.proofs.Common.{◌≡◌, ◌≤◌, take, vec_len}
-use Rattle.vault_core_model.specs.Halts.{Rose}
 use Rattle.vaultctl_replay.specs.Lines.{advance, asked_in}
 use Rattle.vaultctl_replay.specs.Runs.{Finished}
 use Rattle.vaultctl_replay.proofs.lines.feed.Given as goal
@@ -8,7 +7,7 @@ abbrev pub invariant-loop-byte : goal.invariant-loop-byte
 invariant-loop-byte g l = record {
   honest : g.K.Keeper.is_honest l.keeper → g.K.Keeper.is_honest l.fn.keeper;
   counted : g.K.Keeper.count l.fn.keeper ≤ g.K.Keeper.count l.keeper;
-  finished : g.K.Keeper.is_honest l.keeper → Finished (Rose (g.K.Keeper.count l.fn.keeper) (g.K.Keeper.count l.keeper)) (g.K.Keeper.vault l.fn.keeper) (g.W.Write.contents l.fn.writer) (asked_in l.most l.fn.part.items (take l.byte-index l.piece)) (g.K.Keeper.vault l.keeper) (g.W.Write.contents l.writer);
+  finished : Finished (g.K.Keeper.is_honest l.keeper) (g.K.Keeper.vault l.fn.keeper) (g.K.Keeper.count l.fn.keeper) (g.W.Write.contents l.fn.writer) (asked_in l.most l.fn.part.items (take l.byte-index l.piece)) (g.K.Keeper.vault l.keeper) (g.K.Keeper.count l.keeper) (g.W.Write.contents l.writer);
   rest : l.part.items ≡ (advance l.most l.fn.part.items (take l.byte-index l.piece)).1;
   bound : vec_len l.part ≤ l.most;
 }
