@@ -1,5 +1,6 @@
 //! Connections to a port of this machine, one after another.
 ghost use Rattle.std.specs.Prelude.{◌≡◌, ◌≤◌, OnErr};
+ghost use Rattle.std.specs.Io.KnownBytes.{Keeps};
 ghost use Rattle.vault_core_model.specs.Step.{Reached};
 ghost use Rattle.vaultctl_serve.specs.Serving.{Stepped};
 
@@ -77,6 +78,8 @@ pub fn serve<R: Net<Stream = TcpStream> + Clock, K: Keeper, W: Write>(
     ensures stepped { K.is_honest keeper.new → Stepped count (K.vault keeper.old) (K.vault keeper.new) }
     ensures reached { K.is_honest keeper.new → Reached (K.vault keeper.old) → Reached (K.vault keeper.new) }
     ensures err { OnErr result (K.vault keeper.new ≡ K.vault keeper.old) }
+    // Where it can't listen it doesn't tell that it does.
+    ensures untold { OnErr result (Keeps (W.contents told.old) (W.contents told.new)) }
     ensures honest { K.is_honest keeper.new → K.is_honest keeper.old }
     ensures counted { K.count keeper.old ≤ K.count keeper.new }
 {
