@@ -1,12 +1,16 @@
 //! Tests of the vault served over loopback, clients and server in one process: what is answered, and peers that
-//! are gone before they are answered.
+//! are gone before they are answered. And of peers that take their time, by a clock that moves as one waits.
 #![tactic(auto)]
 
 #[cfg(test)]
 mod broken;
+#[cfg(test)]
+mod late;
 #[cfg(test)]
 mod loopback;
 #[cfg(test)]
 mod peers;
 #[cfg(test)]
 mod served;
+#[cfg(test)]
+mod slow;

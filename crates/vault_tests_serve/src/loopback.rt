@@ -11,7 +11,7 @@ use std::time::{Clock, Duration};
 pub const READING: u64 = 1_705_314_600;
 
 /// A network in which, as soon as a port is bound, a client has sent each of the requests and waits for its
-/// answer; and a clock that stands still, or that can't be read.
+/// answer; and a clock that stands still, but whose moment may not be read.
 #[derive(Drop)]
 pub struct Loopback<'a, R: Net<Listener = TcpListener, Stream = TcpStream>> {
     pub net: &'a R,
@@ -59,7 +59,7 @@ impl<R: Net<Listener = TcpListener, Stream = TcpStream>> Net for Loopback<'_, R>
 
 impl<R: Net<Listener = TcpListener, Stream = TcpStream>> Clock for Loopback<'_, R> {
     fn monotonic(&self) -> io::Result<Duration> {
-        Err(io::Error::from(io::ErrorKind::Unsupported))
+        Ok(Duration::ZERO)
     }
 
     fn since_1970(&self) -> io::Result<Duration> {

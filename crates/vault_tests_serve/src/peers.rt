@@ -14,7 +14,7 @@ pub struct StandingClock;
 
 impl Clock for StandingClock {
     fn monotonic(&self) -> io::Result<Duration> {
-        Err(io::Error::from(io::ErrorKind::Unsupported))
+        Ok(Duration::ZERO)
     }
 
     fn since_1970(&self) -> io::Result<Duration> {

@@ -25,7 +25,7 @@ const NO_TIME: &str =
     "HTTP/1.1 503 Service Unavailable\r\nconnection: close\r\ncontent-type: application/json\r\ncontent-length: 32\r\n\r\n{\"code\":\"ClockOutOfRange\",\"n\":2}";
 
 /// One request a connection, one connection after another. One that sends nothing counts, and gets no
-/// answer; behind the last none is served.
+/// answer; behind the last none is served. Where it listens is told first.
 #[test]
 fn serves_as_many_as_it_should(rt: HostRuntime) -> Result<(), Fail> {
     let alloc = rt.alloc();
@@ -37,7 +37,9 @@ fn serves_as_many_as_it_should(rt: HostRuntime) -> Result<(), Fail> {
         clients: Cell::new(Vec::new(alloc)),
         since_1970: Some(READING),
     };
-    assert!(rt; serve(&network, alloc, &mut keeper, 0, 3).is_ok());
+    let mut told = Vec::new(alloc);
+    assert!(rt; serve(&network, alloc, &mut keeper, "a.vault", 0, 3, &mut told).is_ok());
+    assert_eq!(rt; told.as_slice(), b"serving a.vault at 127.0.0.1:0\n");
     let mut clients = network.clients.replace(Vec::new(alloc));
     if let Some(unserved) = clients.pop() {
         assert!(rt; io::read_to_string(alloc, unserved).is_err());
@@ -57,7 +59,8 @@ fn a_clock_that_cannot_be_read(rt: HostRuntime) -> Result<(), Fail> {
         clients: Cell::new(Vec::new(alloc)),
         since_1970: None,
     };
-    assert!(rt; serve(&network, alloc, &mut keeper, 0, 1).is_ok());
+    let mut told = Vec::new(alloc);
+    assert!(rt; serve(&network, alloc, &mut keeper, "a.vault", 0, 1, &mut told).is_ok());
     answered(alloc, network.clients.replace(Vec::new(alloc)), &[NO_TIME])
 }
 
@@ -94,13 +97,16 @@ fn a_listener_that_fails(rt: HostRuntime) -> Result<(), Fail> {
     answered(alloc, clients, &[STORED, GOT])
 }
 
-/// A port that another listener has can't be had.
+/// A port that another listener has can't be had, and nothing is told.
 #[test]
 fn a_port_that_is_taken(rt: HostRuntime) -> Result<(), Fail> {
     let alloc = rt.alloc();
     let mut keeper = opened(alloc)?;
     let listener = TcpListener::bind(&rt, (Ipv4Addr::LOCALHOST, 0))?;
     let port = listener.local_addr()?.port();
-    assert!(rt; serve(&rt, alloc, &mut keeper, port, 1) == Err(PortFault::Device));
+    let mut told = Vec::new(alloc);
+    let served = serve(&rt, alloc, &mut keeper, "a.vault", port, 1, &mut told);
+    assert!(rt; served == Err(PortFault::Device));
+    assert!(rt; told.is_empty());
     Ok(())
 }

@@ -153,25 +153,29 @@ fn served(ended: Result<(), PortFault>) -> Result<Outcome, JobFault>
     }
 }
 
-/// Serves requests over any keeper.
-fn serve_over<K: Keeper>(
+/// Serves requests over any keeper, and tells once it listens.
+fn serve_over<K: Keeper, E: Write>(
     rt: &HostRuntime,
     keeper: &mut K,
+    file: &str,
     port: u16,
     count: u32,
+    err: &mut E,
 ) -> Result<Outcome, JobFault> {
-    served(serve(rt, rt.alloc(), keeper, port, count))
+    served(serve(rt, rt.alloc(), keeper, file, port, count, err))
 }
 
 /// Serves requests over a vault, and closes the vault.
-fn serve_vault<S: Start>(
+fn serve_vault<S: Start, E: Write>(
     rt: &HostRuntime,
     vault: FileVault<S>,
+    file: &str,
     port: u16,
     count: u32,
+    err: &mut E,
 ) -> Result<Outcome, JobFault> {
     let mut vault = vault;
-    let outcome = serve_over(rt, &mut vault, port, count);
+    let outcome = serve_over(rt, &mut vault, file, port, count, err);
     close_vault(vault);
     outcome
 }
@@ -189,7 +193,10 @@ pub fn serve_file<S: Start, E: Write>(
 {
     let rt = machine.runtime();
     match machine.open(file, start) {
-        Ok(vault) => status(err, "serve", serve_vault(rt, vault, port, count)),
+        Ok(vault) => {
+            let outcome = serve_vault(rt, vault, file, port, count, err);
+            status(err, "serve", outcome)
+        }
         Err(refusal) => tell_unopened(err, "open", refusal),
     }
 }

@@ -1,0 +1,146 @@
+//! Peers that take their time, and a clock that moves only while one waits.
+use crate::loopback::READING;
+use std::alloc::Global;
+use std::cell::Cell;
+use std::io;
+use std::io::Read;
+use std::net::{Ipv4Addr, OpenListener, SocketAddr};
+use std::time::{Clock, Duration};
+use vaultctl_serve::peer::Peer;
+
+/// A clock that moves only while one waits for a peer, or sleeps. It begins at a moment.
+#[derive(Drop)]
+pub struct MovingClock {
+    /// Since it began.
+    pub passed: Cell<Duration>,
+}
+
+impl MovingClock {
+    /// So much time passes.
+    fn pass(&self, time: Duration) {
+        self.passed.set(self.passed.get().saturating_add(time));
+    }
+
+    /// Whether so many milliseconds have passed.
+    pub fn is_at(&self, millis: u64) -> bool {
+        self.passed.get() == Duration::from_millis(millis)
+    }
+}
+
+impl Clock for MovingClock {
+    fn monotonic(&self) -> io::Result<Duration> {
+        Ok(self.passed.get())
+    }
+
+    fn since_1970(&self) -> io::Result<Duration> {
+        Ok(Duration::from_secs(READING).saturating_add(self.passed.get()))
+    }
+
+    fn sleep(&self, duration: Duration) {
+        self.pass(duration);
+    }
+}
+
+/// Bytes that come so many milliseconds behind those before them, once or more often. No bytes are the peer's end.
+#[derive(Clone, Copy)]
+pub struct Part<'a> {
+    pub pause: u64,
+    pub bytes: &'a str,
+    pub times: u32,
+}
+
+/// A peer that sends its parts one after another, and then nothing, and takes a byte of its answer in so many
+/// milliseconds.
+#[derive(Drop)]
+pub struct SlowPeer<'a> {
+    pub clock: &'a MovingClock,
+    pub parts: Cell<&'a [Part<'a>]>,
+    /// How often the first part has come.
+    pub came: Cell<u32>,
+    pub pace: u64,
+    /// What it took of its answer.
+    pub taken: &'a Cell<Vec<u8>>,
+    pub alloc: Global,
+}
+
+impl<'a> SlowPeer<'a> {
+    /// The next part, which has come now; none where none comes any more.
+    fn next_part(&self) -> Option<Part<'a>> {
+        let (first, rest) = self.parts.get().split_first()?;
+        let came = self.came.get().saturating_add(1);
+        if came < first.times {
+            self.came.set(came);
+        } else {
+            self.came.set(0);
+            self.parts.set(rest);
+        }
+        Some(*first)
+    }
+
+    /// Waits so long, but no longer than the limit: then the error comes, `WouldBlock`.
+    fn wait(&self, pause: u64, limit: Duration) -> io::Result<()> {
+        let pause = Duration::from_millis(pause);
+        self.clock.pass(pause.min(limit));
+        if pause > limit {
+            return Err(io::Error::from(io::ErrorKind::WouldBlock));
+        }
+        Ok(())
+    }
+}
+
+impl Peer for SlowPeer<'_> {
+    fn read_within(&self, buf: &mut [u8], limit: Duration) -> io::Result<usize> {
+        let Some(part) = self.next_part() else {
+            self.clock.pass(limit);
+            return Err(io::Error::from(io::ErrorKind::WouldBlock));
+        };
+        self.wait(part.pause, limit)?;
+        let mut bytes = part.bytes.as_bytes();
+        bytes.read(buf)
+    }
+
+    fn write_within(&self, buf: &[u8], limit: Duration) -> io::Result<usize> {
+        let Some(byte) = buf.first() else {
+            return Ok(0);
+        };
+        self.wait(self.pace, limit)?;
+        let mut taken = self.taken.replace(Vec::new(self.alloc));
+        taken.push(*byte)?;
+        self.taken.set(taken);
+        Ok(1)
+    }
+
+    fn end(&self) -> io::Result<()> {
+        Ok(())
+    }
+}
+
+/// A listener to which slow peers come, one after another.
+#[derive(Drop)]
+pub struct SlowPeers<'a> {
+    pub clock: &'a MovingClock,
+    pub coming: Cell<&'a [&'a [Part<'a>]]>,
+    pub pace: u64,
+    pub taken: &'a Cell<Vec<u8>>,
+    pub alloc: Global,
+}
+
+impl<'a> OpenListener for SlowPeers<'a> {
+    type Stream = SlowPeer<'a>;
+
+    fn accept(&self) -> io::Result<(SlowPeer<'a>, SocketAddr)> {
+        let Some((parts, rest)) = self.coming.get().split_first() else {
+            return Err(io::Error::from(io::ErrorKind::ConnectionAborted));
+        };
+        self.coming.set(rest);
+        let peer = SlowPeer {
+            clock: self.clock,
+            parts: Cell::new(*parts),
+            came: Cell::new(0),
+            pace: self.pace,
+            taken: self.taken,
+            alloc: self.alloc,
+        };
+        Ok((peer, SocketAddr::from((Ipv4Addr::LOCALHOST, 1))))
+    }
+}
