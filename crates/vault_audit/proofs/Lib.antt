@@ -1,1 +1,2 @@
+pub mod OtherLemmas
 pub mod SoundLemmas

@@ -1,1 +1,2 @@
+pub mod OtherEdition
 pub mod Whole

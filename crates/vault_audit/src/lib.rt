@@ -2,6 +2,7 @@
 #![tactic(auto)]
 
 mod first_pass;
+mod other_edition;
 mod second_pass;
 mod whole;
 

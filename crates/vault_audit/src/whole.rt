@@ -4,13 +4,16 @@ ghost use Rattle.sqlite.specs.State.{HasCleanDisk, IsUnchanged, Survives};
 ghost use Rattle.sqlite.specs.Held.{state};
 ghost use Rattle.vault_base.specs.declared.refusal.Table.{Table};
 ghost use Rattle.vault_core_model.specs.Vault.{Vault};
+ghost use Rattle.vault_audit_model.specs.declared.schema.Edition.{Edition};
 ghost use Rattle.vault_audit_model.specs.Spells.{AreSoundAs};
 ghost use Rattle.vault_audit_model.specs.Tables.{schema_of};
 ghost use Rattle.vault_audit_model.specs.Faults.{refusal_of};
+ghost use Rattle.vault_audit.specs.OtherEdition.{IsFirstUnfit};
 ghost use Rattle.vault_audit.specs.Whole.{IsAudited, IsJudged, IsTold};
 ghost use Rattle.vault_audit_walk.specs.Health.{IsHealthy, IsMemory};
 
 use crate::first_pass::look_at_rows;
+use crate::other_edition::look_at_schema;
 use crate::second_pass::look_again;
 use sqlite::{Alter, Connection, Error, ErrorCode};
 use std::alloc::Global;
@@ -55,23 +58,13 @@ fn find_damage<S: Alter>(
     Ok(None)
 }
 
-/// What is told of a file that hasn't the schema of the edition asked for, and first differs at a table: `meta`
-/// where it has that of another edition, as its number tells.
-fn told_of_schema<S: Alter>(conn: &Connection<S>, table: Table) -> Table {
-    if check_schema(conn, Edition::First).is_none()
-        || check_schema(conn, Edition::Second).is_none()
-    {
-        return Table::Meta;
-    }
-    table
-}
-
 /// Looks at every table of a file, and changes nothing: they are to be those of a sound vault of that edition, with its
 /// running numbers and heads.
 ///
 /// `Damaged` with the first table that isn't, in their order: first each is looked at by itself, for its
-/// columns and for the values of its rows, and then beside the others. `Memory` where the store wanted
-/// memory. `Device` where it refused for another cause, as where its disk failed; a store that works never does.
+/// columns and for the values of its rows, and then beside the others. Where the schema is that of no edition, the
+/// first table that differs is told before any row is looked at. `Memory` where the store wanted memory. `Device`
+/// where it refused for another cause, as where its disk failed; a store that works never does.
 pub fn audit<S: Alter>(
     alloc: Global,
     conn: &mut Connection<S>,
@@ -81,6 +74,8 @@ pub fn audit<S: Alter>(
     ensures sound { HasCleanDisk (state S.Store conn.new) → OnOk result ((v : Vault) × AreSoundAs edition (state S.Store conn.new).now v) }
     // or they are those of none.
     ensures damaged { HasCleanDisk (state S.Store conn.new) → IfErr result (λ r. (t : Table) → r ≡ Refusal.Damaged t → (v : Vault) → ¬ AreSoundAs edition (state S.Store conn.new).now v) }
+    // A file that has the schema of another edition is told by the first table that isn't as this one has it.
+    ensures other { HasCleanDisk (state S.Store conn.new) → (n : Edition) → (state S.Store conn.new).now.schema ≡ schema_of n → (state S.Store conn.new).now.schema ≢ schema_of edition → IfErr result (λ r. (t : Table) → r ≡ Refusal.Damaged t → IsFirstUnfit edition (state S.Store conn.new).now t) }
     ensures faults { IfErr result IsTold }
     // A store that works is never told as one that failed.
     ensures healthy { IsHealthy (state S.Store conn.new) → IfErr result (λ r. r ≢ Refusal.Device) }
@@ -89,7 +84,10 @@ pub fn audit<S: Alter>(
     ensures crash { Survives (state S.Store conn.old) (state S.Store conn.new) (λ _. ⊥) }
 {
     if let Some(table) = check_schema(conn, edition) {
-        return Err(Refusal::Damaged(told_of_schema(conn, table)));
+        return match look_at_schema(conn, edition, table) {
+            Ok(table) => Err(Refusal::Damaged(table)),
+            Err(error) => Err(refusal_of(error)),
+        };
     }
     match find_damage(alloc, conn, edition) {
         Ok(None) => Ok(()),

@@ -94,7 +94,7 @@ fn tables_are_sound_as_those_of_their_edition(rt: HostRuntime) -> Result<(), Fai
     Ok(())
 }
 
-/// Their columns are those of another edition, which is told as `meta`, whatever the number is and whatever else is wrong.
+/// In a file of the other edition the number is what differs first, whatever else is wrong.
 #[test]
 fn tables_of_the_first_edition_are_told(rt: HostRuntime) -> Result<(), Fail> {
     let changes = [
@@ -102,10 +102,46 @@ fn tables_of_the_first_edition_are_told(rt: HostRuntime) -> Result<(), Fail> {
         ("UPDATE meta SET schema = 3", Table::Meta),
         ("UPDATE departments SET held = -1", Table::Meta),
         ("DELETE FROM meta", Table::Meta),
-        ("UPDATE meta SET schema = 2", Table::Meta),
+    ];
+    each_is_told(&rt, rt.alloc(), Edition::First, &changes, Edition::Second)
+}
+
+/// Where the number is the one asked for, `rules` is the first table whose columns are others; a row before it that
+/// tells no record in its limits is told first, and one behind it isn't looked at.
+#[test]
+fn the_rules_of_the_first_edition_are_told(rt: HostRuntime) -> Result<(), Fail> {
+    let changes = [
+        ("UPDATE meta SET schema = 2", Table::Rules),
+        (
+            "UPDATE meta SET schema = 2; UPDATE heads SET count = 0",
+            Table::Rules,
+        ),
+        (
+            "UPDATE meta SET schema = 2; UPDATE rules SET days = 0 WHERE n = 1",
+            Table::Rules,
+        ),
+        (
+            "UPDATE meta SET schema = 2, last = -1; UPDATE callers SET closed = 2",
+            Table::Meta,
+        ),
+    ];
+    each_is_told(&rt, rt.alloc(), Edition::First, &changes, Edition::Second)
+}
+
+#[test]
+fn a_row_before_the_rules_of_the_first_edition_is_told(rt: HostRuntime) -> Result<(), Fail> {
+    let changes = [
+        (
+            "UPDATE meta SET schema = 2; UPDATE callers SET closed = 2; UPDATE departments SET held = -1",
+            Table::Departments,
+        ),
         (
             "UPDATE meta SET schema = 2; UPDATE callers SET closed = 2",
-            Table::Meta,
+            Table::Callers,
+        ),
+        (
+            "UPDATE meta SET schema = 2; UPDATE buckets SET mode = 3",
+            Table::Buckets,
         ),
     ];
     each_is_told(&rt, rt.alloc(), Edition::First, &changes, Edition::Second)
@@ -115,7 +151,11 @@ fn tables_of_the_first_edition_are_told(rt: HostRuntime) -> Result<(), Fail> {
 fn tables_of_the_second_edition_are_told(rt: HostRuntime) -> Result<(), Fail> {
     let changes = [
         ("", Table::Meta),
-        ("UPDATE meta SET schema = 1", Table::Meta),
+        ("UPDATE meta SET schema = 1", Table::Rules),
+        (
+            "UPDATE meta SET schema = 1; UPDATE callers SET closed = 2",
+            Table::Callers,
+        ),
     ];
     each_is_told(&rt, rt.alloc(), Edition::Second, &changes, Edition::First)
 }
