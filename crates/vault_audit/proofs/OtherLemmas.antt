@@ -40,9 +40,9 @@ module _ (has asked : Edition) (old new : State) (schema : old.now.schema ≡ sc
 
   -- one row at most, and it is the one that was found
   found_in : (xs : List MetaRow) → Took xs → (o : Option MetaRow) → r.found ≡ o → IsMetaOf asked new.now o
-  found_in [] (are, fit, is) None none x one_row head = absurd (let a = length_permutation _ _ are in let b = length_permutation _ _ one_row in omega arith)
+  found_in [] (are, fit, is) None none = λ x one_row head. absurd (let a = length_permutation _ _ are in let b = length_permutation _ _ one_row in omega arith)
   found_in [] (are, fit, is) (Some x) found = absurd (let e = ap (λ (p : MetaPass). p.found) is in cc)
-  found_in (y ∷ []) (are, fit, is) None none x one_row head = absurd (let e = ap (λ (p : MetaPass). p.found) is in cc)
+  found_in (y ∷ []) (are, fit, is) None none = λ x one_row head. absurd (let e = ap (λ (p : MetaPass). p.found) is in cc)
   found_in (y ∷ []) (are, fit, is) (Some x) found =
       let same_one : y ≡ x = (let e = ap (λ (p : MetaPass). p.found) is in cc) in
       subst (λ z. IsMetaOf asked new.now (Some z)) same_one (are, fit.0.1)

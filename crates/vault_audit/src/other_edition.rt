@@ -97,12 +97,12 @@ pub(crate) fn look_at_schema<S: Alter>(
     difference: Table,
 ) -> Result<Table, Error>
     ensures told { HasCleanDisk (state S.Store conn.new) → (n : Edition) → (state S.Store conn.new).now.schema ≡ schema_of n → IfOk result (IsFirstUnfit asked (state S.Store conn.new).now) }
-    ensures same { HasCleanDisk (state S.Store conn.new) → OnOk result (IsUnchanged (state S.Store conn.old) (state S.Store conn.new)) }
+    ensures kept { HasCleanDisk (state S.Store conn.new) → OnOk result ((state S.Store conn.new).now ≡ (state S.Store conn.old).now) }
     ensures err { IsHealthy (state S.Store conn.new) → IfErr result IsMemory }
     ensures crash { Survives (state S.Store conn.old) (state S.Store conn.new) (λ _. ⊥) }
 {
-    let Some(has) = edition_of(conn) else {
-        return Ok(difference);
-    };
-    look_at_other(conn, has, asked)
+    match edition_of(conn) {
+        Some(has) => look_at_other(conn, has, asked),
+        None => Ok(difference),
+    }
 }
