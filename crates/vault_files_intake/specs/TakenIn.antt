@@ -1,5 +1,6 @@
 -- What an intake of a list does: the rows below the header, one after another, each as a command of the history machine.
-use Rattle.std.specs.Prelude.{◌≡◌, ℕ, ◌+◌, ◌<◌, List, [], ◌∷◌, ◌++◌, length, Bool, true, false, nat_le, Option, Some, None, Result, Ok, Err, if◌then◌else◌, MatchBool, ◌⊎◌}
+use Rattle.std.specs.Prelude.{◌≡◌, ℕ, ◌+◌, ◌<◌, List, [], ◌∷◌, ◌++◌, length, Bool, true, false, nat_le, ◌||◌, Option, Some, None, Result, Ok, Err, if◌then◌else◌, MatchBool, ◌⊎◌}
+use Rattle.std.specs.List.{list_any}
 use Rattle.vault_base.specs.declared.refusal.Refusal.{Refusal}
 use Rattle.vault_base.specs.declared.refusal.Refusal.TheVariants as refusal
 use Rattle.vault_core_model.specs.declared.command.Command.TheVariants as command
@@ -11,6 +12,7 @@ use Rattle.vault_core_model.specs.declared.halt.Halt.TheVariants as halt
 use Rattle.vault_core_model.specs.declared.reply.Reply.{Reply}
 use Rattle.vault_core_model.specs.declared.reply.Reply.TheVariants as reply
 use Rattle.vault_core_model.specs.Checks.{most_content}
+use Rattle.vault_core_model.specs.Halts.{is_device_fault, is_device_refusal, is_device_reply}
 use Rattle.vault_core_model.specs.Step.{Step, is_fault}
 use Rattle.vault_core_model.specs.Vault.{Vault}
 use Rattle.vault_http_values.specs.Fault.{◌>>=◌}
@@ -120,3 +122,23 @@ TakesList files t who bucket batch list v rows stop v' =
 abbrev pub TakesIn : Option (List File) → ℕ → List ℕ → List ℕ → List ℕ → List ℕ → Vault → List RowReply → Option Refusal → Vault → Type 0
 TakesIn files t who bucket batch list v rows stop v' =
     MatchBool (nat_le (length list) most_list) (TakesList files t who bucket batch list v rows stop v') (StopsAtOnce refusal.EntityTooLarge v rows stop v')
+
+-- ---- whether it is told that a device failed
+
+-- by what came of a row: its reply, or a fault
+abbrev pub tells_device : Result Reply Fault → Bool
+tells_device (Ok answer) = is_device_reply answer
+tells_device (Err f) = is_device_fault f
+
+abbrev pub is_device_row : RowReply → Bool
+is_device_row row = is_device_reply row.reply
+
+-- by the replies to rows, or by what stopped their intake
+abbrev pub report_tells_device : List RowReply → Option Refusal → Bool
+report_tells_device rows None = list_any is_device_row rows
+report_tells_device rows (Some r) = list_any is_device_row rows || is_device_refusal r
+
+-- what stops an intake, if anything does
+abbrev pub stop_of : Result (Unit {0}) Refusal → Option Refusal
+stop_of (Ok t) = None
+stop_of (Err r) = Some r

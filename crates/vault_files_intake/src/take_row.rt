@@ -1,7 +1,7 @@
 //! One row of a list.
 ghost use Rattle.std.specs.Prelude.{◌≡◌, ◌≢◌, ◌≤◌, ◌⊎◌, false, IfOk, IfErr, OnErr, option_map};
 ghost use Rattle.csv.specs.Records.{fields_of};
-ghost use Rattle.vault_core_model.specs.Halts.{Finds, Rose};
+ghost use Rattle.vault_core_model.specs.Halts.{Finds, is_device_reply, Rose};
 ghost use Rattle.vault_core_model.specs.declared.command.Command.TheVariants.{Intake as AsIntake};
 ghost use Rattle.vault_core_model.specs.declared.halt.Fault.TheVariants as faults;
 ghost use Rattle.vault_core_model.specs.declared.halt.Halt.TheVariants as halts;
@@ -105,6 +105,7 @@ fn command<F: Folder>(
 fn settled(reply: Reply) -> Result<Reply, Fault>
     ensures ok { IfOk result (λ r. (r ≡ reply) × (spec.is_fault_reply r ≡ false)) }
     ensures err { IfErr result (λ f. reply ≡ spec.fault_reply f) }
+    ensures told { spec.tells_device result ≡ is_device_reply reply }
 {
     match reply {
         Reply::Done(answer) => Ok(Reply::Done(answer)),
@@ -129,6 +130,7 @@ fn carried_out<K: Keeper>(
     ensures honest { K.is_honest keeper.new → K.is_honest keeper.old }
     ensures counted { K.count keeper.old ≤ K.count keeper.new }
     ensures device { result ≡ Err Fault.Device → Rose (K.count keeper.old) (K.count keeper.new) }
+    ensures steady { spec.tells_device result ≡ false → K.count keeper.new ≡ K.count keeper.old }
 {
     let command = Command::Intake(intake);
     let reply = step(alloc, keeper, at, who, &command);
@@ -156,6 +158,7 @@ pub(crate) fn take_row<K: Keeper, F: Folder>(
     ensures counted { K.count keeper.old ≤ K.count keeper.new }
     ensures counted_there { F.count folder.old ≤ F.count folder.new }
     ensures device { result ≡ Err Fault.Device → Rose (K.count keeper.old) (K.count keeper.new) ⊎ Rose (F.count folder.old) (F.count folder.new) }
+    ensures steady { spec.tells_device result ≡ false → K.count keeper.new ≡ K.count keeper.old }
 {
     match command(alloc, bucket, batch, line, cells, folder) {
         Ok(intake) => carried_out(alloc, keeper, at, who, intake),

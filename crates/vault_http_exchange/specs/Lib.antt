@@ -1,3 +1,4 @@
 pub mod Body
 pub mod Exchange
 pub mod Left
+pub mod Steady

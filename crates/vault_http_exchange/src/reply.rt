@@ -5,6 +5,7 @@ ghost use Rattle.vault_core_model.specs.Halts.{Rose};
 ghost use Rattle.vault_http_answer.specs.Reply.{AnswersRefusal};
 ghost use Rattle.vault_http_exchange.specs.Exchange as spec;
 ghost use Rattle.vault_http_exchange.specs.Left as left;
+ghost use Rattle.vault_http_exchange.specs.Steady.{JudgedSteady};
 ghost use Rattle.vault_http_exchange.specs.declared.fault.ServeFault.TheVariants as faults;
 
 use crate::fault::ServeFault;
@@ -43,6 +44,7 @@ fn answer<W: Write, K: Keeper>(
     ensures once { K.is_honest keeper.new → left.AtMostOne (Some at) (K.vault keeper.old) (K.vault keeper.new) }
     ensures honest { K.is_honest keeper.new → K.is_honest keeper.old }
     ensures counted { K.count keeper.old ≤ K.count keeper.new }
+    ensures steady { JudgedSteady (K.is_honest keeper.new) result at shown who.now (Ok command.now) (K.vault keeper.old) (K.vault keeper.new) (K.count keeper.old) (K.count keeper.new) (W.contents writer.old) (W.contents writer.new) }
 {
     let reply = step(alloc, keeper, at, who, command);
     let Ok(bytes) = reply_bytes(alloc, Some(at), drops(command), reply, shown) else {
@@ -67,6 +69,7 @@ fn finish<W: Write, K: Keeper>(
     ensures once { K.is_honest keeper.new → left.AtMostOne (Some at) (K.vault keeper.old) (K.vault keeper.new) }
     ensures honest { K.is_honest keeper.new → K.is_honest keeper.old }
     ensures counted { K.count keeper.old ≤ K.count keeper.new }
+    ensures steady { JudgedSteady (K.is_honest keeper.new) result at shown who (Ok command) (K.vault keeper.old) (K.vault keeper.new) (K.count keeper.old) (K.count keeper.new) (W.contents writer.old) (W.contents writer.new) }
 {
     let written = answer(alloc, writer, keeper, at, &who, &command, shown);
     drop(command);
@@ -108,6 +111,7 @@ pub fn conclude<W: Write, K: Keeper>(
     ensures kind { ¬ (result ≡ Err faults.Read) }
     ensures honest { K.is_honest keeper.new → K.is_honest keeper.old }
     ensures counted { K.count keeper.old ≤ K.count keeper.new }
+    ensures steady { JudgedSteady (K.is_honest keeper.new) result at shown who judged (K.vault keeper.old) (K.vault keeper.new) (K.count keeper.old) (K.count keeper.new) (W.contents writer.old) (W.contents writer.new) }
 {
     match judged {
         Ok(command) => finish(alloc, writer, keeper, at, who, command, shown),

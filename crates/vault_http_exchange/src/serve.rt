@@ -9,6 +9,7 @@ ghost use Rattle.vault_http_values.specs.Fault.{Gives};
 ghost use Rattle.vault_http_exchange.specs.Body.{IsWithinLength};
 ghost use Rattle.vault_http_exchange.specs.Exchange as spec;
 ghost use Rattle.vault_http_exchange.specs.Left as left;
+ghost use Rattle.vault_http_exchange.specs.Steady.{Steady};
 ghost use Rattle.vault_http_exchange.specs.declared.fault.ServeFault.TheVariants as faults;
 
 use crate::body::command_after;
@@ -50,6 +51,7 @@ fn serve_parts<R: Read, W: Write, K: Keeper>(
     ensures taken { OnOk result ((taken : List ℕ) × Consumes (R.remaining reader.old) (R.remaining reader.new) taken × IsWithinLength size taken) }
     ensures honest { K.is_honest keeper.new → K.is_honest keeper.old }
     ensures counted { K.count keeper.old ≤ K.count keeper.new }
+    ensures steady { Steady (K.is_honest keeper.new) result (Some at) (K.vault keeper.old) (K.vault keeper.new) (K.count keeper.old) (K.count keeper.new) (W.contents writer.old) (W.contents writer.new) }
 {
     let told = tell(writer, waits);
     let judged = command_after(alloc, reader, order, locks, size, told)?;
@@ -72,6 +74,7 @@ fn serve_plan<R: Read, W: Write, K: Keeper>(
     ensures taken { OnOk result ((taken : List ℕ) × Consumes (R.remaining reader.old) (R.remaining reader.new) taken × IsWithinLength plan.terms.length taken) }
     ensures honest { K.is_honest keeper.new → K.is_honest keeper.old }
     ensures counted { K.count keeper.old ≤ K.count keeper.new }
+    ensures steady { Steady (K.is_honest keeper.new) result (Some plan.at) (K.vault keeper.old) (K.vault keeper.new) (K.count keeper.old) (K.count keeper.new) (W.contents writer.old) (W.contents writer.new) }
 {
     let Plan { at, order, terms } = plan;
     let Terms {
@@ -146,6 +149,7 @@ fn serve_asked<R: Read, W: Write, K: Keeper>(
     ensures taken { OnOk result ((taken : List ℕ) × Consumes (R.remaining reader.old) (R.remaining reader.new) taken × left.IsAskedTaken asked taken) }
     ensures honest { K.is_honest keeper.new → K.is_honest keeper.old }
     ensures counted { K.count keeper.old ≤ K.count keeper.new }
+    ensures steady { Steady (K.is_honest keeper.new) result moment.now (K.vault keeper.old) (K.vault keeper.new) (K.count keeper.old) (K.count keeper.new) (W.contents writer.old) (W.contents writer.new) }
 {
     match asked {
         Asked::Plan(plan) => serve_plan(alloc, reader, writer, keeper, plan, shown),
@@ -178,6 +182,7 @@ fn serve_judged<R: Read, W: Write, K: Keeper>(
     ensures taken { (said : spec.Said) → Gives (λ x. x) judged said → OnOk result ((taken : List ℕ) × Consumes (R.remaining reader.old) (R.remaining reader.new) taken × left.IsBodyTaken said taken) }
     ensures honest { K.is_honest keeper.new → K.is_honest keeper.old }
     ensures counted { K.count keeper.old ≤ K.count keeper.new }
+    ensures steady { Steady (K.is_honest keeper.new) result moment.now (K.vault keeper.old) (K.vault keeper.new) (K.count keeper.old) (K.count keeper.new) (W.contents writer.old) (W.contents writer.new) }
 {
     match judged {
         Ok(asked) => serve_asked(alloc, reader, writer, keeper, moment, asked, shown),
@@ -206,6 +211,7 @@ fn serve_head<R: Read, W: Write, K: Keeper>(
     ensures taken { OnOk result ((taken : List ℕ) × Consumes (R.remaining reader.old) (R.remaining reader.new) taken × left.IsBodyTaken (spec.spans_asked moment.now buf.now headers.now spans) taken) }
     ensures honest { K.is_honest keeper.new → K.is_honest keeper.old }
     ensures counted { K.count keeper.old ≤ K.count keeper.new }
+    ensures steady { Steady (K.is_honest keeper.new) result moment.now (K.vault keeper.old) (K.vault keeper.new) (K.count keeper.old) (K.count keeper.new) (W.contents writer.old) (W.contents writer.new) }
 {
     serve_judged(
         alloc,
@@ -233,6 +239,7 @@ fn serve_at<R: Read, W: Write, K: Keeper>(
     ensures taken { OnOk result (IfSome (R.remaining reader.old) (λ input. (taken : List ℕ) × Consumes (R.remaining reader.old) (R.remaining reader.new) taken × left.IsTaken moment input taken)) }
     ensures honest { K.is_honest keeper.new → K.is_honest keeper.old }
     ensures counted { K.count keeper.old ≤ K.count keeper.new }
+    ensures steady { Steady (K.is_honest keeper.new) result moment (K.vault keeper.old) (K.vault keeper.new) (K.count keeper.old) (K.count keeper.new) (W.contents writer.old) (W.contents writer.new) }
 {
     let mut buf = Vec::new(alloc);
     let mut headers = [EMPTY_HEADER_SPAN; 64];
@@ -266,7 +273,7 @@ fn serve_at<R: Read, W: Write, K: Keeper>(
 /// `Memory` no byte of an answer is written, with `Write` a beginning of it.
 ///
 /// That the device failed is answered only where the keeper's count of failures rose in the call, or stands at
-/// its greatest value.
+/// its greatest value; and where the count rose, that is what is answered.
 pub fn serve_one<R: Read, W: Write, K: Keeper>(
     alloc: Global,
     reader: &mut R,
@@ -281,6 +288,9 @@ pub fn serve_one<R: Read, W: Write, K: Keeper>(
     ensures taken { OnOk result (IfSome (R.remaining reader.old) (λ input. (taken : List ℕ) × Consumes (R.remaining reader.old) (R.remaining reader.new) taken × left.IsTaken (moment_at reading) input taken)) }
     ensures honest { K.is_honest keeper.new → K.is_honest keeper.old }
     ensures counted { K.count keeper.old ≤ K.count keeper.new }
+    // Where the count rose, the reply of the one step tells that the device failed, and what is written is its
+    // answer, or a beginning of that.
+    ensures steady { Steady (K.is_honest keeper.new) result (moment_at reading) (K.vault keeper.old) (K.vault keeper.new) (K.count keeper.old) (K.count keeper.new) (W.contents writer.old) (W.contents writer.new) }
 {
     serve_at(alloc, reader, writer, keeper, Moment::from_secs(reading))
 }

@@ -1,4 +1,6 @@
-use Rattle.std.proofs.Common.{◌≡◌, ◌+◌, ◌<◌, arith, rules}
+use Rattle.std.proofs.Common.{◌≡◌, ◌+◌, ◌<◌, ◌∙◌, arith, rules}
+use Rattle.vault_base.specs.declared.refusal.Refusal.TheVariants as refusal
+use Rattle.vault_files_intake.proofs.Counted.{none_stopped}
 use Rattle.vault_files_intake.proofs.Taken.{row-taken, row-stops, lines-end}
 use Rattle.vault_files_intake.proofs.intake.take_rows.Goals as goal
 
@@ -9,6 +11,7 @@ loop-cells-preserved g c = record {
   files = search rules;
   counted = search rules;
   counted_there = search rules;
+  steady = λ none. let neither = c.in_default.ensures.steady none in neither.1 ∙ c.loop-cells.invariant.steady neither.0;
   above = search rules;
   so_far = λ h.
       let one = rw c.loop-cells.invariant.files at (c.in_default.ensures.ok h) in
@@ -27,3 +30,9 @@ returns-then-above-clause-taken g c = λ h.
     let place = c.loop-cells.invariant.above in
     let many : 4294967295 < c.loop-cells.cells-index + 1 = omega (arith, full, place) in
     lines-end _ _ _ _ _ c.args.below.now c.loop-cells.cells-index c.cells-item.result _ _ _ c.loop-cells-test.true c.cells-item.is many (c.loop-cells.invariant.so_far h)
+
+pub returns-in-Err-clause-steady : goal.returns-in-Err-clause-steady
+returns-in-Err-clause-steady g c = λ none. let neither = c.in-Err.ensures.steady none in neither.1 ∙ c.loop-cells.invariant.steady neither.0
+
+pub returns-then-above-clause-steady : goal.returns-then-above-clause-steady
+returns-then-above-clause-steady g c = λ none. c.loop-cells.invariant.steady (none_stopped c.loop-cells.rows.items refusal.EntityTooLarge none).0

@@ -1,7 +1,8 @@
-use Rattle.std.proofs.Common.{◌≡◌, ◌≤◌, map, take, None}
+use Rattle.std.proofs.Common.{◌≡◌, ◌≤◌, false, map, take, None}
+use Rattle.std.specs.List.{list_any}
 use Rattle.csv.specs.Records.{fields_of}
 use Rattle.vault_core_model.specs.Step.{Reached}
-use Rattle.vault_files_intake.specs.TakenIn.{TakesRows}
+use Rattle.vault_files_intake.specs.TakenIn.{is_device_row, TakesRows}
 use Rattle.vault_files_intake.proofs.intake.take_rows.Given as goal
 
 -- the rows above were taken
@@ -12,6 +13,7 @@ invariant-loop-cells g l = record {
   files : g.F.Folder.files l.folder ≡ g.F.Folder.files l.fn.folder;
   counted : g.K.Keeper.count l.fn.keeper ≤ g.K.Keeper.count l.keeper;
   counted_there : g.F.Folder.count l.fn.folder ≤ g.F.Folder.count l.folder;
+  steady : list_any is_device_row l.rows.items ≡ false → g.K.Keeper.count l.keeper ≡ g.K.Keeper.count l.fn.keeper;
   above : l.above ≡ l.cells-index;
   so_far : g.K.Keeper.is_honest l.keeper → TakesRows (g.F.Folder.files l.fn.folder) l.fn.at l.fn.who l.fn.bucket l.fn.batch 0 (map fields_of (take l.cells-index l.below)) (g.K.Keeper.vault l.fn.keeper) l.rows.items None (g.K.Keeper.vault l.keeper);
 }
