@@ -39,7 +39,10 @@ fn serves_as_many_as_it_should(rt: HostRuntime) -> Result<(), Fail> {
     };
     let mut told = Vec::new(alloc);
     assert!(rt; serve(&network, alloc, &mut keeper, "a.vault", 0, 3, &mut told).is_ok());
-    assert_eq!(rt; told.as_slice(), b"serving a.vault at 127.0.0.1:0\n");
+    assert_eq!(rt;
+        told.as_slice(),
+        b"serving a.vault at 127.0.0.1:0\n".as_slice()
+    );
     let mut clients = network.clients.replace(Vec::new(alloc));
     if let Some(unserved) = clients.pop() {
         assert!(rt; io::read_to_string(alloc, unserved).is_err());
