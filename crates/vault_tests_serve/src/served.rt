@@ -100,6 +100,20 @@ fn a_listener_that_fails(rt: HostRuntime) -> Result<(), Fail> {
     answered(alloc, clients, &[STORED, GOT])
 }
 
+/// Where no clock tells how long one waits nothing is served, and nothing carried out.
+#[test]
+fn a_clock_that_tells_no_time(rt: HostRuntime) -> Result<(), Fail> {
+    let alloc = rt.alloc();
+    let mut keeper = opened(alloc)?;
+    let listener = TcpListener::bind(&rt, (Ipv4Addr::LOCALHOST, 0))?;
+    let unserved = send(&rt, listener.local_addr()?, PUT)?;
+    serve_connections(&StoppedClock, alloc, &listener, &mut keeper, 1);
+    drop(unserved);
+    let clients = vec![in alloc; send(&rt, listener.local_addr()?, PUT)?]?;
+    serve_connections(&StandingClock, alloc, &listener, &mut keeper, 1);
+    answered(alloc, clients, &[STORED])
+}
+
 /// A port that another listener has can't be had, and nothing is told.
 #[test]
 fn a_port_that_is_taken(rt: HostRuntime) -> Result<(), Fail> {
