@@ -173,9 +173,10 @@ fn a_flood_behind_an_answer(rt: HostRuntime) -> Result<(), Fail> {
         passed: Cell::new(Duration::ZERO),
     };
     let taken = Cell::new(Vec::new(alloc));
+    let flood = [part(0, "x", u32::MAX)];
     let peer = SlowPeer {
         clock: &clock,
-        parts: Cell::new(&[part(0, "x", u32::MAX)]),
+        parts: Cell::new(&flood),
         came: Cell::new(0),
         pace: NO_TIME,
         taken: &taken,

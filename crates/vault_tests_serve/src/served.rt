@@ -39,7 +39,10 @@ fn serves_as_many_as_it_should(rt: HostRuntime) -> Result<(), Fail> {
     };
     let mut told = Vec::new(alloc);
     assert!(rt; serve(&network, alloc, &mut keeper, "a.vault", 0, 3, &mut told).is_ok());
-    assert_eq!(rt; told.as_slice(), b"serving a.vault at 127.0.0.1:0\n");
+    assert_eq!(rt;
+        told.as_slice(),
+        b"serving a.vault at 127.0.0.1:0\n".as_slice()
+    );
     let mut clients = network.clients.replace(Vec::new(alloc));
     if let Some(unserved) = clients.pop() {
         assert!(rt; io::read_to_string(alloc, unserved).is_err());
@@ -95,6 +98,20 @@ fn a_listener_that_fails(rt: HostRuntime) -> Result<(), Fail> {
     serve_connections(&clock, alloc, &failing, &mut keeper, 4);
     assert_eq!(rt; failing.failures.get(), 0);
     answered(alloc, clients, &[STORED, GOT])
+}
+
+/// Where no clock tells how long one waits nothing is served, and nothing carried out.
+#[test]
+fn a_clock_that_tells_no_time(rt: HostRuntime) -> Result<(), Fail> {
+    let alloc = rt.alloc();
+    let mut keeper = opened(alloc)?;
+    let listener = TcpListener::bind(&rt, (Ipv4Addr::LOCALHOST, 0))?;
+    let unserved = send(&rt, listener.local_addr()?, PUT)?;
+    serve_connections(&StoppedClock, alloc, &listener, &mut keeper, 1);
+    drop(unserved);
+    let clients = vec![in alloc; send(&rt, listener.local_addr()?, PUT)?]?;
+    serve_connections(&StandingClock, alloc, &listener, &mut keeper, 1);
+    answered(alloc, clients, &[STORED])
 }
 
 /// A port that another listener has can't be had, and nothing is told.
