@@ -1,9 +1,7 @@
 use Rattle.std.proofs.Common.{subst}
 use Rattle.std.proofs.lemmas.Result.{on_ok_weaker}
-use Rattle.vault_core_model.specs.Halts.{Rose}
-use Rattle.vault_core_model.specs.Vault.{Vault, opening}
+use Rattle.vault_core_model.specs.Vault.{Vault}
 use Rattle.vaultctl_replay.specs.Runs.{AnswersAll}
-use Rattle.vaultctl_replay.proofs.RunLemmas.{none_failed}
 use Rattle.vaultctl_perform.proofs.replay.answer_all.Goals as goal
 
 pub returns : goal.returns
@@ -13,6 +11,6 @@ returns g c =
     let last = c.replay.new.keeper in
     on_ok_weaker c.replay.result
     (λ s.
-    let P : Vault → Type 0 = λ v. AnswersAll (Rose 0 0) v before s.0 last after in
-    (s.0, s.1, s.2, (last, none_failed opening last before after s.0 (subst P c.in-Ok.ensures s.3))))
-    (c.replay.ensures.ok tt)
+    let P : Vault → Type 0 = λ v. AnswersAll (Unit {0}) v 0 before s.0 last 0 after in
+    (s.0, s.1, s.2, (last, subst P c.in-Ok.ensures s.3)))
+    c.replay.ensures.ok
