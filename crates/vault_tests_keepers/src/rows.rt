@@ -162,9 +162,10 @@ impl StoreTrial for Reopened {
         conn: Connection<S>,
     ) -> (Result<(), Fail>, Connection<S>) {
         let answered = OnNewVault { trial: &Requests };
-        match answered.carry_out_in(alloc, conn) {
-            (Ok(()), conn) => take_all(alloc, conn, &REOPENED),
-            failed => failed,
+        let (tried, conn) = answered.carry_out_in(alloc, conn);
+        match tried {
+            Ok(()) => take_all(alloc, conn, &REOPENED),
+            Err(fail) => (Err(fail), conn),
         }
     }
 }
