@@ -4,14 +4,10 @@ use crate::steps::{Step, Steps};
 use std::test::Fail;
 use vault_base::refusal::Refusal;
 
-const HAS_META: Step<'static> = Step::Number(
-    "SELECT count(*) FROM meta WHERE one = 1 AND schema = 2 AND last = 0 AND next = 1",
-    Some(1),
-);
-
-const HAS_REGISTRAR: Step<'static> = Step::Number(
-    "SELECT count(*) FROM callers WHERE name = 'registrar' AND dept IS NULL AND rights = 1 AND closed = 0",
-    Some(1),
+/// Each of both counts is one at most, as its rows have a key among these values.
+const HAS_FIRST_ROWS: Step<'static> = Step::Number(
+    "SELECT (SELECT count(*) FROM meta WHERE one = 1 AND schema = 2 AND last = 0 AND next = 1) + (SELECT count(*) FROM callers WHERE name = 'registrar' AND dept IS NULL AND rights = 1 AND closed = 0)",
+    Some(2),
 );
 
 const HAS_TWO_ROWS: Step<'static> = Step::Number(
@@ -23,8 +19,7 @@ const HAS_TWO_ROWS: Step<'static> = Step::Number(
 fn a_new_vault_has_two_rows(rt: HostRuntime) -> Result<(), Fail> {
     let steps = &[
         Step::Fill(None),
-        HAS_META,
-        HAS_REGISTRAR,
+        HAS_FIRST_ROWS,
         HAS_TWO_ROWS,
         Step::Number(
             "SELECT (SELECT count(*) FROM departments) + (SELECT count(*) FROM buckets) + (SELECT count(*) FROM rules) + (SELECT count(*) FROM intake)",
@@ -43,8 +38,7 @@ fn a_vault_is_not_made_twice(rt: HostRuntime) -> Result<(), Fail> {
     let steps = &[
         Step::Fill(None),
         Step::Fill(Some(Refusal::NameTaken)),
-        HAS_META,
-        HAS_REGISTRAR,
+        HAS_FIRST_ROWS,
         HAS_TWO_ROWS,
     ];
     try_in_files(rt.alloc(), &Steps { steps })
@@ -78,8 +72,7 @@ fn a_begun_transaction_is_left_as_it_was(rt: HostRuntime) -> Result<(), Fail> {
 fn a_new_vault_stands_in_its_file(rt: HostRuntime) -> Result<(), Fail> {
     let made = &[Step::Fill(None)];
     let found = &[
-        HAS_META,
-        HAS_REGISTRAR,
+        HAS_FIRST_ROWS,
         HAS_TWO_ROWS,
         Step::Fill(Some(Refusal::NameTaken)),
     ];
