@@ -5,11 +5,11 @@
 #[cfg(test)]
 mod commands;
 #[cfg(test)]
+mod connections;
+#[cfg(test)]
 mod create;
 #[cfg(test)]
 mod exchange;
-#[cfg(test)]
-mod files;
 #[cfg(test)]
 mod intake;
 #[cfg(test)]
@@ -20,5 +20,7 @@ mod over_keepers;
 mod rows;
 #[cfg(test)]
 mod rows_texts;
+#[cfg(test)]
+mod steps;
 #[cfg(test)]
 mod stopped;

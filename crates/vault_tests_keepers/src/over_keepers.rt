@@ -1,4 +1,5 @@
 //! What is tried on a new vault over each kind of keeper: tables in memory, and the list.
+use crate::connections::{StoreTrial, try_in_memory};
 use crate::rows_texts::OPENING;
 use sqlite::{Alter, Connection};
 use std::alloc::Global;
@@ -26,27 +27,27 @@ fn carry_out_unfailing<K: Keeper, T: Trial>(
     failed_so_often(keeper, 0)
 }
 
-/// Carries a trial out on a new vault in these tables, whose device may not fail; and the connection.
-pub fn try_in<S: Alter, T: Trial>(
-    alloc: Global,
-    conn: Connection<S>,
-    trial: &T,
-) -> (Result<(), Fail>, Connection<S>) {
-    match SqlKeeper::create(alloc, conn) {
-        Ok(keeper) => {
-            let mut keeper = keeper;
-            let tried = carry_out_unfailing(alloc, &mut keeper, trial);
-            (tried, keeper.into_connection())
-        }
-        Err((_, conn)) => (Err(Fail::new("a vault can't be made")), conn),
-    }
+/// A trial on a new vault in the tables, whose device may not fail.
+#[derive(Drop)]
+pub struct OnNewVault<'a, T> {
+    pub trial: &'a T,
 }
 
-/// Carries a trial out on a new vault in tables in memory, whose device may not fail.
-pub fn try_in_memory<T: Trial>(alloc: Global, trial: &T) -> Result<(), Fail> {
-    let (tried, conn) = try_in(alloc, Connection::open_in_memory(alloc)?, trial);
-    drop(conn);
-    tried
+impl<T: Trial> StoreTrial for OnNewVault<'_, T> {
+    fn carry_out_in<S: Alter>(
+        &self,
+        alloc: Global,
+        conn: Connection<S>,
+    ) -> (Result<(), Fail>, Connection<S>) {
+        match SqlKeeper::create(alloc, conn) {
+            Ok(keeper) => {
+                let mut keeper = keeper;
+                let tried = carry_out_unfailing(alloc, &mut keeper, self.trial);
+                (tried, keeper.into_connection())
+            }
+            Err((_, conn)) => (Err(Fail::new("a vault can't be made")), conn),
+        }
+    }
 }
 
 /// A run over a device that refuses the change behind so many.
@@ -108,24 +109,20 @@ fn stop_and_look<K: Keeper>(
     }
 }
 
-fn stop_in<S: Alter>(
-    alloc: Global,
-    conn: Connection<S>,
-    stopped: &Stopped<'_>,
-) -> (Result<(), Fail>, Connection<S>) {
-    match SqlKeeper::create(alloc, conn) {
-        Ok(keeper) => {
-            let (told, keeper) = stop_and_look(alloc, keeper, stopped);
-            (told, keeper.into_connection())
+impl StoreTrial for Stopped<'_> {
+    fn carry_out_in<S: Alter>(
+        &self,
+        alloc: Global,
+        conn: Connection<S>,
+    ) -> (Result<(), Fail>, Connection<S>) {
+        match SqlKeeper::create(alloc, conn) {
+            Ok(keeper) => {
+                let (told, keeper) = stop_and_look(alloc, keeper, self);
+                (told, keeper.into_connection())
+            }
+            Err((_, conn)) => (Err(Fail::new("a vault can't be made")), conn),
         }
-        Err((_, conn)) => (Err(Fail::new("a vault can't be made")), conn),
     }
-}
-
-fn stop_in_memory(alloc: Global, stopped: &Stopped<'_>) -> Result<(), Fail> {
-    let (told, conn) = stop_in(alloc, Connection::open_in_memory(alloc)?, stopped);
-    drop(conn);
-    told
 }
 
 fn stop_in_list(alloc: Global, stopped: &Stopped<'_>) -> Result<(), Fail> {
@@ -134,8 +131,11 @@ fn stop_in_list(alloc: Global, stopped: &Stopped<'_>) -> Result<(), Fail> {
     told
 }
 
-/// Carries it out on a new vault in a list, and on one in tables in memory.
-pub fn stop_over_both(alloc: Global, stopped: &Stopped<'_>) -> Result<(), Fail> {
-    stop_in_list(alloc, stopped)?;
-    stop_in_memory(alloc, stopped)
+/// Carries each out on a new vault in a list, and on one in tables in memory.
+pub fn stop_over_both(alloc: Global, all: &[Stopped<'_>]) -> Result<(), Fail> {
+    for stopped in all {
+        stop_in_list(alloc, stopped)?;
+        try_in_memory(alloc, stopped)?;
+    }
+    Ok(())
 }

@@ -1,23 +1,21 @@
 //! Rows over tables in memory, whose device doesn't fail: scripts, an intake and requests.
+use crate::connections::{StoreTrial, try_in_memory};
 use crate::exchange::answer;
 use crate::intake::take_in_twice;
-use crate::over_keepers::{try_in, try_in_memory};
-use crate::rows_texts::{
-    CHARGE_ACROSS_MIDNIGHT, CHARGE_WITHIN_A_DAY, COMPLIANCE_EXTENDED, DEFAULT_OF_YEARS,
-    HOLD_LIFTED_BEFORE_BYPASS, INTAKE_ONCE, MARKER_ABOVE_COMPLIANCE, OPENING,
-    REPORT_OF_NEW_DEPARTMENT, RETENTION_COMPLIANCE_ENDS, RETENTION_GOVERNANCE_ENDS,
-    RUN_DAYS_FROM_MIDNIGHT, RUN_DAYS_TO_MIDNIGHT, RUN_LONE_MARKER_AFTER_DAYS,
-    RUN_LONE_MARKER_AT_ONCE, RUN_MARK_COUNTS_AT_ONCE, RUN_MARKER_ABOVE_HOLD,
-    RUN_NEWEST_NONCURRENT_STAY, VERSION_EMPTY,
-};
-use sqlite::{Alter, Connection, Error};
+use crate::over_keepers::OnNewVault;
+use crate::rows_texts::{LOCKS, OPENING, RUNS, SUMS};
+use crate::steps::{Step, take_all};
+use sqlite::{Alter, Connection};
 use std::alloc::Global;
 use std::test::Fail;
 use vault_base::refusal::{Refusal, Table};
 use vault_core_model::keeper::Keeper;
-use vault_store::sql_keeper::SqlKeeper;
 use vault_transcript::transcript::{play, replies};
 use vault_transcript::trial::{Trial, compare};
+
+fn holds<T: Trial>(alloc: Global, trial: &T) -> Result<(), Fail> {
+    try_in_memory(alloc, &OnNewVault { trial })
+}
 
 /// A row, behind the opening lines.
 #[derive(Clone, Copy)]
@@ -32,8 +30,27 @@ impl Trial for Row<'_> {
     }
 }
 
-fn holds(alloc: Global, text: &str) -> Result<(), Fail> {
-    try_in_memory(alloc, &Row { text })
+/// Each row holds on a vault of its own.
+fn all_hold(alloc: Global, texts: &[&str]) -> Result<(), Fail> {
+    for text in texts {
+        holds(alloc, &Row { text })?;
+    }
+    Ok(())
+}
+
+#[test]
+fn locks_hold_until_they_end(rt: HostRuntime) -> Result<(), Fail> {
+    all_hold(rt.alloc(), &LOCKS)
+}
+
+#[test]
+fn runs_make_the_changes_that_are_due(rt: HostRuntime) -> Result<(), Fail> {
+    all_hold(rt.alloc(), &RUNS)
+}
+
+#[test]
+fn what_comes_in_is_counted(rt: HostRuntime) -> Result<(), Fail> {
+    all_hold(rt.alloc(), &SUMS)
 }
 
 /// An empty script, over a vault without the opening lines.
@@ -48,17 +65,7 @@ impl Trial for NoInput {
 
 #[test]
 fn no_input_gets_no_output(rt: HostRuntime) -> Result<(), Fail> {
-    try_in_memory(rt.alloc(), &NoInput)
-}
-
-#[test]
-fn a_new_department_has_nothing(rt: HostRuntime) -> Result<(), Fail> {
-    holds(rt.alloc(), REPORT_OF_NEW_DEPARTMENT)
-}
-
-#[test]
-fn an_empty_version_is_a_version(rt: HostRuntime) -> Result<(), Fail> {
-    holds(rt.alloc(), VERSION_EMPTY)
+    holds(rt.alloc(), &NoInput)
 }
 
 /// Ann puts so many bytes, and the reply.
@@ -88,75 +95,7 @@ impl Trial for Contents {
 
 #[test]
 fn a_version_has_up_to_1048576_bytes(rt: HostRuntime) -> Result<(), Fail> {
-    try_in_memory(rt.alloc(), &Contents)
-}
-
-#[test]
-fn compliance_ends_in_its_last_second(rt: HostRuntime) -> Result<(), Fail> {
-    holds(rt.alloc(), RETENTION_COMPLIANCE_ENDS)
-}
-
-#[test]
-fn governance_is_bypassed_or_ends(rt: HostRuntime) -> Result<(), Fail> {
-    holds(rt.alloc(), RETENTION_GOVERNANCE_ENDS)
-}
-
-#[test]
-fn a_hold_is_lifted_before_a_bypass(rt: HostRuntime) -> Result<(), Fail> {
-    holds(rt.alloc(), HOLD_LIFTED_BEFORE_BYPASS)
-}
-
-#[test]
-fn compliance_is_extended_and_never_shortened(rt: HostRuntime) -> Result<(), Fail> {
-    holds(rt.alloc(), COMPLIANCE_EXTENDED)
-}
-
-#[test]
-fn a_marker_hides_compliance(rt: HostRuntime) -> Result<(), Fail> {
-    holds(rt.alloc(), MARKER_ABOVE_COMPLIANCE)
-}
-
-#[test]
-fn a_default_of_years_ends_by_the_calendar(rt: HostRuntime) -> Result<(), Fail> {
-    holds(rt.alloc(), DEFAULT_OF_YEARS)
-}
-
-#[test]
-fn days_end_at_a_midnight(rt: HostRuntime) -> Result<(), Fail> {
-    holds(rt.alloc(), RUN_DAYS_TO_MIDNIGHT)?;
-    holds(rt.alloc(), RUN_DAYS_FROM_MIDNIGHT)
-}
-
-#[test]
-fn the_newest_noncurrent_versions_stay(rt: HostRuntime) -> Result<(), Fail> {
-    holds(rt.alloc(), RUN_NEWEST_NONCURRENT_STAY)
-}
-
-#[test]
-fn a_mark_counts_in_the_same_run(rt: HostRuntime) -> Result<(), Fail> {
-    holds(rt.alloc(), RUN_MARK_COUNTS_AT_ONCE)
-}
-
-#[test]
-fn a_lone_marker_goes(rt: HostRuntime) -> Result<(), Fail> {
-    holds(rt.alloc(), RUN_LONE_MARKER_AT_ONCE)?;
-    holds(rt.alloc(), RUN_LONE_MARKER_AFTER_DAYS)
-}
-
-#[test]
-fn a_marker_above_a_hold_stays(rt: HostRuntime) -> Result<(), Fail> {
-    holds(rt.alloc(), RUN_MARKER_ABOVE_HOLD)
-}
-
-#[test]
-fn days_are_counted_at_midnight(rt: HostRuntime) -> Result<(), Fail> {
-    holds(rt.alloc(), CHARGE_ACROSS_MIDNIGHT)?;
-    holds(rt.alloc(), CHARGE_WITHIN_A_DAY)
-}
-
-#[test]
-fn intake_lines_are_taken_in_once(rt: HostRuntime) -> Result<(), Fail> {
-    holds(rt.alloc(), INTAKE_ONCE)
+    holds(rt.alloc(), &Contents)
 }
 
 /// A list that is taken in behind two versions, again, and again with other bytes in its first file.
@@ -171,7 +110,7 @@ impl Trial for Intake {
 
 #[test]
 fn a_list_is_taken_in_once(rt: HostRuntime) -> Result<(), Fail> {
-    try_in_memory(rt.alloc(), &Intake)
+    holds(rt.alloc(), &Intake)
 }
 
 /// Requests and their answers; `|` stands for CR LF.
@@ -207,45 +146,31 @@ impl Trial for Requests {
     }
 }
 
-/// What the vault in these tables is refused for, if it is; and the connection.
-fn open<S: Alter>(alloc: Global, conn: Connection<S>) -> (Option<Refusal>, Connection<S>) {
-    match SqlKeeper::open(alloc, conn) {
-        Ok(keeper) => (None, keeper.into_connection()),
-        Err((refusal, conn)) => (Some(refusal), conn),
+/// A vault that is opened behind them; and again, with one byte more in the department's row.
+struct Reopened;
+
+const REOPENED: [Step<'static>; 3] = [
+    Step::Open(None),
+    Step::Change("UPDATE departments SET held = held + 1 WHERE name = 'records'"),
+    Step::Open(Some(Refusal::Damaged(Table::Departments))),
+];
+
+impl StoreTrial for Reopened {
+    fn carry_out_in<S: Alter>(
+        &self,
+        alloc: Global,
+        conn: Connection<S>,
+    ) -> (Result<(), Fail>, Connection<S>) {
+        let answered = OnNewVault { trial: &Requests };
+        let (tried, conn) = answered.carry_out_in(alloc, conn);
+        match tried {
+            Ok(()) => take_all(alloc, conn, &REOPENED),
+            Err(fail) => (Err(fail), conn),
+        }
     }
 }
 
-fn raise_held<S: Alter>(conn: &mut Connection<S>) -> Result<(), Error> {
-    conn.execute_batch("UPDATE departments SET held = held + 1 WHERE name = 'records'")
-}
-
-/// The refusal of the vault that the requests leave, and that of the same where `records` holds a byte more.
-fn refusals_behind<S: Alter>(
-    alloc: Global,
-    conn: Connection<S>,
-) -> (
-    Result<(Option<Refusal>, Option<Refusal>), Fail>,
-    Connection<S>,
-) {
-    let (tried, conn) = try_in(alloc, conn, &Requests);
-    let (first, conn) = open(alloc, conn);
-    let mut conn = conn;
-    let raised = raise_held(&mut conn);
-    let (second, conn) = open(alloc, conn);
-    match (tried, raised) {
-        (Ok(()), Ok(())) => (Ok((first, second)), conn),
-        (Err(fail), _) => (Err(fail), conn),
-        (_, Err(_)) => (Err(Fail::new("the row can't be changed")), conn),
-    }
-}
-
-/// The vault behind them is opened again; with one byte more in the department's row it is damaged.
 #[test]
 fn requests_are_answered(rt: HostRuntime) -> Result<(), Fail> {
-    let (refusals, conn) = refusals_behind(rt.alloc(), Connection::open_in_memory(rt.alloc())?);
-    drop(conn);
-    let (first, second) = refusals?;
-    assert!(rt; first.is_none());
-    assert!(rt; second == Some(Refusal::Damaged(Table::Departments)));
-    Ok(())
+    try_in_memory(rt.alloc(), &Reopened)
 }

@@ -14,36 +14,18 @@ pub const OPENING: &str = r#"
   {"ok":{}}
 "#;
 
-pub const REPORT_OF_NEW_DEPARTMENT: &str = r#"
-{"at":"2014-01-01T00:00:00Z","as":"ann","do":"report","dept":"records"}
-  {"ok":{"admitted":0,"at":"2014-01-01T00:00:00Z","byte_days":0,"dept":"records","held":0,"removed":0}}
-{"at":"2014-01-01T00:00:00Z","as":"registrar","do":"report","dept":"records"}
-  {"ok":{"admitted":0,"at":"2014-01-01T00:00:00Z","byte_days":0,"dept":"records","held":0,"removed":0}}
-"#;
-
-pub const VERSION_EMPTY: &str = r#"
-{"at":"2024-01-15T10:30:00Z","as":"ann","do":"put","bucket":"docs","key":"z","hex":""}
-  {"ok":{"version_id":1}}
-{"at":"2024-01-15T10:30:00Z","as":"ann","do":"get","bucket":"docs","key":"z"}
-  {"ok":{"admitted":"2024-01-15T10:30:00Z","hex":"","hold":"OFF","retention":null,"sha256":"e3b0c44298fc1c149afbf4c8996fb92427ae41e4649b934ca495991b7852b855","size":0,"version_id":1}}
-{"at":"2024-01-15T10:30:01Z","as":"ann","do":"delete-version","bucket":"docs","key":"z","id":1}
-  {"ok":{"cause":"request","delete_marker":false,"version_id":1}}
-{"at":"2024-01-15T10:30:01Z","as":"ann","do":"get","bucket":"docs","key":"z"}
-  {"error":{"code":"NoSuchKey","marker":false,"n":5}}
-{"at":"2024-01-15T10:30:01Z","as":"ann","do":"certificate","bucket":"docs","id":1}
-  {"ok":{"text":"CERTIFICATE OF DESTRUCTION\nversion: 1\nbucket: docs\nkey: z\nsize: 0\nsha256: e3b0c44298fc1c149afbf4c8996fb92427ae41e4649b934ca495991b7852b855\nadmitted: 2024-01-15T10:30:00Z by ann\nremoved: 2024-01-15T10:30:01Z\ncause: request ann\ndays held: 0\nseal: a31ccdb8095053f4a19140f7e9f885829d5eaa29450745aa5172de959295f0b9\n"}}
-"#;
-
-pub const RETENTION_COMPLIANCE_ENDS: &str = r#"
+pub const LOCKS: [&str; 6] = [
+    // retention-compliance-ends
+    r#"
 {"at":"2024-01-15T10:30:00Z","as":"ann","do":"put","bucket":"docs","key":"a","text":"x","mode":"COMPLIANCE","until":"2030-01-01T00:00:00Z"}
   {"ok":{"version_id":1}}
 {"at":"2029-12-31T23:59:59Z","as":"ann","do":"delete-version","bucket":"docs","key":"a","id":1}
   {"error":{"code":"AccessDenied","n":3,"reason":"retention-compliance"}}
 {"at":"2030-01-01T00:00:00Z","as":"ann","do":"delete-version","bucket":"docs","key":"a","id":1}
   {"ok":{"cause":"request","delete_marker":false,"version_id":1}}
-"#;
-
-pub const RETENTION_GOVERNANCE_ENDS: &str = r#"
+"#,
+    // retention-governance-ends
+    r#"
 {"at":"2024-01-15T10:30:00Z","as":"ann","do":"put","bucket":"docs","key":"a","text":"x","mode":"GOVERNANCE","until":"2030-01-01T00:00:00Z"}
   {"ok":{"version_id":1}}
 {"at":"2024-01-15T10:30:00Z","as":"ann","do":"put","bucket":"docs","key":"b","text":"x","mode":"GOVERNANCE","until":"2030-01-01T00:00:00Z"}
@@ -56,9 +38,9 @@ pub const RETENTION_GOVERNANCE_ENDS: &str = r#"
   {"ok":{"cause":"bypass","delete_marker":false,"version_id":1}}
 {"at":"2030-01-01T00:00:00Z","as":"gov","do":"delete-version","bucket":"docs","key":"b","id":2,"bypass":true}
   {"ok":{"cause":"request","delete_marker":false,"version_id":2}}
-"#;
-
-pub const HOLD_LIFTED_BEFORE_BYPASS: &str = r#"
+"#,
+    // hold-lifted-before-bypass
+    r#"
 {"at":"2024-01-15T10:30:00Z","as":"ann","do":"put","bucket":"docs","key":"a","text":"x","mode":"GOVERNANCE","until":"2030-01-01T00:00:00Z","hold":"ON"}
   {"ok":{"version_id":1}}
 {"at":"2024-01-16T00:00:00Z","as":"gov","do":"delete-version","bucket":"docs","key":"a","id":1,"bypass":true}
@@ -67,9 +49,9 @@ pub const HOLD_LIFTED_BEFORE_BYPASS: &str = r#"
   {"ok":{}}
 {"at":"2024-01-16T00:00:00Z","as":"gov","do":"delete-version","bucket":"docs","key":"a","id":1,"bypass":true}
   {"ok":{"cause":"bypass","delete_marker":false,"version_id":1}}
-"#;
-
-pub const COMPLIANCE_EXTENDED: &str = r#"
+"#,
+    // compliance-extended
+    r#"
 {"at":"2024-01-15T10:30:00Z","as":"ann","do":"put","bucket":"docs","key":"a","text":"x","mode":"COMPLIANCE","until":"2030-01-01T00:00:00Z"}
   {"ok":{"version_id":1}}
 {"at":"2024-01-16T00:00:00Z","as":"ann","do":"set-retention","bucket":"docs","key":"a","mode":"COMPLIANCE","until":"2030-01-01T00:00:01Z"}
@@ -88,9 +70,9 @@ pub const COMPLIANCE_EXTENDED: &str = r#"
   {"error":{"code":"AccessDenied","n":3,"reason":"retention-compliance"}}
 {"at":"2030-01-01T00:00:01Z","as":"ann","do":"delete-version","bucket":"docs","key":"a","id":1}
   {"ok":{"cause":"request","delete_marker":false,"version_id":1}}
-"#;
-
-pub const MARKER_ABOVE_COMPLIANCE: &str = r#"
+"#,
+    // marker-above-compliance
+    r#"
 {"at":"2024-01-15T10:30:00Z","as":"ann","do":"put","bucket":"docs","key":"a","text":"hello","mode":"COMPLIANCE","until":"2030-01-01T00:00:00Z"}
   {"ok":{"version_id":1}}
 {"at":"2024-01-16T00:00:00Z","as":"ann","do":"delete","bucket":"docs","key":"a"}
@@ -103,9 +85,9 @@ pub const MARKER_ABOVE_COMPLIANCE: &str = r#"
   {"ok":{"cause":"request","delete_marker":true,"version_id":2}}
 {"at":"2024-01-16T00:00:00Z","as":"ann","do":"get","bucket":"docs","key":"a"}
   {"ok":{"admitted":"2024-01-15T10:30:00Z","hex":"68656c6c6f","hold":"OFF","retention":{"mode":"COMPLIANCE","until":"2030-01-01T00:00:00Z"},"sha256":"2cf24dba5fb0a30e26e83b2ac5b9e29e1b161e5c1fa7425e73043362938b9824","size":5,"version_id":1}}
-"#;
-
-pub const DEFAULT_OF_YEARS: &str = r#"
+"#,
+    // default-of-years
+    r#"
 {"at":"2024-02-29T11:00:00Z","as":"ann","do":"put","bucket":"docs","key":"o","text":"x"}
   {"ok":{"version_id":1}}
 {"at":"2024-02-29T12:00:00Z","as":"ann","do":"set-default","bucket":"docs","mode":"GOVERNANCE","years":1}
@@ -128,9 +110,12 @@ pub const DEFAULT_OF_YEARS: &str = r#"
   {"error":{"code":"RetentionOutOfRange","n":11}}
 {"at":"2024-02-29T12:00:00Z","as":"ann","do":"report","dept":"records"}
   {"ok":{"admitted":3,"at":"2024-02-29T12:00:00Z","byte_days":0,"dept":"records","held":3,"removed":0}}
-"#;
+"#,
+];
 
-pub const RUN_DAYS_TO_MIDNIGHT: &str = r#"
+pub const RUNS: [&str; 7] = [
+    // run-days-to-midnight
+    r#"
 {"at":"2014-01-01T00:00:00Z","as":"ann","do":"set-rules","bucket":"docs","rules":[{"ID":"r1","Status":"Enabled","Expiration":{"Days":3}}]}
   {"ok":{}}
 {"at":"2014-01-15T10:30:00Z","as":"ann","do":"put","bucket":"docs","key":"k","text":"x"}
@@ -139,9 +124,9 @@ pub const RUN_DAYS_TO_MIDNIGHT: &str = r#"
   {"ok":{"changes":0,"lone":0,"marked":0,"removed":0}}
 {"at":"2014-01-19T00:00:00Z","as":"ann","do":"run","bucket":"docs"}
   {"ok":{"changes":1,"lone":0,"marked":1,"removed":0}}
-"#;
-
-pub const RUN_DAYS_FROM_MIDNIGHT: &str = r#"
+"#,
+    // run-days-from-midnight
+    r#"
 {"at":"2014-01-01T00:00:00Z","as":"ann","do":"set-rules","bucket":"docs","rules":[{"ID":"r1","Status":"Enabled","Expiration":{"Days":3}}]}
   {"ok":{}}
 {"at":"2014-01-15T00:00:00Z","as":"ann","do":"put","bucket":"docs","key":"k","text":"x"}
@@ -150,9 +135,9 @@ pub const RUN_DAYS_FROM_MIDNIGHT: &str = r#"
   {"ok":{"changes":0,"lone":0,"marked":0,"removed":0}}
 {"at":"2014-01-18T00:00:00Z","as":"ann","do":"run","bucket":"docs"}
   {"ok":{"changes":1,"lone":0,"marked":1,"removed":0}}
-"#;
-
-pub const RUN_NEWEST_NONCURRENT_STAY: &str = r#"
+"#,
+    // run-newest-noncurrent-stay
+    r#"
 {"at":"2014-01-01T00:00:00Z","as":"ann","do":"set-rules","bucket":"docs","rules":[{"ID":"r1","Status":"Enabled","NoncurrentVersionExpiration":{"NoncurrentDays":1,"NewerNoncurrentVersions":2}}]}
   {"ok":{}}
 {"at":"2024-03-01T08:00:00Z","as":"ann","do":"put","bucket":"docs","key":"k","text":"x","hold":"ON"}
@@ -175,9 +160,9 @@ pub const RUN_NEWEST_NONCURRENT_STAY: &str = r#"
   {"ok":{"entries":[{"admitted":"2024-03-01T12:00:00Z","current":true,"delete_marker":false,"key":"k","size":1,"version_id":5},{"admitted":"2024-03-01T11:00:00Z","current":false,"delete_marker":false,"key":"k","size":1,"version_id":4},{"admitted":"2024-03-01T10:00:00Z","current":false,"delete_marker":false,"key":"k","size":1,"version_id":3},{"admitted":"2024-03-01T08:00:00Z","current":false,"delete_marker":false,"key":"k","size":1,"version_id":1}],"more":false}}
 {"at":"2024-03-03T00:00:00Z","as":"ann","do":"certificate","bucket":"docs","id":2}
   {"ok":{"text":"CERTIFICATE OF DESTRUCTION\nversion: 2\nbucket: docs\nkey: k\nsize: 1\nsha256: 2d711642b726b04401627ca9fbac32f5c8530fb1903cc4db02258717921a4881\nadmitted: 2024-03-01T09:00:00Z by ann\nremoved: 2024-03-03T00:00:00Z\ncause: rule r1\ndays held: 2\nseal: fa2f4075b8c9f634307a57f5d76d4a7d1fd4cf159ecf8a682947ad62c0c71547\n"}}
-"#;
-
-pub const RUN_MARK_COUNTS_AT_ONCE: &str = r#"
+"#,
+    // run-mark-counts-at-once
+    r#"
 {"at":"2014-01-01T00:00:00Z","as":"ann","do":"set-rules","bucket":"docs","rules":[{"ID":"r1","Status":"Enabled","Expiration":{"Days":1},"NoncurrentVersionExpiration":{"NoncurrentDays":1,"NewerNoncurrentVersions":1}}]}
   {"ok":{}}
 {"at":"2024-03-01T08:00:00Z","as":"ann","do":"put","bucket":"docs","key":"k","text":"x"}
@@ -192,9 +177,9 @@ pub const RUN_MARK_COUNTS_AT_ONCE: &str = r#"
   {"ok":{"entries":[{"admitted":"2024-03-03T00:00:00Z","current":true,"delete_marker":true,"key":"k","size":0,"version_id":3},{"admitted":"2024-03-01T09:00:00Z","current":false,"delete_marker":false,"key":"k","size":1,"version_id":2}],"more":false}}
 {"at":"2024-03-03T00:00:00Z","as":"ann","do":"certificate","bucket":"docs","id":1}
   {"ok":{"text":"CERTIFICATE OF DESTRUCTION\nversion: 1\nbucket: docs\nkey: k\nsize: 1\nsha256: 2d711642b726b04401627ca9fbac32f5c8530fb1903cc4db02258717921a4881\nadmitted: 2024-03-01T08:00:00Z by ann\nremoved: 2024-03-03T00:00:00Z\ncause: rule r1\ndays held: 2\nseal: 1f47933c01523c83cb4cf56f7651b52a27ad997b7837ddd7988bf069e3cb1c45\n"}}
-"#;
-
-pub const RUN_LONE_MARKER_AT_ONCE: &str = r#"
+"#,
+    // run-lone-marker-at-once
+    r#"
 {"at":"2014-01-01T00:00:00Z","as":"ann","do":"set-rules","bucket":"docs","rules":[{"ID":"r1","Status":"Enabled","Expiration":{"ExpiredObjectDeleteMarker":true}}]}
   {"ok":{}}
 {"at":"2024-03-01T08:00:00Z","as":"ann","do":"put","bucket":"docs","key":"k","text":"x"}
@@ -207,9 +192,9 @@ pub const RUN_LONE_MARKER_AT_ONCE: &str = r#"
   {"ok":{"cause":"request","delete_marker":false,"version_id":1}}
 {"at":"2024-03-01T08:00:01Z","as":"ann","do":"run","bucket":"docs"}
   {"ok":{"changes":1,"lone":1,"marked":0,"removed":0}}
-"#;
-
-pub const RUN_LONE_MARKER_AFTER_DAYS: &str = r#"
+"#,
+    // run-lone-marker-after-days
+    r#"
 {"at":"2014-01-01T00:00:00Z","as":"ann","do":"set-rules","bucket":"docs","rules":[{"ID":"r1","Status":"Enabled","Expiration":{"Days":1}}]}
   {"ok":{}}
 {"at":"2024-03-01T08:00:00Z","as":"ann","do":"delete","bucket":"docs","key":"k"}
@@ -218,9 +203,9 @@ pub const RUN_LONE_MARKER_AFTER_DAYS: &str = r#"
   {"ok":{"changes":0,"lone":0,"marked":0,"removed":0}}
 {"at":"2024-03-03T00:00:00Z","as":"ann","do":"run","bucket":"docs"}
   {"ok":{"changes":1,"lone":1,"marked":0,"removed":0}}
-"#;
-
-pub const RUN_MARKER_ABOVE_HOLD: &str = r#"
+"#,
+    // run-marker-above-hold
+    r#"
 {"at":"2014-01-01T00:00:00Z","as":"ann","do":"set-rules","bucket":"docs","rules":[{"ID":"r1","Status":"Enabled","Expiration":{"ExpiredObjectDeleteMarker":true},"NoncurrentVersionExpiration":{"NoncurrentDays":1}}]}
   {"ok":{}}
 {"at":"2024-03-01T08:00:00Z","as":"ann","do":"put","bucket":"docs","key":"k","text":"x","hold":"ON"}
@@ -229,27 +214,50 @@ pub const RUN_MARKER_ABOVE_HOLD: &str = r#"
   {"ok":{"delete_marker":true,"version_id":2}}
 {"at":"2025-03-01T08:00:00Z","as":"ann","do":"run","bucket":"docs"}
   {"ok":{"changes":0,"lone":0,"marked":0,"removed":0}}
-"#;
+"#,
+];
 
-pub const CHARGE_ACROSS_MIDNIGHT: &str = r#"
+pub const SUMS: [&str; 5] = [
+    // report-of-new-department
+    r#"
+{"at":"2014-01-01T00:00:00Z","as":"ann","do":"report","dept":"records"}
+  {"ok":{"admitted":0,"at":"2014-01-01T00:00:00Z","byte_days":0,"dept":"records","held":0,"removed":0}}
+{"at":"2014-01-01T00:00:00Z","as":"registrar","do":"report","dept":"records"}
+  {"ok":{"admitted":0,"at":"2014-01-01T00:00:00Z","byte_days":0,"dept":"records","held":0,"removed":0}}
+"#,
+    // version-empty
+    r#"
+{"at":"2024-01-15T10:30:00Z","as":"ann","do":"put","bucket":"docs","key":"z","hex":""}
+  {"ok":{"version_id":1}}
+{"at":"2024-01-15T10:30:00Z","as":"ann","do":"get","bucket":"docs","key":"z"}
+  {"ok":{"admitted":"2024-01-15T10:30:00Z","hex":"","hold":"OFF","retention":null,"sha256":"e3b0c44298fc1c149afbf4c8996fb92427ae41e4649b934ca495991b7852b855","size":0,"version_id":1}}
+{"at":"2024-01-15T10:30:01Z","as":"ann","do":"delete-version","bucket":"docs","key":"z","id":1}
+  {"ok":{"cause":"request","delete_marker":false,"version_id":1}}
+{"at":"2024-01-15T10:30:01Z","as":"ann","do":"get","bucket":"docs","key":"z"}
+  {"error":{"code":"NoSuchKey","marker":false,"n":5}}
+{"at":"2024-01-15T10:30:01Z","as":"ann","do":"certificate","bucket":"docs","id":1}
+  {"ok":{"text":"CERTIFICATE OF DESTRUCTION\nversion: 1\nbucket: docs\nkey: z\nsize: 0\nsha256: e3b0c44298fc1c149afbf4c8996fb92427ae41e4649b934ca495991b7852b855\nadmitted: 2024-01-15T10:30:00Z by ann\nremoved: 2024-01-15T10:30:01Z\ncause: request ann\ndays held: 0\nseal: a31ccdb8095053f4a19140f7e9f885829d5eaa29450745aa5172de959295f0b9\n"}}
+"#,
+    // charge-across-midnight
+    r#"
 {"at":"2024-01-15T23:59:59Z","as":"ann","do":"put","bucket":"docs","key":"a","text":"0123456789012345678901234567890123456789012345678901234567890123456789012345678901234567890123456789"}
   {"ok":{"version_id":1}}
 {"at":"2024-01-16T00:00:00Z","as":"ann","do":"delete-version","bucket":"docs","key":"a","id":1}
   {"ok":{"cause":"request","delete_marker":false,"version_id":1}}
 {"at":"2024-01-16T00:00:00Z","as":"ann","do":"report","dept":"records"}
   {"ok":{"admitted":100,"at":"2024-01-16T00:00:00Z","byte_days":100,"dept":"records","held":0,"removed":100}}
-"#;
-
-pub const CHARGE_WITHIN_A_DAY: &str = r#"
+"#,
+    // charge-within-a-day
+    r#"
 {"at":"2024-01-15T00:00:00Z","as":"ann","do":"put","bucket":"docs","key":"a","text":"0123456789012345678901234567890123456789012345678901234567890123456789012345678901234567890123456789"}
   {"ok":{"version_id":1}}
 {"at":"2024-01-15T23:59:59Z","as":"ann","do":"delete-version","bucket":"docs","key":"a","id":1}
   {"ok":{"cause":"request","delete_marker":false,"version_id":1}}
 {"at":"2024-01-15T23:59:59Z","as":"ann","do":"report","dept":"records"}
   {"ok":{"admitted":100,"at":"2024-01-15T23:59:59Z","byte_days":0,"dept":"records","held":0,"removed":100}}
-"#;
-
-pub const INTAKE_ONCE: &str = r#"
+"#,
+    // intake-once
+    r#"
 {"at":"2024-01-15T10:30:00Z","as":"ann","do":"put","bucket":"docs","key":"p","text":"x"}
   {"ok":{"version_id":1}}
 {"at":"2024-01-15T10:29:59Z","as":"ann","do":"put","bucket":"docs","key":"p","text":"y"}
@@ -270,4 +278,5 @@ pub const INTAKE_ONCE: &str = r#"
   {"ok":{"again":true,"version_id":4}}
 {"at":"2024-01-15T10:30:00Z","as":"ann","do":"report","dept":"records"}
   {"ok":{"admitted":4,"at":"2024-01-15T10:30:00Z","byte_days":0,"dept":"records","held":4,"removed":0}}
-"#;
+"#,
+];

@@ -1,7 +1,6 @@
 //! Runs that a failing device stops after each change of their plan in turn, and runs given again, over the list
 //! and over tables in memory.
 use crate::over_keepers::{Stopped, stop_over_both};
-use std::alloc::Global;
 use std::test::Fail;
 
 /// A plan of two changes: a marker on top of version 2, then the removal of version 1.
@@ -14,30 +13,24 @@ const ONE_KEY: &str = r#"
   {"ok":{"version_id":2}}
 "#;
 
-/// The vault is that of a run that nothing stopped.
-#[test]
-fn a_second_change_that_is_refused_is_made_by_a_second_run(rt: HostRuntime) -> Result<(), Fail> {
-    stop_over_both(
-        rt.alloc(),
-        &Stopped {
-            before: ONE_KEY,
-            changes: 1,
-            runs: r#"
+/// The second run makes the change that the first one didn't; the vault is that of a run that nothing stopped.
+const ONE_KEY_STOPS: [Stopped<'static>; 1] = [Stopped {
+    before: ONE_KEY,
+    changes: 1,
+    runs: r#"
 {"at":"2024-03-03T00:00:00Z","as":"ann","do":"run","bucket":"docs"}
   {"stopped":{"changes":1,"fault":"Device"}}
 {"at":"2024-03-03T00:00:00Z","as":"ann","do":"run","bucket":"docs"}
   {"ok":{"changes":1,"lone":0,"marked":0,"removed":1}}
 "#,
-            after: r#"
+    after: r#"
 {"at":"2024-03-03T00:00:00Z","as":"ann","do":"run","bucket":"docs"}
   {"ok":{"changes":0,"lone":0,"marked":0,"removed":0}}
 {"at":"2024-03-03T00:00:00Z","as":"ann","do":"list-versions","bucket":"docs"}
   {"ok":{"entries":[{"admitted":"2024-03-03T00:00:00Z","current":true,"delete_marker":true,"key":"k","size":0,"version_id":3},{"admitted":"2024-03-01T09:00:00Z","current":false,"delete_marker":false,"key":"k","size":1,"version_id":2}],"more":false}}
 "#,
-            faults: 1,
-        },
-    )
-}
+    faults: 1,
+}];
 
 /// A plan of four changes: at key `a` a marker, which is entry 5, and the removal of version 1, then at key `b` a
 /// marker, which is entry 6, and the removal of version 2.
@@ -64,75 +57,60 @@ const TWO_KEYS_AFTER: &str = r#"
   {"ok":{"admitted":4,"at":"2024-03-03T00:00:00Z","byte_days":8,"dept":"records","held":2,"removed":2}}
 "#;
 
-/// Stops the run over two keys after so many changes.
-fn stop_at_two_keys(alloc: Global, changes: u64, runs: &str) -> Result<(), Fail> {
-    stop_over_both(
-        alloc,
-        &Stopped {
-            before: TWO_KEYS,
-            changes,
-            runs,
-            after: TWO_KEYS_AFTER,
-            faults: 1,
-        },
-    )
-}
-
-#[test]
-fn a_run_over_two_keys_stops_at_once(rt: HostRuntime) -> Result<(), Fail> {
-    stop_at_two_keys(
-        rt.alloc(),
-        0,
-        r#"
+const TWO_KEYS_STOPS: [Stopped<'static>; 4] = [
+    // At once.
+    Stopped {
+        before: TWO_KEYS,
+        changes: 0,
+        runs: r#"
 {"at":"2024-03-03T00:00:00Z","as":"ann","do":"run","bucket":"docs"}
   {"stopped":{"changes":0,"fault":"Device"}}
 {"at":"2024-03-03T00:00:00Z","as":"ann","do":"run","bucket":"docs"}
   {"ok":{"changes":4,"lone":0,"marked":2,"removed":2}}
 "#,
-    )
-}
-
-#[test]
-fn a_run_over_two_keys_stops_behind_its_first_mark(rt: HostRuntime) -> Result<(), Fail> {
-    stop_at_two_keys(
-        rt.alloc(),
-        1,
-        r#"
+        after: TWO_KEYS_AFTER,
+        faults: 1,
+    },
+    // Behind its first mark.
+    Stopped {
+        before: TWO_KEYS,
+        changes: 1,
+        runs: r#"
 {"at":"2024-03-03T00:00:00Z","as":"ann","do":"run","bucket":"docs"}
   {"stopped":{"changes":1,"fault":"Device"}}
 {"at":"2024-03-03T00:00:00Z","as":"ann","do":"run","bucket":"docs"}
   {"ok":{"changes":3,"lone":0,"marked":1,"removed":2}}
 "#,
-    )
-}
-
-#[test]
-fn a_run_over_two_keys_stops_between_them(rt: HostRuntime) -> Result<(), Fail> {
-    stop_at_two_keys(
-        rt.alloc(),
-        2,
-        r#"
+        after: TWO_KEYS_AFTER,
+        faults: 1,
+    },
+    // Between the keys.
+    Stopped {
+        before: TWO_KEYS,
+        changes: 2,
+        runs: r#"
 {"at":"2024-03-03T00:00:00Z","as":"ann","do":"run","bucket":"docs"}
   {"stopped":{"changes":2,"fault":"Device"}}
 {"at":"2024-03-03T00:00:00Z","as":"ann","do":"run","bucket":"docs"}
   {"ok":{"changes":2,"lone":0,"marked":1,"removed":1}}
 "#,
-    )
-}
-
-#[test]
-fn a_run_over_two_keys_stops_behind_its_second_mark(rt: HostRuntime) -> Result<(), Fail> {
-    stop_at_two_keys(
-        rt.alloc(),
-        3,
-        r#"
+        after: TWO_KEYS_AFTER,
+        faults: 1,
+    },
+    // Behind its second mark.
+    Stopped {
+        before: TWO_KEYS,
+        changes: 3,
+        runs: r#"
 {"at":"2024-03-03T00:00:00Z","as":"ann","do":"run","bucket":"docs"}
   {"stopped":{"changes":3,"fault":"Device"}}
 {"at":"2024-03-03T00:00:00Z","as":"ann","do":"run","bucket":"docs"}
   {"ok":{"changes":1,"lone":0,"marked":0,"removed":1}}
 "#,
-    )
-}
+        after: TWO_KEYS_AFTER,
+        faults: 1,
+    },
+];
 
 /// A plan with a lone marker: at key `a` a marker on top of version 3 and the removal of version 1, then at key `b`
 /// the removal of version 2 and of marker 4, which is alone by then.
@@ -166,27 +144,12 @@ const LONE_AFTER: &str = r#"
   {"ok":{"version_id":6}}
 "#;
 
-/// Stops that run after so many changes.
-fn stop_at_lone(alloc: Global, changes: u64, runs: &str, faults: u64) -> Result<(), Fail> {
-    stop_over_both(
-        alloc,
-        &Stopped {
-            before: LONE,
-            changes,
-            runs,
-            after: LONE_AFTER,
-            faults,
-        },
-    )
-}
-
-/// Nothing was made, so the clock stands still.
-#[test]
-fn a_run_that_stops_at_once_is_made_whole_by_a_second(rt: HostRuntime) -> Result<(), Fail> {
-    stop_at_lone(
-        rt.alloc(),
-        0,
-        r#"
+const LONE_STOPS: [Stopped<'static>; 5] = [
+    // At once: nothing was made, so the clock stands still.
+    Stopped {
+        before: LONE,
+        changes: 0,
+        runs: r#"
 {"at":"2024-03-03T00:00:00Z","as":"ann","do":"run","bucket":"docs"}
   {"stopped":{"changes":0,"fault":"Device"}}
 {"at":"2024-03-01T09:00:00Z","as":"ann","do":"list-versions","bucket":"docs"}
@@ -194,17 +157,14 @@ fn a_run_that_stops_at_once_is_made_whole_by_a_second(rt: HostRuntime) -> Result
 {"at":"2024-03-03T00:00:00Z","as":"ann","do":"run","bucket":"docs"}
   {"ok":{"changes":4,"lone":1,"marked":1,"removed":2}}
 "#,
-        1,
-    )
-}
-
-/// The marker stands, and what is below it is still due.
-#[test]
-fn a_run_that_stops_behind_its_mark_goes_on_there(rt: HostRuntime) -> Result<(), Fail> {
-    stop_at_lone(
-        rt.alloc(),
-        1,
-        r#"
+        after: LONE_AFTER,
+        faults: 1,
+    },
+    // Behind its mark: the marker stands, and what is below it is still due.
+    Stopped {
+        before: LONE,
+        changes: 1,
+        runs: r#"
 {"at":"2024-03-03T00:00:00Z","as":"ann","do":"run","bucket":"docs"}
   {"stopped":{"changes":1,"fault":"Device"}}
 {"at":"2024-03-03T00:00:00Z","as":"ann","do":"list-versions","bucket":"docs"}
@@ -212,17 +172,14 @@ fn a_run_that_stops_behind_its_mark_goes_on_there(rt: HostRuntime) -> Result<(),
 {"at":"2024-03-03T00:00:00Z","as":"ann","do":"run","bucket":"docs"}
   {"ok":{"changes":3,"lone":1,"marked":0,"removed":2}}
 "#,
-        1,
-    )
-}
-
-/// The first key is done, the second is as it was.
-#[test]
-fn a_run_that_stops_between_two_keys_goes_on_at_the_second(rt: HostRuntime) -> Result<(), Fail> {
-    stop_at_lone(
-        rt.alloc(),
-        2,
-        r#"
+        after: LONE_AFTER,
+        faults: 1,
+    },
+    // Between the keys: the first is done, the second is as it was.
+    Stopped {
+        before: LONE,
+        changes: 2,
+        runs: r#"
 {"at":"2024-03-03T00:00:00Z","as":"ann","do":"run","bucket":"docs"}
   {"stopped":{"changes":2,"fault":"Device"}}
 {"at":"2024-03-03T00:00:00Z","as":"ann","do":"list-versions","bucket":"docs"}
@@ -230,19 +187,14 @@ fn a_run_that_stops_between_two_keys_goes_on_at_the_second(rt: HostRuntime) -> R
 {"at":"2024-03-03T00:00:00Z","as":"ann","do":"run","bucket":"docs"}
   {"ok":{"changes":2,"lone":1,"marked":0,"removed":1}}
 "#,
-        1,
-    )
-}
-
-/// The marker is alone since the change before, and still due.
-#[test]
-fn a_run_that_stops_before_a_lone_marker_removes_it_the_next_time(
-    rt: HostRuntime,
-) -> Result<(), Fail> {
-    stop_at_lone(
-        rt.alloc(),
-        3,
-        r#"
+        after: LONE_AFTER,
+        faults: 1,
+    },
+    // Before the lone marker: it is alone since the change before, and still due.
+    Stopped {
+        before: LONE,
+        changes: 3,
+        runs: r#"
 {"at":"2024-03-03T00:00:00Z","as":"ann","do":"run","bucket":"docs"}
   {"stopped":{"changes":3,"fault":"Device"}}
 {"at":"2024-03-03T00:00:00Z","as":"ann","do":"list-versions","bucket":"docs"}
@@ -250,22 +202,35 @@ fn a_run_that_stops_before_a_lone_marker_removes_it_the_next_time(
 {"at":"2024-03-03T00:00:00Z","as":"ann","do":"run","bucket":"docs"}
   {"ok":{"changes":1,"lone":1,"marked":0,"removed":0}}
 "#,
-        1,
-    )
-}
-
-/// The device would fail at a fifth change, and a run asks for none.
-#[test]
-fn a_device_that_fails_behind_the_last_change_stops_no_run(rt: HostRuntime) -> Result<(), Fail> {
-    stop_at_lone(
-        rt.alloc(),
-        4,
-        r#"
+        after: LONE_AFTER,
+        faults: 1,
+    },
+    // Behind the last change: the device would fail at a fifth, and a run asks for none.
+    Stopped {
+        before: LONE,
+        changes: 4,
+        runs: r#"
 {"at":"2024-03-03T00:00:00Z","as":"ann","do":"run","bucket":"docs"}
   {"ok":{"changes":4,"lone":1,"marked":1,"removed":2}}
 {"at":"2024-03-03T00:00:00Z","as":"ann","do":"run","bucket":"docs"}
   {"ok":{"changes":0,"lone":0,"marked":0,"removed":0}}
 "#,
-        0,
-    )
+        after: LONE_AFTER,
+        faults: 0,
+    },
+];
+
+#[test]
+fn a_run_over_one_key_is_stopped(rt: HostRuntime) -> Result<(), Fail> {
+    stop_over_both(rt.alloc(), &ONE_KEY_STOPS)
+}
+
+#[test]
+fn a_run_over_two_keys_is_stopped(rt: HostRuntime) -> Result<(), Fail> {
+    stop_over_both(rt.alloc(), &TWO_KEYS_STOPS)
+}
+
+#[test]
+fn a_run_with_a_lone_marker_is_stopped(rt: HostRuntime) -> Result<(), Fail> {
+    stop_over_both(rt.alloc(), &LONE_STOPS)
 }
