@@ -1,12 +1,15 @@
 -- What is printed of an intake, and what came of it.
-use Rattle.std.specs.Prelude.{◌≡◌, ℕ, List, Option, if◌then◌else◌}
+use Rattle.std.specs.Prelude.{◌≡◌, ◌⊎◌, ℕ, List, Option, Some, Result, IfOk, IsTrue, false, if◌then◌else◌}
 use Rattle.std.specs.Io.KnownBytes.{Appends}
 use Rattle.vault_base.specs.declared.refusal.Refusal.{Refusal}
+use Rattle.vault_base.specs.declared.refusal.Refusal.TheVariants.{Device}
+use Rattle.vault_core_model.specs.Halts.{Rose}
 use Rattle.vault_core_model.specs.Vault.{Vault}
-use Rattle.vault_files_intake.specs.TakenIn.{TakesIn}
+use Rattle.vault_files_intake.specs.TakenIn.{report_tells_device, TakesIn}
 use Rattle.vault_files_intake.specs.declared.folder.File.{File}
 use Rattle.vault_files_intake.specs.declared.report.RowReply.{RowReply}
 use Rattle.vault_files_lines.specs.Lines.{lines, is_accepted}
+use Rattle.vaultctl_commands.specs.declared.fault.JobFault.{JobFault}
 use Rattle.vaultctl_commands.specs.declared.outcome.Outcome.{Outcome}
 use Rattle.vaultctl_commands.specs.declared.outcome.Outcome.TheVariants.{Done, Refused}
 
@@ -28,3 +31,16 @@ abbrev pub ToldIntake : Option (List File) → ℕ → List ℕ → List ℕ →
 ToldIntake files at who bucket batch list v v' told before after =
     (rows : List RowReply) × (stopped : Option Refusal) × TakesIn files at who bucket batch list v rows stopped v'
     × (told ≡ intake_outcome rows stopped) × Appends before after (lines rows stopped)
+
+-- There was one intake, and its lines are printed where anything is. That a device failed stops it only where the count of the vault's failures rose, or that of the folder's, or can rise no further; where neither a row nor the stop tells it, the count of the vault's is as it was. Honest says that the vault's device has returned what was written.
+abbrev pub SteadyIntake : Type 0 → Option (List File) → ℕ → List ℕ → List ℕ → List ℕ → List ℕ → Vault → Vault → ℕ → ℕ → ℕ → ℕ → Result Outcome JobFault → Option (List ℕ) → Option (List ℕ) → Type 0
+SteadyIntake Honest files at who bucket batch list v v' n n' there there' result before after =
+    (rows : List RowReply) × (stopped : Option Refusal) × (Honest → TakesIn files at who bucket batch list v rows stopped v')
+    × IfOk result (λ told. (told ≡ intake_outcome rows stopped) × Appends before after (lines rows stopped))
+    × (stopped ≡ Some Device → Rose n n' ⊎ Rose there there') × (report_tells_device rows stopped ≡ false → n' ≡ n)
+
+-- what that says of the vault's failures alone: the count of them is as it was, or the lines tell that a device failed
+abbrev pub IsIntakeSteady : ℕ → ℕ → Result Outcome JobFault → Option (List ℕ) → Option (List ℕ) → Type 0
+IsIntakeSteady n n' result before after =
+    (n' ≡ n)
+    ⊎ ((rows : List RowReply) × (stopped : Option Refusal) × IsTrue (report_tells_device rows stopped) × IfOk result (λ told. (told ≡ intake_outcome rows stopped) × Appends before after (lines rows stopped)))

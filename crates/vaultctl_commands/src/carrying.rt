@@ -1,6 +1,7 @@
 //! A command carried out, and its reply printed.
 ghost use Rattle.std.specs.Prelude.{◌≡◌, ◌≢◌, ◌≤◌, IsTrue, IfOk, OnErr, Err, Ok};
 ghost use Rattle.std.specs.Io.KnownBytes.{Appends};
+ghost use Rattle.vault_core.specs.Told.{CountAsTold};
 ghost use Rattle.vault_core_model.specs.Halts.{is_device_reply, Rose};
 ghost use Rattle.vault_core_model.specs.Step.{Step, Reached};
 ghost use Rattle.vault_core_model.specs.declared.reply.Reply.{Reply as AnyReply};
@@ -79,6 +80,11 @@ pub fn carry_out<K: Keeper, W: Write>(
     ensures err { K.is_honest keeper.new → OnErr result ((reply : AnyReply) × Step (K.vault keeper.old) at who.now command.now reply (K.vault keeper.new)) }
     // Whatever the device does, what is answered is what the printed reply says.
     ensures told { IfOk result (λ outcome. spec.TellsReply outcome (W.contents out.old) (W.contents out.new)) }
+    // And there is one reply, printed where anything is, which tells that the device failed just where the count of
+    // failures rose, or can rise no further; where it doesn't tell it, the count is as it was.
+    ensures steady { (reply : AnyReply) × (K.is_honest keeper.new → Step (K.vault keeper.old) at who.now command.now reply (K.vault keeper.new))
+        × IfOk result (λ outcome. (outcome ≡ spec.outcome_of reply) × Appends (W.contents out.old) (W.contents out.new) (spec.printed reply))
+        × CountAsTold (K.count keeper.old) (K.count keeper.new) (is_device_reply reply) }
     ensures reached { K.is_honest keeper.new → Reached (K.vault keeper.old) → Reached (K.vault keeper.new) }
     ensures honest { K.is_honest keeper.new → K.is_honest keeper.old }
     ensures counted { K.count keeper.old ≤ K.count keeper.new }

@@ -1,5 +1,5 @@
 //! An intake carried out, and a line printed for each of its rows.
-ghost use Rattle.std.specs.Prelude.{◌≡◌, ◌≢◌, IfOk, OnErr, Err};
+ghost use Rattle.std.specs.Prelude.{◌≡◌, ◌≢◌, ◌≤◌, IfOk, OnErr, Err};
 ghost use Rattle.std.specs.Io.KnownBytes.{Appends};
 ghost use Rattle.vault_base.specs.declared.refusal.Refusal.TheVariants.{Device as DeviceFailed};
 ghost use Rattle.vault_core_model.specs.Step.{Reached};
@@ -66,6 +66,10 @@ pub fn take_in_and_tell<K: Keeper, F: Folder, W: Write>(
     ensures err { K.is_honest keeper.new → OnErr result (spec.IsTakenIn (F.files folder.old) at who.now bucket.now batch.now list.now (K.vault keeper.old) (K.vault keeper.new)) }
     ensures reached { K.is_honest keeper.new → Reached (K.vault keeper.old) → Reached (K.vault keeper.new) }
     ensures honest { K.is_honest keeper.new → K.is_honest keeper.old }
+    ensures counted { K.count keeper.old ≤ K.count keeper.new }
+    ensures counted_there { F.count folder.old ≤ F.count folder.new }
+    // That a device failed is told where it did.
+    ensures steady { spec.SteadyIntake (K.is_honest keeper.new) (F.files folder.old) at who.now bucket.now batch.now list.now (K.vault keeper.old) (K.vault keeper.new) (K.count keeper.old) (K.count keeper.new) (F.count folder.old) (F.count folder.new) result (W.contents out.old) (W.contents out.new) }
     ensures reader { result ≢ Err JobFault.Read }
     ensures device { result ≢ Err JobFault.Device }
 {
