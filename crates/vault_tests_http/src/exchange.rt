@@ -4,7 +4,7 @@ use std::io::{Read, Write};
 use std::test::Fail;
 use vault_core_model::keeper::Keeper;
 use vault_http_exchange::{ServeFault, serve_one};
-use vault_transcript::trial::{Trial, try_on_new};
+use vault_transcript::transcript::opened;
 
 /// 2024-01-15T10:30:00Z.
 pub const READING: i64 = 1_705_314_600;
@@ -205,19 +205,10 @@ pub fn walk<K: Keeper>(alloc: Global, keeper: &mut K, rows: &[Row<'_>]) -> Resul
     Ok(())
 }
 
-/// Rows whose requests are sent one after the other.
-#[derive(Clone, Copy)]
-struct Exchanges<'a> {
-    rows: &'a [Row<'a>],
-}
-
-impl Trial for Exchanges<'_> {
-    fn carry_out<K: Keeper>(&self, alloc: Global, keeper: &mut K) -> Result<(), Fail> {
-        walk(alloc, keeper, self.rows)
-    }
-}
-
 /// The same over a new vault.
 pub fn exchanges(alloc: Global, rows: &[Row<'_>]) -> Result<(), Fail> {
-    try_on_new(alloc, &Exchanges { rows })
+    let mut keeper = opened(alloc)?;
+    let told = walk(alloc, &mut keeper, rows);
+    drop(keeper);
+    told
 }

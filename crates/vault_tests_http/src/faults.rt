@@ -3,10 +3,11 @@ use crate::exchange::{READING, Row, answer, serve, walk, wire};
 use std::alloc::Global;
 use std::io::BufWriter;
 use std::test::Fail;
+use vault_core::fuse_keeper::FuseKeeper;
 use vault_core_model::keeper::Keeper;
 use vault_failing::{FailingReader, FailingWriter};
 use vault_http_exchange::ServeFault;
-use vault_transcript::trial::{Trial, try_on_failing, try_on_new};
+use vault_transcript::transcript::opened;
 
 const PUT: &str =
     "PUT /docs/a HTTP/1.1|x-vault-caller: ann|content-length: 5|expect: 100-Continue||hello";
@@ -57,20 +58,19 @@ fn serve_beginnings<K: Keeper>(alloc: Global, keeper: &mut K, bytes: &[u8]) -> R
     compare_put(alloc, keeper, true)
 }
 
-/// The request, served in part and then whole.
-struct PutInPart;
-
-impl Trial for PutInPart {
-    fn carry_out<K: Keeper>(&self, alloc: Global, keeper: &mut K) -> Result<(), Fail> {
-        let request = wire(alloc, PUT)?;
-        serve_beginnings(alloc, keeper, request.as_bytes())
-    }
+fn serve_put_in_part<K: Keeper>(alloc: Global, keeper: &mut K) -> Result<(), Fail> {
+    let request = wire(alloc, PUT)?;
+    serve_beginnings(alloc, keeper, request.as_bytes())
 }
 
 /// Before each byte of the request: no step is made. Behind the last one nothing is read any more.
 #[test]
 fn a_reader_that_fails(rt: HostRuntime) -> Result<(), Fail> {
-    try_on_new(rt.alloc(), &PutInPart)
+    let alloc = rt.alloc();
+    let mut keeper = opened(alloc)?;
+    let told = serve_put_in_part(alloc, &mut keeper);
+    drop(keeper);
+    told
 }
 
 /// Serves the request to a writer that takes so many writes.
@@ -88,20 +88,15 @@ fn serve_to<K: Keeper>(
     Ok(serve(alloc, &mut reader, &mut writer, keeper, READING))
 }
 
-/// The request, served to a writer that takes so many writes; the fault, and whether the vault has the version.
-#[derive(Clone, Copy)]
-struct ServedTo {
+fn compare_to<K: Keeper>(
+    alloc: Global,
+    keeper: &mut K,
     writes: u64,
     fault: Result<(), ServeFault>,
     put: bool,
-}
-
-impl Trial for ServedTo {
-    fn carry_out<K: Keeper>(&self, alloc: Global, keeper: &mut K) -> Result<(), Fail> {
-        let served = serve_to(alloc, keeper, self.writes)?;
-        compare_fault(self.writes, served, self.fault)?;
-        compare_put(alloc, keeper, self.put)
-    }
+) -> Result<(), Fail> {
+    compare_fault(writes, serve_to(alloc, keeper, writes)?, fault)?;
+    compare_put(alloc, keeper, put)
 }
 
 /// Over a new vault, serves the request to a writer that takes so many writes.
@@ -111,7 +106,10 @@ fn is_served_to(
     fault: Result<(), ServeFault>,
     put: bool,
 ) -> Result<(), Fail> {
-    try_on_new(alloc, &ServedTo { writes, fault, put })
+    let mut keeper = opened(alloc)?;
+    let told = compare_to(alloc, &mut keeper, writes, fault, put);
+    drop(keeper);
+    told
 }
 
 /// Where 100 Continue fails no step is made; where the answer fails it was made.
@@ -140,52 +138,57 @@ fn serve_held_back<K: Keeper>(
 }
 
 /// The request with 100 Continue, and then the one without.
-struct HeldBack;
-
-impl Trial for HeldBack {
-    fn carry_out<K: Keeper>(&self, alloc: Global, keeper: &mut K) -> Result<(), Fail> {
-        let served = serve_held_back(alloc, keeper, PUT)?;
-        compare_fault(0, served, Err(ServeFault::Write))?;
-        compare_put(alloc, keeper, false)?;
-        let served = serve_held_back(alloc, keeper, PUT_AT_ONCE)?;
-        compare_fault(0, served, Err(ServeFault::Write))?;
-        compare_put(alloc, keeper, true)
-    }
+fn hold_back<K: Keeper>(alloc: Global, keeper: &mut K) -> Result<(), Fail> {
+    let served = serve_held_back(alloc, keeper, PUT)?;
+    compare_fault(0, served, Err(ServeFault::Write))?;
+    compare_put(alloc, keeper, false)?;
+    let served = serve_held_back(alloc, keeper, PUT_AT_ONCE)?;
+    compare_fault(0, served, Err(ServeFault::Write))?;
+    compare_put(alloc, keeper, true)
 }
 
 /// What is held back is handed on before a request counts as served: an answer that can't be is a fault, and
 /// without 100 Continue no step is made.
 #[test]
 fn a_writer_that_holds_back(rt: HostRuntime) -> Result<(), Fail> {
-    try_on_new(rt.alloc(), &HeldBack)
+    let alloc = rt.alloc();
+    let mut keeper = opened(alloc)?;
+    let told = hold_back(alloc, &mut keeper);
+    drop(keeper);
+    told
 }
 
-/// The request, which the device refuses, and again.
-struct PutTwice;
-
-impl Trial for PutTwice {
-    fn carry_out<K: Keeper>(&self, alloc: Global, keeper: &mut K) -> Result<(), Fail> {
-        walk(
-            alloc,
-            keeper,
-            &[
-                Row::Whole(
-                    PUT_AT_ONCE,
-                    "HTTP/1.1 500 Internal Server Error|date: Mon, 15 Jan 2024 10:30:00 GMT|connection: close|content-type: application/json|content-length: 24||{\"code\":\"Device\",\"n\":23}",
-                ),
-                Row::Ends(PUT_AT_ONCE, "", "x-amz-version-id: 1\r\n\r\n"),
-            ],
-        )?;
-        let faults = keeper.faults();
-        if faults == 1 {
-            return Ok(());
-        }
-        Err(Fail::new(format_args!("wanted 1 fault, got {faults}")))
+fn put_twice<K: Keeper>(alloc: Global, keeper: &mut K) -> Result<(), Fail> {
+    walk(
+        alloc,
+        keeper,
+        &[
+            Row::Whole(
+                PUT_AT_ONCE,
+                "HTTP/1.1 500 Internal Server Error|date: Mon, 15 Jan 2024 10:30:00 GMT|connection: close|content-type: application/json|content-length: 24||{\"code\":\"Device\",\"n\":23}",
+            ),
+            Row::Ends(PUT_AT_ONCE, "", "x-amz-version-id: 1\r\n\r\n"),
+        ],
+    )?;
+    let faults = keeper.faults();
+    if faults == 1 {
+        return Ok(());
     }
+    Err(Fail::new(format_args!("wanted 1 fault, got {faults}")))
+}
+
+/// The same over a keeper whose device refuses its first change; and the keeper.
+fn put_refused<K: Keeper>(alloc: Global, keeper: K) -> (Result<(), Fail>, K) {
+    let mut fused = FuseKeeper::new(keeper, 0);
+    let told = put_twice(alloc, &mut fused);
+    (told, fused.into_keeper())
 }
 
 /// A change that the device refuses is answered, and not made.
 #[test]
 fn a_device_that_fails(rt: HostRuntime) -> Result<(), Fail> {
-    try_on_failing(rt.alloc(), 0, &PutTwice)
+    let alloc = rt.alloc();
+    let (told, keeper) = put_refused(alloc, opened(alloc)?);
+    drop(keeper);
+    told
 }

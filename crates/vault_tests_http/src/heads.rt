@@ -3,7 +3,7 @@ use crate::exchange::{READING, Row, exchanges, serve};
 use std::alloc::Global;
 use std::test::Fail;
 use vault_core_model::keeper::Keeper;
-use vault_transcript::trial::{Trial, try_on_new};
+use vault_transcript::transcript::opened;
 
 /// How many bytes of an input are left unread behind an exchange.
 fn left_behind<K: Keeper>(alloc: Global, keeper: &mut K, input: &[u8]) -> Result<usize, Fail> {
@@ -13,31 +13,32 @@ fn left_behind<K: Keeper>(alloc: Global, keeper: &mut K, input: &[u8]) -> Result
     Ok(reader.len())
 }
 
-/// Inputs, each with how many of its bytes are to be left.
-#[derive(Clone, Copy)]
-struct Inputs<'a> {
-    inputs: &'a [(&'a str, usize)],
-}
-
-impl Trial for Inputs<'_> {
-    fn carry_out<K: Keeper>(&self, alloc: Global, keeper: &mut K) -> Result<(), Fail> {
-        for (input, wanted) in self.inputs {
-            let left = left_behind(alloc, keeper, input.as_bytes())?;
-            if left != *wanted {
-                return Err(Fail::new(format_args!(
-                    "wanted {wanted} bytes left, got {left}, of {input}"
-                )));
-            }
+/// Fails unless so many bytes of each input are left.
+fn are_left<K: Keeper>(
+    alloc: Global,
+    keeper: &mut K,
+    inputs: &[(&str, usize)],
+) -> Result<(), Fail> {
+    for (input, wanted) in inputs {
+        let left = left_behind(alloc, keeper, input.as_bytes())?;
+        if left != *wanted {
+            return Err(Fail::new(format_args!(
+                "wanted {wanted} bytes left, got {left}, of {input}"
+            )));
         }
-        Ok(())
     }
+    Ok(())
 }
 
 /// Behind a head without a body, and behind a body of its length.
 #[test]
 fn what_comes_behind_is_left(rt: HostRuntime) -> Result<(), Fail> {
-    let inputs = Inputs {
-        inputs: &[
+    let alloc = rt.alloc();
+    let mut keeper = opened(alloc)?;
+    let told = are_left(
+        alloc,
+        &mut keeper,
+        &[
             (
                 "GET /docs/a HTTP/1.1\r\nx-vault-caller: ann\r\ncontent-length: 4\r\n\r\nmore",
                 4,
@@ -51,8 +52,9 @@ fn what_comes_behind_is_left(rt: HostRuntime) -> Result<(), Fail> {
                 5,
             ),
         ],
-    };
-    try_on_new(rt.alloc(), &inputs)
+    );
+    drop(keeper);
+    told
 }
 
 /// Names in any letter case, blanks round values, bare line feeds, a blank line in front.

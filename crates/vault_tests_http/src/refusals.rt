@@ -6,7 +6,7 @@ use vault_base::refusal::{Reason, Refusal, Table};
 use vault_base::right::Right;
 use vault_core_model::keeper::Keeper;
 use vault_http_answer::reply::refusal_bytes;
-use vault_transcript::trial::{Trial, try_on_new};
+use vault_transcript::transcript::opened;
 
 const INVALID: &str = "{\"code\":\"InvalidArgument\",\"n\":10}";
 
@@ -16,32 +16,26 @@ const NOT_IMPLEMENTED: &str = "{\"code\":\"NotImplemented\",\"n\":17}";
 
 const UNKNOWN: &str = "{\"code\":\"AccessDenied\",\"n\":3,\"reason\":\"unknown-caller\"}";
 
-/// Requests that all are refused so.
-#[derive(Clone, Copy)]
-struct Refused<'a> {
-    requests: &'a [&'a str],
-    status: &'a str,
-    body: &'a str,
-}
-
-impl Trial for Refused<'_> {
-    fn carry_out<K: Keeper>(&self, alloc: Global, keeper: &mut K) -> Result<(), Fail> {
-        for (index, request) in self.requests.iter().enumerate() {
-            let row = Row::Ends(request, self.status, self.body);
-            exchange(alloc, keeper, index, row)?;
-        }
-        Ok(())
+/// Sends requests that all are refused so.
+fn refuse<K: Keeper>(
+    alloc: Global,
+    keeper: &mut K,
+    requests: &[&str],
+    status: &str,
+    body: &str,
+) -> Result<(), Fail> {
+    for (index, request) in requests.iter().enumerate() {
+        exchange(alloc, keeper, index, Row::Ends(request, status, body))?;
     }
+    Ok(())
 }
 
-/// Sends them over a new vault.
+/// The same over a new vault.
 fn all_refused(alloc: Global, requests: &[&str], status: &str, body: &str) -> Result<(), Fail> {
-    let refused = Refused {
-        requests,
-        status,
-        body,
-    };
-    try_on_new(alloc, &refused)
+    let mut keeper = opened(alloc)?;
+    let told = refuse(alloc, &mut keeper, requests, status, body);
+    drop(keeper);
+    told
 }
 
 /// Headers, also where another fault is there too; names of a query that belong to another target.
@@ -234,26 +228,22 @@ fn deny<K: Keeper>(
     exchange(alloc, keeper, index, row)
 }
 
-/// How requests begin whose method isn't allowed, each with those that are.
-#[derive(Clone, Copy)]
-struct Denied<'a> {
-    rows: &'a [(&'a str, &'a str)],
-}
-
-impl Trial for Denied<'_> {
-    fn carry_out<K: Keeper>(&self, alloc: Global, keeper: &mut K) -> Result<(), Fail> {
-        for (index, (first, allow)) in self.rows.iter().enumerate() {
-            deny(alloc, keeper, index, first, allow)?;
-        }
-        Ok(())
+fn deny_all<K: Keeper>(alloc: Global, keeper: &mut K, rows: &[(&str, &str)]) -> Result<(), Fail> {
+    for (index, (first, allow)) in rows.iter().enumerate() {
+        deny(alloc, keeper, index, first, allow)?;
     }
+    Ok(())
 }
 
 /// Each target tells its own methods; letter case matters.
 #[test]
 fn methods(rt: HostRuntime) -> Result<(), Fail> {
-    let denied = Denied {
-        rows: &[
+    let alloc = rt.alloc();
+    let mut keeper = opened(alloc)?;
+    let told = deny_all(
+        alloc,
+        &mut keeper,
+        &[
             ("POST /docs/a", "allow: DELETE, GET, HEAD, PUT"),
             ("get /docs/a", "allow: DELETE, GET, HEAD, PUT"),
             ("DELETE /docs/a?retention", "allow: GET, PUT"),
@@ -264,8 +254,9 @@ fn methods(rt: HostRuntime) -> Result<(), Fail> {
             ("GET /docs", "allow: "),
             ("PUT /docs/", "allow: "),
         ],
-    };
-    try_on_new(rt.alloc(), &denied)
+    );
+    drop(keeper);
+    told
 }
 
 /// The bytes of the answer to a refusal, at no moment. This has no clause, as `exchange::serve`.
