@@ -26,7 +26,7 @@ const GET: &str = "GET /docs/a HTTP/1.1\r\nx-vault-caller: ann\r\n\r\n";
 const NO_TIME: u64 = 0;
 
 /// These bytes, so many milliseconds behind those before, so often.
-fn part(pause: u64, bytes: &str, times: u32) -> Part<'_> {
+fn part(pause: u64, bytes: &'static str, times: u32) -> Part {
     Part {
         pause,
         bytes,
@@ -34,11 +34,11 @@ fn part(pause: u64, bytes: &str, times: u32) -> Part<'_> {
     }
 }
 
-fn at_once(bytes: &str) -> Part<'_> {
+fn at_once(bytes: &'static str) -> Part {
     part(0, bytes, 1)
 }
 
-fn each_second(times: u32) -> Part<'static> {
+fn each_second(times: u32) -> Part {
     part(1_000, "x", times)
 }
 
@@ -51,12 +51,13 @@ fn check_passed(clock: &MovingClock, millis: u64) -> Result<(), Fail> {
     Err(Fail::new(format_args!("{passed} milliseconds passed, wanted {millis}")))
 }
 
-/// Serves so many connections of peers that take a byte of their answers in so many milliseconds, and gives what
-/// they took. Fails where not so many milliseconds have passed.
+/// Serves so many connections, of silent peers and then of one that sends this, if any, and takes a byte of its answer
+/// in so many milliseconds. Gives what it took, and fails where not so many milliseconds have passed.
 fn serve_slow<K: Keeper>(
     alloc: Global,
     keeper: &mut K,
-    coming: &[&[Part<'_>]],
+    silent: u32,
+    last: Option<&[Part]>,
     count: u32,
     pace: u64,
     millis: u64,
@@ -67,7 +68,8 @@ fn serve_slow<K: Keeper>(
     let taken = Cell::new(Vec::new(alloc));
     let peers = SlowPeers {
         clock: &clock,
-        coming: Cell::new(coming),
+        silent: Cell::new(silent),
+        last: Cell::new(last),
         pace,
         taken: &taken,
         alloc,
@@ -87,23 +89,23 @@ fn check_end(answer: &str, wanted: &str) -> Result<(), Fail> {
 
 /// One peer gets no answer, in so many milliseconds, and its request wasn't carried out: a put behind it is the
 /// vault's first.
-fn unanswered(rt: &HostRuntime, parts: &[Part<'_>], millis: u64) -> Result<(), Fail> {
+fn unanswered(rt: &HostRuntime, parts: &[Part], millis: u64) -> Result<(), Fail> {
     let alloc = rt.alloc();
     let mut keeper = opened(alloc)?;
-    let nothing = serve_slow(alloc, &mut keeper, &[parts], 1, NO_TIME, millis)?;
+    let nothing = serve_slow(alloc, &mut keeper, 0, Some(parts), 1, NO_TIME, millis)?;
     if !nothing.is_empty() {
         return Err(Fail::new(format_args!("wanted no answer, got {nothing}")));
     }
     let put = [at_once(HEAD), at_once("hello"), at_once("")];
-    let answer = serve_slow(alloc, &mut keeper, &[&put], 1, NO_TIME, 0)?;
+    let answer = serve_slow(alloc, &mut keeper, 0, Some(&put), 1, NO_TIME, 0)?;
     check_end(answer.as_str(), "x-amz-version-id: 1\r\n\r\n")
 }
 
 /// One peer, over a new vault, has an answer that ends so, in so many milliseconds.
-fn answered(rt: &HostRuntime, parts: &[Part<'_>], millis: u64, end: &str) -> Result<(), Fail> {
+fn answered(rt: &HostRuntime, parts: &[Part], millis: u64, end: &str) -> Result<(), Fail> {
     let alloc = rt.alloc();
     let mut keeper = opened(alloc)?;
-    let answer = serve_slow(alloc, &mut keeper, &[parts], 1, NO_TIME, millis)?;
+    let answer = serve_slow(alloc, &mut keeper, 0, Some(parts), 1, NO_TIME, millis)?;
     check_end(answer.as_str(), end)
 }
 
@@ -113,8 +115,7 @@ fn behind_silent_peers(rt: HostRuntime) -> Result<(), Fail> {
     let alloc = rt.alloc();
     let mut keeper = opened(alloc)?;
     let put = [at_once(HEAD), at_once("hello"), at_once("")];
-    let coming: [&[Part<'_>]; 4] = [&[], &[], &[], &put];
-    let answer = serve_slow(alloc, &mut keeper, &coming, 4, NO_TIME, 15_000)?;
+    let answer = serve_slow(alloc, &mut keeper, 3, Some(&put), 4, NO_TIME, 15_000)?;
     let wanted =
         "HTTP/1.1 200 OK\r\ndate: Mon, 15 Jan 2024 10:30:15 GMT\r\nconnection: close\r\ncontent-length: 0\r\nx-amz-version-id: 1\r\n\r\n";
     if answer.as_str() == wanted {
@@ -145,9 +146,9 @@ fn an_answer_byte_by_byte(rt: HostRuntime) -> Result<(), Fail> {
     let alloc = rt.alloc();
     let mut keeper = opened(alloc)?;
     let get = [at_once(GET)];
-    let begun = serve_slow(alloc, &mut keeper, &[&get], 1, 1_000, 10_000)?;
+    let begun = serve_slow(alloc, &mut keeper, 0, Some(&get), 1, 1_000, 10_000)?;
     assert_eq!(rt; begun.as_str(), "HTTP/1.1 4");
-    let nothing = serve_slow(alloc, &mut keeper, &[&get], 1, 1_000_000, 10_000)?;
+    let nothing = serve_slow(alloc, &mut keeper, 0, Some(&get), 1, 1_000_000, 10_000)?;
     assert_eq!(rt; nothing.as_str(), "");
     Ok(())
 }
@@ -192,7 +193,7 @@ fn a_flood_behind_an_answer(rt: HostRuntime) -> Result<(), Fail> {
 fn connections_that_cannot_be_taken(rt: HostRuntime) -> Result<(), Fail> {
     let alloc = rt.alloc();
     let mut keeper = opened(alloc)?;
-    let nothing = serve_slow(alloc, &mut keeper, &[], 7, NO_TIME, 700)?;
+    let nothing = serve_slow(alloc, &mut keeper, 0, None, 7, NO_TIME, 700)?;
     assert_eq!(rt; nothing.as_str(), "");
     Ok(())
 }

@@ -43,18 +43,18 @@ impl Clock for MovingClock {
 
 /// Bytes that come so many milliseconds behind those before them, once or more often. No bytes are the peer's end.
 #[derive(Clone, Copy)]
-pub struct Part<'a> {
+pub struct Part {
     pub pause: u64,
-    pub bytes: &'a str,
+    pub bytes: &'static str,
     pub times: u32,
 }
 
 /// A peer that sends its parts one after another, and then nothing, and takes a byte of its answer in so many
 /// milliseconds.
 #[derive(Drop)]
-pub struct SlowPeer<'a> {
+pub struct SlowPeer<'a, 'p> {
     pub clock: &'a MovingClock,
-    pub parts: Cell<&'a [Part<'a>]>,
+    pub parts: Cell<&'p [Part]>,
     /// How often the first part has come.
     pub came: Cell<u32>,
     pub pace: u64,
@@ -63,9 +63,9 @@ pub struct SlowPeer<'a> {
     pub alloc: Global,
 }
 
-impl<'a> SlowPeer<'a> {
+impl SlowPeer<'_, '_> {
     /// The next part, which has come now; none where none comes any more.
-    fn next_part(&self) -> Option<Part<'a>> {
+    fn next_part(&self) -> Option<Part> {
         let (first, rest) = self.parts.get().split_first()?;
         let came = self.came.get().saturating_add(1);
         if came < first.times {
@@ -88,7 +88,7 @@ impl<'a> SlowPeer<'a> {
     }
 }
 
-impl Peer for SlowPeer<'_> {
+impl Peer for SlowPeer<'_, '_> {
     fn read_within(&self, buf: &mut [u8], limit: Duration) -> io::Result<usize> {
         let Some(part) = self.next_part() else {
             self.clock.pass(limit);
@@ -115,27 +115,40 @@ impl Peer for SlowPeer<'_> {
     }
 }
 
-/// A listener to which slow peers come, one after another.
+/// A listener to which so many silent peers come, one after another, and then a slow one, if there is one.
 #[derive(Drop)]
-pub struct SlowPeers<'a> {
+pub struct SlowPeers<'a, 'p> {
     pub clock: &'a MovingClock,
-    pub coming: Cell<&'a [&'a [Part<'a>]]>,
+    pub silent: Cell<u32>,
+    pub last: Cell<Option<&'p [Part]>>,
     pub pace: u64,
+    /// What they took of their answers.
     pub taken: &'a Cell<Vec<u8>>,
     pub alloc: Global,
 }
 
-impl<'a> OpenListener for SlowPeers<'a> {
-    type Stream = SlowPeer<'a>;
+impl<'p> SlowPeers<'_, 'p> {
+    /// What the next peer sends; none where none comes any more.
+    fn next_parts(&self) -> Option<&'p [Part]> {
+        let silent = self.silent.get();
+        if silent == 0 {
+            return self.last.replace(None);
+        }
+        self.silent.set(silent - 1);
+        Some(&[])
+    }
+}
 
-    fn accept(&self) -> io::Result<(SlowPeer<'a>, SocketAddr)> {
-        let Some((parts, rest)) = self.coming.get().split_first() else {
+impl<'a, 'p> OpenListener for SlowPeers<'a, 'p> {
+    type Stream = SlowPeer<'a, 'p>;
+
+    fn accept(&self) -> io::Result<(SlowPeer<'a, 'p>, SocketAddr)> {
+        let Some(parts) = self.next_parts() else {
             return Err(io::Error::from(io::ErrorKind::ConnectionAborted));
         };
-        self.coming.set(rest);
         let peer = SlowPeer {
             clock: self.clock,
-            parts: Cell::new(*parts),
+            parts: Cell::new(parts),
             came: Cell::new(0),
             pace: self.pace,
             taken: self.taken,
