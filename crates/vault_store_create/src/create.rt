@@ -15,14 +15,14 @@ use sqlite_schema::schema::Schema;
 use vault_base::refusal::Refusal;
 
 /// Whether a store has no table, index or view.
-fn is_blank(schema: &Schema) -> bool
+pub fn is_blank(schema: &Schema) -> bool
     ensures { IsTrue result ↔ (schema.now ≡ no_schema) }
 {
     schema.tables.is_empty() && schema.indexes.is_empty() && schema.views.is_empty()
 }
 
 /// What an error of the store is told as.
-fn refusal_of(error: Error) -> Refusal
+pub fn refusal_of(error: Error) -> Refusal
     ensures { result ≡ refusal_of error }
 {
     match error {

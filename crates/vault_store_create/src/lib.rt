@@ -3,4 +3,4 @@
 
 pub mod create;
 mod first_rows;
-mod tables;
+pub mod tables;

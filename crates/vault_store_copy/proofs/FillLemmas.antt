@@ -1,0 +1,64 @@
+-- The first tables, without a row, and the last ones, with all rows.
+use Rattle.std.proofs.Common.{◌≡◌, ◌≤◌, ℕ, nat_lt, List, [], ◌∷◌, map, cond, false, refl, sym, ap, subst, ◌∙◌, arith}
+use Rattle.std.specs.Prelude.{IsPermutation}
+use Rattle.std.proofs.lemmas.Bool.Decides.{nat_tests}
+use Rattle.sqlite_keyed.proofs.ListLemmas.{IsPermutation-same}
+use Rattle.sqlite_catalog.specs.Listing.{IsSound}
+use Rattle.sqlite_trees.specs.Tree.{Trees}
+use Rattle.sqlite.specs.Effect.{Database, IsDatabase}
+use Rattle.vault_base.specs.declared.refusal.Table.{Table}
+use Rattle.vault_base.specs.declared.refusal.Table.TheVariants as table
+use Rattle.vault_core_model.specs.Vault.{Vault}
+use Rattle.vault_audit_model.specs.declared.schema.Edition.{Edition}
+use Rattle.vault_audit_model.specs.Spells.{AreSound, AreSoundAs}
+use Rattle.vault_audit_model.specs.Tables.{vault_schema}
+use Rattle.vault_store_create.specs.Create.{HasFirst}
+use Rattle.vault_store_model.proofs.RowsLemmas.{sound_is_rows}
+use Rattle.vault_store_model.specs.Edits.{number_of}
+use Rattle.vault_store_model.specs.Rows.{rows_in, rows_of}
+use Rattle.vault_store_edits.proofs.TableLemmas.{of_each, rows_are}
+use Rattle.vault_store_edits.specs.Trees.{columns_of}
+use Rattle.vault_store_copy.specs.Copied.{HasCopied, IsCopyOf, first_rows}
+
+none_below : (n : ℕ) → nat_lt n 0 ≡ false
+none_below n = grind (arith, nat_tests)
+
+-- tables without a row
+pub none_copied : (n : Edition) (from db : Database) → HasFirst 10 db → HasCopied n from 0 db
+none_copied n from db made v is = record {
+  schema = made.schema;
+  rows = λ t.
+      let bare : rows_in db t ≡ [] = rows_are db t ∙ ap (map (columns_of t)) (of_each (λ tree. db.trees tree ≡ []) made.rows t) in
+      let none : first_rows v 0 t ≡ [] = ap (λ b. cond b (rows_of v t) []) (none_below (number_of t)) in
+      IsPermutation-same _ _ (none ∙ sym bare);
+  listed = λ none. absurd (omega (arith, none));
+}
+
+all_first : (v : Vault) (t : Table) → first_rows v 10 t ≡ rows_of v t
+all_first v table.Meta = refl
+all_first v table.Departments = refl
+all_first v table.Callers = refl
+all_first v table.Buckets = refl
+all_first v table.Rules = refl
+all_first v table.Entries = refl
+all_first v table.Contents = refl
+all_first v table.Settings = refl
+all_first v table.Intake = refl
+all_first v table.Heads = refl
+
+-- tables with all rows are sound for the same vault
+pub all_copied : (n : Edition) (from db : Database) → HasCopied n from 10 db → (v : Vault) → AreSoundAs n from v → AreSound db v
+all_copied n from db copied v is =
+    let it = copied v is in
+    (sound_is_rows db v).1 (record { schema = it.schema; rows = λ t. subst (λ rows. IsPermutation rows (rows_in db t)) (all_first v t) (it.rows t); kept = is.spells.kept })
+
+-- and are found by the next opening
+pub copy_left : (n : Edition) (from db : Database) → HasCopied n from 10 db → (v : Vault) × AreSoundAs n from v → (trees : Trees) → trees ≡ db.trees → IsCopyOf n from trees
+copy_left n from db copied (v, is) trees same =
+    let it = copied v is in
+    subst (IsCopyOf n from) (sym same) (record {
+      vault = v;
+      told = is;
+      spelled = subst (λ s. AreSound (record { schema = s; trees = db.trees }) v) it.schema (all_copied n from db copied v is);
+      listed = subst (λ s. IsDatabase (record { schema = s; trees = db.trees })) it.schema (it.listed (omega arith));
+    })

@@ -1,0 +1,6 @@
+mod TextLemmas
+mod RowLemmas
+mod ShownLemmas
+mod CopyLemmas
+mod FillLemmas
+mod PartLemmas

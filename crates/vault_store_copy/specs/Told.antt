@@ -1,0 +1,32 @@
+-- Rows that tell a record of their table, as the newest edition has them.
+use Rattle.std.specs.Prelude.{◌≡◌}
+use Rattle.sqlite_value.specs.Order.{Row}
+use Rattle.vault_base.specs.declared.refusal.Table.{Table}
+use Rattle.vault_base.specs.declared.refusal.Table.TheVariants as table
+use Rattle.vault_core_model.specs.declared.records.Caller.{Caller}
+use Rattle.vault_core_model.specs.declared.records.Entry.{Entry}
+use Rattle.vault_core_model.specs.declared.records.Note.{Note}
+use Rattle.vault_audit_model.specs.declared.rows.MetaRow.{MetaRow}
+use Rattle.vault_audit_model.specs.declared.rows.DepartmentRow.{DepartmentRow}
+use Rattle.vault_audit_model.specs.declared.rows.BucketRow.{BucketRow}
+use Rattle.vault_audit_model.specs.declared.rows.RuleRow.{RuleRow}
+use Rattle.vault_audit_model.specs.declared.rows.ContentRow.{ContentRow}
+use Rattle.vault_audit_model.specs.declared.rows.SettingRow.{SettingRow}
+use Rattle.vault_audit_model.specs.declared.rows.HeadRow.{HeadRow}
+use Rattle.vault_audit_model.specs.Rows.{meta_row, department_row, caller_row, bucket_row, rule_row, entry_row, content_row, setting_row, note_row, head_row}
+
+-- it is the row of this item
+abbrev pub IsOf : {X : Type 0} → (X → Row) → Row → Type 0
+IsOf {X} row_of row = (x : X) × (row ≡ row_of x)
+
+abbrev pub IsRowOf : Table → Row → Type 0
+IsRowOf table.Meta row = IsOf meta_row row
+IsRowOf table.Departments row = IsOf department_row row
+IsRowOf table.Callers row = IsOf caller_row row
+IsRowOf table.Buckets row = IsOf bucket_row row
+IsRowOf table.Rules row = IsOf rule_row row
+IsRowOf table.Entries row = IsOf entry_row row
+IsRowOf table.Contents row = IsOf content_row row
+IsRowOf table.Settings row = IsOf setting_row row
+IsRowOf table.Intake row = IsOf note_row row
+IsRowOf table.Heads row = IsOf head_row row
