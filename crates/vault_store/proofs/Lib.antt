@@ -4,3 +4,4 @@ mod AcknowledgedLemmas
 mod RollbackLemmas
 mod TableLemmas
 mod CreateLemmas
+mod CommitLemmas

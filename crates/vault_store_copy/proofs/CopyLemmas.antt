@@ -72,7 +72,7 @@ rows_told v t rows same = recursion_from_All (IsRowOf t) rows (All-permutation (
 
 module _ (t : Table) where
   -- the rows are added to those of this table, and the others have theirs
-  record Adds (rows : List Row) (x y : Database) : Type 0 where
+  pub record Adds (rows : List Row) (x y : Database) : Type 0 where
     pub schema : y.schema ≡ vault_schema
     pub here : IsPermutation (rows ++ rows_in x t) (rows_in y t)
     pub beside : (s : Table) → (number_of t == number_of s) ≡ false → IsPermutation (rows_in x s) (rows_in y s)

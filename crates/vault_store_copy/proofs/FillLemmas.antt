@@ -3,22 +3,19 @@ use Rattle.std.proofs.Common.{◌≡◌, ◌≤◌, ℕ, nat_lt, List, [], ◌�
 use Rattle.std.specs.Prelude.{IsPermutation}
 use Rattle.std.proofs.lemmas.Bool.Decides.{nat_tests}
 use Rattle.sqlite_keyed.proofs.ListLemmas.{IsPermutation-same}
-use Rattle.sqlite_catalog.specs.Listing.{IsSound}
-use Rattle.sqlite_trees.specs.Tree.{Trees}
 use Rattle.sqlite.specs.Effect.{Database, IsDatabase}
 use Rattle.vault_base.specs.declared.refusal.Table.{Table}
 use Rattle.vault_base.specs.declared.refusal.Table.TheVariants as table
 use Rattle.vault_core_model.specs.Vault.{Vault}
 use Rattle.vault_audit_model.specs.declared.schema.Edition.{Edition}
 use Rattle.vault_audit_model.specs.Spells.{AreSound, AreSoundAs}
-use Rattle.vault_audit_model.specs.Tables.{vault_schema}
 use Rattle.vault_store_create.specs.Create.{HasFirst}
 use Rattle.vault_store_model.proofs.RowsLemmas.{sound_is_rows}
 use Rattle.vault_store_model.specs.Edits.{number_of}
 use Rattle.vault_store_model.specs.Rows.{rows_in, rows_of}
 use Rattle.vault_store_edits.proofs.TableLemmas.{of_each, rows_are}
 use Rattle.vault_store_edits.specs.Trees.{columns_of}
-use Rattle.vault_store_copy.specs.Copied.{HasCopied, IsCopyOf, first_rows}
+use Rattle.vault_store_copy.specs.Copied.{HasCopied, first_rows}
 
 none_below : (n : ℕ) → nat_lt n 0 ≡ false
 none_below n = grind (arith, nat_tests)
@@ -47,18 +44,7 @@ all_first v table.Intake = refl
 all_first v table.Heads = refl
 
 -- tables with all rows are sound for the same vault
-pub all_copied : (n : Edition) (from db : Database) → HasCopied n from 10 db → (v : Vault) → AreSoundAs n from v → AreSound db v
+pub all_copied : (n : Edition) (from db : Database) → HasCopied n from 10 db → (v : Vault) → AreSoundAs n from v → AreSound db v × IsDatabase db
 all_copied n from db copied v is =
     let it = copied v is in
-    (sound_is_rows db v).1 (record { schema = it.schema; rows = λ t. subst (λ rows. IsPermutation rows (rows_in db t)) (all_first v t) (it.rows t); kept = is.spells.kept })
-
--- and are found by the next opening
-pub copy_left : (n : Edition) (from db : Database) → HasCopied n from 10 db → (v : Vault) × AreSoundAs n from v → (trees : Trees) → trees ≡ db.trees → IsCopyOf n from trees
-copy_left n from db copied (v, is) trees same =
-    let it = copied v is in
-    subst (IsCopyOf n from) (sym same) (record {
-      vault = v;
-      told = is;
-      spelled = subst (λ s. AreSound (record { schema = s; trees = db.trees }) v) it.schema (all_copied n from db copied v is);
-      listed = subst (λ s. IsDatabase (record { schema = s; trees = db.trees })) it.schema (it.listed (omega arith));
-    })
+    ((sound_is_rows db v).1 (record { schema = it.schema; rows = λ t. subst (λ rows. IsPermutation rows (rows_in db t)) (all_first v t) (it.rows t); kept = is.spells.kept }), it.listed (omega arith))

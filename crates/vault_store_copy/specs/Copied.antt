@@ -1,7 +1,6 @@
 -- Tables into which the rows of a vault of an earlier edition are copied, one table after the other.
 use Rattle.std.specs.Prelude.{◌≡◌, ◌≤◌, ℕ, nat_lt, cond, [], IsTrue}
 use Rattle.sqlite_value.specs.Order.{Row}
-use Rattle.sqlite_trees.specs.Tree.{Trees}
 use Rattle.sqlite.specs.Effect.{Database, IsDatabase}
 use Rattle.sqlite.specs.State.{State}
 use Rattle.vault_base.specs.declared.refusal.Table.{Table}
@@ -9,7 +8,6 @@ use Rattle.vault_core_model.specs.Vault.{Vault}
 use Rattle.vault_audit_model.specs.declared.schema.Edition.{Edition}
 use Rattle.vault_audit_model.specs.Tables.{vault_schema}
 use Rattle.vault_audit_model.specs.Spells.{AreSoundAs}
-use Rattle.vault_store_model.specs.Keeping.{AreTreesOf}
 use Rattle.vault_store_model.specs.Rows.{Rows, AreSameRows, rows_in, rows_of}
 use Rattle.vault_store_model.specs.Edits.{number_of, with_row}
 use Rattle.vault_store_copy.specs.Told.{IsRowOf}
@@ -45,10 +43,3 @@ pub record HasFirstRows (v : Vault) (k : ℕ) (db : Database) : Type 0 where
 -- the same for the vault that the tables of that edition are sound for
 abbrev pub HasCopied : Edition → Database → ℕ → Database → Type 0
 HasCopied n from k db = (v : Vault) → AreSoundAs n from v → HasFirstRows v k db
-
--- The next opening finds in these trees the vault that the tables of that edition are sound for: they list the schema of every vault, and no other.
-pub record IsCopyOf (n : Edition) (from : Database) (trees : Trees) : Type 0 where
-  pub vault : Vault
-  pub told : AreSoundAs n from vault
-  pub spelled : AreTreesOf vault trees
-  pub listed : IsDatabase (record { schema = vault_schema; trees = trees })

@@ -1,8 +1,8 @@
 //! The rows of the tables of an earlier edition, copied one table after the other.
-ghost use Rattle.std.specs.Prelude.{◌≡◌, ◌+◌, [], List, IsTrue, OnOk, OnErr};
+ghost use Rattle.std.specs.Prelude.{◌≡◌, ◌+◌, [], List, IsTrue, OnOk};
 ghost use Rattle.sqlite_value.specs.Order.{Row as Values};
 ghost use Rattle.sqlite.specs.Held.{state};
-ghost use Rattle.sqlite.specs.State.{HasCleanDisk, IsUnchanged, KeepsCommit, Survives, Shown};
+ghost use Rattle.sqlite.specs.State.{HasCleanDisk, IsUnchanged, Survives, Shown};
 ghost use Rattle.sqlite.specs.Given.{IsPlain};
 ghost use Rattle.sqlite.specs.Listing.{understood};
 ghost use Rattle.vault_audit_model.specs.Tables.{schema_of};
@@ -31,8 +31,6 @@ fn copy_rows<O: Alter, S: Alter>(
     ensures copied { HasCleanDisk (state O.Store old.new) → HasCleanDisk (state S.Store tx.new.conn.now) → IsTrue tx.old.conn.now.in_transaction → IsTrue (state S.Store tx.old.conn.now).is_open
         → OnOk result ((rows : List Values) × Shown select.now [] (state O.Store old.old) (state O.Store old.new) rows
         × Steps (state S.Store tx.old.conn.now) (state S.Store tx.new.conn.now) (λ d e. Goes (λ x row y. PutsRow table row x y) d rows e)) }
-    ensures kept { HasCleanDisk (state S.Store tx.new.conn.now) → IsTrue tx.old.conn.now.in_transaction → IsTrue (state S.Store tx.old.conn.now).is_open
-        → OnErr result (KeepsCommit (state S.Store tx.old.conn.now) (state S.Store tx.new.conn.now)) }
     ensures survives { Survives (state S.Store tx.old.conn.now) (state S.Store tx.new.conn.now) (λ _. ⊥) }
     ensures same { HasCleanDisk (state O.Store old.new) → OnOk result (IsUnchanged (state O.Store old.old) (state O.Store old.new)) }
     ensures crash { Survives (state O.Store old.old) (state O.Store old.new) (λ _. ⊥) }
@@ -60,8 +58,6 @@ fn copy_table<O: Alter, S: Alter>(
     ensures copied { HasCleanDisk (state O.Store old.new) → HasCleanDisk (state S.Store tx.new.conn.now) → IsTrue tx.old.conn.now.in_transaction → IsTrue (state S.Store tx.old.conn.now).is_open
         → OnOk result (Moves (state S.Store tx.old.conn.now) (state S.Store tx.new.conn.now)
         (HasCopied edition (state O.Store old.old).now (number_of table)) (HasCopied edition (state O.Store old.old).now (number_of table + 1))) }
-    ensures kept { HasCleanDisk (state S.Store tx.new.conn.now) → IsTrue tx.old.conn.now.in_transaction → IsTrue (state S.Store tx.old.conn.now).is_open
-        → OnErr result (KeepsCommit (state S.Store tx.old.conn.now) (state S.Store tx.new.conn.now)) }
     ensures survives { Survives (state S.Store tx.old.conn.now) (state S.Store tx.new.conn.now) (λ _. ⊥) }
     ensures same { HasCleanDisk (state O.Store old.new) → OnOk result (IsUnchanged (state O.Store old.old) (state O.Store old.new)) }
     ensures crash { Survives (state O.Store old.old) (state O.Store old.new) (λ _. ⊥) }
@@ -80,8 +76,6 @@ fn copy_first<O: Alter, S: Alter>(
     ensures copied { HasCleanDisk (state O.Store old.new) → HasCleanDisk (state S.Store tx.new.conn.now) → IsTrue tx.old.conn.now.in_transaction → IsTrue (state S.Store tx.old.conn.now).is_open
         → OnOk result (Moves (state S.Store tx.old.conn.now) (state S.Store tx.new.conn.now)
         (HasCopied edition (state O.Store old.old).now 0) (HasCopied edition (state O.Store old.old).now 4)) }
-    ensures kept { HasCleanDisk (state S.Store tx.new.conn.now) → IsTrue tx.old.conn.now.in_transaction → IsTrue (state S.Store tx.old.conn.now).is_open
-        → OnErr result (KeepsCommit (state S.Store tx.old.conn.now) (state S.Store tx.new.conn.now)) }
     ensures survives { Survives (state S.Store tx.old.conn.now) (state S.Store tx.new.conn.now) (λ _. ⊥) }
     ensures same { HasCleanDisk (state O.Store old.new) → OnOk result (IsUnchanged (state O.Store old.old) (state O.Store old.new)) }
     ensures crash { Survives (state O.Store old.old) (state O.Store old.new) (λ _. ⊥) }
@@ -104,8 +98,6 @@ fn copy_second<O: Alter, S: Alter>(
     ensures copied { HasCleanDisk (state O.Store old.new) → HasCleanDisk (state S.Store tx.new.conn.now) → IsTrue tx.old.conn.now.in_transaction → IsTrue (state S.Store tx.old.conn.now).is_open
         → OnOk result (Moves (state S.Store tx.old.conn.now) (state S.Store tx.new.conn.now)
         (HasCopied edition (state O.Store old.old).now 4) (HasCopied edition (state O.Store old.old).now 8)) }
-    ensures kept { HasCleanDisk (state S.Store tx.new.conn.now) → IsTrue tx.old.conn.now.in_transaction → IsTrue (state S.Store tx.old.conn.now).is_open
-        → OnErr result (KeepsCommit (state S.Store tx.old.conn.now) (state S.Store tx.new.conn.now)) }
     ensures survives { Survives (state S.Store tx.old.conn.now) (state S.Store tx.new.conn.now) (λ _. ⊥) }
     ensures same { HasCleanDisk (state O.Store old.new) → OnOk result (IsUnchanged (state O.Store old.old) (state O.Store old.new)) }
     ensures crash { Survives (state O.Store old.old) (state O.Store old.new) (λ _. ⊥) }
@@ -128,8 +120,6 @@ fn copy_last<O: Alter, S: Alter>(
     ensures copied { HasCleanDisk (state O.Store old.new) → HasCleanDisk (state S.Store tx.new.conn.now) → IsTrue tx.old.conn.now.in_transaction → IsTrue (state S.Store tx.old.conn.now).is_open
         → OnOk result (Moves (state S.Store tx.old.conn.now) (state S.Store tx.new.conn.now)
         (HasCopied edition (state O.Store old.old).now 8) (HasCopied edition (state O.Store old.old).now 10)) }
-    ensures kept { HasCleanDisk (state S.Store tx.new.conn.now) → IsTrue tx.old.conn.now.in_transaction → IsTrue (state S.Store tx.old.conn.now).is_open
-        → OnErr result (KeepsCommit (state S.Store tx.old.conn.now) (state S.Store tx.new.conn.now)) }
     ensures survives { Survives (state S.Store tx.old.conn.now) (state S.Store tx.new.conn.now) (λ _. ⊥) }
     ensures same { HasCleanDisk (state O.Store old.new) → OnOk result (IsUnchanged (state O.Store old.old) (state O.Store old.new)) }
     ensures crash { Survives (state O.Store old.old) (state O.Store old.new) (λ _. ⊥) }
@@ -151,8 +141,6 @@ pub(crate) fn copy_tables<O: Alter, S: Alter>(
     ensures copied { HasCleanDisk (state O.Store old.new) → HasCleanDisk (state S.Store tx.new.conn.now) → IsTrue tx.old.conn.now.in_transaction → IsTrue (state S.Store tx.old.conn.now).is_open
         → OnOk result (Moves (state S.Store tx.old.conn.now) (state S.Store tx.new.conn.now)
         (HasCopied edition (state O.Store old.old).now 0) (HasCopied edition (state O.Store old.old).now 10)) }
-    ensures kept { HasCleanDisk (state S.Store tx.new.conn.now) → IsTrue tx.old.conn.now.in_transaction → IsTrue (state S.Store tx.old.conn.now).is_open
-        → OnErr result (KeepsCommit (state S.Store tx.old.conn.now) (state S.Store tx.new.conn.now)) }
     ensures survives { Survives (state S.Store tx.old.conn.now) (state S.Store tx.new.conn.now) (λ _. ⊥) }
     ensures same { HasCleanDisk (state O.Store old.new) → OnOk result (IsUnchanged (state O.Store old.old) (state O.Store old.new)) }
     ensures crash { Survives (state O.Store old.old) (state O.Store old.new) (λ _. ⊥) }
