@@ -1,5 +1,5 @@
 -- Rows that are put into a table one after another, and tables one after another.
-use Rattle.std.proofs.Common.{◌≡◌, ◌⊎◌, inl, inr, ◌==◌, ◌+◌, ◌≤◌, ℕ, nat_lt, List, [], ◌∷◌, ◌++◌, length, map, get_or, Bool, true, false, cond, lit≤, IsTrue, append-nil, refl, sym, ap, subst, ◌∙◌, arith}
+use Rattle.std.proofs.Common.{◌≡◌, ◌⊎◌, inl, inr, ◌==◌, ◌+◌, ◌<◌, ◌≤◌, ℕ, nat_lt, List, [], ◌∷◌, ◌++◌, length, map, get_or, Bool, true, false, cond, lit≤, IsTrue, append-nil, refl, sym, ap, subst, ◌∙◌, arith}
 use Rattle.std.specs.Prelude.{IsPermutation}
 use Rattle.std.specs.List.{AllByRecursion}
 use Rattle.std.proofs.lemmas.Bool.{cases_Bool}
@@ -108,14 +108,32 @@ module _ (t : Table) where
 
 -- ---- one table after the other
 
+below_if : (a b : ℕ) → nat_lt a b ≡ true → a < b
+below_if a b is = grind (arith, nat_tests, is)
+
+if_below : (a b : ℕ) → a < b → nat_lt a b ≡ true
+if_below a b less = grind (arith, nat_tests, less)
+
+low_unless : (a b : ℕ) → nat_lt a b ≡ false → b ≤ a
+low_unless a b no = grind (arith, nat_tests, no)
+
+unless_low : (a b : ℕ) → b ≤ a → nat_lt a b ≡ false
+unless_low a b low = grind (arith, nat_tests, low)
+
+below_next : (a b : ℕ) → b ≤ a → (b == a) ≡ false → b + 1 ≤ a
+below_next a b low other = grind (arith, nat_tests, low, other)
+
 below_more : (n : ℕ) → nat_lt n (n + 1) ≡ true
-below_more n = grind (arith, nat_tests)
+below_more n = if_below n (n + 1) (omega arith)
 
 not_below : (n : ℕ) → nat_lt n n ≡ false
-not_below n = grind (arith, nat_tests)
+not_below n = unless_low n n (omega arith)
 
 below_as_before : (n m : ℕ) → (m == n) ≡ false → nat_lt n (m + 1) ≡ nat_lt n m
-below_as_before n m other = grind (arith, nat_tests, other)
+below_as_before n m other = elim (cases_Bool (nat_lt n m)) [
+  | inl yes ↦ let less = below_if n m yes in if_below n (m + 1) (omega (arith, less)) ∙ sym yes
+  | inr no ↦ unless_low n (m + 1) (below_next n m (low_unless n m no) other) ∙ sym no
+]
 
 -- meta has a row, and the other tables come after it
 not_alone : (v : Vault) (t : Table) → (1 ≤ number_of t) ⊎ (1 ≤ length (rows_of v t))
@@ -140,7 +158,7 @@ module _ (v : Vault) (t : Table) (rows : List Row) (x y : Database) (was : HasFi
   rows_more : AreSameRows (first_rows v (number_of t + 1)) (rows_in y)
   rows_more s = elim (cases_Bool (number_of t == number_of s)) [
     | inl same ↦
-        let is : t ≡ s = one_table t s (grind (arith, nat_tests)) in
+        let is : t ≡ s = one_table t s (grind (arith, nat_tests, same)) in
         subst (λ u. IsPermutation (first_rows v (number_of t + 1) u) (rows_in y u)) is here_more
     | inr other ↦
         subst (λ b. IsPermutation (cond b (rows_of v s) []) (rows_in y s)) (sym (below_as_before (number_of s) (number_of t) other))

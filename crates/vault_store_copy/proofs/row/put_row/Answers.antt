@@ -12,6 +12,5 @@ pub returns-clause-put : goal.returns-clause-put
 returns-clause-put g c clean inside =
     let old = state g.S.Store c.args.tx.now.conn.now in
     let new = state g.S.Store c.execute.new.self.conn.now in
-    let values = c.in_ok-values.values.items in
-    let given : bound values ≡ map bound_value c.args.row.now = sym (map-map bound_value (λ v. owned v) values) ∙ ap (map bound_value) c.in_ok-values.ensures in
-    steps_if _ _ old new c.execute.result (PutsRow c.args.table c.args.row.now) (λ count. puts_row old new c.args.table c.args.row.now (bound values) given count) (rw c.putting.ensures at (c.execute.ensures.runs clean inside))
+    let given : bound c.deref.result.now ≡ map bound_value c.args.row.now = sym (map-map bound_value (λ v. owned v) c.deref.result.now) ∙ ap (map bound_value) (ap (map (λ v. owned v)) c.deref.ensures.value ∙ c.in_ok-values.ensures) in
+    steps_if _ _ old new c.execute.result (PutsRow c.args.table c.args.row.now) (λ count. puts_row old new c.args.table c.args.row.now (bound c.deref.result.now) given count) (rw c.putting.ensures at (c.execute.ensures.runs clean inside))
