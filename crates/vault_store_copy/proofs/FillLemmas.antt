@@ -18,7 +18,7 @@ use Rattle.vault_store_edits.specs.Trees.{columns_of}
 use Rattle.vault_store_copy.specs.Copied.{HasCopied, first_rows}
 
 none_below : (n : ℕ) → nat_lt n 0 ≡ false
-none_below n = grind (arith, nat_tests)
+none_below n = let low : 0 ≤ n = omega arith in grind (arith, nat_tests, low)
 
 -- tables without a row
 pub none_copied : (n : Edition) (from db : Database) → HasFirst 10 db → HasCopied n from 0 db

@@ -52,7 +52,7 @@ names_of n table.Settings = codes "id" ∷ codes "n" ∷ codes "moment" ∷ code
 names_of n table.Intake = codes "bucket" ∷ codes "batch" ∷ codes "line" ∷ codes "key" ∷ codes "size" ∷ codes "digest" ∷ codes "mode" ∷ codes "until" ∷ codes "hold" ∷ codes "id" ∷ []
 names_of n table.Heads = codes "bucket" ∷ codes "key" ∷ codes "newest" ∷ codes "count" ∷ []
 
-abbrev Reads : Edition → Table → Type 0
+abbrev pub Reads : Edition → Table → Type 0
 Reads n t = Scans (schema_of n) (listing_of n t) (tree_of t) (terms_of n t) (names_of n t)
 
 reads_meta : (n : Edition) → Reads n table.Meta

@@ -20,13 +20,13 @@ abbrev pub IsOf : {X : Type 0} → (X → Row) → Row → Type 0
 IsOf {X} row_of row = (x : X) × (row ≡ row_of x)
 
 abbrev pub IsRowOf : Table → Row → Type 0
-IsRowOf table.Meta row = IsOf meta_row row
-IsRowOf table.Departments row = IsOf department_row row
-IsRowOf table.Callers row = IsOf caller_row row
-IsRowOf table.Buckets row = IsOf bucket_row row
-IsRowOf table.Rules row = IsOf rule_row row
-IsRowOf table.Entries row = IsOf entry_row row
-IsRowOf table.Contents row = IsOf content_row row
-IsRowOf table.Settings row = IsOf setting_row row
-IsRowOf table.Intake row = IsOf note_row row
-IsRowOf table.Heads row = IsOf head_row row
+IsRowOf table.Meta = IsOf meta_row
+IsRowOf table.Departments = IsOf department_row
+IsRowOf table.Callers = IsOf caller_row
+IsRowOf table.Buckets = IsOf bucket_row
+IsRowOf table.Rules = IsOf rule_row
+IsRowOf table.Entries = IsOf entry_row
+IsRowOf table.Contents = IsOf content_row
+IsRowOf table.Settings = IsOf setting_row
+IsRowOf table.Intake = IsOf note_row
+IsRowOf table.Heads = IsOf head_row

@@ -45,7 +45,7 @@ fn write_copy<O: Alter, S: Alter>(
     edition: Edition,
 ) -> Result<(), Error>
     requires outside { new.old.in_transaction ≡ false }
-    requires edition { HasCleanDisk (state O.Store old.old) → (state O.Store old.old).now.schema ≡ schema_of edition }
+    requires known { HasCleanDisk (state O.Store old.old) → (state O.Store old.old).now.schema ≡ schema_of edition }
     ensures copied { HasCleanDisk (state O.Store old.new) → HasCleanDisk (state S.Store new.new)
         → OnOk result (Moves (state S.Store new.old) (state S.Store new.new) (HasFirst 0) (HasCopied edition (state O.Store old.old).now 10)) }
     ensures outside { OnErr result (new.new.in_transaction ≡ false) }

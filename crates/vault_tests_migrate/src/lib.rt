@@ -6,6 +6,10 @@ mod calls;
 #[cfg(test)]
 mod copies;
 #[cfg(test)]
+mod disks;
+#[cfg(test)]
 mod first;
 #[cfg(test)]
 mod refusals;
+#[cfg(test)]
+mod stops;
