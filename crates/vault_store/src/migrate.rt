@@ -26,7 +26,7 @@ use vault_store_copy::begin::begin_copy;
 use vault_store_create::create::refusal_of;
 
 /// Copies the vault of a file of the first edition into an empty store, inside a transaction that is left
-/// open.
+/// open. Where it is refused, none is.
 ///
 /// The errors are those of `migrate`.
 fn take_copy<O: Alter, S: Alter>(
@@ -34,24 +34,21 @@ fn take_copy<O: Alter, S: Alter>(
     old: &mut Connection<O>,
     new: &mut Connection<S>,
 ) -> Result<(), Refusal>
-    ensures sound { HasCleanDisk (state O.Store old.new) → OnOk result ((v : Vault) × AreSoundAs First (state O.Store old.old).now v) }
+    requires old_outside { old.old.in_transaction ≡ false }
+    requires outside { new.old.in_transaction ≡ false }
+    ensures spelled { HasCleanDisk (state O.Store old.new) → OnOk result ((v : Vault) × AreSoundAs First (state O.Store old.old).now v) }
     ensures copied { HasCleanDisk (state O.Store old.new) → HasCleanDisk (state S.Store new.new)
         → OnOk result ((v : Vault) → AreSoundAs First (state O.Store old.old).now v → AreSound (state S.Store new.new).now v × IsDatabase (state S.Store new.new).now) }
     ensures told { IfErr result (λ r. r ≢ Refusal.NameTaken → IsTold r) }
     ensures damaged { IfErr result (λ r. HasCleanDisk (state O.Store old.new) → (t : Table) → r ≡ Refusal.Damaged t → (v : Vault) → ¬ AreSoundAs First (state O.Store old.old).now v) }
     ensures free { OnOk result ((state S.Store new.old).now.schema ≡ no_schema) }
     ensures taken { IfErr result (λ r. r ≡ Refusal.NameTaken → (state S.Store new.old).now.schema ≢ no_schema) }
-    ensures inside { IsTrue new.old.in_transaction → IsErrAnd result (λ _. new.new ≡ new.old) }
-    ensures outside { new.old.in_transaction ≡ false → OnErr result (new.new.in_transaction ≡ false) }
+    ensures outside { OnErr result (HasCleanDisk (state S.Store new.new) → new.new.in_transaction ≡ false) }
     ensures crash { Survives (state S.Store new.old) (state S.Store new.new) (λ _. ⊥) }
-    ensures old_inside { IsTrue old.old.in_transaction → IsErrAnd result (λ _. old.new ≡ old.old) }
-    ensures old_outside { old.old.in_transaction ≡ false → HasCleanDisk (state O.Store old.new) → old.new.in_transaction ≡ false }
-    ensures old_tables { old.old.in_transaction ≡ false → HasCleanDisk (state O.Store old.new) → HasTablesOf (state O.Store old.old) (state O.Store old.new) }
+    ensures old_outside { HasCleanDisk (state O.Store old.new) → old.new.in_transaction ≡ false }
+    ensures old_tables { HasCleanDisk (state O.Store old.new) → HasTablesOf (state O.Store old.old) (state O.Store old.new) }
     ensures old_crash { Survives (state O.Store old.old) (state O.Store old.new) (λ _. ⊥) }
 {
-    if !old.is_autocommit() {
-        return Err(Refusal::Device);
-    }
     match look_as(alloc, old, Edition::First) {
         Ok(()) => {}
         Err(refusal) => return Err(refusal),
@@ -60,6 +57,7 @@ fn take_copy<O: Alter, S: Alter>(
         Ok(()) => Ok(()),
         Err(refusal) => {
             // No clause of the copying says that it leaves none.
+            end_transaction(new);
             end_transaction(old);
             note_rest(old);
             Err(refusal)
@@ -115,7 +113,8 @@ fn commit<S: Alter>(conn: &mut Connection<S>) -> Result<(), Refusal>
     Ok(())
 }
 
-/// Copies the vault of a file of the first edition into an empty store, by one transaction.
+/// Copies the vault of a file of the first edition into an empty store, by one transaction. Neither
+/// connection is inside one.
 ///
 /// The errors are those of `migrate`.
 fn copy_vault<O: Alter, S: Alter>(
@@ -123,6 +122,8 @@ fn copy_vault<O: Alter, S: Alter>(
     old: &mut Connection<O>,
     new: &mut Connection<S>,
 ) -> Result<(), Refusal>
+    requires old_outside { old.old.in_transaction ≡ false }
+    requires outside { new.old.in_transaction ≡ false }
     ensures spelled { HasCleanDisk (state O.Store old.new) → OnOk result ((v : Vault) × AreSoundAs First (state O.Store old.old).now v) }
     ensures copied { HasCleanDisk (state O.Store old.new) → HasCleanDisk (state S.Store new.new)
         → OnOk result ((v : Vault) → AreSoundAs First (state O.Store old.old).now v → AreSound (state S.Store new.new).now v) }
@@ -133,13 +134,11 @@ fn copy_vault<O: Alter, S: Alter>(
     ensures damaged { IfErr result (λ r. HasCleanDisk (state O.Store old.new) → (t : Table) → r ≡ Refusal.Damaged t → (v : Vault) → ¬ AreSoundAs First (state O.Store old.old).now v) }
     ensures free { OnOk result ((state S.Store new.old).now.schema ≡ no_schema) }
     ensures taken { IfErr result (λ r. r ≡ Refusal.NameTaken → (state S.Store new.old).now.schema ≢ no_schema) }
-    ensures inside { IsTrue new.old.in_transaction → IsErrAnd result (λ _. new.new ≡ new.old) }
-    ensures outside { new.old.in_transaction ≡ false → OnErr result (HasCleanDisk (state S.Store new.new) → new.new.in_transaction ≡ false) }
-    ensures tables { new.old.in_transaction ≡ false → OnErr result (HasCleanDisk (state S.Store new.new) → HasTablesOf (state S.Store new.old) (state S.Store new.new)) }
+    ensures outside { OnErr result (HasCleanDisk (state S.Store new.new) → new.new.in_transaction ≡ false) }
+    ensures tables { OnErr result (HasCleanDisk (state S.Store new.new) → HasTablesOf (state S.Store new.old) (state S.Store new.new)) }
     ensures crash { Survives (state S.Store new.old) (state S.Store new.new) (λ trees. HasCleanDisk (state O.Store old.new) → IsMigrated First (state O.Store old.old).now trees) }
-    ensures old_inside { IsTrue old.old.in_transaction → IsErrAnd result (λ _. old.new ≡ old.old) }
-    ensures old_outside { old.old.in_transaction ≡ false → HasCleanDisk (state O.Store old.new) → old.new.in_transaction ≡ false }
-    ensures old_tables { old.old.in_transaction ≡ false → HasCleanDisk (state O.Store old.new) → HasTablesOf (state O.Store old.old) (state O.Store old.new) }
+    ensures old_outside { HasCleanDisk (state O.Store old.new) → old.new.in_transaction ≡ false }
+    ensures old_tables { HasCleanDisk (state O.Store old.new) → HasTablesOf (state O.Store old.old) (state O.Store old.new) }
     ensures old_crash { Survives (state O.Store old.old) (state O.Store old.new) (λ _. ⊥) }
 {
     note_rest(new);
@@ -159,12 +158,11 @@ fn copy_vault<O: Alter, S: Alter>(
     }
     note_rest(new);
     match commit(new) {
-        Ok(()) => {
-            note_rest(new);
-            Ok(())
-        }
-        Err(refusal) => Err(refusal),
+        Ok(()) => {}
+        Err(refusal) => return Err(refusal),
     }
+    note_rest(new);
+    Ok(())
 }
 
 impl<S: Alter> SqlKeeper<S> {
@@ -194,18 +192,21 @@ impl<S: Alter> SqlKeeper<S> {
         ensures free { OnOk result ((state S.Store new).now.schema ≡ no_schema) }
         ensures taken { IfErr result (λ e. e.0 ≡ Refusal.NameTaken → (state S.Store new).now.schema ≢ no_schema) }
         // Inside a transaction it is refused, and that is left as it was; else none is open behind it, and no table was changed.
-        ensures inside { IsTrue new.in_transaction → IsErrAnd result (λ e. e.1 ≡ new) }
+        ensures inside { IsTrue new.in_transaction → IsErrAnd result (λ e. (e.0 ≡ Refusal.Device) × (e.1 ≡ new)) }
         ensures outside { new.in_transaction ≡ false → IfErr result (λ e. HasCleanDisk (state S.Store e.1) → e.1.in_transaction ≡ false) }
         ensures tables { new.in_transaction ≡ false → IfErr result (λ e. HasCleanDisk (state S.Store e.1) → HasTablesOf (state S.Store new) (state S.Store e.1)) }
         // A crash leaves what it could leave before, or the vault of the old tables, if these were read as they stand.
         ensures crash { IfOk result (λ k. Survives (state S.Store new) (state S.Store k.conn) (λ trees. HasCleanDisk (state O.Store old.new) → IsMigrated First (state O.Store old.old).now trees)) }
         ensures harmless { IfErr result (λ e. Survives (state S.Store new) (state S.Store e.1) (λ trees. HasCleanDisk (state O.Store old.new) → IsMigrated First (state O.Store old.old).now trees)) }
         // The same of the old connection, of which a crash leaves what it could leave before, and no more.
-        ensures old_inside { IsTrue old.old.in_transaction → IsErrAnd result (λ _. old.new ≡ old.old) }
+        ensures old_inside { IsTrue old.old.in_transaction → IsErrAnd result (λ e. (e.0 ≡ Refusal.Device) × (old.new ≡ old.old)) }
         ensures old_outside { old.old.in_transaction ≡ false → HasCleanDisk (state O.Store old.new) → old.new.in_transaction ≡ false }
         ensures old_tables { old.old.in_transaction ≡ false → HasCleanDisk (state O.Store old.new) → HasTablesOf (state O.Store old.old) (state O.Store old.new) }
         ensures old_crash { Survives (state O.Store old.old) (state O.Store old.new) (λ _. ⊥) }
     {
+        if !old.is_autocommit() || !new.is_autocommit() {
+            return Err((Refusal::Device, new));
+        }
         match copy_vault(alloc, old, &mut new) {
             Ok(()) => Ok(SqlKeeper::over(alloc, new)),
             Err(refusal) => Err((refusal, new)),

