@@ -5,3 +5,4 @@ mod RollbackLemmas
 mod TableLemmas
 mod CreateLemmas
 mod CommitLemmas
+mod MigrateLemmas

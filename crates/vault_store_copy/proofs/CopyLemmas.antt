@@ -115,7 +115,7 @@ if_below : (a b : ℕ) → a < b → nat_lt a b ≡ true
 if_below a b less = grind (arith, nat_tests, less)
 
 low_unless : (a b : ℕ) → nat_lt a b ≡ false → b ≤ a
-low_unless a b no = grind (arith, nat_tests, no)
+low_unless a b fails = grind (arith, nat_tests, fails)
 
 unless_low : (a b : ℕ) → b ≤ a → nat_lt a b ≡ false
 unless_low a b low = grind (arith, nat_tests, low)
@@ -131,8 +131,8 @@ not_below n = unless_low n n (omega arith)
 
 below_as_before : (n m : ℕ) → (m == n) ≡ false → nat_lt n (m + 1) ≡ nat_lt n m
 below_as_before n m other = elim (cases_Bool (nat_lt n m)) [
-  | inl yes ↦ let less = below_if n m yes in if_below n (m + 1) (omega (arith, less)) ∙ sym yes
-  | inr no ↦ unless_low n (m + 1) (below_next n m (low_unless n m no) other) ∙ sym no
+  | inl passes ↦ let less = below_if n m passes in if_below n (m + 1) (omega (arith, less)) ∙ sym passes
+  | inr fails ↦ unless_low n (m + 1) (below_next n m (low_unless n m fails) other) ∙ sym fails
 ]
 
 -- meta has a row, and the other tables come after it

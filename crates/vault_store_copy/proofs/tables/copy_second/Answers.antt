@@ -3,6 +3,7 @@ use Rattle.sqlite.specs.Held.{state}
 use Rattle.sqlite.specs.State.{HasCleanDisk}
 use Rattle.vault_store_copy.specs.Copied.{HasCopied}
 use Rattle.vault_store_copy.proofs.CopyLemmas.{copies_on}
+use Rattle.vault_store_copy.proofs.PartLemmas.{survives_more}
 use Rattle.vault_store_copy.proofs.tables.copy_second.Goals as goal
 
 pub returns-clause-copied : goal.returns-clause-copied
@@ -40,3 +41,14 @@ returns-clause-copied g c clean after inside is_open =
     let same3 : o3.now ≡ o0.now = (did3.same clean3).0.now_is ∙ same2 in
     let part4 = did4.copied clean4 after4 up_to3.inside up_to3.is_open in
     copies_on n o0.now o3.now t0 t3 t4 (HasCopied n o0.now 4) 7 8 same3 up_to3 part4
+
+pub returns-clause-survives : goal.returns-clause-survives
+returns-clause-survives g c =
+    let t0 = state g.S.Store c.args.tx.now.conn.now in
+    let t1 = state g.S.Store c.copy_table.new.tx.conn.now in
+    let t2 = state g.S.Store c.copy_table-2.new.tx.conn.now in
+    let t3 = state g.S.Store c.copy_table-3.new.tx.conn.now in
+    let t4 = state g.S.Store c.copy_table-4.new.tx.conn.now in
+    let up_to2 = survives_more t0 t1 t2 c.in_ok-copy_table.ensures.survives c.in_ok-copy_table-2.ensures.survives in
+    let up_to3 = survives_more t0 t2 t3 up_to2 c.in_ok-copy_table-3.ensures.survives in
+    survives_more t0 t3 t4 up_to3 c.in_ok-copy_table-4.ensures.survives
