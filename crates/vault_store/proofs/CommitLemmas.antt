@@ -1,5 +1,5 @@
 -- COMMIT ends a transaction, whatever it answers, and commits what it wrote.
-use Rattle.std.proofs.Common.{◌≡◌, ℕ, ◌≤◌, List, [], length, codes, false, None, Ok, Err, Result, IsTrue, inl, inr, refl, sym, ap, subst, lit≤, ◌∙◌}
+use Rattle.std.proofs.Common.{◌≡◌, ℕ, ◌≤◌, List, [], length, codes, false, None, Ok, Err, Result, OnOk, OnErr, IsTrue, inl, inr, refl, sym, ap, subst, lit≤, ◌∙◌}
 use Rattle.sqlite_tied.specs.Compute.{everything}
 use Rattle.sqlite_trees.specs.Tree.{Trees}
 use Rattle.sqlite_schema.specs.declared.schema.Schema.{Schema}
@@ -9,8 +9,9 @@ use Rattle.sqlite_value.specs.Order.{Row}
 use Rattle.sqlite.specs.declared.error.Error.{Error}
 use Rattle.sqlite.specs.Clock.{timed}
 use Rattle.sqlite.specs.Listing.{understood}
-use Rattle.sqlite.specs.State.{State, CommitsBy, Executes, ExecutesIn, IsMisplaced, IsNotRun, IsRolledBack, MayCommit, RunsAlone, RunsCommand, Shows, text_of}
+use Rattle.sqlite.specs.State.{State, CommitsBy, Executes, ExecutesIn, IsMisplaced, IsNotRun, IsRolledBack, MayCommit, RunsAlone, RunsCommand, Shows, Survives, text_of}
 use Rattle.sqlite.proofs.Callers.{IsPlain, command_of, runs_as}
+use Rattle.sqlite.proofs.StateLemmas.{survives_weaker}
 use Rattle.vault_audit_model.proofs.OutcomeLemmas.{same_value}
 
 abbrev pub commit_text : List ℕ
@@ -50,17 +51,17 @@ module _ (old new : State) (inside : IsTrue old.in_transaction) where
       ])
   if_not_run e (inr fails) = fails.3
 
-  pub undone : (e : Error) → Executes commit_text [] old new (Err e) → IsRolledBack old new
+  undone : (e : Error) → Executes commit_text [] old new (Err e) → IsRolledBack old new
   unfolding ExecutesIn
   undone e (inl refused) = if_not_run e refused
   undone e (inr (c, it, ran)) =
       let same : commit ≡ c = same_value (sym (commit_is old.now.schema) ∙ it.is) in
       if_refused e (timed [] [] it.now) (subst (λ (k : Compiled). RunsAlone false old new commit_text k (timed [] k.formats it.now) (Err e)) (sym same) ran)
 
-  pub committed : (count : ℕ) → Executes commit_text [] old new (Ok count) → Shows old new old.now old.now false
+  committed : (count : ℕ) → Executes commit_text [] old new (Ok count) → Shows old new old.now old.now false
   committed count h = (runs_as commit_text [] old new old.now.schema refl Commit (ap command_of (commit_is old.now.schema)) (subst IsPlain (sym (commit_is old.now.schema)) (refl, refl)) count h).1
 
-  pub commits : (trees : Trees) → CommitsBy commit_text [] old trees → trees ≡ old.now.trees
+  commits : (trees : Trees) → CommitsBy commit_text [] old trees → trees ≡ old.now.trees
   unfolding CommitsBy
   commits trees (c, it, may) =
       let same : commit ≡ c = same_value (sym (commit_is old.now.schema) ∙ it.is) in
@@ -70,3 +71,10 @@ module _ (old new : State) (inside : IsTrue old.in_transaction) where
       which params (inl (inl commits, is)) = is
       which params (inl (inr (name, at, release, _, _), _)) = cc
       which params (inr write) = let both = sym inside ∙ write.0 in cc
+
+  pub commits_or_undoes : (r : Result ℕ Error) → Executes commit_text [] old new r → OnOk r (Shows old new old.now old.now false) × OnErr r (IsRolledBack old new)
+  commits_or_undoes (Ok count) h = (committed count h, tt)
+  commits_or_undoes (Err e) h = (tt, undone e h)
+
+  pub survives_commit : Survives old new (CommitsBy commit_text [] old) → Survives old new (λ trees. trees ≡ old.now.trees)
+  survives_commit it = survives_weaker old new (CommitsBy commit_text [] old) (λ trees. trees ≡ old.now.trees) (λ clean trees may. commits trees may) it

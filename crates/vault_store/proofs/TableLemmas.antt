@@ -46,10 +46,9 @@ pub same_undone : {S : Type 0} (g : Ghosts S) (old mid new : Held S)
     → (IsTrue (g.view mid.store).is_open → g.recovers mid.store (g.view mid.store).committed)
     → HasCleanDisk (state g mid) → Survives (state g old) (state g mid) (λ _. ⊥) → IsAtRest (state g old) → IsLive (state g mid) → IsUndone (state g mid) (state g new) → HasTablesOf (state g old) (state g new)
 same_undone g old mid new settled stays clean survives was live undone was_open is_open =
-    let there = undone.was_open is_open in
-    let back = undone.undone is_open in
-    let committed = same_commit g old mid settled stays clean survives was_open there (was was_open).1 (live there).1 in
-    (back.0 ∙ committed ∙ sym (was was_open).0, back.1 ∙ committed)
+    let back = undone.1 is_open in
+    let committed = same_commit g old mid settled stays clean survives was_open back.0 (was was_open).1 (live back.0).1 in
+    (back.1 ∙ committed ∙ sym (was was_open).0, back.2 ∙ committed)
 
 pub leaves_alone : {S : Type 0} (g : Ghosts S) (h : Held S)
     → ((trees : Trees) → IsTrue (g.view h.store).is_open → g.recovers h.store trees → trees ≡ (g.view h.store).committed)

@@ -12,7 +12,6 @@ abbrev pub HasTablesOf : State → State → Type 0
 HasTablesOf old new = IsTrue old.is_open → IsTrue new.is_open → (new.now ≡ old.now) × (new.committed ≡ old.committed)
 
 -- a transaction was undone, and is ended
-pub record IsUndone (old new : State) : Type 0 where
-  pub outside : new.in_transaction ≡ false
-  pub was_open : IsTrue new.is_open → IsTrue old.is_open
-  pub undone : IsTrue new.is_open → (new.now ≡ old.committed) × (new.committed ≡ old.committed)
+abbrev pub IsUndone : State → State → Type 0
+IsUndone old new =
+    (new.in_transaction ≡ false) × (IsTrue new.is_open → IsTrue old.is_open × (new.now ≡ old.committed) × (new.committed ≡ old.committed))

@@ -2,7 +2,7 @@
 ghost use Rattle.std.specs.Prelude.{◌≡◌, ◌≢◌, Err, false, IsTrue, IfOk, IfErr, IsErrAnd, OnOk, OnErr};
 ghost use Rattle.sqlite.specs.Effect.{IsDatabase};
 ghost use Rattle.sqlite.specs.Held.{state};
-ghost use Rattle.sqlite.specs.State.{HasCleanDisk, IsUnchanged, Survives};
+ghost use Rattle.sqlite.specs.State.{HasCleanDisk, IsRolledBack, IsUnchanged, Shows, Survives};
 ghost use Rattle.vault_base.specs.declared.refusal.Table.{Table};
 ghost use Rattle.vault_core_model.specs.Vault.{Vault};
 ghost use Rattle.vault_audit.specs.Whole.{IsTold};
@@ -13,17 +13,27 @@ ghost use Rattle.vault_store_apply.specs.Left.{LeavesAlone};
 ghost use Rattle.vault_store_create.specs.Create.{IsFault};
 ghost use Rattle.vault_store.specs.Kept.{kept_vault, IsSettled};
 ghost use Rattle.vault_store.specs.Migrated.{IsMigrated};
-ghost use Rattle.vault_store.specs.Tables.{HasTablesOf, IsUndone};
+ghost use Rattle.vault_store.specs.Tables.{HasTablesOf, IsAtRest, IsUndone};
 
 use crate::look::{end_transaction, look_as, note_rest};
 use crate::sql_keeper::SqlKeeper;
-use sqlite::{Alter, Connection};
+use sqlite::{Alter, Connection, Error};
 use std::alloc::Global;
 use vault_audit::audit;
 use vault_audit_model::schema::{Edition, NEWEST};
 use vault_base::refusal::Refusal;
 use vault_store_copy::begin::begin_copy;
 use vault_store_create::create::refusal_of;
+
+/// Ends the transaction that is open, if there is one.
+fn settle<S: Alter>(conn: &mut Connection<S>)
+    ensures outside { HasCleanDisk (state S.Store conn.new) → conn.new.in_transaction ≡ false }
+    ensures rest { HasCleanDisk (state S.Store conn.new) → IsAtRest (state S.Store conn.new) }
+    ensures crash { Survives (state S.Store conn.old) (state S.Store conn.new) (λ _. ⊥) }
+{
+    end_transaction(conn);
+    note_rest(conn);
+}
 
 /// Copies the vault of a file of the first edition into an empty store, inside a transaction that is left
 /// open. Where it is refused, none is.
@@ -57,18 +67,27 @@ fn take_copy<O: Alter, S: Alter>(
         Ok(()) => Ok(()),
         Err(refusal) => {
             // No clause of the copying says that it leaves none.
-            end_transaction(new);
-            end_transaction(old);
-            note_rest(old);
+            settle(new);
+            settle(old);
             Err(refusal)
         }
+    }
+}
+
+/// What is told where a copy isn't kept: what isn't sound was read wrongly.
+fn fault_of_copy(refusal: Refusal) -> Refusal
+    ensures { IsFault result }
+{
+    match refusal {
+        Refusal::Memory => Refusal::Memory,
+        _ => Refusal::Device,
     }
 }
 
 /// Looks at the tables of a connection inside a transaction, which is ended where they aren't sound.
 ///
 /// `Memory` where the store wanted memory. `Device` where it refused for another cause, and where the tables
-/// aren't sound: what was put into them was read wrongly.
+/// aren't sound.
 fn look_at_copy<S: Alter>(alloc: Global, new: &mut Connection<S>) -> Result<(), Refusal>
     ensures sound { HasCleanDisk (state S.Store new.new) → OnOk result ((v : Vault) × AreSound (state S.Store new.new).now v) }
     ensures same { HasCleanDisk (state S.Store new.new) → OnOk result (IsUnchanged (state S.Store new.old) (state S.Store new.new)) }
@@ -78,15 +97,21 @@ fn look_at_copy<S: Alter>(alloc: Global, new: &mut Connection<S>) -> Result<(), 
 {
     match audit(alloc, new, NEWEST) {
         Ok(()) => Ok(()),
-        Err(Refusal::Memory) => {
+        Err(refusal) => {
             end_transaction(new);
-            Err(Refusal::Memory)
-        }
-        Err(_) => {
-            end_transaction(new);
-            Err(Refusal::Device)
+            Err(fault_of_copy(refusal))
         }
     }
+}
+
+/// Sends the statement that commits.
+fn send_commit<S: Alter>(conn: &mut Connection<S>) -> Result<usize, Error>
+    requires { IsTrue conn.old.in_transaction }
+    ensures committed { HasCleanDisk (state S.Store conn.new) → OnOk result (Shows (state S.Store conn.old) (state S.Store conn.new) (state S.Store conn.old).now (state S.Store conn.old).now false) }
+    ensures undone { HasCleanDisk (state S.Store conn.new) → OnErr result (IsRolledBack (state S.Store conn.old) (state S.Store conn.new)) }
+    ensures crash { Survives (state S.Store conn.old) (state S.Store conn.new) (λ trees. trees ≡ (state S.Store conn.old).now.trees) }
+{
+    conn.execute("COMMIT", &[])
 }
 
 /// Commits what a transaction wrote, which is ended in any case.
@@ -97,13 +122,13 @@ fn commit<S: Alter>(conn: &mut Connection<S>) -> Result<(), Refusal>
         × ((state S.Store conn.new).now ≡ (state S.Store conn.old).now) × ((state S.Store conn.new).committed ≡ (state S.Store conn.new).now)) }
     ensures settled { OnOk result (conn.new.in_transaction ≡ false) }
     ensures faults { IfErr result IsFault }
-    ensures undone { OnErr result (HasCleanDisk (state S.Store conn.new) → IsUndone (state S.Store conn.old) (state S.Store conn.new)) }
+    ensures undone { HasCleanDisk (state S.Store conn.new) → OnErr result (IsUndone (state S.Store conn.old) (state S.Store conn.new)) }
     ensures crash { Survives (state S.Store conn.old) (state S.Store conn.new) (λ trees. trees ≡ (state S.Store conn.old).now.trees) }
 {
     if conn.is_autocommit() {
         return Err(Refusal::Device);
     }
-    match conn.execute("COMMIT", &[]) {
+    match send_commit(conn) {
         Ok(_) => {}
         Err(error) => return Err(refusal_of(error)),
     }
