@@ -1,5 +1,5 @@
 -- Parts of a transaction.
-use Rattle.std.proofs.Common.{◌≡◌, ℕ, List, Ok, Err, Result, OnOk}
+use Rattle.std.proofs.Common.{ℕ, List, Ok, Err, Result, OnOk}
 use Rattle.sqlite_value.specs.Order.{Row}
 use Rattle.sqlite.specs.declared.error.Error.{Error}
 use Rattle.sqlite.specs.Effect.{Database}

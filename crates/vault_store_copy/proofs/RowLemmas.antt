@@ -22,7 +22,7 @@ use Rattle.vault_audit_model.specs.declared.rows.SettingRow.{SettingRow}
 use Rattle.vault_audit_model.specs.declared.rows.HeadRow.{HeadRow}
 use Rattle.vault_audit_model.specs.Rows.{meta_row, department_row, caller_row, bucket_row, rule_row, entry_row, content_row, setting_row, note_row, head_row, rights_number, default_mode, default_days, default_years, noncurrent_days, noncurrent_newer, author_kind, author_name, removal_at, removal_cause, removal_by, retention_mode, retention_until}
 use Rattle.vault_audit_model.specs.Tables.{vault_schema, meta, departments, callers, buckets, rules, entries, contents, settings, intake, heads}
-use Rattle.vault_audit_model.specs.Values.{number, number_or_null, text_or_null, bytes_or_null, flag, flag_or_null}
+use Rattle.vault_audit_model.specs.Values.{number, number_or_null, bytes_or_null, flag, flag_or_null}
 use Rattle.vault_audit_model.proofs.ValueLemmas.{cast_null}
 use Rattle.vault_store_model.specs.Edits.{with_row}
 use Rattle.vault_store_edits.proofs.CastLemmas.{cast_number, cast_number_or_null, cast_flag, cast_flag_or_null, cast_text_or_null, bound_text}

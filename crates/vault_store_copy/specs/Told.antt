@@ -3,16 +3,6 @@ use Rattle.std.specs.Prelude.{◌≡◌}
 use Rattle.sqlite_value.specs.Order.{Row}
 use Rattle.vault_base.specs.declared.refusal.Table.{Table}
 use Rattle.vault_base.specs.declared.refusal.Table.TheVariants as table
-use Rattle.vault_core_model.specs.declared.records.Caller.{Caller}
-use Rattle.vault_core_model.specs.declared.records.Entry.{Entry}
-use Rattle.vault_core_model.specs.declared.records.Note.{Note}
-use Rattle.vault_audit_model.specs.declared.rows.MetaRow.{MetaRow}
-use Rattle.vault_audit_model.specs.declared.rows.DepartmentRow.{DepartmentRow}
-use Rattle.vault_audit_model.specs.declared.rows.BucketRow.{BucketRow}
-use Rattle.vault_audit_model.specs.declared.rows.RuleRow.{RuleRow}
-use Rattle.vault_audit_model.specs.declared.rows.ContentRow.{ContentRow}
-use Rattle.vault_audit_model.specs.declared.rows.SettingRow.{SettingRow}
-use Rattle.vault_audit_model.specs.declared.rows.HeadRow.{HeadRow}
 use Rattle.vault_audit_model.specs.Rows.{meta_row, department_row, caller_row, bucket_row, rule_row, entry_row, content_row, setting_row, note_row, head_row}
 
 -- it is the row of this item

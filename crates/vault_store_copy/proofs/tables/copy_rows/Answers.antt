@@ -1,4 +1,4 @@
-use Rattle.std.proofs.Common.{◌≡◌, List, [], ◌∷◌, ◌++◌, IsTrue, refl, sym, ◌∙◌, subst, rules, arith}
+use Rattle.std.proofs.Common.{◌≡◌, List, [], ◌∷◌, ◌++◌, IsTrue, refl, ◌∙◌, subst, rules, arith}
 use Rattle.sqlite_value.specs.Order.{Row}
 use Rattle.sqlite.specs.Effect.{Database}
 use Rattle.sqlite.specs.State.{HasCleanDisk, IsUnchanged, Survives, Shown, CommitsShowing}
@@ -7,7 +7,7 @@ use Rattle.sqlite.specs.Given.{HasGiven}
 use Rattle.sqlite.proofs.Callers.{begun_plain, unchanged_then}
 use Rattle.vault_audit_walk.specs.Walk.{Goes}
 use Rattle.vault_audit_walk.proofs.WalkLemmas.{commits_nothing, shown_from, goes_on}
-use Rattle.vault_store_copy.specs.Copied.{PutsRow, Steps}
+use Rattle.vault_store_copy.specs.Copied.{PutsRow}
 use Rattle.vault_store_edits.proofs.QueryLemmas.{survives_itself}
 use Rattle.vault_store_copy.proofs.PartLemmas.{survives_more}
 use Rattle.vault_store_copy.proofs.tables.copy_rows.Goals as goal
