@@ -67,7 +67,7 @@ fn take_copy<O: Alter, S: Alter>(
         Ok(()) => Ok(()),
         Err(refusal) => {
             // No clause of the copying says that it leaves none.
-            settle(new);
+            end_transaction(new);
             settle(old);
             Err(refusal)
         }

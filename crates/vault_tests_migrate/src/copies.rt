@@ -15,7 +15,7 @@ fn has_copied<S: Alter>(rt: &impl Abort, conn: &mut Connection<S>) -> Result<(),
 }
 
 /// Copies the vault of one store into another, and looks at the copy.
-fn copy_between<O: Alter, S: Alter>(
+fn copy_between<O: Alter, S: Alter + Drop>(
     rt: &impl Abort,
     alloc: Global,
     old: &mut Connection<O>,
@@ -43,7 +43,7 @@ fn a_vault_of_the_first_edition_is_copied(rt: HostRuntime) -> Result<(), Fail> {
 }
 
 /// Copies a vault that has a caller alone, and looks at the copy.
-fn copy_new_vault<O: Alter, S: Alter>(
+fn copy_new_vault<O: Alter, S: Alter + Drop>(
     rt: &impl Abort,
     alloc: Global,
     old: &mut Connection<O>,

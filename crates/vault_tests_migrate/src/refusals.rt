@@ -15,7 +15,7 @@ struct Told {
     in_new: Option<i64>,
 }
 
-fn told_between<O: Alter, S: Alter>(
+fn told_between<O: Alter, S: Alter + Drop>(
     alloc: Global,
     old: &mut Connection<O>,
     new: Connection<S>,
@@ -107,7 +107,7 @@ fn a_vault_with_another_number_is_not_copied(rt: HostRuntime) -> Result<(), Fail
 }
 
 /// What is told as a new vault of the newest edition is copied.
-fn told_of_newest<O: Alter, S: Alter>(
+fn told_of_newest<O: Alter + Drop, S: Alter + Drop>(
     alloc: Global,
     old: Connection<O>,
     new: Connection<S>,
