@@ -9,6 +9,7 @@ use vault_base::refusal::{Refusal, Table};
 
 /// What is told as the vault with this change is copied into a store with this one; and what these numbers are
 /// then, in the one and in the other.
+#[derive(Drop)]
 struct Told {
     refusal: Option<Refusal>,
     in_old: Option<i64>,

@@ -30,32 +30,41 @@ fn connected(alloc: Global, files: VaultFiles) -> Result<Connection<InFiles>, Va
     }
 }
 
-/// How a copy ended, and the files as they are left.
+/// How a copy ended.
+#[derive(Clone, Copy)]
 struct Ended {
     /// Whether it was refused by a failing file, or not at all.
     is_as_told: bool,
     is_done: bool,
-    files: VaultFiles,
 }
 
-/// Copies the vault into these files.
-fn copy_into(alloc: Global, old: &mut Connection<MemStore>, files: VaultFiles) -> Ended {
+/// Copies the vault into these files, and how they are left.
+fn copy_into(
+    alloc: Global,
+    old: &mut Connection<MemStore>,
+    files: VaultFiles,
+) -> (Ended, VaultFiles) {
     let conn = match connected(alloc, files) {
         Ok(conn) => conn,
         Err(files) => {
-            return Ended {
+            let ended = Ended {
                 is_as_told: true,
                 is_done: false,
-                files,
             };
+            return (ended, files);
         }
     };
     let (refusal, conn) = migrate(alloc, old, conn);
-    Ended {
+    let ended = Ended {
         is_as_told: refusal.is_none() || refusal == Some(Refusal::Device),
         is_done: refusal.is_none(),
-        files: conn.into_store().close(),
-    }
+    };
+    (ended, conn.into_store().close())
+}
+
+fn left_of(alloc: Global, files: VaultFiles) -> Result<(Left, Left), Fail> {
+    let Files { log, db } = files;
+    Ok((leave(alloc, log)?, leave(alloc, db)?))
 }
 
 /// How many of the counts are those of the whole copy.
@@ -112,15 +121,13 @@ fn look_at_left(
 fn stop_behind(rt: &impl Abort, alloc: Global, which: Which, calls: u64) -> Result<bool, Fail> {
     let mut old = Connection::open_in_memory(alloc)?;
     let made = make_first(&mut old);
-    let ended = copy_into(alloc, &mut old, fused(alloc, which, calls));
+    let (ended, files) = copy_into(alloc, &mut old, fused(alloc, which, calls));
     let schema = number(&mut old, "SELECT schema FROM meta");
     drop(old);
-    let Files { log, db } = ended.files;
-    let log = leave(alloc, log);
-    let database = leave(alloc, db);
+    let (log, database) = left_of(alloc, files)?;
     made?;
     assert!(rt; ended.is_as_told && schema.ok() == Some(1));
-    look_at_left(rt, alloc, ended.is_done, &log?, &database?)?;
+    look_at_left(rt, alloc, ended.is_done, &log, &database)?;
     Ok(ended.is_done)
 }
 

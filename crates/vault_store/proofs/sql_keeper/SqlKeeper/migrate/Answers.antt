@@ -6,7 +6,7 @@ use Rattle.vault_audit_model.specs.declared.schema.Edition.TheVariants.{First}
 use Rattle.vault_store_apply.specs.Left.{LeavesAlone}
 use Rattle.vault_store.specs.Kept.{kept_vault}
 use Rattle.vault_store.specs.Migrated.{IsMigrated}
-use Rattle.vault_store.proofs.migrate.SqlKeeper.migrate.Goals as goal
+use Rattle.vault_store.proofs.sql_keeper.SqlKeeper.migrate.Goals as goal
 
 pub returns-in-Ok-clause-vault : goal.returns-in-Ok-clause-vault
 returns-in-Ok-clause-vault g c clean after v is =
