@@ -4,3 +4,5 @@ mod AcknowledgedLemmas
 mod RollbackLemmas
 mod TableLemmas
 mod CreateLemmas
+mod CommitLemmas
+mod MigrateLemmas

@@ -2,3 +2,4 @@ pub mod Blame
 pub mod Kept
 pub mod Acknowledged
 pub mod Tables
+pub mod Migrated

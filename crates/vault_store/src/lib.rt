@@ -5,6 +5,7 @@ ghost use Rattle.vault_store.specs.Acknowledged.{FindsAcknowledged};
 
 mod blame;
 mod look;
+mod migrate;
 pub mod sql_keeper;
 
 use sqlite::Alter;

@@ -1,11 +1,11 @@
-//! A look at the tables of a connection that is to be opened.
+//! A look at the tables of a connection that is to be opened, or whose vault is to be copied.
 ghost use Rattle.std.specs.Prelude.{◌≡◌, ◌≢◌, false, IsTrue, IfErr, OnOk, OnErr};
 ghost use Rattle.sqlite.specs.Held.{state};
-ghost use Rattle.sqlite.specs.State.{HasCleanDisk, IsUnchanged, Survives};
+ghost use Rattle.sqlite.specs.State.{HasCleanDisk, IsLive, IsUnchanged, Survives};
 ghost use Rattle.vault_base.specs.declared.refusal.Table.{Table};
 ghost use Rattle.vault_core_model.specs.Vault.{Vault};
 ghost use Rattle.vault_audit.specs.Whole.{IsTold};
-ghost use Rattle.vault_audit_model.specs.Spells.{AreSound};
+ghost use Rattle.vault_audit_model.specs.Spells.{AreSound, AreSoundAs};
 ghost use Rattle.vault_audit_walk.specs.Health.{IsHealthy};
 ghost use Rattle.vault_store_apply.specs.Left.{LeavesAlone};
 ghost use Rattle.vault_store.specs.Tables.{IsAtRest, HasTablesOf};
@@ -13,19 +13,20 @@ ghost use Rattle.vault_store.specs.Tables.{IsAtRest, HasTablesOf};
 use sqlite::{Alter, Connection};
 use std::alloc::Global;
 use vault_audit::audit;
-use vault_audit_model::schema::NEWEST;
+use vault_audit_model::schema::{Edition, NEWEST};
 use vault_base::refusal::Refusal;
 
-/// Reads no row: outside a transaction all is committed, and the tables obey their schema.
-fn note_rest<S: Alter>(conn: &Connection<S>)
-    ensures { conn.now.in_transaction ≡ false → IsAtRest (state S.Store conn.now) }
+/// Reads no row: the tables obey their schema, and outside a transaction all is committed.
+pub(crate) fn note_rest<S: Alter>(conn: &Connection<S>)
+    ensures rest { conn.now.in_transaction ≡ false → IsAtRest (state S.Store conn.now) }
+    ensures live { IsLive (state S.Store conn.now) }
 {
     let _schema = conn.schema();
     let _settled = conn.is_autocommit();
 }
 
 /// Ends the transaction that is open, if there is one.
-fn end_transaction<S: Alter>(conn: &mut Connection<S>)
+pub(crate) fn end_transaction<S: Alter>(conn: &mut Connection<S>)
     ensures mode { HasCleanDisk (state S.Store conn.new) → conn.new.in_transaction ≡ false }
     ensures was_open { HasCleanDisk (state S.Store conn.new) → IsTrue (state S.Store conn.new).is_open → IsTrue (state S.Store conn.old).is_open }
     ensures crash { Survives (state S.Store conn.old) (state S.Store conn.new) (λ _. ⊥) }
@@ -36,8 +37,45 @@ fn end_transaction<S: Alter>(conn: &mut Connection<S>)
     let _ended = conn.execute("ROLLBACK", &[]);
 }
 
-/// Looks at the tables of a connection outside a transaction, which is outside one behind it. No table is
-/// changed.
+/// Looks at the tables of a connection outside a transaction, which are to be of that edition. It is outside
+/// one behind it, and no table is changed.
+///
+/// The errors are those of `audit`.
+pub(crate) fn look_as<S: Alter>(
+    alloc: Global,
+    conn: &mut Connection<S>,
+    edition: Edition,
+) -> Result<(), Refusal>
+    requires { conn.old.in_transaction ≡ false }
+    ensures sound { HasCleanDisk (state S.Store conn.new) → OnOk result ((v : Vault) × AreSoundAs edition (state S.Store conn.new).now v) }
+    ensures same { HasCleanDisk (state S.Store conn.new) → OnOk result (IsUnchanged (state S.Store conn.old) (state S.Store conn.new)) }
+    ensures rest { OnOk result (IsAtRest (state S.Store conn.new)) }
+    ensures settled { OnOk result (conn.new.in_transaction ≡ false) }
+    ensures told { IfErr result IsTold }
+    ensures healthy { IfErr result (λ r. IsHealthy (state S.Store conn.new) → r ≢ Refusal.Device) }
+    ensures damaged { IfErr result (λ r. HasCleanDisk (state S.Store conn.new) → (t : Table) → r ≡ Refusal.Damaged t → (v : Vault) → ¬ AreSoundAs edition (state S.Store conn.old).now v) }
+    ensures mode { OnErr result (HasCleanDisk (state S.Store conn.new) → conn.new.in_transaction ≡ false) }
+    ensures tables { OnErr result (HasCleanDisk (state S.Store conn.new) → HasTablesOf (state S.Store conn.old) (state S.Store conn.new)) }
+    ensures crash { Survives (state S.Store conn.old) (state S.Store conn.new) (λ _. ⊥) }
+{
+    note_rest(conn);
+    match audit(alloc, conn, edition) {
+        Ok(()) => {}
+        Err(refusal) => {
+            // No clause of the audit says that it leaves none.
+            end_transaction(conn);
+            note_rest(conn);
+            return Err(refusal);
+        }
+    }
+    if !conn.is_autocommit() {
+        return Err(Refusal::Device);
+    }
+    note_rest(conn);
+    Ok(())
+}
+
+/// The same of the newest edition.
 ///
 /// The errors are those of `audit`.
 pub(crate) fn look<S: Alter>(alloc: Global, conn: &mut Connection<S>) -> Result<(), Refusal>
@@ -53,19 +91,5 @@ pub(crate) fn look<S: Alter>(alloc: Global, conn: &mut Connection<S>) -> Result<
     ensures tables { OnErr result (HasCleanDisk (state S.Store conn.new) → HasTablesOf (state S.Store conn.old) (state S.Store conn.new)) }
     ensures crash { Survives (state S.Store conn.old) (state S.Store conn.new) (λ _. ⊥) }
 {
-    note_rest(conn);
-    match audit(alloc, conn, NEWEST) {
-        Ok(()) => {}
-        Err(refusal) => {
-            // No clause of the audit says that it leaves none.
-            end_transaction(conn);
-            note_rest(conn);
-            return Err(refusal);
-        }
-    }
-    if !conn.is_autocommit() {
-        return Err(Refusal::Device);
-    }
-    note_rest(conn);
-    Ok(())
+    look_as(alloc, conn, NEWEST)
 }

@@ -64,7 +64,7 @@ pub struct SqlKeeper<S: Alter> {
 
 impl<S: Alter> SqlKeeper<S> {
     /// A keeper over a connection, outside any transaction, whose tables are sound.
-    fn over(alloc: Global, conn: Connection<S>) -> SqlKeeper<S>
+    pub(crate) fn over(alloc: Global, conn: Connection<S>) -> SqlKeeper<S>
         requires settled { conn.in_transaction ≡ false }
         requires sound { HasCleanDisk (state S.Store conn) → IsSettled (state S.Store conn) }
         ensures same { result.conn ≡ conn }

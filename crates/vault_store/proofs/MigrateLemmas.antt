@@ -1,0 +1,44 @@
+-- A copy that is taken, looked at, and committed.
+use Rattle.std.proofs.Common.{◌≡◌, ap, ◌∙◌, arith}
+use Rattle.sqlite_trees.specs.Tree.{Trees}
+use Rattle.sqlite.specs.Effect.{Database, IsDatabase}
+use Rattle.sqlite.specs.State.{State, HasCleanDisk, IsUnchanged, Survives}
+use Rattle.sqlite.proofs.StateLemmas.{survives_then, survives_weaker}
+use Rattle.vault_core_model.specs.Vault.{Vault}
+use Rattle.vault_audit_model.specs.declared.schema.Edition.{Edition}
+use Rattle.vault_audit_model.specs.Spells.{AreSound, AreSoundAs}
+use Rattle.vault_store_apply.proofs.ApplyLemmas.{found_again}
+use Rattle.vault_store.specs.Migrated.{IsMigrated}
+use Rattle.vault_store.specs.Tables.{HasTablesOf}
+
+pub tables_unchanged : (a b : State) → IsUnchanged a b → HasTablesOf a b
+tables_unchanged a b same was_open is_open = (same.0.now_is, same.0.committed_is)
+
+pub tables_from : (a b c : State) → IsUnchanged a b → HasTablesOf b c → HasTablesOf a c
+tables_from a b c same later was_open is_open =
+    let it = later same.0.is_open is_open in
+    (it.0 ∙ same.0.now_is, it.1 ∙ same.0.committed_is)
+
+-- what stands in the copied tables is the vault that was copied
+pub migrated : (n : Edition) (from db : Database) (trees : Trees) → (v : Vault) × AreSoundAs n from v → ((v : Vault) → AreSoundAs n from v → AreSound db v × IsDatabase db) → trees ≡ db.trees → IsMigrated n from trees
+migrated n from db trees (v, is) copied same =
+    let it = copied v is in
+    (v, is, found_again db v trees it.0.spells.schema it.0 it.1 same)
+
+pub survives_more : (a b c : State) → Survives a b (λ _. ⊥) → Survives b c (λ _. ⊥) → Survives a c (λ _. ⊥)
+survives_more a b c one two = survives_then a b c (λ _. ⊥) (λ _. ⊥) (λ _. ⊥) (λ _ trees none. none) (λ _ trees none. none) one two
+
+pub never_copied : (a b : State) (P : Trees → Type 0) → Survives a b (λ _. ⊥) → Survives a b P
+never_copied a b P it = survives_weaker a b (λ _. ⊥) P (λ clean trees none. absurd none) it
+
+-- what a crash leaves of a copy that is taken, looked at, and committed
+pub copy_survives : (start taken looked end : State) (n : Edition) (from : Database) (Clean : Type 0) → Survives start taken (λ _. ⊥) → Survives taken looked (λ _. ⊥) → Survives looked end (λ trees. trees ≡ looked.now.trees)
+    → (HasCleanDisk looked → looked.now ≡ taken.now) → (Clean → (v : Vault) × AreSoundAs n from v) → (Clean → HasCleanDisk taken → (v : Vault) → AreSoundAs n from v → AreSound taken.now v × IsDatabase taken.now)
+    → Survives start end (λ trees. Clean → IsMigrated n from trees)
+copy_survives start taken looked end n from Clean one two three same spelled copied =
+    survives_then start looked end (λ _. ⊥) (λ trees. trees ≡ looked.now.trees) (λ trees. Clean → IsMigrated n from trees) (λ _ trees none. absurd none)
+    (λ clean trees is read.
+    let here : HasCleanDisk looked = omega (arith, clean, three.clean) in
+    let there : HasCleanDisk taken = omega (arith, here, two.clean) in
+    migrated n from taken.now trees (spelled read) (copied read there) (is ∙ ap (λ (d : Database). d.trees) (same here)))
+    (survives_more start taken looked one two) three

@@ -1,0 +1,24 @@
+use Rattle.std.proofs.Common.{sym, subst, arith}
+use Rattle.sqlite.specs.Held.{state}
+use Rattle.sqlite.specs.State.{HasCleanDisk, Survives}
+use Rattle.sqlite.proofs.Callers.{unchanged_then}
+use Rattle.vault_audit_model.specs.declared.schema.Edition.TheVariants.{First}
+use Rattle.vault_audit_model.specs.Spells.{AreSoundAs}
+use Rattle.vault_store.proofs.MigrateLemmas.{survives_more, tables_from, tables_unchanged}
+use Rattle.vault_store.proofs.TableLemmas.{same_tables}
+use Rattle.vault_store.proofs.migrate.take_copy.Goals as goal
+
+pub begin_copy-requires-clause-known : goal.begin_copy-requires-clause-known
+begin_copy-requires-clause-known g c clean = (c.in-Ok.ensures.sound clean).1.spells.schema
+
+pub returns-in-Err-begin_copy-clause-old_tables : goal.returns-in-Err-begin_copy-clause-old_tables
+returns-in-Err-begin_copy-clause-old_tables g c clean =
+    let h = c.look_as.new.conn in
+    let k = c.settle.new.conn in
+    let mid = state g.O.Store h in
+    let copied = state g.O.Store c.begin_copy.new.old in
+    let last = state g.O.Store k in
+    let early : HasCleanDisk mid = omega (arith, clean, c.begin_copy.ensures.old_crash.clean, c.settle.ensures.crash.clean) in
+    let all = survives_more mid copied last c.begin_copy.ensures.old_crash c.settle.ensures.crash in
+    let stay = same_tables g.O.Store h k (g.met.O.Store.settled h.store) (g.met.O.Store.stays k.store) clean all c.in-Ok.ensures.rest (c.settle.ensures.rest clean) in
+    tables_from (state g.O.Store c.args.old.now) mid last (c.in-Ok.ensures.same early) stay

@@ -1,0 +1,74 @@
+//! Files in memory that fail from some call on, and what a crash leaves of them.
+use sqlite::Files;
+use sqlite_disk::{Crash, Disk, Fuse, Memory};
+use std::alloc::Global;
+use std::test::Fail;
+
+/// A vault's log and database file, each of which passes so many calls on.
+pub type VaultFiles = Files<Fuse<Memory>>;
+
+/// More calls than any copy makes.
+const ALL_CALLS: u64 = u64::MAX;
+
+/// One of the two files.
+#[derive(Clone, Copy)]
+pub enum Which {
+    Log,
+    Database,
+}
+
+/// Empty files, of which one fails behind so many calls.
+pub fn fused(alloc: Global, which: Which, calls: u64) -> VaultFiles {
+    let (log_calls, database_calls) = match which {
+        Which::Log => (calls, ALL_CALLS),
+        Which::Database => (ALL_CALLS, calls),
+    };
+    Files {
+        log: Fuse::new(Memory::new(alloc), log_calls),
+        db: Fuse::new(Memory::new(alloc), database_calls),
+    }
+}
+
+/// Files with these bytes, of which none fails.
+pub fn sound(alloc: Global, log: &[u8], database: &[u8]) -> Result<VaultFiles, Fail> {
+    Ok(Files {
+        log: Fuse::new(written(alloc, log)?, ALL_CALLS),
+        db: Fuse::new(written(alloc, database)?, ALL_CALLS),
+    })
+}
+
+/// A file that has these bytes, also after a crash.
+fn written(alloc: Global, bytes: &[u8]) -> Result<Memory, Fail> {
+    let mut file = Memory::new(alloc);
+    file.write_at(0, bytes)?;
+    file.sync()?;
+    Ok(file)
+}
+
+/// What may be left of a file: all that was written, and what was synced.
+#[derive(Drop)]
+pub struct Left {
+    pub standing: Vec<u8>,
+    pub synced: Vec<u8>,
+}
+
+/// What may be left of a file.
+pub fn leave(alloc: Global, file: Fuse<Memory>) -> Result<Left, Fail> {
+    let mut file = file;
+    let left = standing_and_synced(alloc, &mut file);
+    drop(file);
+    left
+}
+
+fn standing_and_synced(alloc: Global, file: &mut Fuse<Memory>) -> Result<Left, Fail> {
+    let standing = copied(alloc, file.inner().bytes())?;
+    file.crash();
+    let synced = copied(alloc, file.inner().bytes())?;
+    Ok(Left { standing, synced })
+}
+
+fn copied(alloc: Global, bytes: &[u8]) -> Result<Vec<u8>, Fail> {
+    let mut copy = Vec::new(alloc);
+    copy.extend_from_slice(bytes)?;
+    Ok(copy)
+}
