@@ -42,7 +42,11 @@ fn told_between<O: Alter, S: Alter + Drop>(
     })
 }
 
-fn told(alloc: Global, changes: (&str, &str), queries: (&str, &str)) -> Result<Told, Fail> {
+fn told_in_memory(
+    alloc: Global,
+    changes: (&str, &str),
+    queries: (&str, &str),
+) -> Result<Told, Fail> {
     let mut old = Connection::open_in_memory(alloc)?;
     let new = Connection::open_in_memory(alloc)?;
     let told = told_between(alloc, &mut old, new, changes, queries);
@@ -56,7 +60,7 @@ fn is_told(rt: &impl Abort, alloc: Global, change: &str, table: Table) -> Result
         "SELECT count(*) FROM callers",
         "SELECT count(*) FROM callers",
     );
-    let told = told(alloc, (change, ""), queries)?;
+    let told = told_in_memory(alloc, (change, ""), queries)?;
     assert!(rt;
         told.refusal == Some(Refusal::Damaged(table)),
         "with {change}"
@@ -135,7 +139,7 @@ fn a_vault_of_the_newest_edition_is_not_copied(rt: HostRuntime) -> Result<(), Fa
 
 /// Fails where the store with this in it isn't told as taken, or it lost that.
 fn is_taken(rt: &impl Abort, alloc: Global, filled: &str, query: &str) -> Result<(), Fail> {
-    let told = told(alloc, ("", filled), ("SELECT schema FROM meta", query))?;
+    let told = told_in_memory(alloc, ("", filled), ("SELECT schema FROM meta", query))?;
     assert!(rt; told.refusal == Some(Refusal::NameTaken), "with {filled}");
     assert!(rt;
         told.in_old == Some(1) && told.in_new == Some(7),
@@ -169,7 +173,7 @@ fn a_store_with_anything_in_it_is_taken(rt: HostRuntime) -> Result<(), Fail> {
 fn damage_is_told_first(rt: HostRuntime) -> Result<(), Fail> {
     let shelf = "CREATE TABLE shelf (id INTEGER PRIMARY KEY) STRICT";
     let queries = ("SELECT next FROM meta", "SELECT count(*) FROM shelf");
-    let told = told(rt.alloc(), ("UPDATE meta SET next = 6", shelf), queries)?;
+    let told = told_in_memory(rt.alloc(), ("UPDATE meta SET next = 6", shelf), queries)?;
     assert!(rt; told.refusal == Some(Refusal::Damaged(Table::Meta)));
     assert!(rt; told.in_old == Some(6) && told.in_new == Some(0));
     Ok(())
@@ -178,10 +182,10 @@ fn damage_is_told_first(rt: HostRuntime) -> Result<(), Fail> {
 #[test]
 fn a_connection_inside_a_transaction_is_refused(rt: HostRuntime) -> Result<(), Fail> {
     let queries = ("SELECT schema FROM meta", "SELECT count(*) FROM callers");
-    let begun = told(rt.alloc(), ("BEGIN", ""), queries)?;
+    let begun = told_in_memory(rt.alloc(), ("BEGIN", ""), queries)?;
     assert!(rt; begun.refusal == Some(Refusal::Device));
     assert!(rt; begun.in_old == Some(1) && begun.in_new.is_none());
-    let begun = told(rt.alloc(), ("", "BEGIN"), queries)?;
+    let begun = told_in_memory(rt.alloc(), ("", "BEGIN"), queries)?;
     assert!(rt; begun.refusal == Some(Refusal::Device));
     assert!(rt; begun.in_old == Some(1) && begun.in_new.is_none());
     Ok(())
