@@ -12,6 +12,12 @@ usage() {
     exit 2
 }
 
+# WORDS..: takes an option that one program alone has off the words, and says in `taken` how many words it is. A program
+# that has such options defines this anew.
+own_option() {
+    return 1
+}
+
 # TEXT WORDS..: reads options in front of, between and behind the other words, which come as `word_1`, `word_2` .. up to
 # `words`. What isn't understood ends the program with the text.
 read_words() {
@@ -34,7 +40,11 @@ read_words() {
             shift
             break
             ;;
-        -?*) usage "$text" ;;
+        -?*)
+            own_option "$@" && [ $# -ge "$taken" ] || usage "$text"
+            shift "$taken"
+            continue
+            ;;
         esac
         keep_word "$1"
         shift
