@@ -1,6 +1,7 @@
-pub mod ItemLemmas
-pub mod SumLemmas
+pub mod JoinLemmas
+pub mod TotalLemmas
+pub mod RowLemmas
+pub mod TextLemmas
 pub mod OwnedLemmas
-pub mod DepartmentLemmas
-pub mod ListedLemmas
+pub mod WalkLemmas
 pub mod TableLemmas

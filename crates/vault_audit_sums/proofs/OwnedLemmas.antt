@@ -1,89 +1,70 @@
--- The walk over the buckets that gathers those of a department.
-use Rattle.std.proofs.Common.{◌≡◌, ℕ, List, [], ◌∷◌, map, find, cond, option_map, Bool, true, false, ◌&&◌, ◌||◌, Option, Some, Less, is_eq, nat_cmp, IsPermutation, refl, sym, ap, subst, ◌∙◌}
-use Rattle.std.specs.List.{AllByRecursion, list_any}
+-- What the query on entries beside their buckets shows: each entry once, beside its bucket if there is one.
+use Rattle.std.specs.Ordering.{is_lt}
+use Rattle.std.proofs.Common.{◌≡◌, ℕ, ◌+◌, ◌≤◌, List, [], ◌∷◌, map, filter, flat_map, find, cond, option_map, Bool, true, false, Option, Some, None, IfSome, Less, is_eq, nat_cmp, IsPermutation, IsSorted, refl, sym, ap, subst, ◌∙◌, arith}
+use Rattle.std.specs.List.{AllByRecursion}
 use Rattle.std.specs.Cmp.Lexicographic.{slice_cmp}
 use Rattle.std.specs.Str.{bytes_eq}
-use Rattle.std.proofs.lemmas.List.Folds.{list_any-append}
-use Rattle.std.proofs.lemmas.List.Sorted.{IsPermutation-trans, list_any-IsPermutation}
+use Rattle.std.proofs.lemmas.Bool.{false_from_ne_true}
+use Rattle.std.proofs.lemmas.List.Sorted.{length_permutation}
 use Rattle.std.proofs.lemmas.Map.Text.{is_eq-slice_cmp}
 use Rattle.std.proofs.lemmas.Slice.Eq.{bytes_eq-Decides}
-use Rattle.std.proofs.lemmas.Bool.{false_from_ne_true}
-use Rattle.sqlite_value.specs.declared.value.Value.{Value}
-use Rattle.sqlite_value.specs.declared.value.Value.TheVariants.{Null, Int, Real, Text, Blob}
-use Rattle.sqlite_value.specs.Order.{Row as Values, column}
-use Rattle.sqlite_trees.proofs.ListLemmas.{map-map}
+use Rattle.sqlite_trees.specs.Tree.{IsAscending as Rises}
+use Rattle.sqlite_keyed.proofs.ListLemmas.{map-map, flat_map-map, filter-map, filter_same, filter_none, flat_map_same_on, IsPermutation-flat_map, IsPermutation-filter, ascending-map, ascending_from_map}
+use Rattle.sqlite_value.specs.declared.value.Value.TheVariants.{Text}
+use Rattle.sqlite_value.specs.Order.{Row as Values, column, value_cmp}
+use Rattle.sqlite_value.proofs.OrderLemmas.{then-Equal}
+use Rattle.sqlite_sql.specs.Term.{eval, col}
+use Rattle.sqlite_sql.specs.Query.{or_nulls}
 use Rattle.sqlite.specs.Effect.{Database}
-use Rattle.sqlite.specs.State.{State, Shown, IsUnchanged}
+use Rattle.sqlite.specs.State.{State, Shown}
+use Rattle.sqlite.proofs.Callers.{one_permutation}
 use Rattle.vault_core_model.specs.declared.records.Bucket.{Bucket}
+use Rattle.vault_core_model.specs.declared.records.Entry.{Entry}
+use Rattle.vault_core_model.specs.declared.records.Removal.{Removal}
 use Rattle.vault_core_model.specs.Order.{IsAscending, bucket_cmp}
-use Rattle.vault_core_model.specs.Totals.{is_of_department}
-use Rattle.vault_core_model.specs.Vault.{config_in}
-use Rattle.vault_audit_model.specs.Limits.{IsBucket, IsBucketRow}
-use Rattle.vault_audit_model.specs.Relations.{AreBuckets}
-use Rattle.vault_audit_model.specs.Rows.{bucket_row, bucket_columns}
-use Rattle.vault_audit_model.specs.Spells.{bucket_of}
-use Rattle.vault_audit_model.specs.Tables.{schema_of, buckets_tree}
-use Rattle.vault_audit_walk.specs.Records.{TellsOne}
-use Rattle.vault_audit_walk.specs.Walk.{Goes, Walked}
-use Rattle.vault_audit_walk.proofs.RecordLemmas.{scanned, records_of}
-use Rattle.vault_audit_tables.proofs.TextLemmas.{buckets_text, buckets_scan}
-use Rattle.vault_audit_sums.specs.declared.owned.OwnedPass.{OwnedPass}
-use Rattle.vault_audit_sums.specs.Owned.{name_where, GoesWith, TellsNone, AreOwnedBy}
+use Rattle.vault_core_model.specs.Vault.{bucket_in}
+use Rattle.vault_base.specs.Days.{last_moment}
 use Rattle.vault_audit_model.specs.declared.schema.Edition.{Edition}
+use Rattle.vault_audit_model.specs.Limits.{IsBucket, IsEntry, IsPlainName, IsRemoval}
+use Rattle.vault_audit_model.specs.Relations.{AreBuckets, AreEntries, AreNumbered}
+use Rattle.vault_audit_model.specs.Rows.{bucket_row, bucket_columns, entry_row, entry_columns}
+use Rattle.vault_audit_model.specs.Spells.{bucket_of}
+use Rattle.vault_audit_model.specs.Tables.{schema_of, buckets_tree, entries_tree}
+use Rattle.vault_audit_model.specs.Values.{text_or_null}
+use Rattle.vault_audit_model.proofs.ValueLemmas.{agrees, same_text}
+use Rattle.vault_audit_walk.specs.Records.{TellsOne}
+use Rattle.vault_audit_walk.proofs.ScanLemmas.{first_cmp}
+use Rattle.vault_audit_tables.proofs.NumberLemmas.{rising}
+use Rattle.vault_audit_sums.proofs.JoinLemmas.{joined_of, shown_joined, shown_by_join, joined_with, IsOrderOf}
+use Rattle.vault_audit_sums.specs.Owned.{owned_row, owned_in, IsOwned}
+use Rattle.vault_audit_sums.proofs.TextLemmas.{owned_text, owned_shown, owned_order, owned_is, owned_plain}
 
--- ---- what a row tells
+-- ---- a list of no length, and one of one row, under a map
 
-abbrev is_text : Value → List ℕ → Bool
-is_text Null n = false
-is_text (Int i) n = false
-is_text (Real r) n = false
-is_text (Text t) n = bytes_eq t n
-is_text (Blob b) n = false
+none_mapped : (columns : Values → Values) (rows : List Values) → IsPermutation [] (map columns rows) → rows ≡ []
+none_mapped columns [] h = refl
+none_mapped columns (r ∷ rows) h = absurd (let n = length_permutation _ _ h in omega (arith, n))
 
--- the row is that of this bucket, which is the department's
-abbrev owned : List ℕ → List ℕ → Values → Bool
-owned dept bucket row = is_text (column row 0) bucket && is_text (column row 1) dept
+given_rows : (columns : Values → Values) (rows : List Values) (x : Values) → map columns rows ≡ x ∷ [] → map columns (or_nulls rows) ≡ x ∷ []
+given_rows columns [] x h = absurd cc
+given_rows columns (r ∷ rows) x h = h
 
--- ---- the names that go in
+-- ---- the bucket of a name
 
-one_name : (b : Bool) (name bucket : List ℕ) → list_any (λ n. bytes_eq n bucket) (name_where b name) ≡ (bytes_eq name bucket && b)
-one_name true name bucket = alone (bytes_eq name bucket)
-  where
-    alone : (t : Bool) → (t || false) ≡ (t && true)
-    alone true = refl
-    alone false = refl
-one_name false name bucket = none (bytes_eq name bucket)
-  where
-    none : (t : Bool) → false ≡ (t && false)
-    none true = refl
-    none false = refl
+abbrev is_bucket : List ℕ → Bucket → Bool
+is_bucket name b = bytes_eq b.name name
 
-or_same : (a b c d : Bool) → a ≡ c → b ≡ d → (a || b) ≡ (c || d)
-or_same a b c d p q = rw (p, q) refl
+abbrev row_of_bucket : Bucket → Values
+row_of_bucket b = bucket_row (bucket_of b)
 
-or_behind : (a b c : Bool) → ((a || b) || c) ≡ (a || (b || c))
-or_behind true b c = refl
-or_behind false b c = refl
+-- the row of the bucket, or NULLs
+abbrev row_beside : Option Bucket → Values
+row_beside None = bucket_columns []
+row_beside (Some b) = row_of_bucket b
 
--- a bucket is named after the walk where it was before it, or where a row is its own
-went : (p q : OwnedPass) (rows : List Values) (bucket : List ℕ) → Goes GoesWith p rows q
-    → list_any (λ n. bytes_eq n bucket) q.names.items ≡ (list_any (λ n. bytes_eq n bucket) p.names.items || list_any (owned p.dept bucket) rows)
-went p q [] bucket goes = ap (λ (s : OwnedPass). list_any (λ n. bytes_eq n bucket) s.names.items) (sym goes) ∙ no_more (list_any (λ n. bytes_eq n bucket) p.names.items)
-  where
-    no_more : (t : Bool) → t ≡ (t || false)
-    no_more true = refl
-    no_more false = refl
-went p q (r ∷ rows) bucket (m, one, more) =
-    let named : List (List ℕ) → Bool = λ ns. list_any (λ n. bytes_eq n bucket) ns in
-    let b = one.0 in
-    let here : bytes_eq b.name bucket && bytes_eq b.config.dept p.dept ≡ owned p.dept bucket r = ap (owned p.dept bucket) (sym one.1) in
-    let grown : named m.names.items ≡ (named p.names.items || owned p.dept bucket r) =
-    ap named one.3 ∙ list_any-append (λ n. bytes_eq n bucket) p.names.items (name_where (bytes_eq b.config.dept p.dept) b.name)
-    ∙ ap (λ t. named p.names.items || t) (one_name (bytes_eq b.config.dept p.dept) b.name bucket ∙ here) in
-    went m q rows bucket more ∙ or_same (named m.names.items) (list_any (owned m.dept bucket) rows) (named p.names.items || owned p.dept bucket r) (list_any (owned p.dept bucket) rows) grown (ap (λ d. list_any (owned d bucket) rows) one.2)
-    ∙ or_behind (named p.names.items) (owned p.dept bucket r) (list_any (owned p.dept bucket) rows)
-
--- ---- the buckets, each with a name of its own
+abbrev alone : Option Bucket → List Bucket
+alone None = []
+alone (Some b) = b ∷ []
 
 not_named : (name other bucket : List ℕ) → slice_cmp nat_cmp name other ≡ Less → name ≡ bucket → bytes_eq other bucket ≡ false
 not_named name other bucket less is =
@@ -94,53 +75,122 @@ not_named name other bucket less is =
     let both : ◌≡◌ {A = Bool} true false = sym one ∙ sym (is_eq-slice_cmp name other) ∙ two in
     absurd cc)
 
-later : (dept bucket : List ℕ) (b : Bucket) (bs : List Bucket) → AllByRecursion (λ c. bucket_cmp b c ≡ Less) bs → b.name ≡ bucket → list_any (λ (c : Bucket). owned dept bucket (bucket_row (bucket_of c))) bs ≡ false
-later dept bucket b [] all is = refl
-later dept bucket b (c ∷ cs) all is = or_same _ _ false false (ap (λ t. t && bytes_eq c.config.dept dept) (not_named b.name c.name bucket all.0 is)) (later dept bucket b cs all.1 is)
+none_later : (name : List ℕ) (b : Bucket) (bs : List Bucket) → AllByRecursion (λ c. bucket_cmp b c ≡ Less) bs → b.name ≡ name → AllByRecursion (λ c. is_bucket name c ≡ false) bs
+none_later name b [] all is = tt
+none_later name b (c ∷ cs) all is = (not_named b.name c.name name all.0 is, none_later name b cs all.1 is)
 
-chosen : (test d rest : Bool) (dept : List ℕ) (b : Bucket) (found : Option Bucket) → d ≡ bytes_eq b.config.dept dept → (test ≡ true → rest ≡ false) → rest ≡ is_of_department dept (option_map (λ (x : Bucket). x.config) found)
-    → ((test && d) || rest) ≡ is_of_department dept (option_map (λ (x : Bucket). x.config) (cond test (Some b) found))
-chosen true d rest dept b found is none same = rw (none refl, is) (no_more (bytes_eq b.config.dept dept))
+-- buckets in the order of their names have at most one of a name
+only_one : (name : List ℕ) (bs : List Bucket) → IsAscending bucket_cmp bs → filter (is_bucket name) bs ≡ alone (bucket_in bs name)
+only_one name [] up = refl
+only_one name (b ∷ bs) up = of (is_bucket name b) refl (only_one name bs up.1)
   where
-    no_more : (t : Bool) → (t || false) ≡ t
-    no_more true = refl
-    no_more false = refl
-chosen false d rest dept b found is none same = same
+    of : (t : Bool) → is_bucket name b ≡ t → filter (is_bucket name) bs ≡ alone (bucket_in bs name) → cond t (b ∷ filter (is_bucket name) bs) (filter (is_bucket name) bs) ≡ alone (cond t (Some b) (bucket_in bs name))
+    of true same more = ap (λ xs. b ∷ xs) (filter_none (is_bucket name) bs (none_later name b bs up.0 ((bytes_eq-Decides b.name name).0 same)))
+    of false other more = more
 
-only_one : (dept bucket : List ℕ) (bs : List Bucket) → IsAscending bucket_cmp bs → list_any (λ (b : Bucket). owned dept bucket (bucket_row (bucket_of b))) bs ≡ is_of_department dept (config_in bs bucket)
-only_one dept bucket [] ascending = refl
-only_one dept bucket (b ∷ bs) ascending =
-    chosen (bytes_eq b.name bucket) (bytes_eq b.config.dept dept) (list_any (λ (c : Bucket). owned dept bucket (bucket_row (bucket_of c))) bs) dept b (find (λ c. bytes_eq c.name bucket) bs) refl
-    (λ is. later dept bucket b bs ascending.0 ((bytes_eq-Decides b.name bucket).0 is)) (only_one dept bucket bs ascending.1)
+module _ (source : List Values) (bs : List Bucket) (are : IsPermutation (map row_of_bucket bs) (map bucket_columns source)) (up : IsAscending bucket_cmp bs) where
+  abbrev is_at : List ℕ → Values → Bool
+  is_at name r = agrees (column r 1) (Text name)
 
-mapped_any : {A B : Type 0} (f : A → B) (test : B → Bool) (xs : List A) → list_any test (map f xs) ≡ list_any (λ x. test (f x)) xs
-mapped_any f test [] = refl
-mapped_any f test (x ∷ xs) = ap (λ t. test (f x) || t) (mapped_any f test xs)
+  matched : (name : List ℕ) → IsPermutation (map row_of_bucket (filter (is_bucket name) bs)) (map bucket_columns (filter (is_at name) source))
+  matched name =
+      let test = λ (row : Values). agrees (column row 0) (Text name) in
+      let told : filter test (map row_of_bucket bs) ≡ map row_of_bucket (filter (is_bucket name) bs) =
+      filter-map test row_of_bucket bs ∙ ap (map row_of_bucket) (filter_same (λ (b : Bucket). test (row_of_bucket b)) (is_bucket name) (λ b. same_text b.name name) bs) in
+      subst (λ xs. IsPermutation xs (map bucket_columns (filter (is_at name) source))) told
+      (subst (IsPermutation (filter test (map row_of_bucket bs))) (filter-map test bucket_columns source) (IsPermutation-filter test _ _ are))
 
--- ---- the walk
+  -- what the join finds for a name is the bucket of that name, or a row of NULLs
+  found : (name : List ℕ) → map bucket_columns (or_nulls (filter (is_at name) source)) ≡ row_beside (bucket_in bs name) ∷ []
+  found name = of (bucket_in bs name) (subst (λ xs. IsPermutation (map row_of_bucket xs) (map bucket_columns (filter (is_at name) source))) (only_one name bs up) (matched name))
+    where
+      of : (o : Option Bucket) → IsPermutation (map row_of_bucket (alone o)) (map bucket_columns (filter (is_at name) source)) → map bucket_columns (or_nulls (filter (is_at name) source)) ≡ row_beside o ∷ []
+      of None none = let empty = none_mapped bucket_columns (filter (is_at name) source) none in rw empty refl
+      of (Some b) one = given_rows bucket_columns (filter (is_at name) source) (row_of_bucket b) (one_permutation (row_of_bucket b) (map bucket_columns (filter (is_at name) source)) one)
 
-abbrev source : Database → List Values
-source db = map bucket_columns (db.trees buckets_tree)
+-- ---- all rows
 
-answered : (n : Edition) → (a b : State) → a.now.schema ≡ schema_of n → (rows : List Values) → Shown buckets_text [] a b rows → IsPermutation (source a.now) rows
-answered n a b schema rows shown = scanned (schema_of n) buckets_text _ _ _ (buckets_scan n) a b schema refl rows shown
+-- an entry's row beside that of a bucket
+abbrev beside_bucket : Values → Values → Values
+beside_bucket c x = column c 0 ∷ column c 3 ∷ column c 4 ∷ column c 6 ∷ column c 9 ∷ column x 1 ∷ []
 
-bucket_rows : (bs : List Bucket) → AllByRecursion IsBucket bs → AllByRecursion IsBucketRow (map bucket_of bs)
-bucket_rows [] all = tt
-bucket_rows (b ∷ bs) all = (record { name = all.0.name; config = all.0.config }, bucket_rows bs all.1)
+abbrev shown_for : List Values → Values → List Values
+shown_for buckets c = map (beside_bucket c) (map bucket_columns (or_nulls (filter (λ b. agrees (column b 1) (column c 1)) buckets)))
 
-module _ (n : Edition) (old new : State) (has : old.now.schema ≡ schema_of n) (same : IsUnchanged old new) (p r : OwnedPass) (none : p.names.items ≡ []) (bs : List Bucket) (are : AreBuckets n new.now bs) where
-  pub owned_yes : Walked GoesWith TellsNone buckets_text old new p r true → AreOwnedBy bs p.dept r.names.items
-  owned_yes (rows, shown, goes) bucket =
-      let f = λ (b : Bucket). bucket_row (bucket_of b) in
-      let whole = (answered n) old new has rows shown in
-      let buckets = subst (λ (d : Database). IsPermutation (map f bs) (source d)) same.0.now_is are.0 in
-      let empty : list_any (λ n. bytes_eq n bucket) p.names.items ≡ false = ap (list_any (λ n. bytes_eq n bucket)) none in
-      went p r rows bucket goes ∙ ap (λ t. t || list_any (owned p.dept bucket) rows) empty
-      ∙ sym (list_any-IsPermutation (owned p.dept bucket) (map f bs) rows (IsPermutation-trans _ _ _ buckets whole))
-      ∙ mapped_any f (owned p.dept bucket) bs ∙ only_one p.dept bucket bs are.2
+abbrev pub source : Database → List Values
+source db = shown_by_join entries_tree buckets_tree 1 2 owned_shown db.trees
 
-  pub owned_no : ¬ Walked GoesWith TellsNone buckets_text old new p r false
-  owned_no (rows, row, m, begins, goes, never) =
-      let none_told = records_of bucket_row IsBucketRow (schema_of n) buckets_text _ _ _ (buckets_scan n) old new has (λ trees. refl) same false (rows, row, begins, λ (it : TellsOne bucket_row IsBucketRow row). never it.0 it.2 it.1) in
-      none_told (map bucket_of bs) (subst (λ xs. IsPermutation xs (source new.now)) (sym (map-map bucket_row bucket_of bs)) are.0) (bucket_rows bs are.3)
+source_is : (db : Database) → source db ≡ flat_map (shown_for (db.trees buckets_tree)) (map entry_columns (db.trees entries_tree))
+source_is db =
+    flat_map_same_on (shown_joined buckets_tree 1 2 owned_shown db.trees) (λ r. shown_for (db.trees buckets_tree) (entry_columns r))
+    (λ r. sym (map-map (beside_bucket (entry_columns r)) bucket_columns (or_nulls (filter (λ b. agrees (column b 1) (column r 2)) (db.trees buckets_tree))))) (db.trees entries_tree)
+    ∙ sym (flat_map-map (shown_for (db.trees buckets_tree)) entry_columns (db.trees entries_tree))
+
+dept_shown : (o : Option Bucket) → column (row_beside o) 1 ≡ text_or_null (option_map (λ c. c.dept) (option_map (λ (b : Bucket). b.config) o))
+dept_shown None = refl
+dept_shown (Some b) = refl
+
+each_one : {X Y : Type 0} (f : X → List Y) (g : X → Y) → ((x : X) → f x ≡ g x ∷ []) → (xs : List X) → flat_map f xs ≡ map g xs
+each_one f g same [] = refl
+each_one f g same (x ∷ xs) = rw (same x) (ap (λ ys. g x ∷ ys) (each_one f g same xs))
+
+module _ (n : Edition) (db : Database) (bs : List Bucket) (es : List Entry) (buckets : AreBuckets n db bs) (entries : AreEntries db es) where
+  abbrev rows_told : List Values
+  rows_told = map owned_row (map (owned_in bs) es)
+
+  shown_entry : (e : Entry) → shown_for (db.trees buckets_tree) (entry_row e) ≡ owned_row (owned_in bs e) ∷ []
+  shown_entry e =
+      ap (map (beside_bucket (entry_row e))) (found (db.trees buckets_tree) bs buckets.0 buckets.2 e.bucket)
+      ∙ ap (λ v. (column (entry_row e) 0 ∷ column (entry_row e) 3 ∷ column (entry_row e) 4 ∷ column (entry_row e) 6 ∷ column (entry_row e) 9 ∷ v ∷ []) ∷ []) (dept_shown (bucket_in bs e.bucket))
+
+  -- the query shows the entries beside their buckets, in some order
+  pub shown_are : IsPermutation rows_told (source db)
+  shown_are =
+      let each = flat_map-map (shown_for (db.trees buckets_tree)) entry_row es ∙ each_one (λ (e : Entry). shown_for (db.trees buckets_tree) (entry_row e)) (λ e. owned_row (owned_in bs e)) shown_entry es ∙ sym (map-map owned_row (owned_in bs) es) in
+      subst (IsPermutation rows_told) (sym (source_is db)) (subst (λ xs. IsPermutation xs (flat_map (shown_for (db.trees buckets_tree)) (map entry_columns (db.trees entries_tree)))) each (IsPermutation-flat_map (shown_for (db.trees buckets_tree)) _ _ entries.0))
+
+-- by rising id
+pub owned_rise : (bs : List Bucket) (es : List Entry) → AreNumbered 1 0 es → Rises (λ a b. first_cmp a b ≡ Less) (map owned_row (map (owned_in bs) es))
+owned_rise bs es are =
+    let up = ascending_from_map (λ a b. first_cmp a b ≡ Less) entry_row es (rising es are) in
+    subst (Rises (λ a b. first_cmp a b ≡ Less)) (sym (map-map owned_row (owned_in bs) es)) (ascending-map (λ a b. first_cmp a b ≡ Less) (λ (e : Entry). owned_row (owned_in bs e)) es up)
+
+-- ---- what the statement answers
+
+by_first : IsOrderOf (joined_of entries_tree buckets_tree 1 2 owned_shown owned_order) first_cmp
+by_first a b = ap is_lt (then-Equal (value_cmp (eval (col 1 0) a) (eval (col 1 0) b)))
+
+pub answers : (n : Edition) (a b : State) → a.now.schema ≡ schema_of n → (rows : List Values) → Shown owned_text [] a b rows → IsPermutation (source a.now) rows × IsSorted first_cmp rows
+answers n a b schema rows shown =
+    joined_with owned_text a b (schema_of n) schema (owned_plain n) (owned_is n).1 entries_tree buckets_tree 1 2 owned_shown owned_order first_cmp _ (owned_is n).0 by_first refl refl rows shown
+
+-- ---- limits
+
+first_holds : (P : Bucket → Type 0) (test : Bucket → Bool) (bs : List Bucket) → AllByRecursion P bs → IfSome (find test bs) P
+first_holds P test [] all = tt
+first_holds P test (b ∷ bs) all = of (test b) (first_holds P test bs all.1)
+  where
+    of : (t : Bool) → IfSome (find test bs) P → IfSome (cond t (Some b) (find test bs)) P
+    of true more = all.0
+    of false more = more
+
+dept_named : (o : Option Bucket) → IfSome o IsBucket → IfSome (option_map (λ c. c.dept) (option_map (λ (b : Bucket). b.config) o)) IsPlainName
+dept_named None is = tt
+dept_named (Some b) is = is.config.dept
+
+removed_by : (o : Option Removal) → IfSome o IsRemoval → IfSome (option_map (λ r. r.at) o) (λ t. t ≤ last_moment)
+removed_by None is = tt
+removed_by (Some r) is = is.at
+
+is_owned : (bs : List Bucket) (e : Entry) → AllByRecursion IsBucket bs → IsEntry e → IsOwned (owned_in bs e)
+is_owned bs e all is = record {
+  id = is.id;
+  admitted = is.admitted;
+  removed = removed_by e.removal is.removal;
+  dept = dept_named (bucket_in bs e.bucket) (first_holds IsBucket (λ b. bytes_eq b.name e.bucket) bs all);
+}
+
+-- each of these rows tells an entry in its limits
+pub each_tells : (next low : ℕ) (bs : List Bucket) (es : List Entry) → AllByRecursion IsBucket bs → AreNumbered next low es → AllByRecursion (TellsOne owned_row IsOwned) (map owned_row (map (owned_in bs) es))
+each_tells next low bs [] all are = tt
+each_tells next low bs (e ∷ es) all are = ((owned_in bs e, refl, is_owned bs e all are.0.0), each_tells (next + 1) e.admitted bs es all are.1)

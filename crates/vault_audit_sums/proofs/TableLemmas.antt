@@ -1,32 +1,40 @@
--- The rows of departments as departments with their sums.
-use Rattle.std.proofs.Common.{◌≡◌, ℕ, ◌≤◌, List, [], ◌∷◌, map, Bool, true, false, IsPermutation, refl, sym, ap, subst}
+-- The rows of departments beside their totals, as departments with their sums.
+use Rattle.std.proofs.Common.{◌≡◌, ℕ, ◌≤◌, List, [], ◌∷◌, map, Bool, true, false, Option, Some, None, IsPermutation, refl, sym, ap, subst}
 use Rattle.std.specs.List.{AllByRecursion}
-use Rattle.std.proofs.lemmas.List.Sorted.{IsPermutation-sym, IsPermutation-trans}
-use Rattle.sqlite_trees.proofs.ListLemmas.{map-map, all-permutation}
-use Rattle.sqlite_value.specs.Order.{Row as Values}
+use Rattle.sqlite_trees.proofs.ListLemmas.{map-map}
 use Rattle.sqlite.specs.Effect.{Database}
+use Rattle.vault_tally.specs.declared.row.Row.{Row as Sums}
 use Rattle.vault_core_model.specs.declared.records.Bucket.{Bucket}
 use Rattle.vault_core_model.specs.declared.records.History.{History}
 use Rattle.vault_core_model.specs.Sound.{Sound, IsInTime}
+use Rattle.vault_core_model.specs.Totals.{items_in}
 use Rattle.vault_core_model.specs.Vault.{Vault}
 use Rattle.vault_core_laws.proofs.Soundness.{admitted_by}
 use Rattle.vault_audit_model.specs.declared.schema.Edition.{Edition}
 use Rattle.vault_audit_model.specs.declared.rows.DepartmentRow.{DepartmentRow}
-use Rattle.vault_audit_model.specs.Limits.{IsPlainName, IsDepartmentRow}
+use Rattle.vault_audit_model.specs.Limits.{IsPlainName}
 use Rattle.vault_audit_model.specs.Relations.{department_with, IsPast, IsWithin, AreBuckets, AreEntries, TellSums}
 use Rattle.vault_audit_model.specs.Rows.{department_row, department_columns}
-use Rattle.vault_audit_model.specs.Spells.{AreSoundAs}
+use Rattle.vault_audit_model.specs.Spells.{AreSoundAs, sums_over}
 use Rattle.vault_audit_model.specs.Tables.{departments_tree}
 use Rattle.vault_audit_contents.proofs.SoundLemmas.{sound_entries}
-use Rattle.vault_audit_names.proofs.RowLemmas.{same_department}
-use Rattle.vault_audit_sums.specs.Department.{HasSums, TellEach}
-use Rattle.vault_audit_sums.specs.Listed.{AreListed}
+use Rattle.vault_audit_walk.specs.Records.{AreRecords}
+use Rattle.vault_audit_sums.specs.declared.totals.Totals.{Totals}
+use Rattle.vault_audit_sums.specs.Departments.{HasTotal}
+use Rattle.vault_audit_sums.specs.Totals.{total_of, IsTotal}
+use Rattle.vault_audit_sums.specs.Versions.{AreTotals}
+use Rattle.vault_audit_sums.proofs.TotalLemmas.{sums_are}
+
+-- the row has the sums over the versions, which are within what the department may admit
+abbrev HasSums : List Bucket → List History → DepartmentRow → Type 0
+HasSums bs hs d = (d ≡ department_with bs hs d.name) × IsWithin bs hs d.name
+
+with_sums : (name : List ℕ) (a b : Sums) → a ≡ b → ◌≡◌ {A = DepartmentRow} (record { name = name; sums = a }) (record { name = name; sums = b })
+with_sums name a b e = ap (λ (s : Sums). record { name = name; sums = s }) e
 
 module _ (bs : List Bucket) (hs : List History) where
   abbrev names : List DepartmentRow → List (List ℕ)
   names ds = map (λ (d : DepartmentRow). d.name) ds
-
-  -- ---- from rows that have their sums
 
   rows_same : (ds : List DepartmentRow) → AllByRecursion (HasSums bs hs) ds → map department_row ds ≡ map (λ n. department_row (department_with bs hs n)) (names ds)
   rows_same [] all = refl
@@ -34,49 +42,44 @@ module _ (bs : List Bucket) (hs : List History) where
       let here : department_row d ≡ department_row (department_with bs hs d.name) = ap department_row all.0.0 in
       let there = rows_same ds all.1 in cc (here, there)
 
-  named : (ds : List DepartmentRow) → AllByRecursion IsDepartmentRow ds → AllByRecursion IsPlainName (names ds)
-  named [] all = tt
-  named (d ∷ ds) all = (all.0, named ds all.1)
-
   within : (ds : List DepartmentRow) → AllByRecursion (HasSums bs hs) ds → AllByRecursion (IsWithin bs hs) (names ds)
   within [] all = tt
   within (d ∷ ds) all = (all.0.1, within ds all.1)
 
-  -- ---- to rows that have their sums
+  module _ (t : Totals) (totals : AreTotals bs hs t) where
+    named : (ds : List DepartmentRow) → AllByRecursion (HasTotal t) ds → AllByRecursion IsPlainName (names ds)
+    named [] all = tt
+    named (d ∷ ds) all = (all.0.0, named ds all.1)
 
-  abbrev HasThem : Values → Type 0
-  HasThem row = (d : DepartmentRow) → row ≡ department_row d → HasSums bs hs d
+    -- a department that has its total has its sums
+    has_sums : (d : DepartmentRow) → HasTotal t d → HasSums bs hs d
+    has_sums d is =
+        let total : IsTotal (Some d.sums) (items_in bs d.name hs) = subst (λ o. IsTotal o (items_in bs d.name hs)) is.1 (totals d.name) in
+        (with_sums d.name d.sums _ (sums_are d.sums (items_in bs d.name hs) total.0), total.1.within)
 
-  each_has : (ns : List (List ℕ)) → AllByRecursion (IsWithin bs hs) ns → AllByRecursion HasThem (map (λ n. department_row (department_with bs hs n)) ns)
-  each_has [] all = tt
-  each_has (n ∷ ns) all = (
-    λ d is.
-        let same : department_with bs hs n ≡ d = same_department (department_with bs hs n) d is in
-        subst (HasSums bs hs) same (refl, all.0),
-    each_has ns all.1,
-  )
+    each_has : (ds : List DepartmentRow) → AllByRecursion (HasTotal t) ds → AllByRecursion (HasSums bs hs) ds
+    each_has [] all = tt
+    each_has (d ∷ ds) all = (has_sums d all.0, each_has ds all.1)
 
-  have : (ds : List DepartmentRow) → AllByRecursion HasThem (map department_row ds) → AllByRecursion (HasSums bs hs) ds
-  have [] all = tt
-  have (d ∷ ds) all = (all.0 d refl, have ds all.1)
+    -- and the sums of a department that is within its quota are its total
+    has_total : (name : List ℕ) → IsPlainName name → IsWithin bs hs name → HasTotal t (department_with bs hs name)
+    has_total name is low = (is, of (total_of t name) (totals name))
+      where
+        of : (o : Option Sums) → IsTotal o (items_in bs name hs) → o ≡ Some (sums_over (items_in bs name hs))
+        of None above = absurd (above low)
+        of (Some sums) total = ap Some (sums_are sums (items_in bs name hs) total.0)
 
-  in_limits : (ns : List (List ℕ)) → AllByRecursion IsPlainName ns → AllByRecursion IsDepartmentRow (map (department_with bs hs) ns)
-  in_limits [] all = tt
-  in_limits (n ∷ ns) all = (all.0, in_limits ns all.1)
+    all_total : (ns : List (List ℕ)) → AllByRecursion IsPlainName ns → AllByRecursion (IsWithin bs hs) ns → AllByRecursion (HasTotal t) (map (department_with bs hs) ns)
+    all_total [] named low = tt
+    all_total (n ∷ ns) named low = (has_total n named.0 low.0, all_total ns named.1 low.1)
 
-  module _ (db : Database) where
-    abbrev source : List Values
-    source = map department_columns (db.trees departments_tree)
-
-    pub table_told : (ds : List DepartmentRow) (hold : Bool) → AreListed db ds → TellEach bs hs ds hold → TellSums db bs hs hold
-    table_told ds true listed each =
-        (names ds, (subst (λ rows. IsPermutation rows source) (rows_same ds each) listed.0, named ds listed.1, within ds each))
-    table_told ds false listed each = λ ns are.
-        each (have ds (all-permutation HasThem (map (λ n. department_row (department_with bs hs n)) ns) (map department_row ds) (IsPermutation-trans _ _ _ are.0 (IsPermutation-sym _ _ listed.0)) (each_has ns are.2)))
-
-    pub table_missed : ((ds : List DepartmentRow) → ¬ AreListed db ds) → TellSums db bs hs false
-    table_missed none ns are =
-        none (map (department_with bs hs) ns) (subst (λ rows. IsPermutation rows source) (sym (map-map department_row (department_with bs hs) ns)) are.0, in_limits ns are.1)
+    -- what the rows tell beside the totals is told of the table
+    pub table_told : (db : Database) (hold : Bool) → AreRecords department_row (HasTotal t) (map department_columns (db.trees departments_tree)) hold → TellSums db bs hs hold
+    table_told db true (ds, are, all) =
+        let each = each_has ds all in
+        (names ds, (subst (λ rows. IsPermutation rows (map department_columns (db.trees departments_tree))) (rows_same ds each) are, named ds all, within ds each))
+    table_told db false none = λ ns are.
+        none (map (department_with bs hs) ns) (subst (λ rows. IsPermutation rows (map department_columns (db.trees departments_tree))) (sym (map-map department_row (department_with bs hs) ns)) are.0) (all_total ns are.1 are.2)
 
 -- ---- sound tables
 

@@ -1,4 +1,4 @@
-pub mod Versions
 pub mod Owned
-pub mod Department
-pub mod Listed
+pub mod Totals
+pub mod Versions
+pub mod Departments

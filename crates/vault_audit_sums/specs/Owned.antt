@@ -1,31 +1,32 @@
--- The buckets of a department.
-use Rattle.std.specs.Prelude.{◌≡◌, ◌≢◌, ℕ, Bool, true, false, List, [], ◌∷◌, ◌++◌}
-use Rattle.std.specs.List.{list_any}
-use Rattle.std.specs.Str.{bytes_eq}
+-- Entries beside the departments of their buckets.
+use Rattle.std.specs.Prelude.{◌≤◌, List, [], ◌∷◌, option_map, IfSome, IsTrue}
 use Rattle.sqlite_value.specs.Order.{Row as Values}
+use Rattle.vault_base.specs.Days.{last_moment}
+use Rattle.vault_base.specs.Name.{is_version_id}
 use Rattle.vault_core_model.specs.declared.records.Bucket.{Bucket}
-use Rattle.vault_core_model.specs.Totals.{is_of_department}
+use Rattle.vault_core_model.specs.declared.records.Entry.{Entry}
 use Rattle.vault_core_model.specs.Vault.{config_in}
-use Rattle.vault_audit_model.specs.declared.rows.BucketRow.{BucketRow}
-use Rattle.vault_audit_model.specs.Limits.{IsBucketRow}
-use Rattle.vault_audit_model.specs.Rows.{bucket_row}
-use Rattle.vault_audit_sums.specs.declared.owned.OwnedPass.{OwnedPass}
+use Rattle.vault_audit_model.specs.Limits.{IsPlainName}
+use Rattle.vault_audit_model.specs.Values.{number, number_or_null, text_or_null, flag}
+use Rattle.vault_audit_sums.specs.declared.owned.OwnedEntry.{OwnedEntry}
 
--- the name, where the bucket is the department's
-abbrev pub name_where : Bool → List ℕ → List (List ℕ)
-name_where false name = []
-name_where true name = name ∷ []
+-- what is shown of an entry beside its bucket
+abbrev pub owned_row : OwnedEntry → Values
+owned_row e = number e.id ∷ flag e.marker ∷ number e.size ∷ number e.admitted ∷ number_or_null e.removed ∷ text_or_null e.dept ∷ []
 
--- one row goes in
-abbrev pub GoesWith : OwnedPass → Values → OwnedPass → Type 0
-GoesWith p row q =
-    (b : BucketRow) × (row ≡ bucket_row b) × (q.dept ≡ p.dept)
-    × (q.names.items ≡ p.names.items ++ name_where (bytes_eq b.config.dept p.dept) b.name)
+pub record IsOwned (e : OwnedEntry) : Type 0 where
+  pub id : IsTrue (is_version_id e.id)
+  pub admitted : e.admitted ≤ last_moment
+  pub removed : IfSome e.removed (λ t. t ≤ last_moment)
+  pub dept : IfSome e.dept IsPlainName
 
--- the row tells no bucket in its limits
-abbrev pub TellsNone : OwnedPass → Values → Type 0
-TellsNone p row = (b : BucketRow) → IsBucketRow b → row ≢ bucket_row b
-
--- a bucket is named exactly where it is the department's
-abbrev pub AreOwnedBy : List Bucket → List ℕ → List (List ℕ) → Type 0
-AreOwnedBy bs dept names = (bucket : List ℕ) → list_any (λ n. bytes_eq n bucket) names ≡ is_of_department dept (config_in bs bucket)
+-- the entry, beside its bucket among these
+abbrev pub owned_in : List Bucket → Entry → OwnedEntry
+owned_in bs e = record {
+  id = e.id;
+  marker = e.marker;
+  size = e.size;
+  admitted = e.admitted;
+  removed = option_map (λ r. r.at) e.removal;
+  dept = option_map (λ c. c.dept) (config_in bs e.bucket);
+}

@@ -1,51 +1,50 @@
--- The sums over the versions in some buckets, taken over the entries one by one.
-use Rattle.std.specs.Prelude.{◌≡◌, ℕ, ◌+◌, ◌≤◌, Bool, true, false, not, ◌&&◌, List, [], ◌∷◌, ◌++◌, Option, Some, None, option_map, sum_by, IsTrue}
-use Rattle.std.specs.List.{list_any}
+-- The sums over the versions of all departments, taken over the entries one by one.
+use Rattle.std.specs.Prelude.{◌≡◌, ◌≢◌, ℕ, Bool, true, false, not, ◌&&◌, List, [], ◌∷◌, ◌++◌, Option, Some, None}
 use Rattle.std.specs.Str.{bytes_eq}
 use Rattle.sqlite_value.specs.Order.{Row as Values}
-use Rattle.vault_base.specs.Days.{day}
-use Rattle.vault_tally.specs.Row.{Item, IsRowOf, AreBounded, size_of, quota}
-use Rattle.vault_tally.specs.declared.row.Row.{Row}
-use Rattle.vault_core_model.specs.declared.records.Entry.{Entry}
-use Rattle.vault_audit_model.specs.Limits.{IsEntry}
-use Rattle.vault_audit_model.specs.Rows.{entry_row}
+use Rattle.vault_tally.specs.Row.{Item}
+use Rattle.vault_core_model.specs.declared.records.Bucket.{Bucket}
+use Rattle.vault_core_model.specs.declared.records.History.{History}
+use Rattle.vault_core_model.specs.Totals.{items_in}
+use Rattle.vault_audit_sums.specs.declared.owned.OwnedEntry.{OwnedEntry}
+use Rattle.vault_audit_sums.specs.declared.totals.Totals.{Totals}
 use Rattle.vault_audit_sums.specs.declared.versions.SumPass.{SumPass}
+use Rattle.vault_audit_sums.specs.Owned.{owned_row, IsOwned}
+use Rattle.vault_audit_sums.specs.Totals.{item_of, total_of, IsTotal, IsCounted}
 
 -- what counts of a version: its size and days
-abbrev pub item_told : Entry → Item
-item_told e = record { size = e.size; admitted = day e.admitted; removed = option_map (λ r. day r.at) e.removal }
+abbrev pub item_told : OwnedEntry → Item
+item_told e = item_of e.size e.admitted e.removed
 
--- a content version in one of these buckets
-abbrev pub counts : List (List ℕ) → Entry → Bool
-counts names e = not e.marker && list_any (λ n. bytes_eq n e.bucket) names
+abbrev pub is_named : List ℕ → Option (List ℕ) → Bool
+is_named name None = false
+is_named name (Some dept) = bytes_eq dept name
 
-abbrev pub items_where : Bool → Entry → List Item
+-- a content version of the department of that name
+abbrev pub counts_for : List ℕ → OwnedEntry → Bool
+counts_for name e = not e.marker && is_named name e.dept
+
+abbrev pub items_where : Bool → OwnedEntry → List Item
 items_where false e = []
 items_where true e = item_told e ∷ []
 
--- the versions in these buckets among the entries, removed ones included
-abbrev pub items_told : List (List ℕ) → List Entry → List Item
-items_told names [] = []
-items_told names (e ∷ es) = items_where (counts names e) e ++ items_told names es
+-- the versions of that department among the entries, removed ones included
+abbrev pub items_told : List ℕ → List OwnedEntry → List Item
+items_told name [] = []
+items_told name (e ∷ es) = items_where (counts_for name e) e ++ items_told name es
 
--- sums over versions become those over one more
-abbrev pub IsSumWith : Row → Entry → Row → Type 0
-IsSumWith s e t = (items : List Item) → IsRowOf s items → AreBounded (items ++ item_told e ∷ []) → IsRowOf t (items ++ item_told e ∷ [])
-
--- the entry counts, and is within the quota, or it doesn't count
-abbrev pub IsCounted : Bool → Row → Entry → Row → Type 0
-IsCounted false s e t = t ≡ s
-IsCounted true s e t = (s.admitted + e.size ≤ quota) × IsSumWith s e t
+-- the entry is counted for its department, where it is a version and has one
+abbrev pub CountsEntry : Totals → OwnedEntry → Totals → Type 0
+CountsEntry s e t = (name : List ℕ) → IsCounted (counts_for name e) (total_of s name) (item_told e) (total_of t name)
 
 -- one row goes into the sums
 abbrev pub GoesIn : SumPass → Values → SumPass → Type 0
-GoesIn p row q = (e : Entry) × (row ≡ entry_row e) × (q.names ≡ p.names) × IsCounted (counts p.names.items e) p.sums e q.sums
+GoesIn p row q = (e : OwnedEntry) × (row ≡ owned_row e) × CountsEntry p.totals e q.totals
 
--- the row tells no entry, or one that counts and is above the quota
-abbrev pub GoesBeyond : SumPass → Values → Type 0
-GoesBeyond p row = (e : Entry) → row ≡ entry_row e → IsEntry e → IsTrue (counts p.names.items e) × (¬ (p.sums.admitted + e.size ≤ quota))
+-- the row tells no entry in its limits
+abbrev pub TellsNone : SumPass → Values → Type 0
+TellsNone p row = (e : OwnedEntry) → IsOwned e → row ≢ owned_row e
 
--- the row of the versions in these buckets; or they are above the quota
-abbrev pub IsSumOf : List (List ℕ) → List Entry → Option Row → Type 0
-IsSumOf names es (Some sums) = IsRowOf sums (items_told names es) × (sum_by size_of (items_told names es) ≤ quota)
-IsSumOf names es None = ¬ (sum_by size_of (items_told names es) ≤ quota)
+-- the totals are those over the versions of each department
+abbrev pub AreTotals : List Bucket → List History → Totals → Type 0
+AreTotals bs hs t = (name : List ℕ) → IsTotal (total_of t name) (items_in bs name hs)

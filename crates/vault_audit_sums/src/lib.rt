@@ -3,8 +3,8 @@
 //! An error is want of memory, told as `ErrorCode::OutOfMemory`, or a failure of the store.
 #![tactic(auto)]
 
-pub mod department;
-pub mod listed;
+pub mod departments;
 pub mod owned;
 pub mod sums;
+pub mod totals;
 pub mod versions;

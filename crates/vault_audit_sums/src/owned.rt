@@ -1,79 +1,64 @@
-//! The buckets of a department.
-ghost use Rattle.std.specs.Prelude.{◌≡◌, ℕ, List, IfOk, IfErr, IsSomeAnd, OnOk};
-ghost use Rattle.sqlite.specs.State.{HasCleanDisk, IsUnchanged, Survives};
-ghost use Rattle.sqlite.specs.Held.{state};
-ghost use Rattle.vault_core_model.specs.declared.records.Bucket.{Bucket};
-ghost use Rattle.vault_audit_model.specs.Relations.{AreBuckets};
-ghost use Rattle.vault_audit_model.specs.Tables.{schema_of};
-ghost use Rattle.vault_audit_sums.specs.Owned.{AreOwnedBy};
-ghost use Rattle.vault_audit_walk.specs.Health.{IsHealthy, IsMemory};
+//! Entries beside the departments of their buckets.
+ghost use Rattle.std.specs.Prelude.{◌≡◌, ◌≢◌, ◌≤◌, ℕ, Option, IfSome, IfOk, IfErr, MatchOption};
+ghost use Rattle.sqlite_value.specs.Order.{column};
+ghost use Rattle.vault_base.specs.Days.{last_moment};
+ghost use Rattle.vault_audit_model.specs.Values.{number_or_null};
+ghost use Rattle.vault_audit_sums.specs.declared.owned.OwnedEntry.{OwnedEntry as Told};
+ghost use Rattle.vault_audit_sums.specs.Owned.{owned_row, IsOwned};
 
-use sqlite::{Alter, Connection, Error, Row};
-use std::alloc::Global;
-use vault_audit_model::rows::BucketRow;
-use vault_audit_model::schema::Edition;
-use vault_audit_rows::records::read_bucket;
-use vault_audit_tables::row_check::refused;
-use vault_audit_walk::walk::{Pass, walk};
-use vault_base::name::{BucketName, DeptName};
+use sqlite::Row;
+use vault_audit_rows::cell::{flag, is_null, moment, number, version_id};
+use vault_audit_rows::misread::Misread;
+use vault_audit_rows::name::dept_name_or_null;
+use vault_base::moment::Moment;
+use vault_base::name::{DeptName, VersionId};
 
-/// The names of a department's buckets, taken over the buckets one by one.
+/// What counts of an entry, and whose it is.
 #[derive(Drop)]
-pub struct OwnedPass {
-    pub dept: DeptName,
-    pub names: Vec<BucketName>,
+pub struct OwnedEntry {
+    pub id: VersionId,
+    /// Whether it is a marker, which counts nowhere.
+    pub marker: bool,
+    pub size: u64,
+    pub admitted: Moment,
+    /// The moment of its removal, if it was removed.
+    pub removed: Option<Moment>,
+    /// The department of its bucket; none where there is no such bucket.
+    pub dept: Option<DeptName>,
 }
 
-impl Pass for OwnedPass {
-    ghost use Rattle.vault_audit_sums.specs.Owned.{GoesWith, TellsNone};
-
-    ghost goes = { λ p row q. GoesWith p row q };
-
-    ghost stops = { λ p row. TellsNone p row };
-
-    fn take(&mut self, row: &Row) -> Result<bool, Error> {
-        let bucket = match read_bucket(row) {
-            Ok(bucket) => bucket,
-            Err(misread) => return refused(misread),
-        };
-        if bucket.config.dept == self.dept {
-            let BucketRow { name, config } = bucket;
-            drop(config);
-            self.names.push(name)?;
-            return Ok(true);
-        }
-        drop(bucket);
-        Ok(true)
-    }
-}
-
-/// The names of the department's buckets; none where a row of `buckets` tells no bucket.
-pub fn buckets_of<S: Alter>(
-    alloc: Global,
-    conn: &mut Connection<S>,
-    edition: Edition,
-    dept: DeptName,
-) -> Result<Option<Vec<BucketName>>, Error>
-    requires { HasCleanDisk (state S.Store conn.old) → (state S.Store conn.old).now.schema ≡ schema_of edition }
-    ensures told { HasCleanDisk (state S.Store conn.new) → IfOk result (λ found. (bs : List Bucket) → AreBuckets edition (state S.Store conn.new).now bs → IsSomeAnd found (λ names. AreOwnedBy bs dept names.items)) }
-    ensures same { HasCleanDisk (state S.Store conn.new) → OnOk result (IsUnchanged (state S.Store conn.old) (state S.Store conn.new)) }
-    ensures err { IsHealthy (state S.Store conn.new) → IfErr result IsMemory }
-    ensures crash { Survives (state S.Store conn.old) (state S.Store conn.new) (λ _. ⊥) }
+/// The moment in a column, or NULL.
+fn moment_or_null(row: &Row, at: usize) -> Option<Option<Moment>>
+    ensures { MatchOption result ((o : Option ℕ) → IfSome o (λ t. t ≤ last_moment) → column row.now at ≢ number_or_null o) (λ o. (column row.now at ≡ number_or_null o) × IfSome o (λ t. t ≤ last_moment)) }
 {
-    let mut pass = OwnedPass {
-        dept,
-        names: Vec::new(alloc),
-    };
-    let whole = walk(
-        conn,
-        "SELECT name, dept, mode, days, years FROM buckets",
-        &mut pass,
-    )?;
-    let OwnedPass { dept, names } = pass;
-    drop(dept);
-    if !whole {
-        drop(names);
-        return Ok(None);
+    if is_null(row, at) {
+        return Some(None);
     }
-    Ok(Some(names))
+    let moment = moment(row, at)?;
+    Some(Some(moment))
+}
+
+/// The entry that a row tells.
+#[tactic(auto, using(crate::proofs::RowLemmas::row_of_6))]
+pub fn read_owned(row: &Row) -> Result<OwnedEntry, Misread>
+    ensures ok { IfOk result (λ e. row.now ≡ owned_row e) }
+    ensures wrong { IfErr result (λ e. e ≡ Misread.Wrong → (x : Told) → IsOwned x → row.now ≢ owned_row x) }
+{
+    if row.column_count() != 6 {
+        return Err(Misread::Wrong);
+    }
+    let id = version_id(row, 0).ok_or(Misread::Wrong)?;
+    let marker = flag(row, 1).ok_or(Misread::Wrong)?;
+    let size = number(row, 2).ok_or(Misread::Wrong)?;
+    let admitted = moment(row, 3).ok_or(Misread::Wrong)?;
+    let removed = moment_or_null(row, 4).ok_or(Misread::Wrong)?;
+    let dept = dept_name_or_null(row, 5)?;
+    Ok(OwnedEntry {
+        id,
+        marker,
+        size,
+        admitted,
+        removed,
+        dept,
+    })
 }

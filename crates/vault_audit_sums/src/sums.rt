@@ -1,5 +1,5 @@
 //! The second look at `departments`: each has the five sums over its versions.
-ghost use Rattle.std.specs.Prelude.{◌≡◌, false, ℕ, List, map, IsTrue, IfOk, IfErr, OnOk};
+ghost use Rattle.std.specs.Prelude.{◌≡◌, false, ℕ, List, map, IfOk, IfErr, OnOk};
 ghost use Rattle.std.specs.List.{AllByRecursion};
 ghost use Rattle.sqlite.specs.State.{HasCleanDisk, IsUnchanged, Survives};
 ghost use Rattle.sqlite.specs.Held.{state};
@@ -9,38 +9,13 @@ ghost use Rattle.vault_audit_model.specs.Relations.{AreBuckets, AreEntries, IsPa
 ghost use Rattle.vault_core_model.specs.Vault.{Vault};
 ghost use Rattle.vault_audit_model.specs.Spells.{AreSoundAs};
 ghost use Rattle.vault_audit_model.specs.Tables.{schema_of};
-ghost use Rattle.vault_audit_sums.specs.Department.{TellEach};
 ghost use Rattle.vault_audit_walk.specs.Health.{IsHealthy, IsMemory};
 
-use crate::department::check_department;
-use crate::listed::list_departments;
+use crate::departments::{SumsCheck, check_totals};
+use crate::versions::sum_versions;
 use sqlite::{Alter, Connection, Error};
 use std::alloc::Global;
-use vault_audit_model::rows::DepartmentRow;
 use vault_audit_model::schema::Edition;
-
-/// Whether each of these departments has the sums over its versions.
-fn check_each<S: Alter>(
-    alloc: Global,
-    conn: &mut Connection<S>,
-    edition: Edition,
-    departments: &[DepartmentRow],
-) -> Result<bool, Error>
-    requires { HasCleanDisk (state S.Store conn.old) → ((state S.Store conn.old).now.schema ≡ schema_of edition) × IsTrue (state S.Store conn.old).is_open }
-    ensures told { HasCleanDisk (state S.Store conn.new) → IfOk result (λ hold. (bs : List Bucket) (hs : List History) (last : ℕ) →
-        AreBuckets edition (state S.Store conn.new).now bs → AreEntries (state S.Store conn.new).now (map (λ (h : History). h.entry) hs) →
-        AllByRecursion (IsPast last) (map (λ (h : History). h.entry) hs) → TellEach bs hs departments.now hold) }
-    ensures same { HasCleanDisk (state S.Store conn.new) → OnOk result (IsUnchanged (state S.Store conn.old) (state S.Store conn.new)) }
-    ensures err { IsHealthy (state S.Store conn.new) → IfErr result IsMemory }
-    ensures crash { Survives (state S.Store conn.old) (state S.Store conn.new) (λ _. ⊥) }
-{
-    for department in departments {
-        if !check_department(alloc, conn, edition, department)? {
-            return Ok(false);
-        }
-    }
-    Ok(true)
-}
 
 /// Whether the rows of `departments` are departments with the five sums over the versions of their
 /// buckets, removed ones included, each within what a department may admit. It is told of buckets and
@@ -59,8 +34,8 @@ pub fn check_sums<S: Alter>(
     ensures err { IsHealthy (state S.Store conn.new) → IfErr result IsMemory }
     ensures crash { Survives (state S.Store conn.old) (state S.Store conn.new) (λ _. ⊥) }
 {
-    let Some(departments) = list_departments(alloc, conn, edition)? else {
+    let Some(totals) = sum_versions(alloc, conn, edition)? else {
         return Ok(false);
     };
-    check_each(alloc, conn, edition, &departments)
+    check_totals(conn, edition, &SumsCheck { totals })
 }

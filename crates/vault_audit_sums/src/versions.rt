@@ -1,111 +1,96 @@
-//! The sums over the versions in some buckets.
-ghost use Rattle.std.specs.Prelude.{◌≡◌, ℕ, List, IfOk, IfErr, OnOk};
-ghost use Rattle.std.specs.List.{list_any};
-ghost use Rattle.std.specs.Str.{bytes_eq};
+//! The sums over the versions of all departments, taken in one pass over the entries.
+ghost use Rattle.std.specs.Prelude.{◌≡◌, ℕ, List, map, IfOk, IfErr, IsSomeAnd, OnOk};
 ghost use Rattle.std.specs.List.{AllByRecursion};
 ghost use Rattle.sqlite.specs.State.{HasCleanDisk, IsUnchanged, Survives};
 ghost use Rattle.sqlite.specs.Held.{state};
-ghost use Rattle.vault_core_model.specs.declared.records.Entry.{Entry};
-ghost use Rattle.vault_audit_model.specs.Relations.{AreEntries, IsPast};
+ghost use Rattle.vault_core_model.specs.declared.records.Bucket.{Bucket};
+ghost use Rattle.vault_core_model.specs.declared.records.History.{History};
+ghost use Rattle.vault_audit_model.specs.Relations.{AreBuckets, AreEntries, IsPast};
 ghost use Rattle.vault_audit_model.specs.Tables.{schema_of};
-ghost use Rattle.vault_audit_sums.specs.Versions.{counts, IsSumWith, IsSumOf};
+ghost use Rattle.vault_audit_sums.specs.Versions.{CountsEntry, AreTotals};
 ghost use Rattle.vault_audit_walk.specs.Health.{IsHealthy, IsMemory};
 
+use crate::owned::{OwnedEntry, read_owned};
+use crate::totals::Totals;
 use sqlite::{Alter, Connection, Error, Row};
+use std::alloc::Global;
 use vault_audit_model::schema::Edition;
-use vault_audit_rows::records::read_entry;
 use vault_audit_tables::row_check::refused;
 use vault_audit_walk::walk::{Pass, walk};
-use vault_base::name::BucketName;
-use vault_core_model::records::Entry;
-use vault_tally::row::Row as Sums;
 
-/// The sums over the versions in some buckets, taken over the entries one by one.
+/// The sums of the departments, taken over the entries one by one.
 #[derive(Drop)]
 pub struct SumPass {
-    /// The names of the buckets.
-    pub names: Vec<BucketName>,
-    pub sums: Sums,
+    pub totals: Totals,
 }
 
-/// Whether the bucket is one of these.
-fn is_among(names: &[BucketName], bucket: &BucketName) -> bool
-    ensures { result ≡ list_any (λ n. bytes_eq n bucket.now) names.now }
+/// Counts an entry in, where it is a content version in a bucket of a department.
+fn count_entry(totals: &mut Totals, entry: OwnedEntry) -> Result<(), Error>
+    ensures ok { OnOk result (CountsEntry totals.old entry totals.new) }
+    ensures err { IfErr result IsMemory }
 {
-    names.iter().any(|name| name == bucket)
-}
-
-/// Counts a version in, and its removal where it was removed.
-fn count_in(sums: &mut Sums, entry: &Entry)
-    ensures { IsSumWith sums.old entry.now sums.new }
-{
-    sums.admit(entry.size, entry.admitted.day());
-    if let Some(removal) = &entry.removal {
-        sums.remove(entry.size, entry.admitted.day(), removal.at.day());
+    let OwnedEntry {
+        marker,
+        size,
+        admitted,
+        removed,
+        dept,
+        ..
+    } = entry;
+    let Some(dept) = dept else {
+        return Ok(());
+    };
+    if marker {
+        drop(dept);
+        return Ok(());
     }
-}
-
-impl SumPass {
-    /// Whether the entry is a content version in one of the buckets.
-    fn counts(&self, entry: &Entry) -> bool
-        ensures { result ≡ counts self.now.names.items entry.now }
-    {
-        !entry.marker && is_among(&self.names, &entry.bucket)
-    }
+    totals.count(dept, size, admitted, removed)
 }
 
 impl Pass for SumPass {
-    ghost use Rattle.vault_audit_sums.specs.Versions.{GoesIn, GoesBeyond};
+    ghost use Rattle.vault_audit_sums.specs.Versions.{GoesIn, TellsNone};
 
     ghost goes = { λ p row q. GoesIn p row q };
 
-    ghost stops = { λ p row. GoesBeyond p row };
+    ghost stops = { λ p row. TellsNone p row };
 
     fn take(&mut self, row: &Row) -> Result<bool, Error> {
-        let entry = match read_entry(row) {
-            Ok(entry) => entry,
-            Err(misread) => return refused(misread),
-        };
-        if !self.counts(&entry) {
-            drop(entry);
-            return Ok(true);
+        match read_owned(row) {
+            Ok(entry) => {
+                count_entry(&mut self.totals, entry)?;
+                Ok(true)
+            }
+            Err(misread) => refused(misread),
         }
-        if !self.sums.fits(entry.size) {
-            drop(entry);
-            return Ok(false);
-        }
-        count_in(&mut self.sums, &entry);
-        drop(entry);
-        Ok(true)
     }
 }
 
-/// The sums over the content versions in the buckets of these names, removed ones included; none
-/// where they are above what a department may admit.
+/// The sums over the content versions of each department, removed ones included; none where a row
+/// of the entries beside their buckets tells nothing. It keeps a row of sums for each department.
 pub fn sum_versions<S: Alter>(
+    alloc: Global,
     conn: &mut Connection<S>,
     edition: Edition,
-    names: Vec<BucketName>,
-) -> Result<Option<Sums>, Error>
+) -> Result<Option<Totals>, Error>
     requires { HasCleanDisk (state S.Store conn.old) → (state S.Store conn.old).now.schema ≡ schema_of edition }
-    ensures told { HasCleanDisk (state S.Store conn.new) → IfOk result (λ found. (es : List Entry) (last : ℕ) → AreEntries (state S.Store conn.new).now es → AllByRecursion (IsPast last) es → IsSumOf names.items es found) }
+    ensures told { HasCleanDisk (state S.Store conn.new) → IfOk result (λ found. (bs : List Bucket) (hs : List History) (last : ℕ) →
+        AreBuckets edition (state S.Store conn.new).now bs → AreEntries (state S.Store conn.new).now (map (λ (h : History). h.entry) hs) →
+        AllByRecursion (IsPast last) (map (λ (h : History). h.entry) hs) → IsSomeAnd found (AreTotals bs hs)) }
     ensures same { HasCleanDisk (state S.Store conn.new) → OnOk result (IsUnchanged (state S.Store conn.old) (state S.Store conn.new)) }
     ensures err { IsHealthy (state S.Store conn.new) → IfErr result IsMemory }
     ensures crash { Survives (state S.Store conn.old) (state S.Store conn.new) (λ _. ⊥) }
 {
     let mut pass = SumPass {
-        names,
-        sums: Sums::new(),
+        totals: Totals::new(alloc),
     };
     let whole = walk(
         conn,
-        "SELECT id, bucket, key, marker, size, digest, admitted, by_rule, admitted_by, removed, cause, cause_by FROM entries ORDER BY id",
+        "SELECT e.id, e.marker, e.size, e.admitted, e.removed, b.dept FROM entries AS e LEFT JOIN buckets AS b ON b.name = e.bucket ORDER BY e.id",
         &mut pass,
     )?;
-    let sums = pass.sums;
-    drop(pass);
     if !whole {
+        drop(pass);
         return Ok(None);
     }
-    Ok(Some(sums))
+    Ok(Some(pass.totals))
 }

@@ -4,24 +4,24 @@ use Rattle.sqlite.specs.State.{HasCleanDisk}
 use Rattle.vault_audit_walk.specs.Health.{Asks, IsMemory}
 use Rattle.sqlite.specs.Given.{IsPlain}
 use Rattle.sqlite.specs.Listing.{understood}
-use Rattle.vault_audit_tables.proofs.TextLemmas.{numbers_walk, numbers_walk_plain, numbers_walk_asks}
-use Rattle.vault_audit_sums.proofs.SumLemmas.{sums_yes, sums_no}
+use Rattle.vault_audit_sums.proofs.TextLemmas.{owned_text, owned_plain, owned_asks}
+use Rattle.vault_audit_sums.proofs.WalkLemmas.{totals_yes, totals_no}
 use Rattle.vault_audit_sums.proofs.versions.sum_versions.Goals as goal
 
 pub walk-requires : goal.walk-requires
-walk-requires g c clean = subst (λ s. IsPlain (understood s numbers_walk)) (sym (c.requires clean)) (numbers_walk_plain c.args.edition)
+walk-requires g c clean = subst (λ s. IsPlain (understood s owned_text)) (sym (c.requires clean)) (owned_plain c.args.edition)
 
 pub returns-then-not-whole-clause-told : goal.returns-then-not-whole-clause-told
-returns-then-not-whole-clause-told g c clean es last are past =
+returns-then-not-whole-clause-told g c clean bs hs last buckets entries past =
     let early : HasCleanDisk (state g.S.Store c.args.conn.now) = omega (arith, c.in_ok-whole.ensures.crash.clean) in
     let no : c.in_ok-whole.whole ≡ false = search rules in
-    (sums_no c.args.edition) (state g.S.Store c.args.conn.now) (state g.S.Store c.walk.new.conn) (c.requires early) (c.in_ok-whole.ensures.same clean) _ c.walk.new.pass c.new.ensures es last are past (rw no at (c.in_ok-whole.ensures.walked clean))
+    totals_no c.args.edition (state g.S.Store c.args.conn.now) (state g.S.Store c.walk.new.conn) (c.requires early) (c.in_ok-whole.ensures.same clean) _ c.walk.new.pass bs hs last buckets entries past (rw no at (c.in_ok-whole.ensures.walked clean))
 
 pub returns-clause-told : goal.returns-clause-told
-returns-clause-told g c clean es last are past =
+returns-clause-told g c clean bs hs last buckets entries past =
     let early : HasCleanDisk (state g.S.Store c.args.conn.now) = omega (arith, c.in_ok-whole.ensures.crash.clean) in
     let yes : c.in_ok-whole.whole ≡ true = search rules in
-    (sums_yes c.args.edition) (state g.S.Store c.args.conn.now) (state g.S.Store c.walk.new.conn) (c.requires early) (c.in_ok-whole.ensures.same clean) _ c.walk.new.pass c.new.ensures es last are past (rw yes at (c.in_ok-whole.ensures.walked clean))
+    totals_yes c.args.edition (state g.S.Store c.args.conn.now) (state g.S.Store c.walk.new.conn) (c.requires early) (c.in_ok-whole.ensures.same clean) _ c.walk.new.pass bs hs last buckets entries past c.new.ensures (rw yes at (c.in_ok-whole.ensures.walked clean))
 
 pub returns-in_err-whole-clause-err : goal.returns-in_err-whole-clause-err
-returns-in_err-whole-clause-err g c well = let it : IsMemory c.in_err-whole.field-0.0 = c.in_err-whole.ensures.err well (λ clean. subst (λ s. Asks s numbers_walk) (sym (c.requires clean)) (numbers_walk_asks c.args.edition)) in search rules
+returns-in_err-whole-clause-err g c well = let it : IsMemory c.in_err-whole.field-0.0 = c.in_err-whole.ensures.err well (λ clean. subst (λ s. Asks s owned_text) (sym (c.requires clean)) (owned_asks c.args.edition)) in search rules

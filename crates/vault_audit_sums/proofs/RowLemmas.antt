@@ -1,0 +1,36 @@
+-- One row tells one entry beside its bucket.
+use Rattle.std.proofs.Common.{◌≡◌, ℕ, List, [], ◌∷◌, length, Bool, Option, Some, None, refl, ap}
+use Rattle.sqlite_value.specs.declared.value.Value.{Value}
+use Rattle.sqlite_value.specs.Order.{Row, column}
+use Rattle.vault_audit_model.specs.Values.{number_or_null, text_or_null}
+use Rattle.vault_audit_model.proofs.SameRows.{cell, number_same, flag_same}
+use Rattle.vault_audit_rows.proofs.RowLemmas as rows
+use Rattle.vault_audit_sums.specs.declared.owned.OwnedEntry.{OwnedEntry}
+use Rattle.vault_audit_sums.specs.Owned.{owned_row}
+
+pub row_of_6 : (r : Row) (v0 v1 v2 v3 v4 v5 : Value) → length r ≡ 6 → column r 0 ≡ v0 → column r 1 ≡ v1 → column r 2 ≡ v2 → column r 3 ≡ v3 → column r 4 ≡ v4 → column r 5 ≡ v5 → r ≡ v0 ∷ v1 ∷ v2 ∷ v3 ∷ v4 ∷ v5 ∷ []
+row_of_6 = rows.row_of_6
+
+number_or_null_same : (a b : Option ℕ) → number_or_null a ≡ number_or_null b → a ≡ b
+number_or_null_same None None e = refl
+number_or_null_same None (Some b) e = absurd cc
+number_or_null_same (Some a) None e = absurd cc
+number_or_null_same (Some a) (Some b) e = let same : a ≡ b = cc in ap Some same
+
+text_or_null_same : (a b : Option (List ℕ)) → text_or_null a ≡ text_or_null b → a ≡ b
+text_or_null_same None None e = refl
+text_or_null_same None (Some b) e = absurd cc
+text_or_null_same (Some a) None e = absurd cc
+text_or_null_same (Some a) (Some b) e = let same : a ≡ b = cc in ap Some same
+
+abbrev owned_as : ℕ → Bool → ℕ → ℕ → Option ℕ → Option (List ℕ) → OwnedEntry
+owned_as id marker size admitted removed dept = record { id = id; marker = marker; size = size; admitted = admitted; removed = removed; dept = dept }
+
+alike : (i1 i2 : ℕ) (m1 m2 : Bool) (s1 s2 a1 a2 : ℕ) (r1 r2 : Option ℕ) (d1 d2 : Option (List ℕ)) → i1 ≡ i2 → m1 ≡ m2 → s1 ≡ s2 → a1 ≡ a2 → r1 ≡ r2 → d1 ≡ d2 → owned_as i1 m1 s1 a1 r1 d1 ≡ owned_as i2 m2 s2 a2 r2 d2
+alike i1 i2 m1 m2 s1 s2 a1 a2 r1 r2 d1 d2 o p q r s t = rw (o, p, q, r, s, t) refl
+
+pub same_owned : (x y : OwnedEntry) → owned_row x ≡ owned_row y → x ≡ y
+same_owned x y e =
+    let one = λ (at : ℕ). cell (owned_row x) (owned_row y) at e in
+    alike x.id y.id x.marker y.marker x.size y.size x.admitted y.admitted x.removed y.removed x.dept y.dept
+    (number_same _ _ (one 0)) (flag_same _ _ (one 1)) (number_same _ _ (one 2)) (number_same _ _ (one 3)) (number_or_null_same _ _ (one 4)) (text_or_null_same _ _ (one 5))
