@@ -7,6 +7,10 @@ import statistics
 from turns import PEER, PROGRAM
 
 
+GROUPS = (PROGRAM, PEER, "times", "most MiB")
+COLUMNS = ("wall", "processor", "wall", "processor", "wall", "processor", PROGRAM, PEER)
+
+
 class Results:
     """The rows of a part of the bench; `unit` is microseconds or milliseconds for one."""
 
@@ -28,10 +32,10 @@ class Results:
         row["memory"] = max(row["memory"], most)
 
     def show(self):
-        print(f"\n{self.part}: {self.unit} for one, and MiB at most", end="")
-        print("; `proc` is the processor's time in it, `times` what the program takes of the peer's")
-        heads = ("wall", "proc", "peer", "proc", "times", "proc", "MiB", "peer")
-        print(f"{'':30}{'size':>10}" + "".join(f"{it:>10}" for it in heads))
+        """Prints the rows: of the program and the peer the median and the processor's time in it, how often the one is
+        in the other, and the most memory of both."""
+        print(f"\n{f'{self.part}, {self.unit} for one':40}" + "".join(f"{it:>20}" for it in GROUPS))
+        print(f"{'':30}{'size':>10}" + "".join(f"{it:>10}" for it in COLUMNS))
         for (what, size), found in self.rows.items():
             print(f"{what:30}{size:>10,}" + "".join(f"{it:>10}" for it in cells(found)), flush=True)
 

@@ -34,7 +34,8 @@ class Server:
     def __init__(self, vaults, shape):
         path = fixture.copy(vaults.of(shape), vaults.folder / "served.vault")
         self.port, self.shape, self.count = talk.free_port(), shape, 0
-        self.process = subprocess.Popen([vaults.program, "serve", path, str(self.port)])
+        words = [vaults.program, "serve", path, str(self.port)]
+        self.process = subprocess.Popen(words, stdout=subprocess.DEVNULL)
         talk.wait_for(self.port, self.process)
 
     def put(self, size):
