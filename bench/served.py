@@ -35,7 +35,7 @@ class Server:
         path = fixture.copy(vaults.of(shape), vaults.folder / "served.vault")
         self.port, self.shape, self.count = talk.free_port(), shape, 0
         words = [vaults.program, "serve", path, str(self.port)]
-        self.process = subprocess.Popen(words, stdout=subprocess.DEVNULL)
+        self.process = subprocess.Popen(words, stdout=subprocess.DEVNULL, stderr=subprocess.DEVNULL)
         talk.wait_for(self.port, self.process)
 
     def put(self, size):
