@@ -1,53 +1,55 @@
-"""What was measured: for each work, size and who did it the times of its turns, and the most memory."""
+"""What was measured: for each work, size and who did it the times of its turns, and the most memory; as a table, in a
+file, and in a page."""
 
 import json
 import pathlib
+import re
 import statistics
 
 from turns import PEER, PROGRAM
 
-
+UNITS = {"microseconds": 1e6, "milliseconds": 1e3}
 GROUPS = (PROGRAM, PEER, "times", "most MiB")
 COLUMNS = ("wall", "processor", "wall", "processor", "wall", "processor", PROGRAM, PEER)
+# Where a page has the table of a part.
+PLACE = re.compile(r"(<!-- bench (\w+) -->\n)```\n.*?```\n", re.DOTALL)
 
 
 class Results:
-    """The rows of a part of the bench; `unit` is microseconds or milliseconds for one."""
+    """The rows of a part of the bench; `unit` is microseconds or milliseconds for one, `how` when and how it ran."""
 
-    UNITS = {"microseconds": 1e6, "milliseconds": 1e3, "seconds": 1}
-
-    def __init__(self, part, unit):
-        self.part, self.unit, self.rows = part, unit, {}
+    def __init__(self, part, unit, how):
+        self.part, self.unit, self.how, self.rows = part, unit, how, {}
 
     def row(self, what, size, who):
         return self.rows.setdefault((what, size), {}).setdefault(who, {"wall": [], "processor": [], "memory": 0})
 
     def note(self, what, size, who, seconds, processor):
-        row, scale = self.row(what, size, who), self.UNITS[self.unit]
-        row["wall"].append(seconds * scale)
-        row["processor"].append(processor * scale)
+        row, scale = self.row(what, size, who), UNITS[self.unit]
+        row["wall"].append(round(seconds * scale, 3))
+        row["processor"].append(round(processor * scale, 3))
 
     def note_memory(self, what, size, who, most):
         row = self.row(what, size, who)
-        row["memory"] = max(row["memory"], most)
+        row["memory"] = max(row["memory"], round(most, 1))
+
+    def kept(self):
+        rows = [{"what": what, "size": size, **found} for (what, size), found in self.rows.items()]
+        return {"unit": self.unit, "how": self.how, "rows": rows}
 
     def show(self):
-        """Prints the rows: of the program and the peer the median and the processor's time in it, how often the one is
-        in the other, and the most memory of both."""
-        print(f"\n{f'{self.part}, {self.unit} for one':40}" + "".join(f"{it:>20}" for it in GROUPS))
-        print(f"{'':30}{'size':>10}" + "".join(f"{it:>10}" for it in COLUMNS))
-        for (what, size), found in self.rows.items():
-            print(f"{what:30}{size:>10,}" + "".join(f"{it:>10}" for it in cells(found)), flush=True)
+        print("\n" + table(self.part, self.kept()), end="", flush=True)
 
     def keep(self, path):
-        """Puts the rows into a file beside those of other parts."""
+        """Puts the part into a file beside others; rows that the file had of other works or sizes stay there."""
         path = pathlib.Path(path)
         kept = json.loads(path.read_text()) if path.exists() else {}
-        part = kept.setdefault(self.part, {"unit": self.unit, "rows": []})
-        new = [{"what": what, "size": size, **found} for (what, size), found in self.rows.items()]
-        named = {(row["what"], row["size"]) for row in new}
-        part["rows"] = [row for row in part["rows"] if (row["what"], row["size"]) not in named] + new
-        path.write_text(json.dumps(kept, indent=1))
+        new = self.kept()
+        named = {(row["what"], row["size"]) for row in new["rows"]}
+        old = kept.get(self.part, {"rows": []})["rows"]
+        new["rows"] += [row for row in old if (row["what"], row["size"]) not in named]
+        kept[self.part] = new
+        path.write_text(json.dumps(kept, indent=1) + "\n")
 
 
 def median(found, who, kind):
@@ -67,3 +69,27 @@ def cells(found):
     memory = [found.get(who, {}).get("memory") for who in (PROGRAM, PEER)]
     few = 1 if any(it and it < 10 for it in numbers) else 0
     return [shown(it, few) for it in numbers] + [shown(it, 2) for it in times] + [shown(it, 1) for it in memory]
+
+
+def table(part, kept):
+    """The rows of a part: of the program and the peer the median and the processor's time in it, how often the one is
+    in the other, and the most memory of both."""
+    lines = [
+        kept["how"],
+        f"{part + ', ' + kept['unit'] + ' for one':40}" + "".join(f"{it:>20}" for it in GROUPS),
+        f"{'':30}{'size':>10}" + "".join(f"{it:>10}" for it in COLUMNS),
+    ]
+    for row in kept["rows"]:
+        lines.append(f"{row['what']:30}{row['size']:>10,}" + "".join(f"{it:>10}" for it in cells(row)))
+    return "".join(it.rstrip() + "\n" for it in lines)
+
+
+def fill(results, page):
+    """Puts the tables of a file of results into their places in a page."""
+    kept, page = json.loads(pathlib.Path(results).read_text()), pathlib.Path(page)
+
+    def filled(place):
+        part = place[2]
+        return f"{place[1]}```\n{table(part, kept[part])}```\n" if part in kept else place[0]
+
+    page.write_text(PLACE.sub(filled, page.read_text()))
