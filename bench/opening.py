@@ -12,6 +12,8 @@ import talk
 from turns import PEER, PROGRAM, words
 
 MIB = 1 << 20
+# How often the bytes of its contents have to be free as memory before a vault is opened here.
+ENOUGH = 4
 
 
 def open_once(vaults, who, path):
@@ -64,8 +66,12 @@ def by_size(wanted, vaults, results):
 
 
 def by_bytes(wanted, vaults, results):
-    """Vaults of rising bytes of contents of 1 MiB; the size that is told is in MiB. Each is removed behind it."""
+    """Vaults of rising bytes of contents of 1 MiB; the size that is told is in MiB. Each is removed behind it. What the
+    machine may have too little memory for isn't measured."""
     for mebibytes in wanted.volumes:
+        if talk.free_memory() - talk.SPARED < ENOUGH * mebibytes * MIB:
+            print(f"volume: too little memory is free for {mebibytes:,} MiB of contents", flush=True)
+            continue
         shape = fixture.Shape(mebibytes, size=MIB)
         measure(wanted, vaults, results, shape, mebibytes)
         vaults.drop(shape)

@@ -14,7 +14,7 @@ import time
 # How often the memory of a process that nobody talks to is looked up, in seconds.
 BETWEEN = 0.005
 # How much of the machine's free memory a measured process leaves to others, in bytes.
-SPARED = 3 << 30
+SPARED = 2 << 30
 
 
 def peak(pid):
