@@ -13,7 +13,7 @@ from turns import PEER, PROGRAM, words
 
 MIB = 1 << 20
 # How often the bytes of its contents have to be free as memory before a vault is opened here.
-ENOUGH = 4
+ENOUGH = 6
 
 
 def open_once(vaults, who, path):
