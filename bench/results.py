@@ -34,8 +34,8 @@ class Results:
         row["memory"] = max(row["memory"], round(most, 1))
 
     def kept(self):
-        rows = [{"what": what, "size": size, **found} for (what, size), found in self.rows.items()]
-        return {"unit": self.unit, "how": self.how, "rows": rows}
+        rows = [{"what": what, "size": size, "how": self.how, **found} for (what, size), found in self.rows.items()]
+        return {"unit": self.unit, "rows": rows}
 
     def show(self):
         print("\n" + table(self.part, self.kept()), end="", flush=True)
@@ -48,6 +48,8 @@ class Results:
         named = {(row["what"], row["size"]) for row in new["rows"]}
         old = kept.get(self.part, {"rows": []})["rows"]
         new["rows"] += [row for row in old if (row["what"], row["size"]) not in named]
+        works = list(dict.fromkeys(row["what"] for row in new["rows"]))
+        new["rows"].sort(key=lambda row: (works.index(row["what"]), row["size"]))
         kept[self.part] = new
         path.write_text(json.dumps(kept, indent=1) + "\n")
 
@@ -71,11 +73,21 @@ def cells(found):
     return [shown(it, few) for it in numbers] + [shown(it, 2) for it in times] + [shown(it, 1) for it in memory]
 
 
+def measured(rows):
+    """When and how rows were measured: a line for all of them, or one for each time, with the sizes of then."""
+    sizes = {}
+    for row in rows:
+        sizes.setdefault(row["how"], {})[f"{row['size']:,}"] = None
+    if len(sizes) == 1:
+        return list(sizes)
+    return [f"size {' '.join(of)}: {how}" for how, of in sizes.items()]
+
+
 def table(part, kept):
     """The rows of a part: of the program and the peer the median and the processor's time in it, how often the one is
     in the other, and the most memory of both."""
     lines = [
-        kept["how"],
+        *measured(kept["rows"]),
         f"{part + ', ' + kept['unit'] + ' for one':40}" + "".join(f"{it:>20}" for it in GROUPS),
         f"{'':30}{'size':>10}" + "".join(f"{it:>10}" for it in COLUMNS),
     ]
