@@ -27,7 +27,7 @@ def by_kind(wanted, vaults, results):
     """Puts on new keys of one size of vault, in vaults that differ in one thing."""
     for name, shape in KINDS.items():
         pair = Pair(vaults.program, vaults.of(shape), vaults.folder)
-        ops = max(1, min(wanted.ops, wanted.ops * 8_192 // shape.size))
+        ops = max(1, min(wanted.ops, wanted.ops * 16_384 // shape.size))
         pair.measure(results, name, shape.entries, lines.put_new(shape), wanted.turns, ops)
         pair.end(results, name, shape.entries)
 
