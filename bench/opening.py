@@ -1,0 +1,77 @@
+"""How long it takes to open a vault and to look through all of it, and how much memory: by its entries and by the bytes
+of its contents."""
+
+import contextlib
+import sqlite3
+import sys
+import time
+
+import fixture
+import lines
+import talk
+from turns import PEER, PROGRAM, words
+
+MIB = 1 << 20
+# How often the bytes of its contents have to be free as memory before a vault is opened here.
+ENOUGH = 6
+
+
+def open_once(vaults, who, path):
+    """The seconds from a start to the first reply, those of a processor, and the most memory until then."""
+    process = talk.Talk(words(who, vaults.program, path))
+    process.ask([lines.line("report", dept="records"), lines.MARK])
+    seconds = time.perf_counter() - process.began
+    processor = talk.processor_time(process.process.pid)
+    return seconds, processor, process.end()
+
+
+def verify(vaults, path):
+    printed, seconds, processor, most = talk.run([vaults.program, "verify", path])
+    if printed != "sound\n":
+        sys.exit(f"{path}: {printed}")
+    return seconds, processor, most
+
+
+def integrity(path):
+    """The same of SQLite's own checks of a file, but for the memory."""
+    began, before = time.perf_counter(), time.process_time()
+    with contextlib.closing(sqlite3.connect(path)) as connection:
+        if connection.execute("PRAGMA integrity_check").fetchall() != [("ok",)]:
+            sys.exit(f"{path}: not as SQLite wants it")
+        if connection.execute("PRAGMA foreign_key_check").fetchall():
+            sys.exit(f"{path}: a foreign key leads nowhere")
+    return time.perf_counter() - began, time.process_time() - before, 0
+
+
+def note(results, what, size, who, measured):
+    seconds, processor, most = measured
+    results.note(what, size, who, seconds, processor)
+    results.note_memory(what, size, who, most)
+
+
+def measure(wanted, vaults, results, shape, size):
+    """Opens and verifies a vault, again and again; SQLite's checks stand beside `verify`."""
+    path = vaults.of(shape)
+    for _ in range(wanted.repeat):
+        for who in (PROGRAM, PEER):
+            note(results, "open to first reply", size, who, open_once(vaults, who, path))
+        note(results, "verify", size, PROGRAM, verify(vaults, path))
+        note(results, "verify", size, PEER, integrity(path))
+
+
+def by_size(wanted, vaults, results):
+    """Vaults of rising numbers of entries of 100 bytes."""
+    for size in wanted.sizes:
+        measure(wanted, vaults, results, fixture.Shape(size), size)
+
+
+def by_bytes(wanted, vaults, results):
+    """Vaults of rising bytes of contents of 1 MiB; the size that is told is in MiB. Each is removed behind it. What the
+    machine may have too little memory for isn't measured."""
+    for mebibytes in wanted.volumes:
+        if talk.free_memory() - talk.SPARED < ENOUGH * mebibytes * MIB:
+            print(f"volume: too little memory is free for {mebibytes:,} MiB of contents", flush=True)
+            continue
+        shape = fixture.Shape(mebibytes, size=MIB)
+        measure(wanted, vaults, results, shape, mebibytes)
+        vaults.drop(shape)

@@ -1,0 +1,46 @@
+"""Durable puts, and reads, of the program and the peer in turns."""
+
+import fixture
+import lines
+from turns import Pair
+
+KINDS = {
+    "keys in order": fixture.Shape(10_000),
+    "keys in a random order": fixture.Shape(10_000, scattered=True),
+    "a hundred departments": fixture.Shape(10_000, departments=100),
+    "contents of 100 KiB": fixture.Shape(300, size=100 << 10),
+    "contents of 1 MiB": fixture.Shape(30, size=1 << 20),
+}
+
+
+def by_size(wanted, vaults, results):
+    """Puts on new keys, and on keys that have a version, in vaults of rising size."""
+    for size in wanted.sizes:
+        shape = fixture.Shape(size)
+        pair = Pair(vaults.program, vaults.of(shape), vaults.folder)
+        pair.measure(results, "put, new key", size, lines.put_new(shape), wanted.turns, wanted.ops)
+        pair.measure(results, "put, key with versions", size, lines.put_again(shape), wanted.turns, wanted.ops)
+        pair.end(results, "put, new key", size)
+
+
+def by_kind(wanted, vaults, results):
+    """Puts on new keys of one size of vault, in vaults that differ in one thing."""
+    for name, shape in KINDS.items():
+        pair = Pair(vaults.program, vaults.of(shape), vaults.folder)
+        ops = max(1, min(wanted.ops, wanted.ops * 16_384 // shape.size))
+        pair.measure(results, name, shape.entries, lines.put_new(shape), wanted.turns, ops)
+        pair.end(results, name, shape.entries)
+
+
+def reads(wanted, vaults, results):
+    """Gets of the current version, sums of a department, and pages of a listing, which the peer doesn't know."""
+    for size in wanted.sizes:
+        shape = fixture.Shape(size)
+        pair = Pair(vaults.program, vaults.of(shape), vaults.folder)
+        pair.measure(results, "get", size, lines.get(shape), wanted.turns, wanted.ops)
+        pair.measure(results, "report", size, lines.report(shape), wanted.turns, wanted.ops)
+        pair.end(results, "get", size)
+        alone = Pair(vaults.program, vaults.of(shape), vaults.folder, both=False)
+        few = max(1, wanted.ops // 5)
+        alone.measure(results, "list 100 versions", size, lines.list_page(shape), wanted.turns, few)
+        alone.end(results, "list 100 versions", size)

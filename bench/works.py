@@ -1,0 +1,89 @@
+"""Work over many entries at once: lifecycle runs, and intakes of folders."""
+
+import json
+import shutil
+import sys
+
+import fixture
+import lines
+import talk
+from turns import PROGRAM, Pair
+
+# Files of so many bytes are taken in.
+FILE_SIZES = {"small": fixture.CONTENT, "large": 1 << 20}
+
+
+def run_once(vaults, shape):
+    """The seconds of a run that puts a marker on each key, those of a processor, and the most memory."""
+    path = fixture.copy(vaults.of(shape), vaults.folder / "run.vault")
+    process = talk.Talk([vaults.program, "replay", path])
+    process.ask([lines.MARK])
+    later = {"at": fixture.LATER, "as": "ann", "bucket": "docs"}
+    asked = [{**later, "do": "run"}, {**later, "do": "get", "key": fixture.LONG_KEY, "id": 1}]
+    replies, seconds, processor = process.ask([json.dumps(it) for it in asked])
+    if json.loads(replies[0])["ok"]["changes"] != shape.entries:
+        sys.exit(f"run: {replies[0]!r}")
+    return seconds, processor, process.end()
+
+
+def runs(wanted, vaults, results):
+    """Lifecycle runs that put a marker on each key, by one change."""
+    for size in wanted.sizes:
+        for _ in range(wanted.repeat):
+            seconds, processor, most = run_once(vaults, fixture.Shape(size))
+            results.note("lifecycle run, a change", size, PROGRAM, seconds / size, processor / size)
+            results.note_memory("lifecycle run, a change", size, PROGRAM, most)
+
+
+def make_files(folder, count, size):
+    """A folder with so many files, and a list of them."""
+    files = folder / "files"
+    files.mkdir()
+    rows = ["file,key,mode,until,hold"]
+    for i in range(count):
+        (files / f"{i}.txt").write_bytes(fixture.content(i, size))
+        rows.append(f"{i}.txt,taken/{i:07},,,")
+    listed = folder / "list.csv"
+    listed.write_text("\n".join(rows) + "\n")
+    return files, listed
+
+
+def intake_once(vaults, files, listed, count):
+    """The seconds of an intake, with the opening and closing of a small vault; those of a processor; the most memory."""
+    path = fixture.copy(vaults.of(fixture.Shape(1_000)), vaults.folder / "intake.vault")
+    asked = [path, "docs", "batch", listed, files, "--as", "ann", "--at", fixture.AT]
+    printed, *measured = talk.run([vaults.program, "intake", *asked])
+    if printed.count(" admitted ") != count:
+        sys.exit(f"intake: {printed[-200:]!r}")
+    return measured
+
+
+def intakes(wanted, vaults, results):
+    """Intakes of folders, by one file: of small files, and of large ones."""
+    for kind, count in wanted.files.items():
+        folder = vaults.folder / kind
+        folder.mkdir()
+        files, listed = make_files(folder, count, FILE_SIZES[kind])
+        for _ in range(wanted.repeat):
+            seconds, processor, most = intake_once(vaults, files, listed, count)
+            results.note(f"intake, a {kind} file", count, PROGRAM, seconds / count, processor / count)
+            results.note_memory(f"intake, a {kind} file", count, PROGRAM, most)
+        shutil.rmtree(folder)
+
+
+def removed(wanted, vaults, results):
+    """Work on a key of which many versions were removed and one is held, and on a key of one version."""
+    shape = fixture.Shape(1_000, removed=wanted.removed)
+    few = max(1, wanted.ops // 10)
+    pair = Pair(vaults.program, vaults.of(shape), vaults.folder, both=False)
+    for do in ("list-versions", "head", "get", "run", "put"):
+        for bucket, size in (("old", wanted.removed), ("new", 0)):
+            pair.measure(results, f"{do}, {bucket} key", size, on_key(do, bucket), wanted.turns, few)
+    pair.end(results, "put, old key", wanted.removed)
+
+
+def on_key(do, bucket):
+    """Lines on the one key of a bucket."""
+    more = {"head": {"key": "key"}, "get": {"key": "key"}, "put": {"key": "key", "text": "p" * fixture.CONTENT}}
+    while True:
+        yield lines.line(do, bucket=bucket, **more.get(do, {}))
