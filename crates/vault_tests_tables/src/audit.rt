@@ -1,11 +1,12 @@
 //! A sound vault, and the same with one thing changed in its file.
-use crate::calls::made_with;
+use crate::calls::batches;
+use crate::editions::{BOTH_NEWEST, Editions, make_vault};
 use sqlite::{Alter, Connection};
 use std::alloc::Global;
 use std::process::Abort;
 use std::test::Fail;
 use vault_audit::audit;
-use vault_audit_model::schema::NEWEST;
+use vault_audit_model::schema::{Edition, NEWEST};
 use vault_base::refusal::{Refusal, Table};
 
 /// A department with a bucket of four entries: two held versions of one key, a removed one, and a marker. Its
@@ -32,337 +33,72 @@ INSERT INTO heads VALUES ('papers', 'c', 4, 1);
 UPDATE meta SET last = 2592000, next = 5";
 
 // It has no clause, so that the proof of a test does not carry the state of the call.
-fn judged<S: Alter>(alloc: Global, conn: &mut Connection<S>) -> Result<(), Refusal> {
-    audit(alloc, conn, NEWEST)
+fn judged<S: Alter>(
+    alloc: Global,
+    conn: &mut Connection<S>,
+    asked_for: Edition,
+) -> Result<(), Refusal> {
+    audit(alloc, conn, asked_for)
 }
 
-/// What is told of the vault with these changes in its file.
-fn told(rt: &impl Abort, alloc: Global, changes: &[&str]) -> Result<Result<(), Refusal>, Fail> {
+/// What is told of a vault with these changes that is made in that store, where nothing is yet.
+fn told_in<S: Alter>(
+    rt: &impl Abort,
+    alloc: Global,
+    conn: &mut Connection<S>,
+    editions: Editions,
+    changes: &[&str],
+) -> Result<Result<(), Refusal>, Fail> {
+    make_vault(rt, conn, editions.made_as)?;
+    batches(conn, changes)?;
+    Ok(judged(alloc, conn, editions.asked_for))
+}
+
+/// What is told of a vault of these editions with these changes in its file.
+pub fn told_as(
+    rt: &impl Abort,
+    alloc: Global,
+    editions: Editions,
+    changes: &[&str],
+) -> Result<Result<(), Refusal>, Fail> {
     let mut conn = Connection::open_in_memory(alloc)?;
-    let told = told_with(rt, alloc, &mut conn, changes);
+    let told = told_in(rt, alloc, &mut conn, editions, changes);
     drop(conn);
     told
 }
 
-/// The same, in that store, where nothing is yet.
-fn told_with<S: Alter>(
-    rt: &impl Abort,
-    alloc: Global,
-    conn: &mut Connection<S>,
-    changes: &[&str],
-) -> Result<Result<(), Refusal>, Fail> {
-    made_with(rt, conn, changes)?;
-    Ok(judged(alloc, conn))
-}
-
-/// Fails where the sound vault with this change is not told by that table.
-fn is_told(rt: &impl Abort, alloc: Global, change: &str, table: Table) -> Result<(), Fail> {
-    let told = told(rt, alloc, &[ROWS, change])?;
-    assert_eq!(rt; told, Err(Refusal::Damaged(table)), "with {change}");
-    Ok(())
-}
-
-/// Fails where not each of these changes is told by that table.
-fn are_told(rt: &impl Abort, alloc: Global, changes: &[&str], table: Table) -> Result<(), Fail> {
-    for change in changes {
-        is_told(rt, alloc, change, table)?;
-    }
-    Ok(())
-}
-
-/// Fails where not each of these changes is told by its table.
-fn each_is_told(rt: &impl Abort, alloc: Global, changes: &[(Table, &str)]) -> Result<(), Fail> {
-    for (table, change) in changes {
-        is_told(rt, alloc, change, *table)?;
-    }
-    Ok(())
+/// What is told of the vault with these changes in its file.
+pub fn told(rt: &impl Abort, alloc: Global, changes: &[&str]) -> Result<Result<(), Refusal>, Fail> {
+    told_as(rt, alloc, BOTH_NEWEST, changes)
 }
 
 /// Fails where the vault with these changes is not sound.
-fn is_sound(rt: &impl Abort, alloc: Global, changes: &[&str]) -> Result<(), Fail> {
+pub fn is_sound(rt: &impl Abort, alloc: Global, changes: &[&str]) -> Result<(), Fail> {
     assert_eq!(rt; told(rt, alloc, changes)?, Ok(()));
+    Ok(())
+}
+
+/// Fails where the vault of `ROWS` with each of these changes is not told by that table.
+pub fn are_told(
+    rt: &impl Abort,
+    alloc: Global,
+    changes: &[&str],
+    table: Table,
+) -> Result<(), Fail> {
+    for change in changes {
+        let told = told(rt, alloc, &[ROWS, change])?;
+        assert_eq!(rt; told, Err(Refusal::Damaged(table)), "with {change}");
+    }
     Ok(())
 }
 
 #[test]
 fn a_store_without_tables_is_no_vault(rt: HostRuntime) -> Result<(), Fail> {
     let mut conn = Connection::open_in_memory(rt.alloc())?;
-    let told = judged(rt.alloc(), &mut conn);
+    let told = judged(rt.alloc(), &mut conn, NEWEST);
     drop(conn);
     assert_eq!(rt; told, Err(Refusal::Damaged(Table::Meta)));
     Ok(())
-}
-
-#[test]
-fn a_new_vault_is_sound(rt: HostRuntime) -> Result<(), Fail> {
-    is_sound(&rt, rt.alloc(), &[])
-}
-
-#[test]
-fn a_vault_with_entries_is_sound(rt: HostRuntime) -> Result<(), Fail> {
-    is_sound(&rt, rt.alloc(), &[ROWS, ""])
-}
-
-#[test]
-fn a_table_that_is_missing_is_told(rt: HostRuntime) -> Result<(), Fail> {
-    is_told(&rt, rt.alloc(), "DROP TABLE heads", Table::Heads)
-}
-
-#[test]
-fn faults_of_meta_are_told(rt: HostRuntime) -> Result<(), Fail> {
-    let changes = [
-        "INSERT INTO meta VALUES (2, 1, 2592000, 5)",
-        "DELETE FROM meta",
-        "UPDATE meta SET schema = 1",
-        "UPDATE meta SET schema = 3",
-        "UPDATE meta SET last = -1",
-        "UPDATE meta SET next = 6",
-        "UPDATE meta SET next = 0",
-    ];
-    are_told(&rt, rt.alloc(), &changes, Table::Meta)
-}
-
-#[test]
-fn faults_of_departments_are_told(rt: HostRuntime) -> Result<(), Fail> {
-    let changes = [
-        "INSERT INTO departments VALUES ('A b', 0, 0, 0, 0, 0)",
-        "INSERT INTO departments VALUES ('other', 1, 0, 0, 0, 0)",
-        "UPDATE departments SET admitted = 13",
-        "UPDATE departments SET held = 9",
-        "UPDATE departments SET removed = 5",
-        "UPDATE departments SET weighted = 111",
-        "UPDATE departments SET weighted = 109",
-        "UPDATE departments SET closed = 41",
-    ];
-    are_told(&rt, rt.alloc(), &changes, Table::Departments)
-}
-
-#[test]
-fn faults_of_callers_and_buckets_are_told(rt: HostRuntime) -> Result<(), Fail> {
-    let changes = [
-        (
-            Table::Callers,
-            "UPDATE callers SET rights = 4096 WHERE name = 'clerk'",
-        ),
-        (Table::Callers, "UPDATE callers SET closed = 2"),
-        (Table::Buckets, "UPDATE buckets SET mode = 3"),
-        (Table::Buckets, "UPDATE buckets SET mode = 0"),
-        (Table::Buckets, "UPDATE buckets SET days = NULL"),
-    ];
-    each_is_told(&rt, rt.alloc(), &changes)
-}
-
-#[test]
-fn faults_of_rules_are_told(rt: HostRuntime) -> Result<(), Fail> {
-    let changes = [
-        "UPDATE rules SET enabled = 2 WHERE n = 1",
-        "UPDATE rules SET n = 3 WHERE n = 2",
-        "DELETE FROM rules WHERE n = 1",
-        "UPDATE rules SET id = 'old' WHERE n = 2",
-        "UPDATE rules SET days = NULL WHERE n = 1",
-    ];
-    are_told(&rt, rt.alloc(), &changes, Table::Rules)
-}
-
-#[test]
-fn rules_with_bounds_are_sound(rt: HostRuntime) -> Result<(), Fail> {
-    let least = "UPDATE rules SET larger = 0, smaller = 1 WHERE n = 1";
-    let most = "UPDATE rules SET larger = 1048576, smaller = 1048577 WHERE n = 2";
-    is_sound(&rt, rt.alloc(), &[ROWS, least, most])
-}
-
-#[test]
-fn bounds_beyond_their_limits_are_told(rt: HostRuntime) -> Result<(), Fail> {
-    let changes = [
-        "UPDATE rules SET larger = -1 WHERE n = 1",
-        "UPDATE rules SET larger = 1048577 WHERE n = 1",
-        "UPDATE rules SET smaller = 0 WHERE n = 1",
-        "UPDATE rules SET smaller = 1048578 WHERE n = 1",
-        // The lower one isn't below the upper one.
-        "UPDATE rules SET larger = 4, smaller = 4 WHERE n = 2",
-        "UPDATE rules SET larger = 5, smaller = 4 WHERE n = 2",
-    ];
-    are_told(&rt, rt.alloc(), &changes, Table::Rules)
-}
-
-#[test]
-fn faults_of_entries_are_told(rt: HostRuntime) -> Result<(), Fail> {
-    let changes = [
-        // A removal after the last moment, and one before the admission.
-        "UPDATE meta SET last = 2591999",
-        "UPDATE entries SET removed = 1728004 WHERE id = 3",
-        "UPDATE entries SET cause = 3 WHERE id = 3",
-        // A marker with a size.
-        "UPDATE entries SET size = 1 WHERE id = 4",
-        // An admission that goes back.
-        "UPDATE entries SET admitted = 1728004 WHERE id = 4",
-        // A gap in the ids.
-        "DELETE FROM heads WHERE newest = 4; UPDATE entries SET id = 7 WHERE id = 4; INSERT INTO heads VALUES ('papers', 'c', 7, 1)",
-    ];
-    are_told(&rt, rt.alloc(), &changes, Table::Entries)
-}
-
-#[test]
-fn faults_of_contents_are_told(rt: HostRuntime) -> Result<(), Fail> {
-    let changes = [
-        // Of another digest, and of another size.
-        "UPDATE contents SET bytes = x'68656c6c70' WHERE id = 1",
-        "UPDATE contents SET bytes = x'68656c6c' WHERE id = 1",
-        // None of a held version, one of a removed version, and one of a marker.
-        "DELETE FROM contents WHERE id = 2",
-        "INSERT INTO contents VALUES (3, x'676f6e65')",
-        "INSERT INTO contents VALUES (4, x'')",
-    ];
-    are_told(&rt, rt.alloc(), &changes, Table::Contents)
-}
-
-#[test]
-fn faults_of_settings_are_told(rt: HostRuntime) -> Result<(), Fail> {
-    let changes = [
-        "UPDATE settings SET mode = 3 WHERE id = 1",
-        "UPDATE settings SET until = NULL WHERE id = 2 AND n = 1",
-        // They begin with 2, have a gap, or there are none.
-        "UPDATE settings SET n = 2 WHERE id = 1",
-        "UPDATE settings SET n = 3 WHERE id = 2 AND n = 2",
-        "DELETE FROM settings WHERE id = 3",
-        // A marker has one.
-        "INSERT INTO settings VALUES (4, 1, 1814400, 'clerk', 0, NULL, 0, 0)",
-    ];
-    are_told(&rt, rt.alloc(), &changes, Table::Settings)
-}
-
-#[test]
-fn faults_of_intake_are_told(rt: HostRuntime) -> Result<(), Fail> {
-    let changes = [
-        "UPDATE intake SET line = 0",
-        "UPDATE intake SET hold = 2",
-        "UPDATE intake SET key = 'b'",
-        "UPDATE intake SET size = 6",
-        "UPDATE intake SET digest = x'00'",
-        "UPDATE intake SET id = 2",
-        "UPDATE intake SET id = 4",
-    ];
-    are_told(&rt, rt.alloc(), &changes, Table::Intake)
-}
-
-#[test]
-fn faults_of_heads_are_told(rt: HostRuntime) -> Result<(), Fail> {
-    let changes = [
-        "UPDATE heads SET key = '' WHERE key = 'c'",
-        "UPDATE heads SET count = 3 WHERE key = 'a'",
-        "UPDATE heads SET count = 1 WHERE key = 'a'",
-        "UPDATE heads SET newest = 1 WHERE key = 'a'",
-        "UPDATE heads SET newest = 2 WHERE key = 'c'",
-        "DELETE FROM heads WHERE key = 'c'",
-        "INSERT INTO heads VALUES ('papers', 'b', 3, 0)",
-    ];
-    are_told(&rt, rt.alloc(), &changes, Table::Heads)
-}
-
-#[test]
-fn the_first_table_is_told(rt: HostRuntime) -> Result<(), Fail> {
-    let changes = [
-        // Both in the first look, and both in the second.
-        (
-            Table::Settings,
-            "UPDATE heads SET key = ''  WHERE key = 'c'; UPDATE settings SET mode = 3 WHERE id = 1",
-        ),
-        (
-            Table::Departments,
-            "UPDATE heads SET count = 3 WHERE key = 'a'; UPDATE departments SET held = 9",
-        ),
-        (
-            Table::Settings,
-            "UPDATE intake SET hold = 2; UPDATE settings SET mode = 3 WHERE id = 1",
-        ),
-        (
-            Table::Departments,
-            "DELETE FROM rules WHERE n = 1; UPDATE departments SET held = 9",
-        ),
-        // A later table in the first look, and an earlier one in the second.
-        (
-            Table::Heads,
-            "UPDATE heads SET key = '' WHERE key = 'c'; UPDATE meta SET next = 6",
-        ),
-    ];
-    each_is_told(&rt, rt.alloc(), &changes)
-}
-
-#[test]
-fn each_value_beyond_its_limits_is_told(rt: HostRuntime) -> Result<(), Fail> {
-    names_beyond_are_told(&rt, rt.alloc())?;
-    entries_beyond_are_told(&rt, rt.alloc())?;
-    rest_beyond_is_told(&rt, rt.alloc())
-}
-
-fn names_beyond_are_told(rt: &impl Abort, alloc: Global) -> Result<(), Fail> {
-    let buckets = [
-        "INSERT INTO buckets VALUES ('Papers', 'records', 0, NULL, NULL)",
-        "UPDATE buckets SET days = 0",
-        "UPDATE buckets SET years = 1",
-        "UPDATE buckets SET days = NULL, years = 101",
-    ];
-    let rules = [
-        "UPDATE rules SET id = '' WHERE n = 1",
-        "UPDATE rules SET prefix = '\n' WHERE n = 1",
-        "UPDATE rules SET days = 0 WHERE n = 1",
-        "UPDATE rules SET lone = 2 WHERE n = 1",
-        "UPDATE rules SET n = 0 WHERE n = 1",
-        "UPDATE rules SET nc_keep = 101 WHERE n = 2",
-        "UPDATE rules SET nc_days = NULL, nc_keep = 1, days = 1 WHERE n = 2",
-    ];
-    is_told(
-        rt,
-        alloc,
-        "INSERT INTO callers VALUES ('A b', NULL, 0, 0)",
-        Table::Callers,
-    )?;
-    are_told(rt, alloc, &buckets, Table::Buckets)?;
-    are_told(rt, alloc, &rules, Table::Rules)
-}
-
-fn entries_beyond_are_told(rt: &impl Abort, alloc: Global) -> Result<(), Fail> {
-    let changes = [
-        "UPDATE entries SET key = '' WHERE id = 3",
-        "UPDATE entries SET marker = 2 WHERE id = 4",
-        "UPDATE entries SET size = 1048577 WHERE id = 3",
-        "UPDATE entries SET digest = x'00' WHERE id = 1",
-        "UPDATE entries SET admitted = -1 WHERE id = 1",
-        "UPDATE entries SET by_rule = 2 WHERE id = 4",
-        "UPDATE entries SET admitted_by = '' WHERE id = 4",
-        "UPDATE entries SET by_rule = 1, admitted_by = '' WHERE id = 4",
-        "UPDATE entries SET cause = NULL WHERE id = 3",
-        "UPDATE entries SET cause_by = '' WHERE id = 3",
-        "UPDATE entries SET cause = 2, cause_by = '' WHERE id = 3",
-        "UPDATE entries SET cause = 1, cause_by = '' WHERE id = 3",
-    ];
-    are_told(rt, alloc, &changes, Table::Entries)
-}
-
-fn rest_beyond_is_told(rt: &impl Abort, alloc: Global) -> Result<(), Fail> {
-    let settings = [
-        "UPDATE settings SET moment = -1 WHERE id = 1",
-        "UPDATE settings SET caller = '' WHERE id = 1",
-        "UPDATE settings SET until = -1 WHERE id = 2",
-        "UPDATE settings SET hold = 2 WHERE id = 1",
-        "UPDATE settings SET bypass = 2 WHERE id = 1",
-        "UPDATE settings SET n = 0 WHERE id = 1",
-    ];
-    let intake = [
-        "UPDATE intake SET batch = ''",
-        "UPDATE intake SET size = -1",
-        "UPDATE intake SET digest = x'00'",
-        "UPDATE intake SET mode = 3",
-        "UPDATE intake SET key = ''",
-    ];
-    are_told(rt, alloc, &settings, Table::Settings)?;
-    are_told(rt, alloc, &intake, Table::Intake)?;
-    is_told(
-        rt,
-        alloc,
-        "UPDATE heads SET count = -1 WHERE key = 'a'",
-        Table::Heads,
-    )
 }
 
 // Ten versions without bytes, each at a key of its own.
@@ -387,9 +123,228 @@ INSERT INTO buckets SELECT 'b-' || id, 'records', 0, NULL, NULL FROM entries;
 INSERT INTO rules SELECT 'b-' || id, 1, 'old', '', 1, 30, 0, NULL, NULL, NULL, NULL FROM entries;
 UPDATE meta SET last = 1600000000, next = 161";
 
-/// Each table but two has 160 rows or more.
+/// Vaults that are sound: a new one, one with entries, one whose rules have bounds, and one with 160 rows or more in
+/// each table but two.
+const SOUND: &[&[&str]] = &[
+    &[],
+    &[ROWS],
+    &[
+        ROWS,
+        "UPDATE rules SET larger = 0, smaller = 1 WHERE n = 1",
+        "UPDATE rules SET larger = 1048576, smaller = 1048577 WHERE n = 2",
+    ],
+    &[TEN_VERSIONS, DOUBLED, DOUBLED, DOUBLED, DOUBLED, WITH_ROWS],
+];
+
 #[test]
-fn tables_of_many_rows_are_sound(rt: HostRuntime) -> Result<(), Fail> {
-    let changes = [TEN_VERSIONS, DOUBLED, DOUBLED, DOUBLED, DOUBLED, WITH_ROWS];
-    is_sound(&rt, rt.alloc(), &changes)
+fn sound_vaults_are_told_as_sound(rt: HostRuntime) -> Result<(), Fail> {
+    for changes in SOUND {
+        is_sound(&rt, rt.alloc(), changes)?;
+    }
+    Ok(())
+}
+
+/// Faults of each table, each of them a change of a vault with entries.
+const FAULTS: &[(Table, &[&str])] = &[
+    (
+        Table::Meta,
+        &[
+            "INSERT INTO meta VALUES (2, 1, 2592000, 5)",
+            "DELETE FROM meta",
+            "UPDATE meta SET schema = 1",
+            "UPDATE meta SET schema = 3",
+            "UPDATE meta SET last = -1",
+            "UPDATE meta SET next = 6",
+            "UPDATE meta SET next = 0",
+        ],
+    ),
+    (
+        Table::Departments,
+        &[
+            "INSERT INTO departments VALUES ('A b', 0, 0, 0, 0, 0)",
+            "INSERT INTO departments VALUES ('other', 1, 0, 0, 0, 0)",
+            "UPDATE departments SET admitted = 13",
+            "UPDATE departments SET held = 9",
+            "UPDATE departments SET removed = 5",
+            "UPDATE departments SET weighted = 111",
+            "UPDATE departments SET weighted = 109",
+            "UPDATE departments SET closed = 41",
+        ],
+    ),
+    (
+        Table::Callers,
+        &[
+            "UPDATE callers SET rights = 4096 WHERE name = 'clerk'",
+            "UPDATE callers SET closed = 2",
+            "INSERT INTO callers VALUES ('A b', NULL, 0, 0)",
+        ],
+    ),
+    (
+        Table::Buckets,
+        &[
+            "UPDATE buckets SET mode = 3",
+            "UPDATE buckets SET mode = 0",
+            "UPDATE buckets SET days = NULL",
+            "INSERT INTO buckets VALUES ('Papers', 'records', 0, NULL, NULL)",
+            "UPDATE buckets SET days = 0",
+            "UPDATE buckets SET years = 1",
+            "UPDATE buckets SET days = NULL, years = 101",
+        ],
+    ),
+    (
+        Table::Rules,
+        &[
+            "UPDATE rules SET enabled = 2 WHERE n = 1",
+            "UPDATE rules SET n = 3 WHERE n = 2",
+            "DELETE FROM rules WHERE n = 1",
+            "UPDATE rules SET id = 'old' WHERE n = 2",
+            "UPDATE rules SET days = NULL WHERE n = 1",
+            "UPDATE rules SET id = '' WHERE n = 1",
+            "UPDATE rules SET prefix = '\n' WHERE n = 1",
+            "UPDATE rules SET days = 0 WHERE n = 1",
+            "UPDATE rules SET lone = 2 WHERE n = 1",
+            "UPDATE rules SET n = 0 WHERE n = 1",
+            "UPDATE rules SET nc_keep = 101 WHERE n = 2",
+            "UPDATE rules SET nc_days = NULL, nc_keep = 1, days = 1 WHERE n = 2",
+            // Bounds on sizes.
+            "UPDATE rules SET larger = -1 WHERE n = 1",
+            "UPDATE rules SET larger = 1048577 WHERE n = 1",
+            "UPDATE rules SET smaller = 0 WHERE n = 1",
+            "UPDATE rules SET smaller = 1048578 WHERE n = 1",
+            // The lower one isn't below the upper one.
+            "UPDATE rules SET larger = 4, smaller = 4 WHERE n = 2",
+            "UPDATE rules SET larger = 5, smaller = 4 WHERE n = 2",
+        ],
+    ),
+    (
+        Table::Entries,
+        &[
+            // A removal after the last moment, and one before the admission.
+            "UPDATE meta SET last = 2591999",
+            "UPDATE entries SET removed = 1728004 WHERE id = 3",
+            "UPDATE entries SET cause = 3 WHERE id = 3",
+            // A marker with a size.
+            "UPDATE entries SET size = 1 WHERE id = 4",
+            // An admission that goes back.
+            "UPDATE entries SET admitted = 1728004 WHERE id = 4",
+            // A gap in the ids.
+            "DELETE FROM heads WHERE newest = 4; UPDATE entries SET id = 7 WHERE id = 4; INSERT INTO heads VALUES ('papers', 'c', 7, 1)",
+            "UPDATE entries SET key = '' WHERE id = 3",
+            "UPDATE entries SET marker = 2 WHERE id = 4",
+            "UPDATE entries SET size = 1048577 WHERE id = 3",
+            "UPDATE entries SET digest = x'00' WHERE id = 1",
+            "UPDATE entries SET admitted = -1 WHERE id = 1",
+            "UPDATE entries SET by_rule = 2 WHERE id = 4",
+            "UPDATE entries SET admitted_by = '' WHERE id = 4",
+            "UPDATE entries SET by_rule = 1, admitted_by = '' WHERE id = 4",
+            "UPDATE entries SET cause = NULL WHERE id = 3",
+            "UPDATE entries SET cause_by = '' WHERE id = 3",
+            "UPDATE entries SET cause = 2, cause_by = '' WHERE id = 3",
+            "UPDATE entries SET cause = 1, cause_by = '' WHERE id = 3",
+        ],
+    ),
+    (
+        Table::Contents,
+        &[
+            // Of another digest, and of another size.
+            "UPDATE contents SET bytes = x'68656c6c70' WHERE id = 1",
+            "UPDATE contents SET bytes = x'68656c6c' WHERE id = 1",
+            // None of a held version, one of a removed version, and one of a marker.
+            "DELETE FROM contents WHERE id = 2",
+            "INSERT INTO contents VALUES (3, x'676f6e65')",
+            "INSERT INTO contents VALUES (4, x'')",
+        ],
+    ),
+    (
+        Table::Settings,
+        &[
+            "UPDATE settings SET mode = 3 WHERE id = 1",
+            "UPDATE settings SET until = NULL WHERE id = 2 AND n = 1",
+            // They begin with 2, have a gap, or there are none.
+            "UPDATE settings SET n = 2 WHERE id = 1",
+            "UPDATE settings SET n = 3 WHERE id = 2 AND n = 2",
+            "DELETE FROM settings WHERE id = 3",
+            // A marker has one.
+            "INSERT INTO settings VALUES (4, 1, 1814400, 'clerk', 0, NULL, 0, 0)",
+            "UPDATE settings SET moment = -1 WHERE id = 1",
+            "UPDATE settings SET caller = '' WHERE id = 1",
+            "UPDATE settings SET until = -1 WHERE id = 2",
+            "UPDATE settings SET hold = 2 WHERE id = 1",
+            "UPDATE settings SET bypass = 2 WHERE id = 1",
+            "UPDATE settings SET n = 0 WHERE id = 1",
+        ],
+    ),
+    (
+        Table::Intake,
+        &[
+            "UPDATE intake SET line = 0",
+            "UPDATE intake SET hold = 2",
+            "UPDATE intake SET key = 'b'",
+            "UPDATE intake SET size = 6",
+            "UPDATE intake SET digest = x'00'",
+            "UPDATE intake SET id = 2",
+            "UPDATE intake SET id = 4",
+            "UPDATE intake SET batch = ''",
+            "UPDATE intake SET size = -1",
+            "UPDATE intake SET digest = x'00'",
+            "UPDATE intake SET mode = 3",
+            "UPDATE intake SET key = ''",
+        ],
+    ),
+    (
+        Table::Heads,
+        &[
+            "UPDATE heads SET key = '' WHERE key = 'c'",
+            "UPDATE heads SET count = 3 WHERE key = 'a'",
+            "UPDATE heads SET count = 1 WHERE key = 'a'",
+            "UPDATE heads SET newest = 1 WHERE key = 'a'",
+            "UPDATE heads SET newest = 2 WHERE key = 'c'",
+            "DELETE FROM heads WHERE key = 'c'",
+            "INSERT INTO heads VALUES ('papers', 'b', 3, 0)",
+            "UPDATE heads SET count = -1 WHERE key = 'a'",
+            "DROP TABLE heads",
+        ],
+    ),
+];
+
+#[test]
+fn faults_are_told_by_their_table(rt: HostRuntime) -> Result<(), Fail> {
+    for (table, changes) in FAULTS {
+        are_told(&rt, rt.alloc(), changes, *table)?;
+    }
+    Ok(())
+}
+
+/// Two faults each, and the table that is told.
+const TWO_FAULTS: &[(Table, &[&str])] = &[
+    // Both in the first look, and both in the second.
+    (
+        Table::Settings,
+        &["UPDATE heads SET key = ''  WHERE key = 'c'; UPDATE settings SET mode = 3 WHERE id = 1"],
+    ),
+    (
+        Table::Departments,
+        &["UPDATE heads SET count = 3 WHERE key = 'a'; UPDATE departments SET held = 9"],
+    ),
+    (
+        Table::Settings,
+        &["UPDATE intake SET hold = 2; UPDATE settings SET mode = 3 WHERE id = 1"],
+    ),
+    (
+        Table::Departments,
+        &["DELETE FROM rules WHERE n = 1; UPDATE departments SET held = 9"],
+    ),
+    // A later table in the first look, and an earlier one in the second.
+    (
+        Table::Heads,
+        &["UPDATE heads SET key = '' WHERE key = 'c'; UPDATE meta SET next = 6"],
+    ),
+];
+
+#[test]
+fn the_first_table_is_told(rt: HostRuntime) -> Result<(), Fail> {
+    for (table, changes) in TWO_FAULTS {
+        are_told(&rt, rt.alloc(), changes, *table)?;
+    }
+    Ok(())
 }

@@ -1,8 +1,7 @@
 //! Schemas that differ from the vault's in one place, and the table that is told of each.
-
+use crate::calls::batches;
 use sqlite::{Alter, Connection, Error};
 use std::alloc::Global;
-use std::process::Abort;
 use std::test::Fail;
 use vault_audit_model::schema::{NEWEST, creation};
 use vault_audit_schema::{check_schema, first_difference};
@@ -37,9 +36,7 @@ fn told_with<S: Alter>(
     more: &[&str],
 ) -> Result<Option<Table>, Error> {
     make_tables(conn, changed, text)?;
-    for text in more {
-        batch(conn, text)?;
-    }
+    batches(conn, more)?;
     Ok(difference(conn))
 }
 
@@ -56,25 +53,15 @@ pub fn make_tables<S: Alter>(
             creation(*table)
         };
         if !made_by.is_empty() {
-            batch(conn, made_by)?;
+            batches(conn, &[made_by])?;
         }
     }
     Ok(())
 }
 
-// These have no clause, so that the proof of a test does not carry the state of a call.
-
-fn batch<S: Alter>(conn: &mut Connection<S>, sql: &str) -> Result<(), Error> {
-    conn.execute_batch(sql)
-}
-
+// It has no clause, so that the proof of a test does not carry the state of the call.
 fn difference<S: Alter>(conn: &mut Connection<S>) -> Option<Table> {
     check_schema(conn, NEWEST)
-}
-
-/// What is told of the vault's tables with this beside them.
-fn told_beside(alloc: Global, more: &[&str]) -> Result<Option<Table>, Error> {
-    told(alloc, Table::Meta, creation(Table::Meta), more)
 }
 
 #[test]
@@ -87,12 +74,6 @@ fn no_table_is_meta(rt: HostRuntime) -> Result<(), Fail> {
 }
 
 #[test]
-fn the_ten_tables_are_the_vaults(rt: HostRuntime) -> Result<(), Fail> {
-    assert_eq!(rt; told_beside(rt.alloc(), &[])?, None);
-    Ok(())
-}
-
-#[test]
 fn a_missing_table_is_told(rt: HostRuntime) -> Result<(), Fail> {
     for table in &TABLES {
         assert_eq!(rt; told(rt.alloc(), *table, "", &[])?, Some(*table));
@@ -100,76 +81,88 @@ fn a_missing_table_is_told(rt: HostRuntime) -> Result<(), Fail> {
     Ok(())
 }
 
+/// Tables that are made otherwise.
+const CHANGED: &[(Table, &str)] = &[
+    // It isn't STRICT.
+    (
+        Table::Meta,
+        "CREATE TABLE meta (one INTEGER PRIMARY KEY, schema INTEGER NOT NULL, last INTEGER NOT NULL, next INTEGER NOT NULL)",
+    ),
+    // A column has another name.
+    (
+        Table::Callers,
+        "CREATE TABLE callers (name TEXT NOT NULL, department TEXT REFERENCES departments (name), rights INTEGER NOT NULL, closed INTEGER NOT NULL, PRIMARY KEY (name)) STRICT",
+    ),
+    // A column may be NULL.
+    (
+        Table::Buckets,
+        "CREATE TABLE buckets (name TEXT NOT NULL, dept TEXT NOT NULL REFERENCES departments (name), mode INTEGER, days INTEGER, years INTEGER, PRIMARY KEY (name)) STRICT",
+    ),
+    // The key has another column.
+    (
+        Table::Rules,
+        "CREATE TABLE rules (bucket TEXT NOT NULL REFERENCES buckets (name), n INTEGER NOT NULL, id TEXT NOT NULL, prefix TEXT NOT NULL, enabled INTEGER NOT NULL, days INTEGER, lone INTEGER NOT NULL, nc_days INTEGER, nc_keep INTEGER, larger INTEGER, smaller INTEGER, PRIMARY KEY (bucket, id)) STRICT",
+    ),
+    // It has no columns for bounds on sizes.
+    (
+        Table::Rules,
+        "CREATE TABLE rules (bucket TEXT NOT NULL REFERENCES buckets (name), n INTEGER NOT NULL, id TEXT NOT NULL, prefix TEXT NOT NULL, enabled INTEGER NOT NULL, days INTEGER, lone INTEGER NOT NULL, nc_days INTEGER, nc_keep INTEGER, PRIMARY KEY (bucket, n)) STRICT",
+    ),
+    // The two bounds are in the other order.
+    (
+        Table::Rules,
+        "CREATE TABLE rules (bucket TEXT NOT NULL REFERENCES buckets (name), n INTEGER NOT NULL, id TEXT NOT NULL, prefix TEXT NOT NULL, enabled INTEGER NOT NULL, days INTEGER, lone INTEGER NOT NULL, nc_days INTEGER, nc_keep INTEGER, smaller INTEGER, larger INTEGER, PRIMARY KEY (bucket, n)) STRICT",
+    ),
+    // It refers to no entry.
+    (
+        Table::Contents,
+        "CREATE TABLE contents (id INTEGER PRIMARY KEY, bytes BLOB NOT NULL) STRICT",
+    ),
+    // A column is of another kind.
+    (
+        Table::Settings,
+        "CREATE TABLE settings (id INTEGER NOT NULL REFERENCES entries (id), n INTEGER NOT NULL, moment INTEGER NOT NULL, caller TEXT NOT NULL, mode INTEGER NOT NULL, until TEXT, hold INTEGER NOT NULL, bypass INTEGER NOT NULL, PRIMARY KEY (id, n)) STRICT",
+    ),
+    // It has a CHECK.
+    (
+        Table::Heads,
+        "CREATE TABLE heads (bucket TEXT NOT NULL REFERENCES buckets (name), key TEXT NOT NULL, newest INTEGER NOT NULL REFERENCES entries (id), count INTEGER NOT NULL CHECK (count > 0), PRIMARY KEY (bucket, key)) STRICT",
+    ),
+];
+
 #[test]
 fn a_changed_table_is_told(rt: HostRuntime) -> Result<(), Fail> {
-    let changes = [
-        // It isn't STRICT.
-        (
-            Table::Meta,
-            "CREATE TABLE meta (one INTEGER PRIMARY KEY, schema INTEGER NOT NULL, last INTEGER NOT NULL, next INTEGER NOT NULL)",
-        ),
-        // A column has another name.
-        (
-            Table::Callers,
-            "CREATE TABLE callers (name TEXT NOT NULL, department TEXT REFERENCES departments (name), rights INTEGER NOT NULL, closed INTEGER NOT NULL, PRIMARY KEY (name)) STRICT",
-        ),
-        // A column may be NULL.
-        (
-            Table::Buckets,
-            "CREATE TABLE buckets (name TEXT NOT NULL, dept TEXT NOT NULL REFERENCES departments (name), mode INTEGER, days INTEGER, years INTEGER, PRIMARY KEY (name)) STRICT",
-        ),
-        // The key has another column.
-        (
-            Table::Rules,
-            "CREATE TABLE rules (bucket TEXT NOT NULL REFERENCES buckets (name), n INTEGER NOT NULL, id TEXT NOT NULL, prefix TEXT NOT NULL, enabled INTEGER NOT NULL, days INTEGER, lone INTEGER NOT NULL, nc_days INTEGER, nc_keep INTEGER, larger INTEGER, smaller INTEGER, PRIMARY KEY (bucket, id)) STRICT",
-        ),
-        // It has no columns for bounds on sizes.
-        (
-            Table::Rules,
-            "CREATE TABLE rules (bucket TEXT NOT NULL REFERENCES buckets (name), n INTEGER NOT NULL, id TEXT NOT NULL, prefix TEXT NOT NULL, enabled INTEGER NOT NULL, days INTEGER, lone INTEGER NOT NULL, nc_days INTEGER, nc_keep INTEGER, PRIMARY KEY (bucket, n)) STRICT",
-        ),
-        // The two bounds are in the other order.
-        (
-            Table::Rules,
-            "CREATE TABLE rules (bucket TEXT NOT NULL REFERENCES buckets (name), n INTEGER NOT NULL, id TEXT NOT NULL, prefix TEXT NOT NULL, enabled INTEGER NOT NULL, days INTEGER, lone INTEGER NOT NULL, nc_days INTEGER, nc_keep INTEGER, smaller INTEGER, larger INTEGER, PRIMARY KEY (bucket, n)) STRICT",
-        ),
-        // It refers to no entry.
-        (
-            Table::Contents,
-            "CREATE TABLE contents (id INTEGER PRIMARY KEY, bytes BLOB NOT NULL) STRICT",
-        ),
-        // A column is of another kind.
-        (
-            Table::Settings,
-            "CREATE TABLE settings (id INTEGER NOT NULL REFERENCES entries (id), n INTEGER NOT NULL, moment INTEGER NOT NULL, caller TEXT NOT NULL, mode INTEGER NOT NULL, until TEXT, hold INTEGER NOT NULL, bypass INTEGER NOT NULL, PRIMARY KEY (id, n)) STRICT",
-        ),
-        // It has a CHECK.
-        (
-            Table::Heads,
-            "CREATE TABLE heads (bucket TEXT NOT NULL REFERENCES buckets (name), key TEXT NOT NULL, newest INTEGER NOT NULL REFERENCES entries (id), count INTEGER NOT NULL CHECK (count > 0), PRIMARY KEY (bucket, key)) STRICT",
-        ),
-    ];
-    for (table, text) in &changes {
+    for (table, text) in CHANGED {
         assert_eq!(rt; told(rt.alloc(), *table, text, &[])?, Some(*table));
     }
     Ok(())
 }
 
-/// Fails where the vault's tables with this beside them are not told by that table.
-fn is_told_beside(rt: &impl Abort, alloc: Global, more: &[&str], table: Table) -> Result<(), Fail> {
-    assert_eq!(rt; told_beside(alloc, more)?, Some(table));
-    Ok(())
-}
+const OTHER: &str = "CREATE TABLE other (x INTEGER) STRICT";
+
+/// What stands beside the ten tables, and the table that is told then; none where nothing stands there.
+const BESIDE: &[(&[&str], Option<Table>)] = &[
+    (&[], None),
+    (&[OTHER], Some(Table::Meta)),
+    (
+        &[OTHER, "CREATE INDEX by_x ON other (x)"],
+        Some(Table::Meta),
+    ),
+    (
+        &["CREATE INDEX by_size ON entries (size)"],
+        Some(Table::Entries),
+    ),
+    (
+        &["CREATE VIEW sizes AS SELECT size FROM entries"],
+        Some(Table::Meta),
+    ),
+];
 
 #[test]
 fn what_stands_beside_the_tables_is_told(rt: HostRuntime) -> Result<(), Fail> {
-    let alloc = rt.alloc();
-    let other = "CREATE TABLE other (x INTEGER) STRICT";
-    let index = "CREATE INDEX by_x ON other (x)";
-    let index_of_ours = "CREATE INDEX by_size ON entries (size)";
-    let view = "CREATE VIEW sizes AS SELECT size FROM entries";
-    is_told_beside(&rt, alloc, &[other], Table::Meta)?;
-    is_told_beside(&rt, alloc, &[other, index], Table::Meta)?;
-    is_told_beside(&rt, alloc, &[index_of_ours], Table::Entries)?;
-    is_told_beside(&rt, alloc, &[view], Table::Meta)
+    for (more, table) in BESIDE {
+        let told = told(rt.alloc(), Table::Meta, creation(Table::Meta), more)?;
+        assert_eq!(rt; told, *table);
+    }
+    Ok(())
 }
