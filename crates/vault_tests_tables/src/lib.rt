@@ -13,3 +13,5 @@ mod reads;
 mod schema;
 #[cfg(test)]
 mod steps;
+#[cfg(test)]
+mod sums;
