@@ -2,6 +2,7 @@
 use crate::peers::{GonePeers, StandingClock, answered, waiting};
 use std::alloc::Global;
 use std::cell::Cell;
+use std::io;
 use std::net::{Ipv4Addr, Net, TcpListener, TcpStream};
 use std::test::Fail;
 use vault_core_model::keeper::Keeper;
@@ -27,7 +28,8 @@ fn serve_gone<R: Net<Listener = TcpListener, Stream = TcpStream>, K: Keeper>(
         sent,
         taken: Cell::new(0),
     };
-    serve_connections(&StandingClock, alloc, &peers, keeper, COUNT);
+    let mut told = io::sink();
+    serve_connections(&StandingClock, alloc, &peers, keeper, COUNT, &mut told);
     if peers.taken.get() == COUNT {
         return Ok(());
     }
@@ -43,7 +45,8 @@ fn serve_waiting<R: Net<Listener = TcpListener, Stream = TcpStream>, K: Keeper>(
     id: u64,
 ) -> Result<(), Fail> {
     let peer = waiting(net, listener, PUT)?;
-    serve_connections(&StandingClock, alloc, listener, keeper, 1);
+    let mut told = io::sink();
+    serve_connections(&StandingClock, alloc, listener, keeper, 1, &mut told);
     let wanted = format!(in alloc;
         "HTTP/1.1 100 Continue\r\n\r\nHTTP/1.1 200 OK\r\ndate: Mon, 15 Jan 2024 10:30:00 GMT\r\nconnection: close\r\ncontent-length: 0\r\nx-amz-version-id: {id}\r\n\r\n"
     )?;

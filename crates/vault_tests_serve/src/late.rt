@@ -3,6 +3,7 @@
 use crate::slow::{MovingClock, Part, SlowPeer, SlowPeers};
 use std::alloc::Global;
 use std::cell::Cell;
+use std::io;
 use std::test::Fail;
 use std::time::Duration;
 use vault_core_model::keeper::Keeper;
@@ -74,7 +75,8 @@ fn serve_slow<K: Keeper>(
         taken: &taken,
         alloc,
     };
-    serve_connections(&clock, alloc, &peers, keeper, count);
+    let mut told = io::sink();
+    serve_connections(&clock, alloc, &peers, keeper, count, &mut told);
     check_passed(&clock, millis)?;
     Ok(String::from_utf8(taken.replace(Vec::new(alloc)))?)
 }

@@ -6,6 +6,7 @@ use std::io;
 use std::net::{Ipv4Addr, TcpListener};
 use std::test::Fail;
 use vault_base::moment::Moment;
+use vault_core::fuse_keeper::FuseKeeper;
 use vault_transcript::transcript::opened;
 use vaultctl_serve::clock::now;
 use vaultctl_serve::{PortFault, serve, serve_connections};
@@ -20,6 +21,12 @@ const GET: &str = "GET /docs/a HTTP/1.1\r\nx-vault-caller: ann\r\n\r\n";
 
 const GOT: &str =
     "HTTP/1.1 200 OK\r\ndate: Mon, 15 Jan 2024 10:30:00 GMT\r\nconnection: close\r\ncontent-type: application/octet-stream\r\ncontent-length: 5\r\nx-amz-version-id: 1\r\nx-amz-object-lock-legal-hold: OFF\r\n\r\nhello";
+
+const FAILED: &str =
+    "HTTP/1.1 100 Continue\r\n\r\nHTTP/1.1 500 Internal Server Error\r\ndate: Mon, 15 Jan 2024 10:30:00 GMT\r\nconnection: close\r\ncontent-type: application/json\r\ncontent-length: 24\r\n\r\n{\"code\":\"Device\",\"n\":23}";
+
+const TOLD_FAILURE: &str =
+    "serving a.vault at 127.0.0.1:0\nserve: the vault's file failed: where requests are answered 500, start the server anew\n";
 
 const NO_TIME: &str =
     "HTTP/1.1 503 Service Unavailable\r\nconnection: close\r\ncontent-type: application/json\r\ncontent-length: 32\r\n\r\n{\"code\":\"ClockOutOfRange\",\"n\":2}";
@@ -48,6 +55,26 @@ fn serves_as_many_as_it_should(rt: HostRuntime) -> Result<(), Fail> {
         assert!(rt; io::read_to_string(alloc, unserved).is_err());
     }
     answered(alloc, clients, &[STORED, "", GOT])
+}
+
+/// A device that fails twice: each of the two requests is answered 500, and it is told once. Where it fails no more the
+/// next one is served.
+#[test]
+fn a_device_that_fails(rt: HostRuntime) -> Result<(), Fail> {
+    let alloc = rt.alloc();
+    let mut keeper = FuseKeeper::new(FuseKeeper::new(opened(alloc)?, 0), 0);
+    let network = Loopback {
+        net: &rt,
+        alloc,
+        requests: &[PUT, PUT, PUT],
+        clients: Cell::new(Vec::new(alloc)),
+        since_1970: Some(READING),
+    };
+    let mut told = Vec::new(alloc);
+    assert!(rt; serve(&network, alloc, &mut keeper, "a.vault", 0, 3, &mut told).is_ok());
+    assert_eq!(rt; told.as_slice(), TOLD_FAILURE.as_bytes());
+    let clients = network.clients.replace(Vec::new(alloc));
+    answered(alloc, clients, &[FAILED, FAILED, STORED])
 }
 
 /// A request whose time isn't known is refused.
@@ -95,7 +122,8 @@ fn a_listener_that_fails(rt: HostRuntime) -> Result<(), Fail> {
     };
     let address = failing.listener.local_addr()?;
     let clients = vec![in alloc; send(&rt, address, PUT)?, send(&rt, address, GET)?]?;
-    serve_connections(&clock, alloc, &failing, &mut keeper, 4);
+    let mut told = io::sink();
+    serve_connections(&clock, alloc, &failing, &mut keeper, 4, &mut told);
     assert_eq!(rt; failing.failures.get(), 0);
     answered(alloc, clients, &[STORED, GOT])
 }
@@ -107,10 +135,11 @@ fn a_clock_that_tells_no_time(rt: HostRuntime) -> Result<(), Fail> {
     let mut keeper = opened(alloc)?;
     let listener = TcpListener::bind(&rt, (Ipv4Addr::LOCALHOST, 0))?;
     let unserved = send(&rt, listener.local_addr()?, PUT)?;
-    serve_connections(&StoppedClock, alloc, &listener, &mut keeper, 1);
+    let mut told = io::sink();
+    serve_connections(&StoppedClock, alloc, &listener, &mut keeper, 1, &mut told);
     drop(unserved);
     let clients = vec![in alloc; send(&rt, listener.local_addr()?, PUT)?]?;
-    serve_connections(&StandingClock, alloc, &listener, &mut keeper, 1);
+    serve_connections(&StandingClock, alloc, &listener, &mut keeper, 1, &mut told);
     answered(alloc, clients, &[STORED])
 }
 

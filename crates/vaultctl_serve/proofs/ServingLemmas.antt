@@ -1,6 +1,7 @@
--- Steps of connections, one after another.
-use Rattle.std.proofs.Common.{◌≡◌, ◌+◌, ℕ, [], ◌∷◌, ◌++◌, Option, refl, inl, inr, arith}
+-- Steps of connections, one after another, and what is told of them.
+use Rattle.std.proofs.Common.{◌≡◌, ◌∙◌, ◌+◌, ℕ, List, [], ◌∷◌, ◌++◌, Option, None, Some, refl, inl, inr, arith}
 use Rattle.std.proofs.lemmas.List.{length-append}
+use Rattle.std.specs.Io.KnownBytes.{Keeps}
 use Rattle.vault_core_model.specs.Step.{Reached}
 use Rattle.vault_core_model.specs.Vault.{Vault}
 use Rattle.vault_core_laws.proofs.Runs.{Run-append}
@@ -28,3 +29,13 @@ Stepped-append few more old mid new first second = (
 pub Stepped-reached : (most : ℕ) (old new : Vault) → Stepped most old new → Reached old → Reached new
 Stepped-reached most old new stepped before =
     (before.0 ++ stepped.0, before.1 ++ stepped.1, Run-append _ _ _ before.0 stepped.0 before.1 stepped.1 before.2 stepped.3)
+
+pub Keeps-same : (u : Option (List ℕ)) → Keeps u u
+Keeps-same None = tt
+Keeps-same (Some xs) = refl
+
+pub Keeps-then : (u v w : Option (List ℕ)) → Keeps u v → Keeps v w → Keeps u w
+Keeps-then None v w x y = tt
+Keeps-then (Some xs) None w x y = absurd x
+Keeps-then (Some xs) (Some ys) None x y = absurd y
+Keeps-then (Some xs) (Some ys) (Some zs) x y = y ∙ x
