@@ -8,6 +8,7 @@ use vault_base::name::{BucketName, CallerName, ObjectKey};
 use vault_base::refusal::Refusal;
 use vault_core::run::run;
 use vault_core_model::command::{Command, Put, Timed};
+use vault_core_model::keeper::Keeper;
 use vault_core_model::reply::{Answer, Reply};
 use vault_transcript::transcript::{opened, play, replies};
 
@@ -59,6 +60,32 @@ fn a_version_has_up_to_1048576_bytes(rt: HostRuntime) -> Result<(), Fail> {
   {"ok":{"admitted":1048577,"at":"2024-01-15T10:30:00Z","byte_days":0,"dept":"records","held":1048577,"removed":0}}
 "#,
     )
+}
+
+fn is_done(reply: &Reply) -> bool {
+    matches!(reply, Reply::Done(_))
+}
+
+/// Each command has a reply, and where room for the replies is refused none is carried out. Here nothing is refused:
+/// that is for `tools/refuse-growths`, to which a run without room is told as a failure of its own.
+#[test]
+fn a_run_has_room_for_its_replies(rt: HostRuntime) -> Result<(), Fail> {
+    let alloc = rt.alloc();
+    let mut keeper = opened(alloc)?;
+    let mut commands = Vec::new(alloc);
+    for size in [1, 2, 3] {
+        commands.push(put(alloc, size)?)?;
+    }
+    let ran = run(alloc, &mut keeper, commands.as_slice());
+    let next = keeper.next_id().ok().ok_or("next")?;
+    let Ok(replies) = ran else {
+        assert_eq!(rt; next, 1);
+        return Err(Fail::new("no room for the replies, and nothing is carried out"));
+    };
+    assert_eq!(rt; replies.len(), 3);
+    let done = replies.iter().filter(|reply| is_done(*reply)).count();
+    assert!(rt; next == done as u64 + 1);
+    Ok(())
 }
 
 /// A change that passes all checks is asked of the keeper, which refuses it with `Memory`.

@@ -1,10 +1,10 @@
 //! The vault's program: reads its words, carries out what they ask for, and answers the status.
 #![tactic(auto)]
 
-ghost use Rattle.std.specs.Prelude.{◌≡◌, true, []};
+ghost use Rattle.std.specs.Prelude.{◌≡◌, ◌≢◌, true, []};
 
 use sqlite::{Start, Unknown};
-use std::io::{self, BufWriter, Read, Write};
+use std::io::{self, BufWriter, ErrorKind, Read, Write};
 use std::process::ExitCode;
 use vaultctl_machine::starts::Starts;
 use vaultctl_perform::answer_words;
@@ -37,12 +37,22 @@ fn main(rt: HostRuntime) -> ExitCode {
     };
     match run(&rt, starts, &mut err) {
         Ok(status) => ExitCode::from(status),
-        Err(_) => {
-            // Where even this can't be written, the status tells alone.
-            let _ = writeln!(err, "words: Memory");
-            ExitCode::FAILURE
-        }
+        Err(error) => ExitCode::from(tell_unread(&mut err, error.kind())),
     }
+}
+
+/// Tells why the program's words weren't read, and answers the status. Where even this can't be written, the status tells
+/// alone.
+fn tell_unread<E: Write>(err: &mut E, kind: ErrorKind) -> u8
+    ensures words { kind ≡ ErrorKind.InvalidData → result ≡ 2 }
+    ensures memory { kind ≢ ErrorKind.InvalidData → result ≡ 1 }
+{
+    if kind == ErrorKind::InvalidData {
+        let _ = writeln!(err, "error: a word is not UTF-8");
+        return 2;
+    }
+    let _ = writeln!(err, "words: Memory");
+    1
 }
 
 /// The status of what the words ask for. No clause stands here: one would have the call's proof carry all that the
@@ -58,7 +68,7 @@ fn answer<A: Start, B: Start, R: Read, W: Write, E: Write>(
     answer_words(rt, starts, words, reader, out, err)
 }
 
-/// The same of the program's words; an error where room for them was refused.
+/// The same of the program's words. `InvalidData` where one isn't UTF-8; any other error is want of memory.
 fn run<A: Start, B: Start, E: Write>(
     rt: &HostRuntime,
     starts: Starts<A, B>,

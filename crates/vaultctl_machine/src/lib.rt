@@ -1,6 +1,8 @@
 //! What the program uses of the machine: its terminal, and vaults in files.
 #![tactic(auto)]
 
+mod places;
 pub mod starts;
 pub mod terminal;
+pub mod unopened;
 pub mod vaults;

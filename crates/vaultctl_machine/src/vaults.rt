@@ -10,10 +10,12 @@ ghost use Rattle.vault_store.specs.Kept.{kept_vault};
 ghost use Rattle.vaultctl_machine.specs.Faults as spec;
 ghost use Rattle.vaultctl_machine.specs.Files.{IsFoundIn, IsHeldIn};
 
+use crate::places::place_at;
+use crate::unopened::{Unopened, no_tables};
 use sqlite::{Connection, Error, ErrorCode, FileFrom, FileStore, Start};
 use std::alloc::Global;
-use std::fs;
-use vault_base::refusal::{Refusal, Table};
+use std::io::{self, ErrorKind};
+use vault_base::refusal::Refusal;
 use vault_store::sql_keeper::SqlKeeper;
 
 /// The store of a vault in files, which held what `S` says when they were opened.
@@ -37,7 +39,7 @@ fn unopened(error: Error) -> Refusal
         Error::SqliteFailure(ErrorCode::OutOfMemory) => Refusal::Memory,
         Error::SqliteFailure(
             ErrorCode::NotADatabase | ErrorCode::DatabaseCorrupt | ErrorCode::TooBig,
-        ) => Refusal::Damaged(Table::Meta),
+        ) => no_tables(),
         _ => Refusal::Device,
     }
 }
@@ -50,6 +52,24 @@ fn unmade(error: Error) -> Refusal
         Refusal::Damaged(_) => Refusal::NameTaken,
         other => other,
     }
+}
+
+/// Why the files at a path aren't opened, where the failure is told as that unless another program has them.
+fn cause(error: Error, told: Refusal) -> Unopened
+    ensures { result ≡ spec.cause_of error told }
+{
+    match error {
+        Error::SqliteFailure(ErrorCode::DatabaseBusy) => Unopened::Held,
+        _ => Unopened::Refused(told),
+    }
+}
+
+/// What it is told as that one can't see what stands at a path.
+fn unseen(error: io::Error) -> Unopened {
+    if error.kind() == ErrorKind::OutOfMemory {
+        return Unopened::Refused(Refusal::Memory);
+    }
+    Unopened::Refused(Refusal::Device)
 }
 
 fn connect<S: Start>(
@@ -87,7 +107,7 @@ pub fn close_vault<S: Start>(vault: FileVault<S>) {
 fn found_in<S: Start>(
     alloc: Global,
     conn: Connection<VaultStore<S>>,
-) -> Result<FileVault<S>, Refusal>
+) -> Result<FileVault<S>, Unopened>
     requires opened { HasCleanDisk (file_state conn) → IsOpened conn }
     requires found { HasCleanDisk (file_state conn) → FindsIn (image_at S.Start) (file_state conn) }
     ensures sound { IfOk result (λ vault. HasCleanDisk (file_state vault.conn) → AreSound (file_state vault.conn).now (kept_vault over_files vault.opening.at.items vault.opening.known vault.made.items)) }
@@ -98,7 +118,7 @@ fn found_in<S: Start>(
         Ok(vault) => Ok(vault),
         Err((refusal, conn)) => {
             close(conn);
-            Err(refusal)
+            Err(Unopened::Refused(refusal))
         }
     }
 }
@@ -107,7 +127,7 @@ fn found_in<S: Start>(
 fn made_in<S: Start>(
     alloc: Global,
     conn: Connection<VaultStore<S>>,
-) -> Result<FileVault<S>, Refusal>
+) -> Result<FileVault<S>, Unopened>
     ensures opening { IfOk result (λ vault. HasCleanDisk (file_state vault.conn) → kept_vault over_files vault.opening.at.items vault.opening.known vault.made.items ≡ opening) }
     ensures sound { IfOk result (λ vault. HasCleanDisk (file_state vault.conn) → AreSound (file_state vault.conn).now opening) }
 {
@@ -115,7 +135,7 @@ fn made_in<S: Start>(
         Ok(vault) => Ok(vault),
         Err((refusal, conn)) => {
             close(conn);
-            Err(refusal)
+            Err(Unopened::Refused(refusal))
         }
     }
 }
@@ -143,10 +163,11 @@ impl<'a> Machine<'a> {
 
     /// Opens the vault in a file: its tables have to be sound. `start` stands for what the file and its log hold.
     ///
-    /// `Damaged` with the first table that isn't; with `meta` where the file isn't there, or is no store of
-    /// tables whose rows keep its own schema. No file is made. `Memory` where memory was refused, and `Device`
-    /// where the file can't be read or another program has it.
-    pub fn open<S: Start>(&mut self, path: &str, start: S) -> Result<FileVault<S>, Refusal>
+    /// `Damaged` with the first table that isn't; with `meta` where the file isn't there or is empty, or is no store
+    /// of tables whose rows keep its own schema. No file is made, and what doesn't begin as such a store is left as
+    /// it is, with nothing beside it. `Memory` where memory was refused, `Device` where the file can't be read, and
+    /// `Held` where another program has it.
+    pub fn open<S: Start>(&mut self, path: &str, start: S) -> Result<FileVault<S>, Unopened>
         ensures looked { self.new.looked ≡ min (self.old.looked + 1) (2 ^ 64 - 1) }
         ensures sound { IfOk result (λ vault. HasCleanDisk (file_state vault.conn) → AreSound (file_state vault.conn).now (kept_vault over_files vault.opening.at.items vault.opening.known vault.made.items)) }
         // The vault that is opened is the one that the tables spell which were found in the files.
@@ -155,30 +176,36 @@ impl<'a> Machine<'a> {
         ensures held { (v : Vault) → IsHeldIn (image_at S.Start) v → IfOk result (λ vault. HasCleanDisk (file_state vault.conn) → kept_vault over_files vault.opening.at.items vault.opening.known vault.made.items ≡ v) }
     {
         let rt = self.look();
-        match fs::exists(rt, path) {
-            Ok(true) => {}
-            Ok(false) => return Err(Refusal::Damaged(Table::Meta)),
-            Err(_) => return Err(Refusal::Device),
+        match place_at(rt, path) {
+            Ok(place) if place.may_hold_tables() => {}
+            Ok(_) => return Err(Unopened::Refused(no_tables())),
+            Err(error) => return Err(unseen(error)),
         }
         match connect(rt, path, start) {
             Ok(conn) => found_in(rt.alloc(), conn),
-            Err(error) => Err(unopened(error)),
+            Err(error) => Err(cause(error, unopened(error))),
         }
     }
 
     /// Makes a new vault in a file that isn't there or is empty. `start` stands for what the file and its log hold.
     ///
-    /// `NameTaken` where something is in it, `Memory` where memory was refused, and `Device` where the file
-    /// can't be made.
-    pub fn make<S: Start>(&mut self, path: &str, start: S) -> Result<FileVault<S>, Refusal>
+    /// `NameTaken` where something is in it, or changes may be in the log beside it, and both are left as they are.
+    /// `Memory` where memory was refused, `Device` where the file can't be made, and `Held` where another program
+    /// has it.
+    pub fn make<S: Start>(&mut self, path: &str, start: S) -> Result<FileVault<S>, Unopened>
         ensures looked { self.new.looked ≡ min (self.old.looked + 1) (2 ^ 64 - 1) }
         ensures opening { IfOk result (λ vault. HasCleanDisk (file_state vault.conn) → kept_vault over_files vault.opening.at.items vault.opening.known vault.made.items ≡ opening) }
         ensures sound { IfOk result (λ vault. HasCleanDisk (file_state vault.conn) → AreSound (file_state vault.conn).now opening) }
     {
         let rt = self.look();
+        match place_at(rt, path) {
+            Ok(place) if place.may_be_made() => {}
+            Ok(_) => return Err(Unopened::Refused(Refusal::NameTaken)),
+            Err(error) => return Err(unseen(error)),
+        }
         match connect(rt, path, start) {
             Ok(conn) => made_in(rt.alloc(), conn),
-            Err(error) => Err(unmade(error)),
+            Err(error) => Err(cause(error, unmade(error))),
         }
     }
 }

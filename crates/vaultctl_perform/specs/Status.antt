@@ -1,12 +1,12 @@
 -- Exit statuses, and what came of a job.
 use Rattle.std.specs.Prelude.{ℕ, Result, Ok, Err}
-use Rattle.vault_base.specs.declared.refusal.Refusal.{Refusal}
 use Rattle.vault_files_register.specs.declared.fault.ExportFault.{ExportFault}
 use Rattle.vault_files_register.specs.declared.fault.ExportFault.TheVariants as export
 use Rattle.vaultctl_commands.specs.declared.fault.JobFault.{JobFault}
 use Rattle.vaultctl_commands.specs.declared.fault.JobFault.TheVariants as fault
 use Rattle.vaultctl_commands.specs.declared.outcome.Outcome.{Outcome}
 use Rattle.vaultctl_commands.specs.declared.outcome.Outcome.TheVariants.{Done, Refused}
+use Rattle.vaultctl_machine.specs.declared.unopened.Unopened.{Unopened}
 use Rattle.vaultctl_replay.specs.declared.fault.ReplayFault.{ReplayFault}
 use Rattle.vaultctl_replay.specs.declared.fault.ReplayFault.TheVariants as replay
 use Rattle.vaultctl_serve.specs.declared.fault.PortFault.{PortFault}
@@ -19,9 +19,9 @@ status_of (Ok Refused) = 1
 status_of (Err fault) = 1
 
 -- 0 where a vault was made
-abbrev pub made_status : Result (Unit {0}) Refusal → ℕ
+abbrev pub made_status : Result (Unit {0}) Unopened → ℕ
 made_status (Ok t) = 0
-made_status (Err refusal) = 1
+made_status (Err cause) = 1
 
 -- a register is written or a fault is told, by its name
 abbrev pub exported : Result (Unit {0}) ExportFault → Result Outcome JobFault

@@ -8,7 +8,7 @@ ghost use Rattle.vaultctl_commands.specs.Printed.{TellsReply};
 ghost use Rattle.vaultctl_perform.specs.Asked as spec;
 ghost use Rattle.vaultctl_values.specs.declared.asked.Asked.{Asked as AskedOf};
 
-use crate::telling::{status, tell_fault, tell_unopened, tell_value};
+use crate::telling::{status, tell_cause, tell_fault, tell_value};
 use sqlite::Start;
 use std::alloc::Global;
 use std::io::Write;
@@ -107,7 +107,7 @@ fn ask_in_file<S: Start, W: Write, E: Write>(
     let rt = machine.runtime();
     match machine.open(file, start) {
         Ok(vault) => status(err, subcommand, ask_vault(rt, vault, asked, out)),
-        Err(refusal) => tell_unopened(err, "open", refusal),
+        Err(cause) => tell_cause(err, "open", cause),
     }
 }
 

@@ -5,33 +5,33 @@
 ghost use Rattle.std.specs.Prelude.{◌≡◌, ◌≢◌};
 ghost use Rattle.vaultctl_perform.specs.Status as spec;
 
-use crate::telling::{status, tell_unopened};
+use crate::telling::{status, tell_cause};
 use sqlite::Start;
 use std::alloc::Global;
 use std::io::{Read, Write};
-use vault_base::refusal::Refusal;
 use vault_core_model::keeper::Keeper;
 use vault_files_register::ExportFault;
 use vault_files_register::register::export_register;
 use vaultctl_commands::fault::JobFault;
 use vaultctl_commands::outcome::Outcome;
+use vaultctl_machine::unopened::Unopened;
 use vaultctl_machine::vaults::{FileVault, Machine, close_vault};
 use vaultctl_replay::{ReplayFault, replay};
 use vaultctl_serve::{PortFault, serve};
 
 /// Makes the vault in a file and closes it.
-fn make<S: Start>(machine: &mut Machine<'_>, file: &str, start: S) -> Result<(), Refusal> {
+fn make<S: Start>(machine: &mut Machine<'_>, file: &str, start: S) -> Result<(), Unopened> {
     close_vault(machine.make(file, start)?);
     Ok(())
 }
 
 /// Tells why a vault wasn't made, and answers the status.
-fn tell_made<E: Write>(err: &mut E, made: Result<(), Refusal>) -> u8
+fn tell_made<E: Write>(err: &mut E, made: Result<(), Unopened>) -> u8
     ensures { result ≡ spec.made_status made }
 {
     match made {
         Ok(()) => 0,
-        Err(refusal) => tell_unopened(err, "init", refusal),
+        Err(cause) => tell_cause(err, "init", cause),
     }
 }
 
@@ -88,7 +88,7 @@ pub fn register<S: Start, W: Write, E: Write>(
     let alloc = machine.runtime().alloc();
     match machine.open(file, start) {
         Ok(vault) => status(err, "register", write_register(alloc, vault, out)),
-        Err(refusal) => tell_unopened(err, "open", refusal),
+        Err(cause) => tell_cause(err, "open", cause),
     }
 }
 
@@ -140,7 +140,7 @@ pub fn replay_file<S: Start, R: Read, W: Write, E: Write>(
     let alloc = machine.runtime().alloc();
     match machine.open(file, start) {
         Ok(vault) => status(err, "replay", answer_script(alloc, vault, reader, out)),
-        Err(refusal) => tell_unopened(err, "open", refusal),
+        Err(cause) => tell_cause(err, "open", cause),
     }
 }
 
@@ -197,6 +197,6 @@ pub fn serve_file<S: Start, E: Write>(
             let outcome = serve_vault(rt, vault, file, port, count, err);
             status(err, "serve", outcome)
         }
-        Err(refusal) => tell_unopened(err, "open", refusal),
+        Err(cause) => tell_cause(err, "open", cause),
     }
 }

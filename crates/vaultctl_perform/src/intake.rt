@@ -7,7 +7,7 @@ ghost use Rattle.vaultctl_commands.specs.Told.{TellsIntake};
 ghost use Rattle.vaultctl_values.specs.declared.asked.AskedIntake.{AskedIntake as AskedOf};
 
 use crate::asked::reading;
-use crate::telling::{status, tell_fault, tell_unopened, tell_value};
+use crate::telling::{status, tell_cause, tell_fault, tell_value};
 use sqlite::Start;
 use std::alloc::Global;
 use std::io::Write;
@@ -131,7 +131,7 @@ fn take_in_file<S: Start, W: Write, E: Write>(
     let rt = machine.runtime();
     match machine.open(job.file.as_str(), start) {
         Ok(vault) => status(err, "intake", take_in_vault(rt, vault, asked, job, out)),
-        Err(refusal) => tell_unopened(err, "open", refusal),
+        Err(cause) => tell_cause(err, "open", cause),
     }
 }
 

@@ -8,6 +8,7 @@ use vault_base::refusal::Refusal;
 use vaultctl_commands::carrying::tell_refusal;
 use vaultctl_commands::fault::JobFault;
 use vaultctl_commands::outcome::Outcome;
+use vaultctl_machine::unopened::Unopened;
 
 /// Names a fault, as `replay: Read`. Where even this can't be written, the status tells alone.
 pub fn tell_fault<E: Write>(err: &mut E, subcommand: &str, fault: JobFault) -> u8
@@ -27,6 +28,20 @@ pub fn tell_unopened<E: Write>(err: &mut E, deed: &str, refusal: Refusal) -> u8
         _ => writeln!(err, "{deed}: {name}"),
     };
     1
+}
+
+/// Names why a vault can't be opened or made; and on a second line says in words that another program has it.
+pub fn tell_cause<E: Write>(err: &mut E, deed: &str, cause: Unopened) -> u8
+    ensures { result ≡ 1 }
+{
+    let status = tell_unopened(err, deed, cause.refusal());
+    if cause == Unopened::Held {
+        let _ = writeln!(
+            err,
+            "another program has the vault's file open, if only to read"
+        );
+    }
+    status
 }
 
 /// Prints the line of a refusal, as of a value that isn't such; the status is 1.

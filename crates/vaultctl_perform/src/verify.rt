@@ -3,7 +3,7 @@ ghost use Rattle.std.specs.Prelude.{◌≡◌, ◌≢◌, IfOk, Ok, string_bytes
 ghost use Rattle.std.specs.Io.KnownBytes.{Appends};
 ghost use Rattle.vaultctl_perform.specs.Told as spec;
 
-use crate::telling::{status, tell_unopened};
+use crate::telling::{status, tell_cause};
 use sqlite::Start;
 use std::alloc::{AllocError, Global};
 use std::io::Write;
@@ -11,6 +11,7 @@ use vault_base::refusal::{Refusal, Table};
 use vaultctl_commands::fault::JobFault;
 use vaultctl_commands::outcome::Outcome;
 use vaultctl_commands::printing::print;
+use vaultctl_machine::unopened::Unopened;
 use vaultctl_machine::vaults::{Machine, close_vault};
 
 /// The line that names a table which isn't sound. The error is want of memory.
@@ -46,7 +47,7 @@ fn tell_sound<W: Write>(out: &mut W) -> Result<Outcome, JobFault>
 /// Prints `sound` of a vault that was opened, `damaged` and the table that isn't, or why else it wasn't opened.
 fn tell_opened<W: Write, E: Write>(
     alloc: Global,
-    opened: Result<(), Refusal>,
+    opened: Result<(), Unopened>,
     out: &mut W,
     err: &mut E,
 ) -> u8
@@ -55,13 +56,17 @@ fn tell_opened<W: Write, E: Write>(
 {
     match opened {
         Ok(()) => status(err, "verify", tell_sound(out)),
-        Err(Refusal::Damaged(table)) => status(err, "verify", tell_damaged(alloc, table, out)),
-        Err(refusal) => tell_unopened(err, "open", refusal),
+        Err(Unopened::Refused(Refusal::Damaged(table))) => status(
+            err,
+            "verify",
+            tell_damaged(alloc, table, out),
+        ),
+        Err(cause) => tell_cause(err, "open", cause),
     }
 }
 
 /// Opens the vault in a file and closes it.
-fn look<S: Start>(machine: &mut Machine<'_>, file: &str, start: S) -> Result<(), Refusal> {
+fn look<S: Start>(machine: &mut Machine<'_>, file: &str, start: S) -> Result<(), Unopened> {
     close_vault(machine.open(file, start)?);
     Ok(())
 }

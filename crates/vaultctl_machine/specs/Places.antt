@@ -1,0 +1,20 @@
+-- What is seen of a file and its log before they are opened.
+use Rattle.std.specs.Prelude.{ℕ, ◌∷◌, ◌++◌, ◌&&◌, ◌||◌, [], Bool, false, not, nat_lt, List, Option, None, Some, is_some, codes, if◌then◌else◌}
+use Rattle.vaultctl_machine.specs.declared.places.Place.{Place}
+
+-- the first bytes of each file that holds tables
+abbrev pub first_bytes : List ℕ
+first_bytes = codes "SQLite format 3" ++ 0 ∷ []
+
+-- a change may be in a log of so many bytes, of which the first 32 are none
+abbrev pub may_have_changes : Option ℕ → Bool
+may_have_changes None = false
+may_have_changes (Some size) = nat_lt 32 size
+
+-- the file begins as it should, or its log may have its first page; the log of an empty one is never read
+abbrev pub may_hold_tables : Place → Bool
+may_hold_tables place = place.begins_well || (not place.is_free && may_have_changes place.log)
+
+-- a log with changes isn't dropped, and beside a file that is something else no log is made
+abbrev pub may_be_made : Place → Bool
+may_be_made place = if place.is_free then not (may_have_changes place.log) else (place.begins_well || is_some place.log)

@@ -1,0 +1,116 @@
+//! What stands at a path before its files are opened: so nothing is made or changed where no vault can be.
+ghost use Rattle.std.specs.Prelude.{◌≡◌};
+ghost use Rattle.std.specs.Str.{bytes_eq};
+ghost use Rattle.vaultctl_machine.specs.Places as spec;
+
+use std::fs;
+use std::io::{self, ErrorKind, Read};
+
+/// How many bytes of a file are looked at.
+const FIRST_BYTES: usize = 16;
+
+/// The bytes that a log has before its first change.
+const LOG_HEADER: u64 = 32;
+
+/// The files at a path, as they stand before they are opened.
+#[derive(Clone, Copy, Debug, PartialEq, Eq)]
+pub struct Place {
+    /// Whether no file is there, or an empty one.
+    is_free: bool,
+    /// Whether the file begins as one that holds tables.
+    begins_well: bool,
+    /// How many bytes are in the log beside it, if there is one.
+    log: Option<u64>,
+}
+
+impl Place {
+    /// Whether tables may be in the files. Of a file that doesn't begin as it should, the log may have the first page;
+    /// that of an empty one is never read.
+    pub fn may_hold_tables(self) -> bool
+        ensures { result ≡ spec.may_hold_tables self }
+    {
+        self.begins_well || (!self.is_free && self.has_changes())
+    }
+
+    /// Whether a vault may be made in the files, which their opening has to say of a file that is there. A log beside a
+    /// file that is lost may have the last changes of a vault, and an opening would drop it.
+    pub fn may_be_made(self) -> bool
+        ensures { result ≡ spec.may_be_made self }
+    {
+        if self.is_free {
+            return !self.has_changes();
+        }
+        // Where another file began to be made, its log was made first.
+        self.begins_well || self.log.is_some()
+    }
+
+    /// Whether a change may be in the log.
+    fn has_changes(self) -> bool
+        ensures { result ≡ spec.may_have_changes self.log }
+    {
+        self.log.is_some_and(|size| size > LOG_HEADER)
+    }
+}
+
+/// Whether these are the first bytes of a file that holds tables.
+fn are_first_bytes(bytes: &[u8]) -> bool
+    ensures { result ≡ bytes_eq bytes.now spec.first_bytes }
+{
+    bytes == b"SQLite format 3\0".as_slice()
+}
+
+/// Whether a file begins as one that holds tables. The error is that it can't be read.
+fn begins_well(rt: &HostRuntime, file: &str) -> io::Result<bool> {
+    let mut opened = fs::open(rt, file)?;
+    let mut first = [0u8; FIRST_BYTES];
+    match opened.read_exact(&mut first) {
+        Ok(()) => Ok(are_first_bytes(&first)),
+        Err(error) if error.kind() == ErrorKind::UnexpectedEof => Ok(false),
+        Err(error) => Err(error),
+    }
+}
+
+/// How many bytes are in the log beside a file, if there is one.
+fn log_size(rt: &HostRuntime, file: &str) -> io::Result<Option<u64>> {
+    let log = format!(in rt.alloc(); "{file}-wal")?;
+    match fs::metadata(rt, log.as_str()) {
+        Ok(found) => Ok(Some(found.len())),
+        Err(error) if error.kind() == ErrorKind::NotFound => Ok(None),
+        Err(error) => Err(error),
+    }
+}
+
+/// What stands at a path where no file is.
+fn missing(rt: &HostRuntime, path: &str) -> io::Result<Place> {
+    let log = log_size(rt, path)?;
+    Ok(Place {
+        is_free: true,
+        begins_well: false,
+        log,
+    })
+}
+
+/// What stands at a path that leads to something, by no link.
+fn there(rt: &HostRuntime, file: &str) -> io::Result<Place> {
+    let found = fs::metadata(rt, file)?;
+    // Whoever opens what is no file may have to wait for another program.
+    if !found.is_file() {
+        return Err(io::Error::from(ErrorKind::Unsupported));
+    }
+    let begins_well = begins_well(rt, file)?;
+    let log = log_size(rt, file)?;
+    Ok(Place {
+        is_free: found.len() == 0,
+        begins_well,
+        log,
+    })
+}
+
+/// What stands at a path. What is no file, as a folder, is an error, and so is what can't be read.
+pub fn place_at(rt: &HostRuntime, path: &str) -> io::Result<Place> {
+    match fs::canonicalize(rt, path) {
+        Ok(file) => there(rt, file.as_str()),
+        Err(error) if error.kind() == ErrorKind::NotFound => missing(rt, path),
+        Err(error) => Err(error),
+    }
+}

@@ -1,0 +1,33 @@
+//! Why the vault in a file isn't opened or made.
+ghost use Rattle.std.specs.Prelude.{◌≡◌};
+ghost use Rattle.vaultctl_machine.specs.Faults as spec;
+
+use vault_base::refusal::{Refusal, Table};
+
+/// Why the vault in a file isn't opened or made.
+#[derive(Clone, Copy, Debug, PartialEq, Eq)]
+pub enum Unopened {
+    /// Another program has the file or its log open, if only to read. It is told as `Device`.
+    Held,
+    /// For another cause, which is told as this.
+    Refused(Refusal),
+}
+
+impl Unopened {
+    /// What it is told as.
+    pub fn refusal(self) -> Refusal
+        ensures { result ≡ spec.refusal_of self }
+    {
+        match self {
+            Unopened::Held => Refusal::Device,
+            Unopened::Refused(refusal) => refusal,
+        }
+    }
+}
+
+/// What a file is told as that holds no tables: the first of a vault's isn't there.
+pub fn no_tables() -> Refusal
+    ensures { result ≡ spec.no_tables }
+{
+    Refusal::Damaged(Table::Meta)
+}
