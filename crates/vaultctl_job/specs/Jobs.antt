@@ -18,6 +18,7 @@ use Rattle.vaultctl_job.specs.declared.job.Register.{Register}
 use Rattle.vaultctl_job.specs.declared.job.Verify.{Verify}
 use Rattle.vaultctl_job.specs.declared.job.Replay.{Replay}
 use Rattle.vaultctl_job.specs.declared.job.Serve.{Serve}
+use Rattle.vaultctl_job.specs.declared.job.Migrate.{Migrate}
 use Rattle.vaultctl_job.specs.declared.job.Job.{Job}
 use Rattle.vaultctl_job.specs.declared.job.Job.TheVariants as job
 
@@ -104,6 +105,9 @@ replay_of rows = record { file = first_of (codes "FILE") rows }
 unfoldable pub serve_of : List Row → Serve
 serve_of rows = record { file = file_of rows; port = number_of 65536 (codes "PORT") rows; count = number_of 4294967296 (codes "count") rows }
 
+unfoldable pub migrate_of : List Row → Migrate
+migrate_of rows = record { old = text_of (codes "OLD") rows; new = text_of (codes "NEW") rows }
+
 -- what a subcommand of that name asks for with these words
 abbrev pub job_named : Text → List Row → Option Job
 job_named name rows =
@@ -119,4 +123,5 @@ job_named name rows =
     else if bytes_eq name (codes "verify") then Some (job.Verify (verify_of rows))
     else if bytes_eq name (codes "replay") then Some (job.Replay (replay_of rows))
     else if bytes_eq name (codes "serve") then Some (job.Serve (serve_of rows))
+    else if bytes_eq name (codes "migrate") then Some (job.Migrate (migrate_of rows))
     else None

@@ -59,6 +59,10 @@ replay_app = with_rule (new_app (codes "replay")) (arg.optional_place (codes "FI
 abbrev pub serve_app : App
 serve_app = with_rule (with_rule (on_file (codes "serve")) arg.port) arg.count
 
+-- migrate OLD NEW
+abbrev pub migrate_app : App
+migrate_app = with_rule (with_rule (new_app (codes "migrate")) (arg.place (codes "OLD"))) (arg.place (codes "NEW"))
+
 -- a subcommand is asked for, and help is no subcommand
 abbrev pub needing_subcommand : App → App
 needing_subcommand a = record a { top = record a.top { subcommand_required = true; disable_help_subcommand = true } }
@@ -70,7 +74,7 @@ abbrev pub with_work : App → App
 with_work a = with_subcommand (with_subcommand (with_subcommand (with_subcommand a intake_app.top) run_app.top) report_app.top) certificate_app.top
 
 abbrev pub with_files : App → App
-with_files a = with_subcommand (with_subcommand (with_subcommand (with_subcommand a register_app.top) verify_app.top) replay_app.top) serve_app.top
+with_files a = with_subcommand (with_subcommand (with_subcommand (with_subcommand (with_subcommand a register_app.top) verify_app.top) replay_app.top) serve_app.top) migrate_app.top
 
 unfoldable pub vaultctl : App
 vaultctl = with_files (with_work (with_records (needing_subcommand (new_app (codes "vaultctl")))))

@@ -105,6 +105,15 @@ pub struct Serve {
     pub count: u32,
 }
 
+/// `migrate OLD NEW`
+#[derive(Drop)]
+pub struct Migrate {
+    /// The file of an earlier version.
+    pub old: Word,
+    /// The file that gets the copy.
+    pub new: Word,
+}
+
 /// What the program is to do.
 #[derive(Drop)]
 pub enum Job {
@@ -120,4 +129,5 @@ pub enum Job {
     Verify(Verify),
     Replay(Replay),
     Serve(Serve),
+    Migrate(Migrate),
 }

@@ -4,8 +4,8 @@ ghost use Rattle.clap.specs.Words.{all_of, found_of, rows_of, first_of};
 ghost use Rattle.vaultctl_job.specs.Jobs as spec;
 
 use crate::job::{
-    Asking, Bucket, Caller, Certificate, Dept, Init, Intake, Job, Register, Replay, Report, Run,
-    Serve, Verify,
+    Asking, Bucket, Caller, Certificate, Dept, Init, Intake, Job, Migrate, Register, Replay,
+    Report, Run, Serve, Verify,
 };
 use crate::word::{Word, Words};
 use clap::ArgMatches;
@@ -228,6 +228,16 @@ fn serve(alloc: Global, matches: &ArgMatches<'_>) -> Result<Serve, AllocError>
     })
 }
 
+#[tactic(auto, unfolding(crate::specs::Jobs::migrate_of))]
+fn migrate(alloc: Global, matches: &ArgMatches<'_>) -> Result<Migrate, AllocError>
+    ensures { IfOk result (λ job. job ≡ spec.migrate_of (rows_of (found_of matches.now))) }
+{
+    Ok(Migrate {
+        old: word(alloc, matches, "OLD")?,
+        new: word(alloc, matches, "NEW")?,
+    })
+}
+
 /// The job of the subcommand of that name, with its words.
 pub fn job_named(
     alloc: Global,
@@ -249,6 +259,7 @@ pub fn job_named(
         "verify" => Job::Verify(verify(alloc, matches)?),
         "replay" => Job::Replay(replay(alloc, matches)?),
         "serve" => Job::Serve(serve(alloc, matches)?),
+        "migrate" => Job::Migrate(migrate(alloc, matches)?),
         _ => return Ok(None),
     };
     Ok(Some(job))

@@ -3,12 +3,26 @@ use Rattle.sqlite.specs.Files.{AreFoundIn, HoldsDatabase}
 use Rattle.sqlite_trees.specs.Tree.{Trees}
 use Rattle.sqlite_wal.specs.Recovery.{Image}
 use Rattle.vault_core_model.specs.Vault.{Vault}
-use Rattle.vault_store_model.specs.Keeping.{AreTreesOf}
+use Rattle.vault_audit_model.specs.declared.schema.Edition.{Edition}
+use Rattle.vault_audit_model.specs.Editions.{newest}
+use Rattle.vault_audit_model.specs.Spells.{AreSoundAs}
+use Rattle.vault_audit_model.specs.Tables.{schema_of}
 
--- they hold a database whose tables are sound and spell this vault
+-- these trees are tables of that edition that are sound and spell this vault
+abbrev pub AreTreesAs : Edition → Vault → Trees → Type 0
+AreTreesAs n v trees = AreSoundAs n (record { schema = schema_of n; trees = trees }) v
+
+-- they hold a database whose tables are of that edition, are sound and spell this vault
+abbrev pub IsHeldAs : Edition → Image → Vault → Type 0
+IsHeldAs n image v = (trees : Trees) × HoldsDatabase image trees × AreTreesAs n v trees
+
+-- an opening finds tables in them that are of that edition, are sound and spell this vault
+abbrev pub IsFoundAs : Edition → Image → Vault → Type 0
+IsFoundAs n image v = (trees : Trees) × AreFoundIn image trees × AreTreesAs n v trees
+
+-- the same of the newest
 abbrev pub IsHeldIn : Image → Vault → Type 0
-IsHeldIn image v = (trees : Trees) × HoldsDatabase image trees × AreTreesOf v trees
+IsHeldIn = IsHeldAs newest
 
--- an opening finds tables in them that are sound and spell this vault
 abbrev pub IsFoundIn : Image → Vault → Type 0
-IsFoundIn image v = (trees : Trees) × AreFoundIn image trees × AreTreesOf v trees
+IsFoundIn = IsFoundAs newest

@@ -18,3 +18,7 @@ may_hold_tables place = place.begins_well || (not place.is_free && may_have_chan
 -- a log with changes isn't dropped, and beside a file that is something else no log is made
 abbrev pub may_be_made : Place → Bool
 may_be_made place = if place.is_free then not (may_have_changes place.log) else (place.begins_well || is_some place.log)
+
+-- one of the two files is there
+abbrev pub is_used : Place → Bool
+is_used place = place.is_there || is_some place.log

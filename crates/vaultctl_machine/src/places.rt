@@ -15,6 +15,8 @@ const LOG_HEADER: u64 = 32;
 /// The files at a path, as they stand before they are opened.
 #[derive(Clone, Copy, Debug, PartialEq, Eq)]
 pub struct Place {
+    /// Whether a file is there.
+    is_there: bool,
     /// Whether no file is there, or an empty one.
     is_free: bool,
     /// Whether the file begins as one that holds tables.
@@ -42,6 +44,13 @@ impl Place {
         }
         // Where another file began to be made, its log was made first.
         self.begins_well || self.log.is_some()
+    }
+
+    /// Whether one of the two files is there.
+    pub fn is_used(self) -> bool
+        ensures { result ≡ spec.is_used self }
+    {
+        self.is_there || self.log.is_some()
     }
 
     /// Whether a change may be in the log.
@@ -84,6 +93,7 @@ fn log_size(rt: &HostRuntime, file: &str) -> io::Result<Option<u64>> {
 fn missing(rt: &HostRuntime, path: &str) -> io::Result<Place> {
     let log = log_size(rt, path)?;
     Ok(Place {
+        is_there: false,
         is_free: true,
         begins_well: false,
         log,
@@ -100,6 +110,7 @@ fn there(rt: &HostRuntime, file: &str) -> io::Result<Place> {
     let begins_well = begins_well(rt, file)?;
     let log = log_size(rt, file)?;
     Ok(Place {
+        is_there: true,
         is_free: found.len() == 0,
         begins_well,
         log,

@@ -45,7 +45,7 @@ fn unopened(error: Error) -> Refusal
 }
 
 /// What a failure to open a file is told as, where a new vault is to be made in it.
-fn unmade(error: Error) -> Refusal
+pub(crate) fn unmade(error: Error) -> Refusal
     ensures { result ≡ spec.unmade_of error }
 {
     match unopened(error) {
@@ -65,13 +65,14 @@ fn cause(error: Error, told: Refusal) -> Unopened
 }
 
 /// What it is told as that one can't see what stands at a path.
-fn unseen(error: io::Error) -> Unopened {
+pub(crate) fn unseen(error: io::Error) -> Unopened {
     if error.kind() == ErrorKind::OutOfMemory {
         return Unopened::Refused(Refusal::Memory);
     }
     Unopened::Refused(Refusal::Device)
 }
 
+/// Opens the files at a path, or makes those that are missing.
 fn connect<S: Start>(
     rt: &HostRuntime,
     path: &str,
@@ -88,6 +89,29 @@ fn connect<S: Start>(
             }
             Err(error)
         }
+    }
+}
+
+/// Opens the files at a path where a vault should be. None is made there.
+///
+/// `Damaged` with `meta` where no file is there, where it is empty or no store of tables whose rows keep its own schema.
+/// `Memory` where memory was refused, `Device` where the file can't be read, and `Held` where another program has it.
+pub(crate) fn connect_there<S: Start>(
+    rt: &HostRuntime,
+    path: &str,
+    start: S,
+) -> Result<Connection<VaultStore<S>>, Unopened>
+    ensures opened { IfOk result (λ conn. HasCleanDisk (file_state conn) → IsOpened conn) }
+    ensures found { IfOk result (λ conn. HasCleanDisk (file_state conn) → FindsIn (image_at S.Start) (file_state conn)) }
+{
+    match place_at(rt, path) {
+        Ok(place) if place.may_hold_tables() => {}
+        Ok(_) => return Err(Unopened::Refused(no_tables())),
+        Err(error) => return Err(unseen(error)),
+    }
+    match connect(rt, path, start) {
+        Ok(conn) => Ok(conn),
+        Err(error) => Err(cause(error, unopened(error))),
     }
 }
 
@@ -154,7 +178,7 @@ impl<'a> Machine<'a> {
     }
 
     /// Counts that a vault is looked for, and answers the runtime.
-    fn look(&mut self) -> &'a HostRuntime
+    pub(crate) fn look(&mut self) -> &'a HostRuntime
         ensures { self.new.looked ≡ min (self.old.looked + 1) (2 ^ 64 - 1) }
     {
         self.looked = self.looked.saturating_add(1);
@@ -176,14 +200,9 @@ impl<'a> Machine<'a> {
         ensures held { (v : Vault) → IsHeldIn (image_at S.Start) v → IfOk result (λ vault. HasCleanDisk (file_state vault.conn) → kept_vault over_files vault.opening.at.items vault.opening.known vault.made.items ≡ v) }
     {
         let rt = self.look();
-        match place_at(rt, path) {
-            Ok(place) if place.may_hold_tables() => {}
-            Ok(_) => return Err(Unopened::Refused(no_tables())),
-            Err(error) => return Err(unseen(error)),
-        }
-        match connect(rt, path, start) {
+        match connect_there(rt, path, start) {
             Ok(conn) => found_in(rt.alloc(), conn),
-            Err(error) => Err(cause(error, unopened(error))),
+            Err(cause) => Err(cause),
         }
     }
 

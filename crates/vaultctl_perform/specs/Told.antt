@@ -13,12 +13,16 @@ use Rattle.vaultctl_job.specs.declared.job.Job.TheVariants as job
 abbrev pub sound_line : List ℕ
 sound_line = codes "sound" ++ 10 ∷ []
 
+-- a vault of an earlier version was copied
+abbrev pub migrated_line : List ℕ
+migrated_line = codes "migrated" ++ 10 ∷ []
+
 -- a table isn't sound
 abbrev pub damaged_line : Table → List ℕ
 damaged_line table = codes "damaged " ++ table_name table ++ 10 ∷ []
 
 -- a command was done and its reply printed, or each row of an intake was taken in and its line printed, or a vault
--- is sound; of registers and scripts other clauses speak, and init and serve print nothing
+-- is sound or was copied; of registers and scripts other clauses speak, and init and serve print nothing
 abbrev pub IsTold : Job → Option (List ℕ) → Option (List ℕ) → Type 0
 IsTold (job.Init j) before after = ⊤
 IsTold (job.Dept j) before after = TellsReply Done before after
@@ -32,3 +36,4 @@ IsTold (job.Register j) before after = ⊤
 IsTold (job.Verify j) before after = Appends before after sound_line
 IsTold (job.Replay j) before after = ⊤
 IsTold (job.Serve j) before after = ⊤
+IsTold (job.Migrate j) before after = Appends before after migrated_line

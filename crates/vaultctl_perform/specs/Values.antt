@@ -19,3 +19,4 @@ IsValueFault (job.Register j) r = ⊥
 IsValueFault (job.Verify j) r = ⊥
 IsValueFault (job.Replay j) r = ⊥
 IsValueFault (job.Serve j) r = ⊥
+IsValueFault (job.Migrate j) r = ⊥

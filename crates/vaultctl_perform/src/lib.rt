@@ -13,6 +13,7 @@ ghost use Rattle.vaultctl_perform.specs.Values.{IsValueFault};
 mod asked;
 mod files;
 mod intake;
+mod migrate;
 mod replay;
 mod telling;
 mod verify;
@@ -44,9 +45,9 @@ fn replay_script<S: Start, R: Read, W: Write, E: Write>(
 }
 
 /// Carries a job out over the files of a machine.
-fn carry_out<S: Start, R: Read, W: Write, E: Write>(
+fn carry_out<A: Start, B: Start, R: Read, W: Write, E: Write>(
     machine: &mut Machine<'_>,
-    start: S,
+    starts: Starts<A, B>,
     job: &Job,
     reader: &mut R,
     out: &mut W,
@@ -58,6 +59,11 @@ fn carry_out<S: Start, R: Read, W: Write, E: Write>(
     ensures status { result ≢ 2 }
 {
     let alloc = machine.runtime().alloc();
+    // A job opens the files of one vault, but for `migrate`.
+    let Starts {
+        first: start,
+        second,
+    } = starts;
     match job {
         Job::Init(job) => files::init(machine, job.file.as_str(), start, err),
         Job::Dept(job) => {
@@ -106,6 +112,20 @@ fn carry_out<S: Start, R: Read, W: Write, E: Write>(
         Job::Serve(job) => {
             files::serve_file(machine, job.file.as_str(), start, job.port, job.count, err)
         }
+        Job::Migrate(job) => {
+            let starts = Starts {
+                first: start,
+                second,
+            };
+            migrate::migrate(
+                machine,
+                job.old.as_str(),
+                job.new.as_str(),
+                starts,
+                out,
+                err,
+            )
+        }
     }
 }
 
@@ -132,9 +152,7 @@ pub fn perform<A: Start, B: Start, R: Read, W: Write, E: Write>(
     ensures status { result ≢ 2 }
 {
     let mut machine = Machine::new(rt);
-    let Starts { first, second } = starts;
-    drop(second);
-    carry_out(&mut machine, first, job, reader, out, err)
+    carry_out(&mut machine, starts, job, reader, out, err)
 }
 
 /// Reads the words, of which the first is the program's name, and carries out their job.

@@ -67,6 +67,24 @@ fn serve<'a>(alloc: Global) -> Result<Command<'a>, AllocError>
     .arg(count(alloc))
 }
 
+fn migrate<'a>(alloc: Global) -> Result<Command<'a>, AllocError>
+    ensures app { IfOk result (λ c. app_of c ≡ spec.migrate_app) }
+    ensures local { IfOk result (λ c. (out-Command c).has_globals ≡ false) }
+{
+    named(
+        alloc,
+        "migrate",
+        "Copies the vault of an earlier version into a new file",
+        "OLD isn't changed. Prints 'migrated' once the copy is whole.\n\nExample:\n  vaultctl migrate records.vault records-2.vault",
+    )
+    .arg(place(alloc, "OLD", "The vault's file, made by an earlier version"))?
+    .arg(place(
+        alloc,
+        "NEW",
+        "The file to make; it may not hold a vault yet",
+    ))
+}
+
 /// Adds the subcommands on a vault's file as a whole.
 pub fn with_files<'a>(alloc: Global, parent: Command<'a>) -> Result<Command<'a>, AllocError>
     ensures { IfOk result (λ c. app_of c ≡ spec.with_files (app_of parent.entry)) }
@@ -74,5 +92,6 @@ pub fn with_files<'a>(alloc: Global, parent: Command<'a>) -> Result<Command<'a>,
     let top = added(parent, register(alloc))?;
     let top = added(top, verify(alloc))?;
     let top = added(top, replay(alloc))?;
-    added(top, serve(alloc))
+    let top = added(top, serve(alloc))?;
+    added(top, migrate(alloc))
 }

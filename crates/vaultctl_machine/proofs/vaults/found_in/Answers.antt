@@ -1,13 +1,16 @@
 use Rattle.sqlite_wal.specs.Files.{image_at}
-use Rattle.vaultctl_machine.proofs.FoundLemmas.{was_clean, found_in_files, held_in_files}
+use Rattle.vault_audit_model.specs.Editions.{newest}
+use Rattle.vaultctl_machine.proofs.FoundLemmas.{was_clean, was_sound, found_in_files, held_in_files}
 use Rattle.vaultctl_machine.proofs.vaults.found_in.Goals as goal
 
 pub returns-in-Ok-clause-found : goal.returns-in-Ok-clause-found
 returns-in-Ok-clause-found g c clean =
     let before = was_clean _ _ _ c.in-Ok.ensures.crash clean in
-    found_in_files (image_at g.S.Start) _ _ _ (c.requires.opened before).0 (c.requires.found before) (c.in-Ok.ensures.same clean) (c.in-Ok.ensures.sound clean)
+    let sound = was_sound newest _ _ _ (c.in-Ok.ensures.same clean) (c.in-Ok.ensures.sound clean) in
+    found_in_files newest (image_at g.S.Start) _ _ (c.requires.opened before).0 (c.requires.found before) sound
 
 pub returns-in-Ok-clause-held : goal.returns-in-Ok-clause-held
 returns-in-Ok-clause-held g c w held clean =
     let before = was_clean _ _ _ c.in-Ok.ensures.crash clean in
-    held_in_files (image_at g.S.Start) _ _ _ (c.requires.opened before).0 (c.requires.found before) (c.in-Ok.ensures.same clean) (c.in-Ok.ensures.sound clean) w held
+    let sound = was_sound newest _ _ _ (c.in-Ok.ensures.same clean) (c.in-Ok.ensures.sound clean) in
+    held_in_files newest (image_at g.S.Start) _ _ (c.requires.opened before).0 (c.requires.found before) sound w held

@@ -1,0 +1,248 @@
+//! Vaults of an earlier edition, copied into new files.
+ghost use Rattle.std.specs.Prelude.{◌≡◌, ◌+◌, ◌-◌, ◌^◌, IfOk, min};
+ghost use Rattle.sqlite.specs.Files.{file_state, over_files, IsOpened};
+ghost use Rattle.sqlite.specs.Held.{state};
+ghost use Rattle.sqlite.specs.Start.{FindsIn};
+ghost use Rattle.sqlite.specs.State.{HasCleanDisk};
+ghost use Rattle.sqlite_wal.specs.Files.{image_at};
+ghost use Rattle.vault_audit_model.specs.declared.schema.Edition.TheVariants.{First};
+ghost use Rattle.vault_audit_model.specs.Spells.{AreSound, AreSoundAs};
+ghost use Rattle.vault_core_model.specs.Vault.{Vault};
+ghost use Rattle.vault_store.specs.Kept.{kept_vault};
+ghost use Rattle.vaultctl_machine.specs.Files.{IsFoundAs, IsHeldAs};
+
+use crate::places::place_at;
+use crate::starts::Starts;
+use crate::unopened::Unopened;
+use crate::vaults::{Machine, VaultStore, close_vault, connect_there, unmade, unseen};
+use sqlite::{Alter, Connection, FileFrom, Leftover, Start};
+use std::alloc::Global;
+use std::fs;
+use vault_base::refusal::Refusal;
+use vault_store::sql_keeper::SqlKeeper;
+use vault_store_create::create::is_blank;
+
+/// The size of a page in a file that this program makes, in bytes.
+const PAGE_SIZE: u64 = 4096;
+
+/// A vault that was copied, and the files that it was copied from, which nobody else has before it is closed.
+pub struct Migrated<O: Alter, S: Alter> {
+    source: Connection<O>,
+    vault: SqlKeeper<S>,
+}
+
+/// What came of copying the vault of one connection into another.
+struct Copied<O: Alter, S: Alter> {
+    source: Connection<O>,
+    outcome: Result<SqlKeeper<S>, (Refusal, Connection<S>)>,
+}
+
+/// Copies the vault of one connection into another, over any stores.
+///
+/// The errors are those of `SqlKeeper::migrate`.
+fn copy<O: Alter, S: Alter>(
+    alloc: Global,
+    source: Connection<O>,
+    new: Connection<S>,
+) -> Copied<O, S>
+    ensures clean { HasCleanDisk (state O.Store result.source) → HasCleanDisk (state O.Store source) }
+    // The tables that were found spell the vault that the keeper stands for, and so do the new ones.
+    ensures found { IfOk result.outcome (λ k. HasCleanDisk (state O.Store result.source) → HasCleanDisk (state S.Store k.conn)
+        → AreSoundAs First (state O.Store source).now (kept_vault S.Store k.opening.at.items k.opening.known k.made.items)) }
+    ensures sound { IfOk result.outcome (λ k. HasCleanDisk (state S.Store k.conn) → AreSound (state S.Store k.conn).now (kept_vault S.Store k.opening.at.items k.opening.known k.made.items)) }
+{
+    let mut source = source;
+    let outcome = SqlKeeper::migrate(alloc, &mut source, new);
+    Copied { source, outcome }
+}
+
+/// The same into a file. Each function names one store of files alone: to name both at once takes more steps than the
+/// prover has for a function.
+fn copy_to_file<O: Alter, B: Start>(
+    alloc: Global,
+    source: Connection<O>,
+    new: Connection<VaultStore<B>>,
+) -> Copied<O, VaultStore<B>>
+    ensures clean { HasCleanDisk (state O.Store result.source) → HasCleanDisk (state O.Store source) }
+    ensures found { IfOk result.outcome (λ k. HasCleanDisk (state O.Store result.source) → HasCleanDisk (file_state k.conn)
+        → AreSoundAs First (state O.Store source).now (kept_vault over_files k.opening.at.items k.opening.known k.made.items)) }
+    ensures sound { IfOk result.outcome (λ k. HasCleanDisk (file_state k.conn) → AreSound (file_state k.conn).now (kept_vault over_files k.opening.at.items k.opening.known k.made.items)) }
+{
+    copy(alloc, source, new)
+}
+
+/// The same from a file.
+fn copy_file<A: Start, B: Start>(
+    alloc: Global,
+    source: Connection<VaultStore<A>>,
+    new: Connection<VaultStore<B>>,
+) -> Copied<VaultStore<A>, VaultStore<B>>
+    ensures clean { HasCleanDisk (file_state result.source) → HasCleanDisk (file_state source) }
+    ensures found { IfOk result.outcome (λ k. HasCleanDisk (file_state result.source) → HasCleanDisk (file_state k.conn)
+        → AreSoundAs First (file_state source).now (kept_vault over_files k.opening.at.items k.opening.known k.made.items)) }
+    ensures sound { IfOk result.outcome (λ k. HasCleanDisk (file_state k.conn) → AreSound (file_state k.conn).now (kept_vault over_files k.opening.at.items k.opening.known k.made.items)) }
+{
+    copy_to_file(alloc, source, new)
+}
+
+/// The file that gets a copy.
+#[derive(Drop)]
+struct Target<'a> {
+    path: &'a str,
+    /// The name of its log.
+    log: String,
+    /// Whether neither of the two was there, so that both may be removed again.
+    is_free: bool,
+}
+
+impl<'a> Target<'a> {
+    /// The file at a path.
+    ///
+    /// `NameTaken` where something is in it that is no store of tables, or changes may be in the log beside it. `Memory`
+    /// where memory was refused, and `Device` where one can't see what is there.
+    fn of(rt: &HostRuntime, path: &'a str) -> Result<Target<'a>, Unopened> {
+        let is_used = match place_at(rt, path) {
+            Ok(place) if place.may_be_made() => place.is_used(),
+            Ok(_) => return Err(Unopened::Refused(Refusal::NameTaken)),
+            Err(error) => return Err(unseen(error)),
+        };
+        let Ok(log) = format!(in rt.alloc(); "{path}-wal") else {
+            return Err(Unopened::Refused(Refusal::Memory));
+        };
+        Ok(Target {
+            path,
+            log,
+            is_free: !is_used,
+        })
+    }
+
+    /// Removes the file and its log, which this program has open. What can't be removed stays.
+    fn remove(&self, rt: &HostRuntime) {
+        // The log goes first: without it no table is in the file, and the next opening takes it for a new one.
+        let _ = fs::remove_file(rt, self.log.as_str());
+        let _ = fs::remove_file(rt, self.path);
+    }
+}
+
+/// Whether a file is too small for a vault, whose ten tables take more than a page.
+fn is_one_page(rt: &HostRuntime, path: &str) -> bool {
+    match fs::metadata(rt, path) {
+        Ok(found) => found.len() <= PAGE_SIZE,
+        Err(_) => false,
+    }
+}
+
+/// Lets go of what an opening that failed has left of a copy's files, which are removed if this call made them.
+fn give_up<S: Start>(rt: &HostRuntime, target: &Target<'_>, left: Leftover<FileFrom<S>>) {
+    if target.is_free && is_one_page(rt, target.path) {
+        target.remove(rt);
+    }
+    drop(left.into_files());
+}
+
+/// Opens the file that is to get a copy, or makes it.
+///
+/// `NameTaken` where something is in it that is no store of tables, `Memory` where memory was refused, and `Device`
+/// where the file can't be made or another program has it.
+fn connect_new<S: Start>(
+    rt: &HostRuntime,
+    target: &Target<'_>,
+    start: S,
+) -> Result<Connection<VaultStore<S>>, Refusal> {
+    match Connection::open_from(rt, target.path, false, start) {
+        Ok(conn) => Ok(conn),
+        Err((error, left)) => {
+            if let Some(left) = left {
+                give_up(rt, target, left);
+            }
+            Err(unmade(error))
+        }
+    }
+}
+
+/// Lets go of a connection, and writes nothing more: its files stay as they are.
+fn leave<S: Start>(conn: Connection<VaultStore<S>>) {
+    drop(conn.into_store().close());
+}
+
+/// Lets go of the file of a copy that was refused, which is removed if this call made it and no table is in it.
+fn abandon<S: Start>(rt: &HostRuntime, target: &Target<'_>, conn: Connection<VaultStore<S>>) {
+    if target.is_free && is_blank(conn.schema()) {
+        target.remove(rt);
+    }
+    leave(conn);
+}
+
+/// Copies the vault of a connection that was opened just now into another. Where that is refused, both are let go of.
+///
+/// The errors are those of `SqlKeeper::migrate`.
+fn copy_into<A: Start, B: Start>(
+    rt: &HostRuntime,
+    target: &Target<'_>,
+    source: Connection<VaultStore<A>>,
+    new: Connection<VaultStore<B>>,
+) -> Result<Migrated<VaultStore<A>, VaultStore<B>>, Unopened>
+    requires opened { HasCleanDisk (file_state source) → IsOpened source }
+    requires found { HasCleanDisk (file_state source) → FindsIn (image_at A.Start) (file_state source) }
+    ensures sound { IfOk result (λ m. HasCleanDisk (file_state m.vault.conn) → AreSound (file_state m.vault.conn).now (kept_vault over_files m.vault.opening.at.items m.vault.opening.known m.vault.made.items)) }
+    ensures found { IfOk result (λ m. HasCleanDisk (file_state m.source) → HasCleanDisk (file_state m.vault.conn)
+        → IsFoundAs First (image_at A.Start) (kept_vault over_files m.vault.opening.at.items m.vault.opening.known m.vault.made.items)) }
+    ensures held { (v : Vault) → IsHeldAs First (image_at A.Start) v → IfOk result (λ m. HasCleanDisk (file_state m.source) → HasCleanDisk (file_state m.vault.conn)
+        → kept_vault over_files m.vault.opening.at.items m.vault.opening.known m.vault.made.items ≡ v) }
+{
+    let Copied { source, outcome } = copy_file(rt.alloc(), source, new);
+    match outcome {
+        Ok(vault) => Ok(Migrated { source, vault }),
+        Err((refusal, new)) => {
+            leave(source);
+            abandon(rt, target, new);
+            Err(Unopened::Refused(refusal))
+        }
+    }
+}
+
+/// Closes a vault that was copied, and leaves the files that it was copied from as they are.
+pub fn close_migrated<A: Start, B: Start>(migrated: Migrated<VaultStore<A>, VaultStore<B>>) {
+    let Migrated { source, vault } = migrated;
+    close_vault(vault);
+    leave(source);
+}
+
+impl<'a> Machine<'a> {
+    /// Copies the vault in a file of the first edition, at `old`, into a file at `new` that isn't there or is empty. `starts`
+    /// stands for what the two files and their logs hold.
+    ///
+    /// `Damaged` with the first table at `old` that isn't sound; with `meta` where no file is there, or where it is empty, of a
+    /// newer edition, or no store of tables whose rows keep its own schema. `NameTaken` where something is in the file at
+    /// `new`, or changes may be in the log beside it. `Memory` where memory was refused. `Held` where another program has
+    /// the file at `old`. `Device` where a file can't be read or made, where somebody has the one at `new`, and where
+    /// both are one file. The file at `old` isn't changed; beside it a log without a change may be left. A file that was
+    /// made for the copy is removed with each of the errors, if no table is in it.
+    pub fn migrate<A: Start, B: Start>(
+        &mut self,
+        old: &str,
+        new: &str,
+        starts: Starts<A, B>,
+    ) -> Result<Migrated<VaultStore<A>, VaultStore<B>>, Unopened>
+        ensures looked { self.new.looked ≡ min (self.old.looked + 1) (2 ^ 64 - 1) }
+        ensures sound { IfOk result (λ m. HasCleanDisk (file_state m.vault.conn) → AreSound (file_state m.vault.conn).now (kept_vault over_files m.vault.opening.at.items m.vault.opening.known m.vault.made.items)) }
+        // The vault of the copy is the one that the tables spell which were found in the old files.
+        ensures found { IfOk result (λ m. HasCleanDisk (file_state m.source) → HasCleanDisk (file_state m.vault.conn)
+            → IsFoundAs First (image_at A.Start) (kept_vault over_files m.vault.opening.at.items m.vault.opening.known m.vault.made.items)) }
+        // Where these held a vault, it is that one.
+        ensures held { (v : Vault) → IsHeldAs First (image_at A.Start) v → IfOk result (λ m. HasCleanDisk (file_state m.source) → HasCleanDisk (file_state m.vault.conn)
+            → kept_vault over_files m.vault.opening.at.items m.vault.opening.known m.vault.made.items ≡ v) }
+    {
+        let rt = self.look();
+        let Starts { first, second } = starts;
+        let target = Target::of(rt, new)?;
+        let source = connect_there(rt, old, first)?;
+        match connect_new(rt, &target, second) {
+            Ok(conn) => copy_into(rt, &target, source, conn),
+            Err(refusal) => {
+                leave(source);
+                Err(Unopened::Refused(refusal))
+            }
+        }
+    }
+}
