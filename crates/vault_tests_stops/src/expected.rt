@@ -80,28 +80,60 @@ pub struct Expected {
 /// How many changes a day may have.
 const MOST: u64 = 64;
 
+/// How far the lines of a day come over a vault, and what is told of it then.
+fn played<K: Keeper>(
+    alloc: Global,
+    keeper: &mut K,
+    lines: &str,
+) -> Result<(Progress, String), Fail> {
+    let progress = play(alloc, keeper, lines, 0)?;
+    Ok((progress, told(alloc, keeper)?))
+}
+
+/// The same, where the vault is one of earlier days whose device fails behind so many changes of this one.
+fn played_behind<K: Keeper + Drop>(
+    alloc: Global,
+    keeper: K,
+    day: &Day,
+    changes: u64,
+) -> Result<(Progress, String), Fail> {
+    let mut keeper = keeper;
+    if let Err(fail) = play(alloc, &mut keeper, day.before, 0) {
+        drop(keeper);
+        return Err(fail);
+    }
+    let mut keeper = FuseKeeper::new(keeper, changes);
+    let played = played(alloc, &mut keeper, day.lines);
+    drop(keeper);
+    played
+}
+
 /// The vault after each change of a day, kept as a list whose device fails behind that change.
 pub fn expect(alloc: Global, day: &Day) -> Result<Expected, Fail> {
     let mut all = Expected {
         states: Vec::new(alloc),
         lines: Vec::new(alloc),
     };
+    let played = play_throughout(alloc, day, &mut all);
+    match played {
+        Ok(()) => Ok(all),
+        Err(fail) => {
+            drop(all);
+            Err(fail)
+        }
+    }
+}
+
+fn play_throughout(alloc: Global, day: &Day, all: &mut Expected) -> Result<(), Fail> {
     for changes in 0..MOST {
-        let mut keeper = FuseKeeper::new(listed(alloc, day.before)?, changes);
-        let progress = play(alloc, &mut keeper, day.lines, 0)?;
-        all.states.push(told(alloc, &mut keeper)?)?;
+        let (progress, state) = played_behind(alloc, ListKeeper::new(alloc)?, day, changes)?;
+        all.states.push(state)?;
         all.lines.push(progress.lines)?;
         if !progress.has_failed {
-            return Ok(all);
+            return Ok(());
         }
     }
     Err(Fail::new("the day has too many changes"))
-}
-
-fn listed(alloc: Global, before: &str) -> Result<ListKeeper, Fail> {
-    let mut keeper = ListKeeper::new(alloc)?;
-    play(alloc, &mut keeper, before, 0)?;
-    Ok(keeper)
 }
 
 impl Expected {

@@ -4,9 +4,9 @@
 #[cfg(test)]
 mod day;
 #[cfg(test)]
-mod disks;
-#[cfg(test)]
 mod expected;
+#[cfg(test)]
+mod files;
 #[cfg(test)]
 mod stopped;
 #[cfg(test)]

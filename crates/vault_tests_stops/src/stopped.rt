@@ -1,23 +1,12 @@
-//! A day of a vault in files, up to where one of them fails.
-use crate::disks::VaultFiles;
+//! A visit to a vault in files, up to where one of them fails.
 use crate::expected::Progress;
 use crate::visit::{Visit, work};
-use sqlite::{Alter, Connection, FileStore, Options};
-use sqlite_disk::{Fuse, Memory};
+use sqlite::{Alter, Connection, FileStore, Files, Options};
+use sqlite_disk::Disk;
 use std::alloc::Global;
 use std::test::Fail;
 use vault_base::refusal::Refusal;
 use vault_store::sql_keeper::SqlKeeper;
-
-type InFiles = FileStore<Fuse<Memory>>;
-
-/// Few pages in memory, and a short log, so that there are many calls on both files.
-const OPTIONS: Options = Options {
-    cache_pages: 8,
-    spill_pages: 2000,
-    checkpoint_frames: 40,
-    seed: 1,
-};
 
 /// What was under way as a file failed.
 #[derive(Clone, Copy, PartialEq, Eq)]
@@ -41,7 +30,7 @@ impl Phase {
     }
 }
 
-/// Where a day ended.
+/// Where a visit ended.
 #[derive(Clone, Copy)]
 pub struct Stop {
     pub phase: Phase,
@@ -59,20 +48,38 @@ fn before_lines(phase: Phase) -> Stop {
     Stop { phase, progress }
 }
 
-/// Opens the files. They come back where that fails.
-fn connected(alloc: Global, files: VaultFiles) -> Result<Connection<InFiles>, VaultFiles> {
+/// A stop at a line, or behind the last one.
+fn behind_lines(progress: Progress) -> Stop {
+    let phase = if progress.has_failed {
+        Phase::Asking
+    } else {
+        Phase::Over
+    };
+    Stop { phase, progress }
+}
+
+// What follows is over any store or any disk, as a proof over files would carry their state through each call.
+
+/// Opens the files.
+fn connected<D: Disk + Drop>(
+    alloc: Global,
+    files: Files<D>,
+    checkpoint_frames: usize,
+) -> Option<Connection<FileStore<D>>> {
     if !files.may_be_used() {
-        return Err(files);
+        return None;
     }
-    match Connection::open_files(alloc, files, OPTIONS) {
-        Ok(conn) => Ok(conn),
-        Err((_, left)) => Err(left.into_files()),
-    }
+    // Few pages in memory, so that there are many calls on both files.
+    let options = Options {
+        cache_pages: 8,
+        spill_pages: 2000,
+        checkpoint_frames,
+        seed: 1,
+    };
+    Connection::open_files(alloc, files, options).ok()
 }
 
 type Entrance<S> = Result<SqlKeeper<S>, (Refusal, Connection<S>)>;
-
-// This and `worked_on` are over any store, as a proof over files would carry their state through each call.
 
 /// The vault, which is made where that is to be done and was not done before.
 fn entered<S: Alter>(alloc: Global, is_made: bool, conn: Connection<S>) -> Entrance<S> {
@@ -85,69 +92,54 @@ fn entered<S: Alter>(alloc: Global, is_made: bool, conn: Connection<S>) -> Entra
     }
 }
 
-/// A visit up to its stop, and the files as they are left then. Fails where a failing file is told as
+/// A visit up to its stop, and the connection as it is left then. Fails where a failing file is told as
 /// anything but that, and where the vault isn't the one that is to be found.
-pub fn stopped(
-    alloc: Global,
-    visit: &Visit<'_>,
-    files: VaultFiles,
-) -> Result<(Stop, VaultFiles), Fail> {
-    let conn = match connected(alloc, files) {
-        Ok(conn) => conn,
-        Err(files) => return Ok((before_lines(Phase::Opening), files)),
-    };
-    match entered(alloc, visit.day.is_made, conn) {
-        Ok(keeper) => asked(alloc, visit, keeper),
-        Err((Refusal::Device, conn)) => {
-            Ok((before_lines(Phase::Entering), conn.into_store().close()))
-        }
-        Err((refusal, conn)) => {
-            drop(conn.into_store().close());
-            Err(Fail::new(refusal.name()))
-        }
-    }
-}
-
-/// How far the lines of a visit came, and the connection as it is left then.
 fn worked_on<S: Alter>(
     alloc: Global,
     visit: &Visit<'_>,
-    keeper: SqlKeeper<S>,
-) -> (Result<Progress, Fail>, Connection<S>) {
-    let mut keeper = keeper;
-    let worked = work(alloc, &mut keeper, visit);
-    (worked, keeper.into_connection())
+    conn: Connection<S>,
+) -> (Result<Stop, Fail>, Connection<S>) {
+    match entered(alloc, visit.day.is_made, conn) {
+        Ok(keeper) => {
+            let mut keeper = keeper;
+            let worked = work(alloc, &mut keeper, visit);
+            (worked.map(behind_lines), keeper.into_connection())
+        }
+        Err((Refusal::Device, conn)) => (Ok(before_lines(Phase::Entering)), conn),
+        Err((refusal, conn)) => (Err(Fail::new(refusal.name())), conn),
+    }
 }
 
-fn asked(
+/// The stop, where the files are closed behind a visit that wasn't stopped before.
+fn closed<D: Disk + Drop>(stop: Stop, conn: Connection<FileStore<D>>) -> Stop {
+    if stop.phase != Phase::Over {
+        drop(conn);
+        return stop;
+    }
+    if conn.close().is_ok() {
+        return stop;
+    }
+    Stop {
+        phase: Phase::Closing,
+        progress: stop.progress,
+    }
+}
+
+/// A visit to the vault in these files, up to its stop.
+pub fn stopped_in<D: Disk + Drop>(
     alloc: Global,
     visit: &Visit<'_>,
-    keeper: SqlKeeper<InFiles>,
-) -> Result<(Stop, VaultFiles), Fail> {
-    let (worked, conn) = worked_on(alloc, visit, keeper);
+    files: Files<D>,
+) -> Result<Stop, Fail> {
+    let Some(conn) = connected(alloc, files, visit.day.checkpoint_frames) else {
+        return Ok(before_lines(Phase::Opening));
+    };
+    let (worked, conn) = worked_on(alloc, visit, conn);
     match worked {
-        Ok(progress) => Ok(closed(conn, progress)),
+        Ok(stop) => Ok(closed(stop, conn)),
         Err(fail) => {
-            drop(conn.into_store().close());
+            drop(conn);
             Err(fail)
-        }
-    }
-}
-
-/// Closes the files where no line failed.
-fn closed(conn: Connection<InFiles>, progress: Progress) -> (Stop, VaultFiles) {
-    if progress.has_failed {
-        let phase = Phase::Asking;
-        return (Stop { phase, progress }, conn.into_store().close());
-    }
-    match conn.close_files() {
-        Ok(files) => {
-            let phase = Phase::Over;
-            (Stop { phase, progress }, files)
-        }
-        Err((_, store)) => {
-            let phase = Phase::Closing;
-            (Stop { phase, progress }, store.close())
         }
     }
 }

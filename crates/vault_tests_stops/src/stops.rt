@@ -1,47 +1,90 @@
 //! Each of a vault's two files fails behind each number of calls in turn.
-use crate::day::{Day, first_day, later_day};
-use crate::disks::Which;
-use crate::trial::{Stops, prepare, stop_behind_each};
+use crate::day::{Day, day_of_one_put_more, day_of_puts, first_day, later_day};
+use crate::files::{Reading, Which};
+use crate::trial::{Stops, prepare, stop_behind_each, syncs_on};
 use std::alloc::Global;
 use std::test::Fail;
 
 /// More calls than a day makes of a file.
 const MOST_CALLS: u64 = 10_000;
 
-/// The day is stopped behind each number of calls of that file, from none on until it isn't stopped.
-fn stopped_throughout(alloc: Global, day: Day, which: Which) -> Result<Stops, Fail> {
-    let trial = prepare(alloc, day)?;
-    stop_behind_each(alloc, &trial, which, 0, MOST_CALLS)
+/// Stops the day behind each number of calls of that file, from none on until it isn't stopped. Fails where it has no
+/// stop in one of its phases.
+fn stopped(rt: &HostRuntime, day: Day, reading: Reading, which: Which) -> Result<Stops, Fail> {
+    let trial = prepare(rt.alloc(), day, reading)?;
+    let stops = stop_behind_each(rt.alloc(), &trial, which, 0, MOST_CALLS)?;
+    println!(rt; "{stops:?}")?;
+    if !stops.are_complete() {
+        return Err(Fail::new("a day has a phase in which it isn't stopped"));
+    }
+    Ok(stops)
 }
 
 #[test]
 fn a_first_day_is_stopped_in_its_log(rt: HostRuntime) -> Result<(), Fail> {
-    let stops = stopped_throughout(rt.alloc(), first_day(), Which::Log)?;
-    println!(rt; "{stops:?}")?;
-    assert!(rt; stops.are_complete() && stops.entering != 0 && stops.one_more != 0);
+    let stops = stopped(&rt, first_day(), Reading::Mixing, Which::Log)?;
+    assert!(rt; stops.entering != 0 && stops.one_more != 0);
+    Ok(())
+}
+
+#[test]
+fn a_first_day_is_stopped_in_a_log_that_tears(rt: HostRuntime) -> Result<(), Fail> {
+    let stops = stopped(&rt, first_day(), Reading::Tearing, Which::Log)?;
+    assert!(rt; stops.entering != 0 && stops.one_more != 0);
     Ok(())
 }
 
 #[test]
 fn a_first_day_is_stopped_in_its_database_file(rt: HostRuntime) -> Result<(), Fail> {
-    let stops = stopped_throughout(rt.alloc(), first_day(), Which::Database)?;
-    println!(rt; "{stops:?}")?;
-    assert!(rt; stops.are_complete());
+    stopped(&rt, first_day(), Reading::Mixing, Which::Database)?;
+    Ok(())
+}
+
+#[test]
+fn a_first_day_is_stopped_in_a_database_file_that_tears(rt: HostRuntime) -> Result<(), Fail> {
+    stopped(&rt, first_day(), Reading::Tearing, Which::Database)?;
     Ok(())
 }
 
 #[test]
 fn a_later_day_is_stopped_in_its_log(rt: HostRuntime) -> Result<(), Fail> {
-    let stops = stopped_throughout(rt.alloc(), later_day(), Which::Log)?;
-    println!(rt; "{stops:?}")?;
-    assert!(rt; stops.are_complete() && stops.one_more != 0);
+    let stops = stopped(&rt, later_day(), Reading::Mixing, Which::Log)?;
+    assert!(rt; stops.one_more != 0);
+    Ok(())
+}
+
+#[test]
+fn a_later_day_is_stopped_in_a_log_that_tears(rt: HostRuntime) -> Result<(), Fail> {
+    let stops = stopped(&rt, later_day(), Reading::Tearing, Which::Log)?;
+    assert!(rt; stops.one_more != 0);
     Ok(())
 }
 
 #[test]
 fn a_later_day_is_stopped_in_its_database_file(rt: HostRuntime) -> Result<(), Fail> {
-    let stops = stopped_throughout(rt.alloc(), later_day(), Which::Database)?;
-    println!(rt; "{stops:?}")?;
-    assert!(rt; stops.are_complete() && stops.entering != 0);
+    let stops = stopped(&rt, later_day(), Reading::Mixing, Which::Database)?;
+    assert!(rt; stops.entering != 0);
+    Ok(())
+}
+
+#[test]
+fn a_later_day_is_stopped_in_a_database_file_that_tears(rt: HostRuntime) -> Result<(), Fail> {
+    let stops = stopped(&rt, later_day(), Reading::Tearing, Which::Database)?;
+    assert!(rt; stops.entering != 0);
+    Ok(())
+}
+
+/// How often the log is synced for one put.
+fn syncs_of_a_put(alloc: Global, reading: Reading) -> Result<u64, Fail> {
+    let without = syncs_on(alloc, day_of_puts(), reading)?;
+    let with = syncs_on(alloc, day_of_one_put_more(), reading)?;
+    Ok(with.saturating_sub(without))
+}
+
+#[test]
+fn a_put_syncs_the_log_once_or_twice(rt: HostRuntime) -> Result<(), Fail> {
+    for (reading, syncs) in [(Reading::Mixing, 1u64), (Reading::Tearing, 2)] {
+        assert_eq!(rt; syncs_of_a_put(rt.alloc(), reading)?, syncs);
+    }
     Ok(())
 }

@@ -9,22 +9,22 @@ use vault_transcript::transcript::replies;
 /// Listings, reports, locks, contents, certificates and rules. No line changes anything.
 const QUERIES: &str =
     r#"{"at":"2029-01-01T00:00:00Z","as":"ann","do":"list-versions","bucket":"docs"}
+{"at":"2029-01-01T00:00:00Z","as":"ann","do":"list-versions","bucket":"safe"}
 {"at":"2029-01-01T00:00:00Z","as":"cid","do":"list-versions","bucket":"rolls"}
 {"at":"2029-01-01T00:00:00Z","as":"ann","do":"report","dept":"records"}
 {"at":"2029-01-01T00:00:00Z","as":"cid","do":"report","dept":"court"}
-{"at":"2029-01-01T00:00:00Z","as":"ann","do":"get","bucket":"docs","key":"a","id":1}
-{"at":"2029-01-01T00:00:00Z","as":"ann","do":"get","bucket":"docs","key":"a","id":2}
-{"at":"2029-01-01T00:00:00Z","as":"ann","do":"get","bucket":"docs","key":"m","id":3}
-{"at":"2029-01-01T00:00:00Z","as":"ann","do":"get","bucket":"docs","key":"g","id":4}
+{"at":"2029-01-01T00:00:00Z","as":"ann","do":"get","bucket":"docs","key":"k","id":1}
+{"at":"2029-01-01T00:00:00Z","as":"ann","do":"get","bucket":"docs","key":"k","id":5}
+{"at":"2029-01-01T00:00:00Z","as":"ann","do":"get","bucket":"safe","key":"g","id":2}
 {"at":"2029-01-01T00:00:00Z","as":"cid","do":"get","bucket":"rolls","key":"r"}
-{"at":"2029-01-01T00:00:00Z","as":"cid","do":"get","bucket":"rolls","key":"s","id":6}
-{"at":"2029-01-01T00:00:00Z","as":"cid","do":"get","bucket":"rolls","key":"i/1"}
-{"at":"2029-01-01T00:00:00Z","as":"cid","do":"get","bucket":"rolls","key":"i/2"}
+{"at":"2029-01-01T00:00:00Z","as":"cid","do":"get","bucket":"rolls","key":"s","id":4}
+{"at":"2029-01-01T00:00:00Z","as":"cid","do":"get","bucket":"rolls","key":"2024/a"}
+{"at":"2029-01-01T00:00:00Z","as":"cid","do":"get","bucket":"rolls","key":"2024/b"}
 {"at":"2029-01-01T00:00:00Z","as":"cid","do":"get-hold","bucket":"rolls","key":"r"}
-{"at":"2029-01-01T00:00:00Z","as":"ann","do":"get-retention","bucket":"docs","key":"g"}
+{"at":"2029-01-01T00:00:00Z","as":"ann","do":"get-retention","bucket":"safe","key":"g"}
 {"at":"2029-01-01T00:00:00Z","as":"ann","do":"certificate","bucket":"docs","id":1}
-{"at":"2029-01-01T00:00:00Z","as":"ann","do":"certificate","bucket":"docs","id":4}
-{"at":"2029-01-01T00:00:00Z","as":"cid","do":"certificate","bucket":"rolls","id":6}
+{"at":"2029-01-01T00:00:00Z","as":"ann","do":"certificate","bucket":"safe","id":2}
+{"at":"2029-01-01T00:00:00Z","as":"cid","do":"certificate","bucket":"rolls","id":4}
 {"at":"2029-01-01T00:00:00Z","as":"ann","do":"get-rules","bucket":"docs"}
 "#;
 

@@ -1,19 +1,19 @@
 //! A day that is stopped at each call of one of its files.
 use crate::day::Day;
-use crate::disks::{Bytes, Left, VaultFiles, Which, fused, leave, sound};
 use crate::expected::{Expected, Progress, expect};
-use crate::stopped::{Phase, Stop, stopped};
+use crate::files::{ALL_CALLS, Bytes, Calls, Media, Reading, Which};
+use crate::stopped::{Phase, Stop};
 use crate::visit::{Resumed, Visit};
-use sqlite::Files;
 use std::alloc::Global;
 use std::test::Fail;
+use vault_crashing::Crash;
 
 /// A day, the files that it begins with, and what is to be found.
 #[derive(Drop)]
 pub struct Trial {
     day: Day,
-    log: Vec<u8>,
-    database: Vec<u8>,
+    reading: Reading,
+    begins: Bytes,
     expected: Expected,
 }
 
@@ -70,36 +70,30 @@ impl Stops {
 }
 
 /// A day with the files that earlier days leave.
-pub fn prepare(alloc: Global, day: Day) -> Result<Trial, Fail> {
-    let (log, database) = files_before(alloc, &day)?;
+pub fn prepare(alloc: Global, day: Day, reading: Reading) -> Result<Trial, Fail> {
     let expected = expect(alloc, &day)?;
     if !expected.tells_each_change() {
         return Err(Fail::new("a change is not told"));
     }
     Ok(Trial {
         day,
-        log,
-        database,
+        reading,
+        begins: files_before(alloc, &day, reading)?,
         expected,
     })
 }
 
-/// The bytes of the log and of the database file as the day begins.
-fn files_before(alloc: Global, day: &Day) -> Result<(Vec<u8>, Vec<u8>), Fail> {
-    if !day.is_made {
-        return Ok((Vec::new(alloc), Vec::new(alloc)));
-    }
-    let making = Day {
-        is_made: false,
-        before: "",
-        lines: day.before,
-    };
+/// The files as the day begins.
+fn files_before(alloc: Global, day: &Day, reading: Reading) -> Result<Bytes, Fail> {
     let none = Bytes {
-        log: &[],
-        database: &[],
+        log: Vec::new(alloc),
+        database: Vec::new(alloc),
     };
-    let (_, log, database) = whole(alloc, &beginning(making), &none)?;
-    Ok((log, database))
+    if !day.is_made {
+        return Ok(none);
+    }
+    let (_, bytes) = whole(alloc, &beginning(day.earlier()), &none, reading)?;
+    Ok(bytes)
 }
 
 /// The visit that begins a day.
@@ -107,12 +101,14 @@ fn beginning(day: Day) -> Visit<'static> {
     Visit { day, stop: None }
 }
 
-fn left_of(alloc: Global, files: VaultFiles) -> Result<(Left, Left), Fail> {
-    let Files { log, db } = files;
-    Ok((leave(alloc, log)?, leave(alloc, db)?))
+/// How often the log is synced on a day that isn't stopped.
+pub fn syncs_on(alloc: Global, day: Day, reading: Reading) -> Result<u64, Fail> {
+    let media = Media::new(alloc, &files_before(alloc, &day, reading)?, reading)?;
+    visit_whole(alloc, &beginning(day), &media)?;
+    Ok(media.log_syncs())
 }
 
-/// Stops the day at each of these calls of a file in turn, up to the first day that isn't stopped.
+/// Stops the day behind each of these numbers of calls of a file in turn, up to the first day that isn't stopped.
 pub fn stop_behind_each(
     alloc: Global,
     trial: &Trial,
@@ -122,7 +118,7 @@ pub fn stop_behind_each(
 ) -> Result<Stops, Fail> {
     let mut stops = Stops::new();
     for passed in from..to {
-        stop_behind(alloc, trial, which, passed, &mut stops)?;
+        stop_behind(alloc, trial, which.passing(passed), &mut stops)?;
         if stops.is_over {
             return Ok(stops);
         }
@@ -131,79 +127,51 @@ pub fn stop_behind_each(
 }
 
 /// The day, where a file fails behind so many calls; and what becomes of all that may be left then.
-fn stop_behind(
-    alloc: Global,
-    trial: &Trial,
-    which: Which,
-    passed: u64,
-    stops: &mut Stops,
-) -> Result<(), Fail> {
-    let begins = Bytes {
-        log: trial.log.as_slice(),
-        database: trial.database.as_slice(),
-    };
-    let files = fused(alloc, &begins, which, passed)?;
-    let (stop, files) = stopped(alloc, &beginning(trial.day), files)?;
+fn stop_behind(alloc: Global, trial: &Trial, calls: Calls, stops: &mut Stops) -> Result<(), Fail> {
+    let media = Media::new(alloc, &trial.begins, trial.reading)?;
+    let stop = media.visited(alloc, &beginning(trial.day), calls)?;
     stops.count(stop.phase);
-    let (log, database) = left_of(alloc, files)?;
-    find_all(alloc, trial, &stop, &log, &database, stops)
-}
-
-/// All that was written is left, or of one of the files, or of both, only what was synced.
-fn find_all(
-    alloc: Global,
-    trial: &Trial,
-    stop: &Stop,
-    log: &Left,
-    database: &Left,
-    stops: &mut Stops,
-) -> Result<(), Fail> {
-    find(alloc, trial, stop, &log.standing, &database.standing, stops)?;
-    if log.differs() {
-        find(alloc, trial, stop, &log.synced, &database.standing, stops)?;
-    }
-    if database.differs() {
-        find(alloc, trial, stop, &log.standing, &database.synced, stops)?;
-    }
-    if log.differs() && database.differs() {
-        find(alloc, trial, stop, &log.synced, &database.synced, stops)?;
+    for log in trial.reading.crashes() {
+        find_with(alloc, trial, &stop, &media, log, stops)?;
     }
     Ok(())
 }
 
-/// The vault in these files is that after the acknowledged changes, or with the one that was being made;
-/// the rest of the day leads from there to its end, which is still there once the files were closed.
-fn find(
+/// What is left of the files by this crash of the log and each of the database file.
+fn find_with(
     alloc: Global,
     trial: &Trial,
     stop: &Stop,
-    log: &[u8],
-    database: &[u8],
+    media: &Media,
+    log: Crash,
     stops: &mut Stops,
 ) -> Result<(), Fail> {
+    for database in trial.reading.crashes() {
+        if media.may_be_left_by(log, database) {
+            let left = media.left_by(log, database)?;
+            stops.count_outcome(find(alloc, trial, stop, &left)?);
+        }
+    }
+    Ok(())
+}
+
+/// Whether the change that was being made is found. The vault in these files is that after the acknowledged
+/// changes, or with that one; the rest of the day leads from there to its end, which is still there once the
+/// files were closed.
+fn find(alloc: Global, trial: &Trial, stop: &Stop, left: &Bytes) -> Result<bool, Fail> {
     let is_made = trial.day.is_made || stop.phase.is_behind_entering();
     let visit = resumption(trial, is_made, stop.progress);
-    let (progress, log, database) = whole(alloc, &visit, &Bytes { log, database })?;
-    stops.count_outcome(progress.has_more);
+    let (progress, closed) = whole(alloc, &visit, left, trial.reading)?;
     let visit = resumption(trial, true, progress);
-    let bytes = Bytes {
-        log: &log,
-        database: &database,
-    };
-    whole(alloc, &visit, &bytes)?;
-    Ok(())
+    whole(alloc, &visit, &closed, trial.reading)?;
+    Ok(progress.has_more)
 }
 
 /// The visit behind a stop there.
 fn resumption(trial: &Trial, is_made: bool, progress: Progress) -> Visit<'_> {
-    let day = Day {
-        is_made,
-        before: trial.day.before,
-        lines: trial.day.lines,
-    };
     let expected = &trial.expected;
     Visit {
-        day,
+        day: trial.day.entered(is_made),
         stop: Some(Resumed { expected, progress }),
     }
 }
@@ -212,13 +180,19 @@ fn resumption(trial: &Trial, is_made: bool, progress: Progress) -> Visit<'_> {
 fn whole(
     alloc: Global,
     visit: &Visit<'_>,
-    bytes: &Bytes<'_>,
-) -> Result<(Progress, Vec<u8>, Vec<u8>), Fail> {
-    let (stop, files) = stopped(alloc, visit, sound(alloc, bytes)?)?;
+    bytes: &Bytes,
+    reading: Reading,
+) -> Result<(Progress, Bytes), Fail> {
+    let media = Media::new(alloc, bytes, reading)?;
+    let progress = visit_whole(alloc, visit, &media)?;
+    Ok((progress, media.left_by(Crash::Loses, Crash::Loses)?))
+}
+
+/// A visit to the vault in these files, of which none fails.
+fn visit_whole(alloc: Global, visit: &Visit<'_>, media: &Media) -> Result<Progress, Fail> {
+    let stop = media.visited(alloc, visit, ALL_CALLS)?;
     if stop.phase != Phase::Over {
-        drop(files);
         return Err(Fail::new("a sound file failed"));
     }
-    let (log, database) = left_of(alloc, files)?;
-    Ok((stop.progress, log.synced, database.synced))
+    Ok(stop.progress)
 }

@@ -1,0 +1,158 @@
+//! A vault's two files in memory, of which one may fail, and what a crash leaves of them.
+use crate::stopped::{Stop, stopped_in};
+use crate::visit::Visit;
+use sqlite::{Files, Unknown};
+use sqlite_disk::{Fuse, Modelled, Start, Wary};
+use std::alloc::Global;
+use std::test::Fail;
+use vault_crashing::{Crash, Medium, MemoryFile, opened};
+
+/// How a crash is read.
+#[derive(Clone, Copy)]
+pub enum Reading {
+    /// Of a write that is cut each byte is the old or the new one, so that most changes sync once.
+    Mixing,
+    /// Such a byte may be any, so that each change syncs twice.
+    Tearing,
+}
+
+impl Reading {
+    /// The crashes of a file that are tried.
+    pub fn crashes(self) -> [Crash; 4] {
+        match self {
+            Reading::Mixing => [Crash::Keeps, Crash::Loses, Crash::Mixes(1), Crash::Mixes(2)],
+            Reading::Tearing => [Crash::Keeps, Crash::Loses, Crash::Tears(1), Crash::Tears(2)],
+        }
+    }
+}
+
+/// The bytes of both files.
+pub struct Bytes {
+    pub log: Vec<u8>,
+    pub database: Vec<u8>,
+}
+
+// What is let go of in several places is written out here and below, so that these don't prove again how each part is.
+impl Drop for Bytes {
+    fn drop(self) {
+        let Bytes {
+            log: _,
+            database: _,
+        } = self;
+    }
+}
+
+/// One of the two files.
+#[derive(Clone, Copy)]
+pub enum Which {
+    Log,
+    Database,
+}
+
+impl Which {
+    /// This file fails behind so many calls, and the other doesn't.
+    pub fn passing(self, calls: u64) -> Calls {
+        match self {
+            Which::Log => Calls {
+                log: calls,
+                database: u64::MAX,
+            },
+            Which::Database => Calls {
+                log: u64::MAX,
+                database: calls,
+            },
+        }
+    }
+}
+
+/// How many calls each of the two files passes on, before it fails.
+#[derive(Clone, Copy)]
+pub struct Calls {
+    pub log: u64,
+    pub database: u64,
+}
+
+/// More calls than any visit makes.
+pub const ALL_CALLS: Calls = Calls {
+    log: u64::MAX,
+    database: u64::MAX,
+};
+
+/// Both files, which are there also when nobody has them open.
+pub struct Media {
+    log: Medium,
+    database: Medium,
+    reading: Reading,
+}
+
+impl Drop for Media {
+    fn drop(self) {
+        let Media {
+            log: _,
+            database: _,
+            reading: _,
+        } = self;
+    }
+}
+
+impl Media {
+    /// Files with these bytes.
+    pub fn new(alloc: Global, bytes: &Bytes, reading: Reading) -> Result<Media, Fail> {
+        Ok(Media {
+            log: Medium::new(alloc, &bytes.log)?,
+            database: Medium::new(alloc, &bytes.database)?,
+            reading,
+        })
+    }
+
+    /// What these crashes leave of the one and of the other.
+    pub fn left_by(&self, log: Crash, database: Crash) -> Result<Bytes, Fail> {
+        Ok(Bytes {
+            log: self.log.left_by(log)?,
+            database: self.database.left_by(database)?,
+        })
+    }
+
+    /// Whether both were changed since their last sync as far as these crashes take something of them.
+    pub fn may_be_left_by(&self, log: Crash, database: Crash) -> bool {
+        (keeps(log) || self.log.is_changed()) && (keeps(database) || self.database.is_changed())
+    }
+
+    /// How often the log was synced.
+    pub fn log_syncs(&self) -> u64 {
+        self.log.syncs()
+    }
+
+    /// A visit to the vault in these files.
+    pub fn visited(&self, alloc: Global, visit: &Visit<'_>, calls: Calls) -> Result<Stop, Fail> {
+        match self.reading {
+            Reading::Mixing => self.visited_from::<Unknown>(alloc, visit, calls),
+            Reading::Tearing => self.visited_from::<Wary>(alloc, visit, calls),
+        }
+    }
+
+    fn visited_from<S: Start>(
+        &self,
+        alloc: Global,
+        visit: &Visit<'_>,
+        calls: Calls,
+    ) -> Result<Stop, Fail> {
+        let files = opened::<S>(&self.log, &self.database)?;
+        stopped_in(alloc, visit, fused(files, calls))
+    }
+}
+
+fn keeps(crash: Crash) -> bool {
+    matches!(crash, Crash::Keeps)
+}
+
+type InMemory<S> = Modelled<MemoryFile, S>;
+
+/// The files, each of which fails behind so many calls.
+fn fused<S: Start>(files: Files<InMemory<S>>, calls: Calls) -> Files<Fuse<InMemory<S>>> {
+    let Files { log, db } = files;
+    Files {
+        log: Fuse::new(log, calls.log),
+        db: Fuse::new(db, calls.database),
+    }
+}
