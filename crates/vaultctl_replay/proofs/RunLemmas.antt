@@ -1,7 +1,7 @@
 -- Lemmas on lines that are carried out one after another.
 use Rattle.std.proofs.Common.{◌≡◌, ◌≤◌, ℕ, List, [], ◌∷◌, ◌++◌, refl, ap, sym, ◌∙◌, append_assoc, append-nil, subst, take, Bool, true, false, IsTrue, Option, Some, None, Result, Ok, Err, OnOk, OnErr, inl, inr, arith}
 use Rattle.std.specs.Prelude.{◌||◌, IfOk, String, string_bytes}
-use Rattle.std.specs.List.{flat_map, list_any}
+use Rattle.std.specs.List.{list_any}
 use Rattle.std.specs.declared.alloc.AllocError.{AllocError}
 use Rattle.std.specs.declared.alloc.Global.{Global}
 use Rattle.std.specs.Io.KnownBytes.{Appends, Consumes, Keeps}
@@ -10,6 +10,7 @@ use Rattle.std.proofs.lemmas.List.Concat.{flat_map-append}
 use Rattle.std.proofs.lemmas.List.Folds.{list_any-append}
 use Rattle.vault_core.specs.Told.{CountAsTold}
 use Rattle.vault_core.proofs.Device.{count_as_told}
+use Rattle.vault_base.specs.declared.refusal.Refusal.{Refusal}
 use Rattle.vault_core_model.specs.Halts.{is_device_reply, Rose}
 use Rattle.vault_core_model.specs.Step.{Run, Reached, Step}
 use Rattle.vault_core_model.specs.Vault.{Vault, opening}
@@ -19,18 +20,19 @@ use Rattle.vault_core_model.specs.declared.reply.Reply.TheVariants as reply
 use Rattle.vault_http_script.specs.ReplyLine.{reply_text}
 use Rattle.vault_http_script.specs.declared.read_line.Line.TheVariants.{Command, Refused, Skip}
 use Rattle.vault_http_script.specs.declared.read_line.Line.{Line}
-use Rattle.vaultctl_replay.specs.Lines.{advance, asked_in, last_of}
-use Rattle.vaultctl_replay.specs.Runs.{Answers, Runs, Finished, Began, Unwritten, AnswersAll, AnswersEnded, AnswersSome, Steady}
+use Rattle.vault_io.specs.Begins.{Begins}
+use Rattle.vaultctl_replay.specs.Lines.{advance, asked_in, last_of, AskSoFar}
+use Rattle.vaultctl_replay.specs.Runs.{lines_of, Answers, Replied, Runs, Finished, Began, Unwritten, AnswersAll, AnswersEnded, AnswersSome, Steady}
 use Rattle.vaultctl_replay.proofs.LineLemmas.{asked_in-append, advance-append, asked_all, asked_ended}
 
 -- ---- what is known where the device was honest later is known where it was honest before
 
-Answers-for : (H G : Type 0) (v v' : Vault) (n n' : ℕ) (asked : Line) (out : List ℕ) → (G → H) → Answers H v n asked out v' n' → Answers G v n asked out v' n'
+Answers-for : (H G : Type 0) (v v' : Vault) (n n' : ℕ) (asked : Line) (out : List Reply) → (G → H) → Answers H v n asked out v' n' → Answers G v n asked out v' n'
 Answers-for H G v v' n n' Skip out f a = a
 Answers-for H G v v' n n' (Refused r) out f a = a
 Answers-for H G v v' n n' (Command c) out f a = (a.0, λ h. a.1 (f h), a.2, a.3, a.4)
 
-Runs-for : (H G : Type 0) (v v' : Vault) (n n' : ℕ) (asked : List Line) (out : List ℕ) → (G → H) → Runs H v n asked out v' n' → Runs G v n asked out v' n'
+Runs-for : (H G : Type 0) (v v' : Vault) (n n' : ℕ) (asked : List Line) (out : List Reply) → (G → H) → Runs H v n asked out v' n' → Runs G v n asked out v' n'
 Runs-for H G v v' n n' [] out f r = r
 Runs-for H G v v' n n' (line ∷ asked) out f r = (r.0, r.1, r.2, r.3, Answers-for H G v r.0 n r.1 line r.2 f r.4, Runs-for H G r.0 v' r.1 n' asked r.3 f r.5, r.6)
 
@@ -39,51 +41,74 @@ Finished-for H G a b i j u v ls f r = (r.0, Runs-for H G a b i j ls r.0 f r.1, r
 
 -- ---- one line
 
+-- what is to be written of one reply
+lines_of-one : (r : Reply) → reply_text r ≡ lines_of (r ∷ [])
+lines_of-one r = sym (append-nil (reply_text r))
+
+lines_of-append : (rs ss : List Reply) → lines_of (rs ++ ss) ≡ lines_of rs ++ lines_of ss
+lines_of-append rs ss = flat_map-append reply_text rs ss
+
 -- nothing was done
 pub kept : (H : Type 0) (v v' : Vault) (n n' : ℕ) (w : Option (List ℕ)) (asked : List Line) → v' ≡ v → n' ≡ n → Began H v n w asked v' n' w
-kept H v v' n n' w asked same still = ([], [], asked, refl, omega arith, v, n, [], [], [], (refl, refl, refl), (refl, same, still), Appends-nil w)
+kept H v v' n n' w asked same still = ([], [], asked, refl, omega arith, v, n, [], [], [], [], (refl, refl, refl), (refl, same, still), refl, Appends-nil w)
 
 -- one line was carried out
-one_run : (H : Type 0) (v v' : Vault) (n n' : ℕ) (asked : Line) (out : List ℕ) → Answers H v n asked out v' n' → Runs H v n (asked ∷ []) out v' n'
-one_run H v v' n n' asked out s = (v', n', out, [], s, (refl, refl, refl), sym (append-nil out))
+one_run : (H : Type 0) (v v' : Vault) (n n' : ℕ) (asked : Line) (replies : List Reply) → Answers H v n asked replies v' n' → Runs H v n (asked ∷ []) replies v' n'
+one_run H v v' n n' asked replies s = (v', n', replies, [], s, (refl, refl, refl), sym (append-nil replies))
 
-pub one_finished : (H : Type 0) (v v' : Vault) (n n' : ℕ) (w w' : Option (List ℕ)) (asked : Line) (out : List ℕ) → Answers H v n asked out v' n' → Appends w w' out → Finished H v n w (asked ∷ []) v' n' w'
-one_finished H v v' n n' w w' asked out s a = (out, one_run H v v' n n' asked out s, a)
+pub one_finished : (H : Type 0) (v v' : Vault) (n n' : ℕ) (w w' : Option (List ℕ)) (asked : Line) (out : List ℕ) → Replied H v n asked out v' n' → Appends w w' out → Finished H v n w (asked ∷ []) v' n' w'
+one_finished H v v' n n' w w' asked out s a =
+    let P : List ℕ → Type 0 = λ o. Appends w w' o in
+    (s.0, one_run H v v' n n' asked s.0 s.1, subst P s.2 a)
 
-pub one_begun : (H : Type 0) (v v' : Vault) (n n' : ℕ) (w w' : Option (List ℕ)) (asked : Line) (out sent unsent : List ℕ) → Answers H v n asked out v' n' → out ≡ sent ++ unsent → Appends w w' sent → Began H v n w (asked ∷ []) v' n' w'
-one_begun H v v' n n' w w' asked out sent unsent s e a =
-    let P : List ℕ → Type 0 = λ o. Answers H v n asked o v' n' in
-    ([], asked ∷ [], [], refl, omega arith, v, n, [], sent, unsent, (refl, refl, refl), one_run H v v' n n' asked (sent ++ unsent) (subst P e s), a)
+begun_with : (H : Type 0) (v v' : Vault) (n n' : ℕ) (w w' : Option (List ℕ)) (asked : Line) (replies : List Reply) (sent unsent : List ℕ) → Answers H v n asked replies v' n' → lines_of replies ≡ sent ++ unsent → Appends w w' sent → Began H v n w (asked ∷ []) v' n' w'
+begun_with H v v' n n' w w' asked replies sent unsent s e a =
+    ([], asked ∷ [], [], refl, omega arith, v, n, [], replies, sent, unsent, (refl, refl, refl), one_run H v v' n n' asked replies s, e, a)
+
+pub one_begun : (H : Type 0) (v v' : Vault) (n n' : ℕ) (w w' : Option (List ℕ)) (asked : Line) (out sent unsent : List ℕ) → Replied H v n asked out v' n' → out ≡ sent ++ unsent → Appends w w' sent → Began H v n w (asked ∷ []) v' n' w'
+one_begun H v v' n n' w w' asked out sent unsent s e a = begun_with H v v' n n' w w' asked s.0 sent unsent s.1 (sym s.2 ∙ e) a
 
 pub unwritten_begun : (H : Type 0) (v v' : Vault) (n n' : ℕ) (w : Option (List ℕ)) (asked : Line) → Unwritten H v n asked v' n' → Began H v n w (asked ∷ []) v' n' w
 unwritten_begun H v v' n n' w asked u =
     elim u [
       | inl same ↦ kept H v v' n n' w (asked ∷ []) same.0 same.1
-      | inr s ↦ one_begun H v v' n n' w w asked s.0 [] s.0 s.1 refl (Appends-nil w)
+      | inr s ↦ begun_with H v v' n n' w w asked s.0 [] (lines_of s.0) s.1 refl (Appends-nil w)
     ]
+
+-- a line that is refused
+pub refusal_replied : (H : Type 0) (v : Vault) (n : ℕ) (r : Refusal) (text : Result (String Global) AllocError) → IfOk text (λ t. string_bytes t ≡ reply_text (reply.Refused r)) → IfOk text (λ t. Replied H v n (Refused r) (string_bytes t) v n)
+refusal_replied H v n r (Ok t) told = (reply.Refused r ∷ [], (refl, refl, refl), told ∙ lines_of-one (reply.Refused r))
+refusal_replied H v n r (Err e) told = told
 
 -- a step that was made, with what its reply tells of the count of failures
 module _ (H : Type 0) (v v' : Vault) (n n' : ℕ) (c : Timed) (r : Reply) (made : H → Step v c.at c.who c.command r v') (counted : n ≤ n') (device : IsTrue (is_device_reply r) → Rose n n') (steady : is_device_reply r ≡ false → n' ≡ n) where
+  answered : Answers H v n (Command c) (r ∷ []) v' n'
+  answered = (r, made, refl, counted, count_as_told n n' (is_device_reply r) device steady)
+
   -- its reply isn't written
   pub command_unwritten : Unwritten H v n (Command c) v' n'
-  command_unwritten = inr (reply_text r, (r, made, refl, counted, count_as_told n n' (is_device_reply r) device steady))
+  command_unwritten = inr (r ∷ [], answered)
 
   -- its reply was made
-  pub command_answered : (text : Result (String Global) AllocError) → IfOk text (λ t. string_bytes t ≡ reply_text r) → IfOk text (λ t. Answers H v n (Command c) (string_bytes t) v' n')
-  command_answered (Ok t) told = (r, made, told, counted, count_as_told n n' (is_device_reply r) device steady)
-  command_answered (Err e) told = told
+  pub command_replied : (text : Result (String Global) AllocError) → IfOk text (λ t. string_bytes t ≡ reply_text r) → IfOk text (λ t. Replied H v n (Command c) (string_bytes t) v' n')
+  command_replied (Ok t) told = (r ∷ [], answered, told ∙ lines_of-one r)
+  command_replied (Err e) told = told
 
 -- a run may be joined to one that follows it
-Runs-then : (H : Type 0) (a b c : Vault) (i j k : ℕ) (ls ms : List Line) (x y : List ℕ) → Runs H a i ls x b j → Runs H b j ms y c k → Runs H a i (ls ++ ms) (x ++ y) c k
+Runs-then : (H : Type 0) (a b c : Vault) (i j k : ℕ) (ls ms : List Line) (x y : List Reply) → Runs H a i ls x b j → Runs H b j ms y c k → Runs H a i (ls ++ ms) (x ++ y) c k
 Runs-then H a b c i j k [] ms x y r s =
     let P : Vault → Type 0 = λ v. Runs H v i ms (x ++ y) c k in
     let Q : ℕ → Type 0 = λ n. Runs H b n ms (x ++ y) c k in
     subst P r.1 (subst Q r.2 (rw r.0 s))
 Runs-then H a b c i j k (l ∷ ls) ms x y r s =
-    (r.0, r.1, r.2, r.3 ++ y, r.4, Runs-then H r.0 b c r.1 j k ls ms r.3 y r.5 s, ap (λ (t : List ℕ). t ++ y) r.6 ∙ append_assoc r.2 r.3 y)
+    (r.0, r.1, r.2, r.3 ++ y, r.4, Runs-then H r.0 b c r.1 j k ls ms r.3 y r.5 s, ap (λ (t : List Reply). t ++ y) r.6 ∙ append_assoc r.2 r.3 y)
 
 pub Finished-then : (H : Type 0) (a b c : Vault) (i j k : ℕ) (u v w : Option (List ℕ)) (ls ms : List Line) → Finished H a i u ls b j v → Finished H b j v ms c k w → Finished H a i u (ls ++ ms) c k w
-Finished-then H a b c i j k u v w ls ms r s = (r.0 ++ s.0, Runs-then H a b c i j k ls ms r.0 s.0 r.1 s.1, Appends-trans u v w r.0 s.0 r.2 s.2)
+Finished-then H a b c i j k u v w ls ms r s = (
+  r.0 ++ s.0,
+  Runs-then H a b c i j k ls ms r.0 s.0 r.1 s.1,
+  rw (lines_of-append r.0 s.0) (Appends-trans u v w (lines_of r.0) (lines_of s.0) r.2 s.2),
+)
 
 pub Finished-began : (H : Type 0) (a b c : Vault) (i j k : ℕ) (u v w : Option (List ℕ)) (ls ms : List Line) → Finished H a i u ls b j v → Began H b j v ms c k w → Began H a i u (ls ++ ms) c k w
 Finished-began H a b c i j k u v w ls ms r s = (
@@ -97,18 +122,20 @@ Finished-began H a b c i j k u v w ls ms r s = (
   r.0 ++ s.7,
   s.8,
   s.9,
-  Runs-then H a b s.5 i j s.6 ls s.0 r.0 s.7 r.1 s.10,
-  s.11,
-  rw (append_assoc r.0 s.7 s.8) (Appends-trans u v w r.0 (s.7 ++ s.8) r.2 s.12),
+  s.10,
+  Runs-then H a b s.5 i j s.6 ls s.0 r.0 s.7 r.1 s.11,
+  s.12,
+  s.13,
+  rw (lines_of-append r.0 s.7, append_assoc (lines_of r.0) (lines_of s.7) s.9) (Appends-trans u v w (lines_of r.0) (lines_of s.7 ++ s.9) r.2 s.14),
 )
 
 -- more lines than were begun
 pub Began-more : (H : Type 0) (a b : Vault) (i j : ℕ) (u v : Option (List ℕ)) (ls ms : List Line) → Began H a i u ls b j v → Began H a i u (ls ++ ms) b j v
-Began-more H a b i j u v ls ms r = (r.0, r.1, r.2 ++ ms, ap (λ (t : List Line). t ++ ms) r.3 ∙ append_assoc (r.0 ++ r.1) r.2 ms, r.4, r.5, r.6, r.7, r.8, r.9, r.10, r.11, r.12)
+Began-more H a b i j u v ls ms r = (r.0, r.1, r.2 ++ ms, ap (λ (t : List Line). t ++ ms) r.3 ∙ append_assoc (r.0 ++ r.1) r.2 ms, r.4, r.5, r.6, r.7, r.8, r.9, r.10, r.11, r.12, r.13, r.14)
 
 -- what was finished was begun
 pub begun : (H : Type 0) (a b : Vault) (i j : ℕ) (u v : Option (List ℕ)) (ls : List Line) → Finished H a i u ls b j v → Began H a i u ls b j v
-begun H a b i j u v ls r = (ls, [], [], sym (append-nil (ls ++ []) ∙ append-nil ls), omega arith, b, j, r.0, [], [], r.1, (refl, refl, refl), rw (append-nil r.0) r.2)
+begun H a b i j u v ls r = (ls, [], [], sym (append-nil (ls ++ []) ∙ append-nil ls), omega arith, b, j, r.0, [], [], [], r.1, (refl, refl, refl), refl, rw (append-nil (lines_of r.0)) r.2)
 
 -- ---- lines after lines, where what an honest device kept later it kept before
 
@@ -147,7 +174,7 @@ Appends-keeps (Some xs) (Some ys) None out x y = absurd y
 Appends-keeps (Some xs) (Some ys) (Some zs) out x y = y ∙ x
 
 pub Finished-keeps : (H : Type 0) (a b : Vault) (i j : ℕ) (u v w : Option (List ℕ)) (ls : List Line) → Finished H a i u ls b j v → Keeps v w → Finished H a i u ls b j w
-Finished-keeps H a b i j u v w ls r k = (r.0, r.1, Appends-keeps u v w r.0 r.2 k)
+Finished-keeps H a b i j u v w ls r k = (r.0, r.1, Appends-keeps u v w (lines_of r.0) r.2 k)
 
 pub Began-keeps : (H : Type 0) (a b : Vault) (i j : ℕ) (u v w : Option (List ℕ)) (ls : List Line) → Finished H a i u ls b j v → Keeps v w → Began H a i u ls b j w
 Began-keeps H a b i j u v w ls r k = begun H a b i j u w ls (Finished-keeps H a b i j u v w ls r k)
@@ -171,10 +198,6 @@ module _ (H G : Type 0) (back : G → H) (a b c : Vault) (i j k : ℕ) (u v w : 
 
 -- ---- what the replies tell of the count of failures
 
--- the replies of which these are the lines
-abbrev Replied : ℕ → List ℕ → ℕ → Type 0
-Replied n out n' = (replies : List Reply) × (flat_map reply_text replies ≡ out) × (list_any is_device_reply replies ≡ false → n' ≡ n)
-
 neither : (b c : Bool) → (b || c) ≡ false → (b ≡ false) × (c ≡ false)
 neither true c e = absurd (cc)
 neither false c e = (refl, e)
@@ -184,46 +207,40 @@ still : (n n' : ℕ) (told : Bool) → CountAsTold n n' told → (told || false)
 still n n' true t e = absurd (cc)
 still n n' false t e = t
 
-none_replied : (n n' : ℕ) (out : List ℕ) → out ≡ [] → n' ≡ n → Replied n out n'
-none_replied n n' out e same = ([], sym e, λ _. same)
+told_by : (n n' : ℕ) (r : Reply) (replies : List Reply) → replies ≡ r ∷ [] → CountAsTold n n' (is_device_reply r) → list_any is_device_reply replies ≡ false → n' ≡ n
+told_by n n' r replies e t none = still n n' (is_device_reply r) t (subst (λ (rs : List Reply). list_any is_device_reply rs ≡ false) e none)
 
-one_replied : (n n' : ℕ) (r : Reply) (out : List ℕ) → out ≡ reply_text r → ((is_device_reply r || false) ≡ false → n' ≡ n) → Replied n out n'
-one_replied n n' r out e same = (r ∷ [], append-nil (reply_text r) ∙ sym e, same)
+answer_steady : (H : Type 0) (v v' : Vault) (n n' : ℕ) (asked : Line) (replies : List Reply) → Answers H v n asked replies v' n' → list_any is_device_reply replies ≡ false → n' ≡ n
+answer_steady H v v' n n' Skip replies a none = a.2
+answer_steady H v v' n n' (Refused r) replies a none = a.2
+answer_steady H v v' n n' (Command c) replies a none = told_by n n' a.0 replies a.2 a.4 none
 
-Replied-then : (i j k : ℕ) (x y : List ℕ) → Replied i x j → Replied j y k → Replied i (x ++ y) k
-Replied-then i j k x y r s = (
-  r.0 ++ s.0,
-  flat_map-append reply_text r.0 s.0 ∙ ap (λ (t : List ℕ). t ++ flat_map reply_text s.0) r.1 ∙ ap (λ (t : List ℕ). x ++ t) s.1,
-  λ none.
-      let both = neither (list_any is_device_reply r.0) (list_any is_device_reply s.0) (sym (list_any-append is_device_reply r.0 s.0) ∙ none) in
-      s.2 both.1 ∙ r.2 both.0,
-)
+run_steady : (H : Type 0) (v v' : Vault) (n n' : ℕ) (asked : List Line) (replies : List Reply) → Runs H v n asked replies v' n' → list_any is_device_reply replies ≡ false → n' ≡ n
+run_steady H v v' n n' [] replies r none = r.2
+run_steady H v v' n n' (line ∷ asked) replies r none =
+    let split = subst (λ (rs : List Reply). list_any is_device_reply rs ≡ false) r.6 none in
+    let both = neither (list_any is_device_reply r.2) (list_any is_device_reply r.3) (sym (list_any-append is_device_reply r.2 r.3) ∙ split) in
+    run_steady H r.0 v' r.1 n' asked r.3 r.5 both.1 ∙ answer_steady H v r.0 n r.1 line r.2 r.4 both.0
 
-answer_replied : (H : Type 0) (v v' : Vault) (n n' : ℕ) (asked : Line) (out : List ℕ) → Answers H v n asked out v' n' → Replied n out n'
-answer_replied H v v' n n' Skip out a = none_replied n n' out a.0 a.2
-answer_replied H v v' n n' (Refused r) out a = one_replied n n' (reply.Refused r) out a.0 (λ _. a.2)
-answer_replied H v v' n n' (Command c) out a = one_replied n n' a.0 out a.2 (still n n' (is_device_reply a.0) a.4)
+-- what is written is a beginning of all that is to be written
+begins : (w w' : Option (List ℕ)) (rs ss : List Reply) (sent unsent : List ℕ) → lines_of ss ≡ sent ++ unsent → Appends w w' (lines_of rs ++ sent) → Begins w w' (lines_of (rs ++ ss))
+begins w w' rs ss sent unsent e a = (lines_of rs ++ sent, unsent, lines_of-append rs ss ∙ ap (λ (t : List ℕ). lines_of rs ++ t) e ∙ sym (append_assoc (lines_of rs) sent unsent), a)
 
-run_replied : (H : Type 0) (v v' : Vault) (n n' : ℕ) (asked : List Line) (out : List ℕ) → Runs H v n asked out v' n' → Replied n out n'
-run_replied H v v' n n' [] out r = none_replied n n' out r.0 r.2
-run_replied H v v' n n' (line ∷ asked) out r =
-    let P : List ℕ → Type 0 = λ o. Replied n o n' in
-    subst P (sym r.6) (Replied-then n r.1 n' r.2 r.3 (answer_replied H v r.0 n r.1 line r.2 r.4) (run_replied H r.0 v' r.1 n' asked r.3 r.5))
-
-module _ (H : Type 0) (a b : Vault) (i j : ℕ) (u v : Option (List ℕ)) (ls : List Line) where
-  pub began_steady : Began H a i u ls b j v → Steady i u j v
-  began_steady r =
-      let all = Replied-then i r.6 j r.7 (r.8 ++ r.9) (run_replied H a r.5 i r.6 r.0 r.7 r.10) (run_replied H r.5 b r.6 j r.1 (r.8 ++ r.9) r.11) in
-      (all.0, (r.7 ++ r.8, r.9, all.1 ∙ sym (append_assoc r.7 r.8 r.9), r.12), all.2)
-
-  pub finished_steady : Finished H a i u ls b j v → Steady i u j v
-  finished_steady r = began_steady (begun H a b i j u v ls r)
+module _ (H E : Type 0) (a b : Vault) (i j : ℕ) (u v : Option (List ℕ)) (bytes : List ℕ) where
+  pub some_steady : AnswersSome H E a i u bytes b j v → Steady H E a i u bytes b j v
+  some_steady s =
+      let r = s.2 in
+      let made = Runs-then H a r.5 b i r.6 j r.0 r.1 r.7 r.8 r.11 r.12 in
+      let P : List Line → Type 0 = λ ls. AskSoFar E bytes ls in
+      (r.0 ++ r.1, r.2, r.7 ++ r.8, subst P r.3 s.1, made, begins u v r.7 r.8 r.9 r.10 r.13 r.14, run_steady H a b i j (r.0 ++ r.1) (r.7 ++ r.8) made)
 
 -- lines that were finished, and the last ones, of which the rest was begun at least
-pub either_steady : {T E : Type 0} (H G : Type 0) (back : G → H) (a b c : Vault) (i j k : ℕ) (u v w : Option (List ℕ)) (ls ms : List Line) (r : Result T E)
-    → Finished H a i u ls b j v → OnOk r (Finished G b j v ms c k w) → OnErr r (Began G b j v ms c k w) → Steady i u k w
-either_steady H G back a b c i j k u v w ls ms (Ok x) first ok err = finished_steady G a c i k u w (ls ++ ms) (later_finished H G back a b c i j k u v w ls ms first ok)
-either_steady H G back a b c i j k u v w ls ms (Err e) first ok err = began_steady G a c i k u w (ls ++ ms) (later_began H G back a b c i j k u v w ls ms first err)
+pub either_steady : {T F : Type 0} (H G : Type 0) (back : G → H) (a b c : Vault) (i j k : ℕ) (u v w : Option (List ℕ)) (bytes part : List ℕ) (E : Type 0) (at_end : E) (r : Result T F)
+    → Finished H a i u (asked_in 4_194_305 [] bytes) b j v → part ≡ (advance 4_194_305 [] bytes).1 → OnOk r (Finished G b j v (last_of part) c k w) → OnErr r (Began G b j v (last_of part) c k w) → Steady G E a i u bytes c k w
+either_steady H G back a b c i j k u v w bytes part E at_end (Ok x) first e ok err =
+    some_steady G E a c i k u w bytes (answers_some_last H G back a b c i j k u v w bytes part first e E at_end (begun G b c j k v w (last_of part) ok))
+either_steady H G back a b c i j k u v w bytes part E at_end (Err x) first e ok err =
+    some_steady G E a c i k u w bytes (answers_some_last H G back a b c i j k u v w bytes part first e E at_end err)
 
 -- ---- vaults that runs lead to
 
@@ -236,13 +253,13 @@ Run-then a b c (x ∷ cs) ds [] ss r s = absurd r
 Run-then a b c (x ∷ cs) ds (y ∷ rs) ss r s = (r.0, r.1, Run-then r.0 b c cs ds rs ss r.2 s)
 
 module _ (H : Type 0) (h : H) where
-  Answers-reached : (v v' : Vault) (n n' : ℕ) (asked : Line) (out : List ℕ) → Answers H v n asked out v' n' → Reached v → Reached v'
+  Answers-reached : (v v' : Vault) (n n' : ℕ) (asked : Line) (out : List Reply) → Answers H v n asked out v' n' → Reached v → Reached v'
   Answers-reached v v' n n' Skip out a q = subst Reached (sym a.1) q
   Answers-reached v v' n n' (Refused r) out a q = subst Reached (sym a.1) q
   Answers-reached v v' n n' (Command c) out a q =
       (q.0 ++ c ∷ [], q.1 ++ a.0 ∷ [], Run-then opening v v' q.0 (c ∷ []) q.1 (a.0 ∷ []) q.2 (v', a.1 h, refl))
 
-  Runs-reached : (v v' : Vault) (n n' : ℕ) (asked : List Line) (out : List ℕ) → Runs H v n asked out v' n' → Reached v → Reached v'
+  Runs-reached : (v v' : Vault) (n n' : ℕ) (asked : List Line) (out : List Reply) → Runs H v n asked out v' n' → Reached v → Reached v'
   Runs-reached v v' n n' [] out r q = subst Reached (sym r.1) q
   Runs-reached v v' n n' (line ∷ asked) out r q = Runs-reached r.0 v' r.1 n' asked r.3 r.5 (Answers-reached v r.0 n r.1 line r.2 r.4 q)
 
@@ -251,7 +268,7 @@ module _ (H : Type 0) (h : H) (a b : Vault) (i j : ℕ) (u v : Option (List ℕ)
   finished_reached r = Runs-reached H h a b i j asked r.0 r.1
 
   pub began_reached : Began H a i u asked b j v → Reached a → Reached b
-  began_reached r q = Runs-reached H h r.5 b r.6 j r.1 (r.8 ++ r.9) r.11 (Runs-reached H h a r.5 i r.6 r.0 r.7 r.10 q)
+  began_reached r q = Runs-reached H h r.5 b r.6 j r.1 r.8 r.12 (Runs-reached H h a r.5 i r.6 r.0 r.7 r.11 q)
 
   pub either_reached : {T E : Type 0} (r : Result T E) → OnOk r (Finished H a i u asked b j v) → OnErr r (Began H a i u asked b j v) → Reached a → Reached b
   either_reached (Ok x) ok err = finished_reached ok

@@ -14,32 +14,41 @@ use Rattle.vault_http_script.specs.declared.read_line.Line.TheVariants.{Skip, Co
 use Rattle.vault_io.specs.Begins.{Begins}
 use Rattle.vaultctl_replay.specs.Lines.{AskFor, AskSoFar, EndedAskFor}
 
--- A line that asks for this may be answered by these bytes, and lead from v to v': an empty one by none, a command by the reply to its step. The keeper's count of failures goes from n to n': the reply tells that the device failed just where the count rose, or can rise no further; where it doesn't, the count is as it was. Here and below Honest says that the device has returned what was written; what is said of a step holds then.
-abbrev pub Answers : Type 0 → Vault → ℕ → Line → List ℕ → Vault → ℕ → Type 0
-Answers Honest v n Skip out v' n' = (out ≡ []) × (v' ≡ v) × (n' ≡ n)
-Answers Honest v n (Refused r) out v' n' = (out ≡ reply_text (reply.Refused r)) × (v' ≡ v) × (n' ≡ n)
-Answers Honest v n (Command c) out v' n' =
-    (r : Reply) × (Honest → Step v c.at c.who c.command r v') × (out ≡ reply_text r) × (n ≤ n') × CountAsTold n n' (is_device_reply r)
+-- what is to be written of the replies
+abbrev pub lines_of : List Reply → List ℕ
+lines_of replies = flat_map reply_text replies
+
+-- A line that asks for this may have these replies, and lead from v to v': an empty one has none, and a command that to its step. The keeper's count of failures goes from n to n': the reply tells that the device failed just where the count rose, or can rise no further; where it doesn't, the count is as it was. Here and below Honest says that the device has returned what was written; what is said of a step holds then.
+abbrev pub Answers : Type 0 → Vault → ℕ → Line → List Reply → Vault → ℕ → Type 0
+Answers Honest v n Skip replies v' n' = (replies ≡ []) × (v' ≡ v) × (n' ≡ n)
+Answers Honest v n (Refused r) replies v' n' = (replies ≡ reply.Refused r ∷ []) × (v' ≡ v) × (n' ≡ n)
+Answers Honest v n (Command c) replies v' n' =
+    (r : Reply) × (Honest → Step v c.at c.who c.command r v') × (replies ≡ r ∷ []) × (n ≤ n') × CountAsTold n n' (is_device_reply r)
+
+-- the line was carried out, and this is to be written of its reply
+abbrev pub Replied : Type 0 → Vault → ℕ → Line → List ℕ → Vault → ℕ → Type 0
+Replied Honest v n asked out v' n' = (replies : List Reply) × Answers Honest v n asked replies v' n' × (out ≡ lines_of replies)
 
 -- the line was carried out or not, and nothing of its reply is written
 abbrev pub Unwritten : Type 0 → Vault → ℕ → Line → Vault → ℕ → Type 0
-Unwritten Honest v n asked v' n' = ((v' ≡ v) × (n' ≡ n)) ⊎ ((out : List ℕ) × Answers Honest v n asked out v' n')
+Unwritten Honest v n asked v' n' = ((v' ≡ v) × (n' ≡ n)) ⊎ ((replies : List Reply) × Answers Honest v n asked replies v' n')
 
 -- the lines lead from v to v', one after another, and these are their replies
-abbrev pub Runs : Type 0 → Vault → ℕ → List Line → List ℕ → Vault → ℕ → Type 0
-Runs Honest v n [] out v' n' = (out ≡ []) × (v' ≡ v) × (n' ≡ n)
-Runs Honest v n (asked ∷ later) out v' n' =
-    (mid : Vault) × (between : ℕ) × (first : List ℕ) × (others : List ℕ) × Answers Honest v n asked first mid between × Runs Honest mid between later others v' n' × (out ≡ first ++ others)
+abbrev pub Runs : Type 0 → Vault → ℕ → List Line → List Reply → Vault → ℕ → Type 0
+Runs Honest v n [] replies v' n' = (replies ≡ []) × (v' ≡ v) × (n' ≡ n)
+Runs Honest v n (asked ∷ later) replies v' n' =
+    (mid : Vault) × (between : ℕ) × (first : List Reply) × (others : List Reply) × Answers Honest v n asked first mid between × Runs Honest mid between later others v' n' × (replies ≡ first ++ others)
 
 -- the lines were carried out, and their replies written
 abbrev pub Finished : Type 0 → Vault → ℕ → Option (List ℕ) → List Line → Vault → ℕ → Option (List ℕ) → Type 0
-Finished Honest v n w asked v' n' w' = (out : List ℕ) × Runs Honest v n asked out v' n' × Appends w w' out
+Finished Honest v n w asked v' n' w' = (replies : List Reply) × Runs Honest v n asked replies v' n' × Appends w w' (lines_of replies)
 
 -- The first lines were carried out and their replies written; of one line more, or of none, a beginning of its reply. Those behind it weren't begun.
 abbrev pub Began : Type 0 → Vault → ℕ → Option (List ℕ) → List Line → Vault → ℕ → Option (List ℕ) → Type 0
 Began Honest v n w asked v' n' w' =
     (answered : List Line) × (begun : List Line) × (later : List Line) × (asked ≡ answered ++ begun ++ later) × (length begun ≤ 1)
-    × (mid : Vault) × (between : ℕ) × (out : List ℕ) × (sent : List ℕ) × (unsent : List ℕ) × Runs Honest v n answered out mid between × Runs Honest mid between begun (sent ++ unsent) v' n' × Appends w w' (out ++ sent)
+    × (mid : Vault) × (between : ℕ) × (replies : List Reply) × (last : List Reply) × (sent : List ℕ) × (unsent : List ℕ)
+    × Runs Honest v n answered replies mid between × Runs Honest mid between begun last v' n' × (lines_of last ≡ sent ++ unsent) × Appends w w' (lines_of replies ++ sent)
 
 -- all lines of the input were carried out, and their replies written
 abbrev pub AnswersAll : Type 0 → Vault → ℕ → Option (List ℕ) → List ℕ → Vault → ℕ → Option (List ℕ) → Type 0
@@ -53,6 +62,8 @@ AnswersEnded Honest v n w taken v' n' w' = (asked : List Line) × EndedAskFor ta
 abbrev pub AnswersSome : Type 0 → Type 0 → Vault → ℕ → Option (List ℕ) → List ℕ → Vault → ℕ → Option (List ℕ) → Type 0
 AnswersSome Honest AtEnd v n w taken v' n' w' = (asked : List Line) × AskSoFar AtEnd taken asked × Began Honest v n w asked v' n' w'
 
--- These are the replies that were made, and what is written is their lines, or a beginning of those. Where none of them tells that the device failed, the count of failures is as it was.
-abbrev pub Steady : ℕ → Option (List ℕ) → ℕ → Option (List ℕ) → Type 0
-Steady n w n' w' = (replies : List Reply) × Begins w w' (flat_map reply_text replies) × (list_any is_device_reply replies ≡ false → n' ≡ n)
+-- The first lines were carried out, and these are their replies, whatever is known of the writer; what is written is their lines, or a beginning of those. Where none of them tells that the device failed, the count of failures is as it was.
+abbrev pub Steady : Type 0 → Type 0 → Vault → ℕ → Option (List ℕ) → List ℕ → Vault → ℕ → Option (List ℕ) → Type 0
+Steady Honest AtEnd v n w taken v' n' w' =
+    (made : List Line) × (later : List Line) × (replies : List Reply) × AskSoFar AtEnd taken (made ++ later) × Runs Honest v n made replies v' n'
+    × Begins w w' (lines_of replies) × (list_any is_device_reply replies ≡ false → n' ≡ n)

@@ -4,7 +4,7 @@ ghost use Rattle.vault_http_script.specs.ReadLine.{line_of};
 ghost use Rattle.vault_http_script.specs.ReplyLine.{reply_text};
 ghost use Rattle.vault_http_script.specs.declared.read_line.Line.TheVariants.{Command};
 ghost use Rattle.vaultctl_replay.specs.Lines.{unended_of};
-ghost use Rattle.vaultctl_replay.specs.Runs.{Answers, Began, Finished, Unwritten};
+ghost use Rattle.vaultctl_replay.specs.Runs.{Began, Finished, Replied, Unwritten};
 
 use crate::fault::ReplayFault;
 use crate::writing::write_bytes;
@@ -29,7 +29,7 @@ fn told(alloc: Global, reply: Reply) -> Result<String, AllocError>
 
 /// Carries out a command. Its reply is a line.
 fn carried_out<K: Keeper>(alloc: Global, keeper: &mut K, timed: Timed) -> Result<String, AllocError>
-    ensures ok { IfOk result (λ text. Answers (K.is_honest keeper.new) (K.vault keeper.old) (K.count keeper.old) (Command timed) (string_bytes text) (K.vault keeper.new) (K.count keeper.new)) }
+    ensures ok { IfOk result (λ text. Replied (K.is_honest keeper.new) (K.vault keeper.old) (K.count keeper.old) (Command timed) (string_bytes text) (K.vault keeper.new) (K.count keeper.new)) }
     ensures err { OnErr result (Unwritten (K.is_honest keeper.new) (K.vault keeper.old) (K.count keeper.old) (Command timed) (K.vault keeper.new) (K.count keeper.new)) }
     ensures honest { K.is_honest keeper.new → K.is_honest keeper.old }
     ensures counted { K.count keeper.old ≤ K.count keeper.new }
@@ -41,7 +41,7 @@ fn carried_out<K: Keeper>(alloc: Global, keeper: &mut K, timed: Timed) -> Result
 
 /// Carries out what a line asks for. Its reply is a line, or nothing where the line is empty.
 fn reply_to<K: Keeper>(alloc: Global, keeper: &mut K, asked: Line) -> Result<String, AllocError>
-    ensures ok { IfOk result (λ reply. Answers (K.is_honest keeper.new) (K.vault keeper.old) (K.count keeper.old) asked (string_bytes reply) (K.vault keeper.new) (K.count keeper.new)) }
+    ensures ok { IfOk result (λ reply. Replied (K.is_honest keeper.new) (K.vault keeper.old) (K.count keeper.old) asked (string_bytes reply) (K.vault keeper.new) (K.count keeper.new)) }
     ensures err { OnErr result (Unwritten (K.is_honest keeper.new) (K.vault keeper.old) (K.count keeper.old) asked (K.vault keeper.new) (K.count keeper.new)) }
     ensures honest { K.is_honest keeper.new → K.is_honest keeper.old }
     ensures counted { K.count keeper.old ≤ K.count keeper.new }

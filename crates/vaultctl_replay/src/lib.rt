@@ -37,9 +37,8 @@ pub fn replay<R: Read, W: Write, K: Keeper>(
     writer: &mut W,
     keeper: &mut K,
 ) -> Result<(), ReplayFault>
-    // What is read is the whole input, and what is written is the replies to its lines. Whatever comes of the
-    // input, a reply tells that the device failed only where its count of failures rose, or stands at its
-    // greatest value.
+    // What is read is the whole input, and what is written is the replies to its lines. The reply to a command tells
+    // that the device failed just where its count of failures rose, or stands at its greatest value.
     ensures ok { OnOk result ((input : List ℕ) × Consumes (R.remaining reader.old) (R.remaining reader.new) input
         × IsAtEnd (R.remaining reader.new)
         × AnswersAll (K.is_honest keeper.new) (K.vault keeper.old) (K.count keeper.old) (W.contents writer.old) input (K.vault keeper.new) (K.count keeper.new) (W.contents writer.new)) }
@@ -50,9 +49,12 @@ pub fn replay<R: Read, W: Write, K: Keeper>(
     // Where the reader failed, that beginning is each line whose LF was read, and all their replies are written.
     ensures read { result ≡ Err ReplayFault.Read → (taken : List ℕ) × Consumes (R.remaining reader.old) (R.remaining reader.new) taken
         × AnswersEnded (K.is_honest keeper.new) (K.vault keeper.old) (K.count keeper.old) (W.contents writer.old) taken (K.vault keeper.new) (K.count keeper.new) (W.contents writer.new) }
-    // Whatever comes of the input and of the device: where no reply tells that the device failed, the count of its
-    // failures is as it was.
-    ensures steady { Steady (K.count keeper.old) (W.contents writer.old) (K.count keeper.new) (W.contents writer.new) }
+    // Whatever comes of the input, of the device and of the writer: there is a reply to each command that was carried
+    // out, which tells that the device failed just where the count of its failures rose, or stands at its greatest
+    // value. What is written is the lines of those replies, or a beginning of them; where none tells that the device
+    // failed, the count is as it was.
+    ensures steady { (taken : List ℕ) × Consumes (R.remaining reader.old) (R.remaining reader.new) taken
+        × Steady (K.is_honest keeper.new) (IsAtEnd (R.remaining reader.new)) (K.vault keeper.old) (K.count keeper.old) (W.contents writer.old) taken (K.vault keeper.new) (K.count keeper.new) (W.contents writer.new) }
     // Whatever comes of the input, a vault that runs lead to from a new one is left as such a vault.
     ensures reached { K.is_honest keeper.new → Reached (K.vault keeper.old) → Reached (K.vault keeper.new) }
     ensures honest { K.is_honest keeper.new → K.is_honest keeper.old }

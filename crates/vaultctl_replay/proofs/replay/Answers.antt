@@ -2,9 +2,8 @@ use Rattle.std.proofs.Common.{ℕ, List, [], ◌++◌, take, arith, append-nil}
 use Rattle.std.proofs.lemmas.Result.{on_ok_weaker, on_err_weaker}
 use Rattle.std.specs.Io.KnownBytes.{Consumes, IsAtEnd}
 use Rattle.std.proofs.KnownBytes.{Consumes-trans, Consumes-kept}
-use Rattle.vaultctl_replay.specs.Lines.{asked_in}
 use Rattle.vaultctl_replay.specs.Runs.{AnswersSome}
-use Rattle.vaultctl_replay.proofs.RunLemmas.{on_err, begun, next_ok, next_part, next_err, answers_all, answers_ended, answers_some, answers_some_last, none_read, Finished-keeps, finished_reached, began_reached, either_reached, finished_steady, began_steady, either_steady}
+use Rattle.vaultctl_replay.proofs.RunLemmas.{on_err, begun, next_ok, next_part, next_err, answers_all, answers_ended, answers_some, answers_some_last, none_read, Finished-keeps, finished_reached, began_reached, either_reached, some_steady, either_steady}
 use Rattle.vaultctl_replay.proofs.replay.Goals as goal
 
 -- ---- at the end of the input
@@ -75,7 +74,14 @@ returns-in-Ok-eq0-clause-steady g c =
     let u = g.W.Write.contents c.args.writer.now in
     let v = g.W.Write.contents c.flush.new.writer in
     let w = g.W.Write.contents c.finish.new.writer in
-    either_steady H G c.finish.ensures.honest first mid last n o p u v w (asked_in 4_194_305 [] inv.taken) _ c.finish.result so_far c.finish.ensures.ok c.finish.ensures.err
+    let ok = rw c.as_slice.ensures.value at c.finish.ensures.ok in
+    let err = rw c.as_slice.ensures.value at c.finish.ensures.err in
+    let read = rw append-nil at (Consumes-trans _ _ _ inv.taken [] inv.read (none_read _ _ _ _ c.in-Ok-eq0.field-0-test c.in-Ok-eq0.ensures.ok)) in
+    let at_end = c.in-Ok-eq0.ensures.end c.in-Ok-eq0.field-0-test (omega arith) in (
+      inv.taken,
+      read,
+      either_steady H G c.finish.ensures.honest first mid last n o p u v w inv.taken c.loop-turn.part.items _ at_end c.finish.result so_far inv.rest ok err,
+    )
 
 pub returns-in-Ok-eq0-clause-reached : goal.returns-in-Ok-eq0-clause-reached
 returns-in-Ok-eq0-clause-reached g c = λ h q.
@@ -126,7 +132,11 @@ returns-in_err-feed-in-Ok-clause-steady g c =
     let v = g.W.Write.contents c.flush.new.writer in
     let w = g.W.Write.contents c.feed.new.writer in
     let piece = take c.in-Ok.n c.read_retrying.new.buf in
-    began_steady G first last n p u w _ (next_err H G c.feed.ensures.honest first mid last n o p u v w 4_194_305 [] c.loop-turn.part.items inv.taken piece so_far inv.rest c.in_err-feed-in-Ok.ensures.err)
+    let done = next_err H G c.feed.ensures.honest first mid last n o p u v w 4_194_305 [] c.loop-turn.part.items inv.taken piece so_far inv.rest c.in_err-feed-in-Ok.ensures.err in (
+      inv.taken ++ piece,
+      Consumes-trans _ _ _ inv.taken piece inv.read c.in-Ok.ensures.ok,
+      some_steady G _ first last n p u w (inv.taken ++ piece) (answers_some G _ first last n p u w (inv.taken ++ piece) done),
+    )
 
 pub returns-in_err-feed-in-Ok-clause-reached : goal.returns-in_err-feed-in-Ok-clause-reached
 returns-in_err-feed-in-Ok-clause-reached g c = λ h q.
@@ -159,7 +169,17 @@ pub returns-in_err-flush-clause-steady : goal.returns-in_err-flush-clause-steady
 returns-in_err-flush-clause-steady g c =
     let inv = c.loop-turn.invariant in
     let so_far = Finished-keeps _ _ _ _ _ _ _ _ _ inv.finished c.flush.ensures.keeps in
-    finished_steady _ _ _ _ _ _ _ _ so_far
+    let n = g.K.Keeper.count c.args.keeper.now in
+    let o = g.K.Keeper.count c.loop-turn.keeper in
+    let first = g.K.Keeper.vault c.args.keeper.now in
+    let last = g.K.Keeper.vault c.loop-turn.keeper in
+    let H = g.K.Keeper.is_honest c.loop-turn.keeper in
+    let u = g.W.Write.contents c.args.writer.now in
+    let w = g.W.Write.contents c.flush.new.writer in (
+      inv.taken,
+      inv.read,
+      some_steady H _ first last n o u w inv.taken (answers_some H _ first last n o u w inv.taken (begun H first last n o u w _ so_far)),
+    )
 
 pub returns-in_err-flush-clause-reached : goal.returns-in_err-flush-clause-reached
 returns-in_err-flush-clause-reached g c = λ h q. finished_reached _ h _ _ _ _ _ _ _ c.loop-turn.invariant.finished q
@@ -202,7 +222,17 @@ pub returns-in-Err-clause-steady : goal.returns-in-Err-clause-steady
 returns-in-Err-clause-steady g c =
     let inv = c.loop-turn.invariant in
     let so_far = Finished-keeps _ _ _ _ _ _ _ _ _ inv.finished c.flush.ensures.keeps in
-    finished_steady _ _ _ _ _ _ _ _ so_far
+    let n = g.K.Keeper.count c.args.keeper.now in
+    let o = g.K.Keeper.count c.loop-turn.keeper in
+    let first = g.K.Keeper.vault c.args.keeper.now in
+    let last = g.K.Keeper.vault c.loop-turn.keeper in
+    let H = g.K.Keeper.is_honest c.loop-turn.keeper in
+    let u = g.W.Write.contents c.args.writer.now in
+    let w = g.W.Write.contents c.flush.new.writer in (
+      inv.taken,
+      Consumes-kept _ _ _ inv.taken inv.read c.in-Err.ensures.err,
+      some_steady H _ first last n o u w inv.taken (answers_some H _ first last n o u w inv.taken (begun H first last n o u w _ so_far)),
+    )
 
 pub returns-in-Err-clause-reached : goal.returns-in-Err-clause-reached
 returns-in-Err-clause-reached g c = λ h q. finished_reached _ h _ _ _ _ _ _ _ c.loop-turn.invariant.finished q
@@ -245,7 +275,17 @@ pub returns-clause-steady : goal.returns-clause-steady
 returns-clause-steady g c =
     let inv = c.loop-turn.invariant in
     let so_far = inv.finished in
-    finished_steady _ _ _ _ _ _ _ _ so_far
+    let n = g.K.Keeper.count c.args.keeper.now in
+    let o = g.K.Keeper.count c.loop-turn.keeper in
+    let first = g.K.Keeper.vault c.args.keeper.now in
+    let last = g.K.Keeper.vault c.loop-turn.keeper in
+    let H = g.K.Keeper.is_honest c.loop-turn.keeper in
+    let u = g.W.Write.contents c.args.writer.now in
+    let w = g.W.Write.contents c.loop-turn.writer in (
+      inv.taken,
+      inv.read,
+      some_steady H _ first last n o u w inv.taken (answers_some H _ first last n o u w inv.taken (begun H first last n o u w _ so_far)),
+    )
 
 pub returns-clause-reached : goal.returns-clause-reached
 returns-clause-reached g c = λ h q. finished_reached _ h _ _ _ _ _ _ _ c.loop-turn.invariant.finished q

@@ -1,4 +1,4 @@
-use Rattle.vaultctl_replay.proofs.RunLemmas.{command_answered, command_unwritten, on_err}
+use Rattle.vaultctl_replay.proofs.RunLemmas.{command_replied, command_unwritten, on_err}
 use Rattle.vaultctl_replay.proofs.answer.carried_out.Goals as goal
 
 pub returns-clause-err : goal.returns-clause-err
@@ -13,5 +13,5 @@ pub returns-clause-ok : goal.returns-clause-ok
 returns-clause-ok g c =
     let before = c.args.keeper.now in
     let step = c.step-reply in
-    command_answered _ (g.K.Keeper.vault before) (g.K.Keeper.vault step.new.keeper) (g.K.Keeper.count before) (g.K.Keeper.count step.new.keeper) c.args.timed step.result
+    command_replied _ (g.K.Keeper.vault before) (g.K.Keeper.vault step.new.keeper) (g.K.Keeper.count before) (g.K.Keeper.count step.new.keeper) c.args.timed step.result
     step.ensures.step step.ensures.counted step.ensures.device step.ensures.steady c.told.result c.told.ensures

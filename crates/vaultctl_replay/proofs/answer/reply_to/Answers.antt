@@ -1,7 +1,15 @@
 use Rattle.std.proofs.Common.{sym, subst, OnErr}
+use Rattle.std.specs.Prelude.{IfOk, string_bytes}
 use Rattle.vault_http_script.specs.declared.read_line.Line.{Line}
-use Rattle.vaultctl_replay.specs.Runs.{Unwritten}
+use Rattle.vaultctl_replay.specs.Runs.{Replied, Unwritten}
+use Rattle.vaultctl_replay.proofs.RunLemmas.{refusal_replied}
 use Rattle.vaultctl_replay.proofs.answer.reply_to.Goals as goal
+
+pub returns-in-Refused-clause-ok : goal.returns-in-Refused-clause-ok
+returns-in-Refused-clause-ok g c =
+    let now = c.args.keeper.now in
+    let P : Line → Type 0 = λ a. IfOk c.told.result (λ reply. Replied (g.K.Keeper.is_honest now) (g.K.Keeper.vault now) (g.K.Keeper.count now) a (string_bytes reply) (g.K.Keeper.vault now) (g.K.Keeper.count now)) in
+    subst P (sym c.in-Refused.is) (refusal_replied (g.K.Keeper.is_honest now) (g.K.Keeper.vault now) (g.K.Keeper.count now) c.in-Refused.refusal c.told.result c.told.ensures)
 
 pub returns-in-Command-clause-err : goal.returns-in-Command-clause-err
 returns-in-Command-clause-err g c =
