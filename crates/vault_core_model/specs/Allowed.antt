@@ -7,6 +7,7 @@ use Rattle.vault_core_model.specs.declared.records.Entry.{Entry}
 use Rattle.vault_core_model.specs.declared.records.Note.{Note}
 use Rattle.vault_core_model.specs.declared.records.Removal.{Removal}
 use Rattle.vault_core_model.specs.declared.records.Setting.{Setting}
+use Rattle.vault_core_model.specs.declared.records.Tenure.{Tenure}
 use Rattle.vault_core_model.specs.declared.change.Admission.{Admission}
 use Rattle.vault_core_model.specs.declared.change.Change.{Change}
 use Rattle.vault_core_model.specs.declared.change.Change.TheVariants.{AddDept, AddCaller, CloseCaller, AddBucket, SetDefault, SetRules, Admit, AddSetting, Remove}
@@ -15,7 +16,7 @@ use Rattle.vault_core_model.specs.Reads.{entry_of, setting_of, count_by}
 use Rattle.vault_core_model.specs.Checks.{most_ids, most_settings, has_period}
 use Rattle.vault_core_model.specs.IntakeOutcome.{is_line}
 use Rattle.vault_core_model.specs.Sound.{IsWhole, IsNoted}
-use Rattle.vault_core_model.specs.Totals.{admitted_bytes}
+use Rattle.vault_core_model.specs.Totals.{admitted_bytes, received_bytes}
 
 -- the note, where there is one, has a line's number, is the first of its line, and tells of that entry
 abbrev pub IsFirstNote : Vault → Entry → Option Note → Type 0
@@ -29,6 +30,11 @@ HasFirst false t [] = ⊥
 HasFirst false t (s ∷ []) = (s.at ≡ t) × (s.bypass ≡ false)
 HasFirst false t (s ∷ r ∷ rs) = ⊥
 
+-- the tenures that an entry is admitted with: a marker none, a version that of its bucket's department
+abbrev pub HasFirstTenure : Bool → ℕ → List ℕ → List Tenure → Type 0
+HasFirstTenure true t dept ts = ts ≡ []
+HasFirstTenure false t dept ts = ts ≡ record { dept = dept; from = t; number = 0 } ∷ []
+
 -- the next entry, admitted at t to a bucket that is there, within the quota of its department
 pub record IsAdmission (v : Vault) (t : ℕ) (a : Admission) : Type 0 where
   pub id : a.history.entry.id ≡ next_id v
@@ -39,7 +45,8 @@ pub record IsAdmission (v : Vault) (t : ℕ) (a : Admission) : Type 0 where
   pub first : HasFirst a.history.entry.marker t a.history.settings
   pub bucket : BucketConfig
   pub placed : config_of v a.history.entry.bucket ≡ Some bucket
-  pub fits : admitted_bytes v bucket.dept + a.history.entry.size ≤ quota
+  pub tenured : HasFirstTenure a.history.entry.marker t bucket.dept a.history.tenures
+  pub fits : admitted_bytes v bucket.dept + received_bytes v bucket.dept + a.history.entry.size ≤ quota
   pub noted : IsFirstNote v a.history.entry a.note
 
 -- the entry of that id is held

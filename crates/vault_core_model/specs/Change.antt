@@ -35,7 +35,7 @@ with_setting id s h = if h.entry.id == id then record h { settings = h.settings 
 
 -- the history removed and without its bytes
 abbrev pub removed_by : Removal → History → History
-removed_by r h = record { entry = record h.entry { removal = Some r }; content = None; settings = h.settings }
+removed_by r h = record { entry = record h.entry { removal = Some r }; content = None; settings = h.settings; tenures = h.tenures }
 
 -- the same, where it has that id
 abbrev pub removed_if : ℕ → Removal → History → History

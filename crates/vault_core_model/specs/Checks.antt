@@ -23,7 +23,7 @@ use Rattle.vault_core_model.specs.Rights.{has}
 use Rattle.vault_core_model.specs.Vault.{Vault, caller_of, config_of, has_department, next_id}
 use Rattle.vault_core_model.specs.Places.{is_held_at, current}
 use Rattle.vault_core_model.specs.Reads.{entry_of, setting_of, count_by}
-use Rattle.vault_core_model.specs.Totals.{admitted_bytes}
+use Rattle.vault_core_model.specs.Totals.{admitted_bytes, received_bytes}
 
 -- one check after another: the first that fails is the answer
 infixl 10 ◌>>=◌
@@ -172,7 +172,7 @@ lock_at_admission b retention hold t = found (first_lock b.default retention (un
 -- ---- the quota and the ids
 
 abbrev pub within_quota : Vault → List ℕ → ℕ → Result ⊤ Refusal
-within_quota v dept size = check (nat_le (admitted_bytes v dept + size) quota) QuotaExceeded
+within_quota v dept size = check (nat_le (admitted_bytes v dept + received_bytes v dept + size) quota) QuotaExceeded
 
 -- the last id
 abbrev pub most_ids : ℕ
@@ -181,6 +181,10 @@ most_ids = 1000000000
 -- the next id, while one is left
 abbrev pub free_id : Vault → Result ℕ Refusal
 free_id v = if nat_le (next_id v) most_ids then Ok (next_id v) else Err VaultFull
+
+-- the moves of buckets at most
+abbrev pub most_moves : ℕ
+most_moves = 1000000000
 
 -- the settings of one version at most
 abbrev pub most_settings : ℕ

@@ -30,12 +30,13 @@ use Rattle.vault_core_model.specs.Checks.{◌>>=◌, needs_if, access, small_eno
 
 -- ---- admission
 
--- the version that is admitted, with its first setting
-abbrev pub new_version : ℕ → ℕ → List ℕ → Put → Lock → History
-new_version id t who c lock = record {
+-- the version that is admitted, with its first setting and the bucket's department
+abbrev pub new_version : ℕ → ℕ → List ℕ → List ℕ → Put → Lock → History
+new_version id t who dept c lock = record {
   entry = record { id = id; bucket = c.bucket; key = c.key; marker = false; size = length c.content; digest = Some (sha256 c.content); admitted = t; by = author.Caller who; removal = None };
   content = Some c.content;
   settings = record { at = t; by = who; lock = lock; bypass = false } ∷ [];
+  tenures = record { dept = dept; from = t; number = 0 } ∷ [];
 }
 
 -- a caller that may put, and set what is given of retention and hold
@@ -60,7 +61,7 @@ abbrev pub admission : Vault → ℕ → List ℕ → Put → Access → Result 
 admission v t who c a = do
   lock ← lock_to_admit v t c a
   id ← free_id v
-  Ok (new_version id t who c lock)
+  Ok (new_version id t who a.bucket.dept c lock)
 
 -- a new version above whatever the key has (API Reference, "PutObject")
 abbrev pub put : Vault → ℕ → List ℕ → Put → Result (Answer × Vault) Refusal
@@ -93,6 +94,7 @@ new_marker id bucket key t by = record {
   entry = record { id = id; bucket = bucket; key = key; marker = true; size = 0; digest = None; admitted = t; by = by; removal = None };
   content = None;
   settings = [];
+  tenures = [];
 }
 
 -- the id of the delete marker that a caller may admit

@@ -61,7 +61,7 @@ abbrev pub take_in : Vault → ℕ → List ℕ → Intake → Access → Result
 take_in v t who c a = do
   lock ← lock_to_take_in v t c a
   id ← free_id v
-  Ok (answer.TakenIn (record { id = id; again = false }), changed v t (change.Admit (record { history = new_version id t who c.put lock; note = Some (new_note id c) })))
+  Ok (answer.TakenIn (record { id = id; again = false }), changed v t (change.Admit (record { history = new_version id t who a.bucket.dept c.put lock; note = Some (new_note id c) })))
 
 -- one that was is answered by the id that it got, also where the version was removed since
 abbrev pub taken_before : Put → Note → Result TakenIn Refusal

@@ -1,5 +1,5 @@
 -- What holds of every vault that a keeper has.
-use Rattle.std.specs.Prelude.{◌≡◌, ℕ, ◌+◌, ◌≤◌, Bool, true, false, List, [], ◌∷◌, length, Option, Some, None, IsSome, IsTrue}
+use Rattle.std.specs.Prelude.{◌≡◌, ℕ, ◌+◌, ◌≤◌, Bool, true, false, List, [], ◌∷◌, length, Option, Some, None, IsSome, IsTrue, ◌<◌, option_map}
 use Rattle.std.specs.List.{AllByRecursion}
 use Rattle.sha2.specs.Sha256.{sha256}
 use Rattle.vault_tally.specs.Row.{quota}
@@ -11,11 +11,13 @@ use Rattle.vault_core_model.specs.declared.records.History.{History}
 use Rattle.vault_core_model.specs.declared.records.Note.{Note}
 use Rattle.vault_core_model.specs.declared.records.Removal.{Removal}
 use Rattle.vault_core_model.specs.declared.records.Setting.{Setting}
+use Rattle.std.specs.Str.{bytes_eq}
+use Rattle.vault_core_model.specs.declared.records.Tenure.{Tenure}
 use Rattle.vault_core_model.specs.Order.{IsAscending, name_cmp, caller_cmp, bucket_cmp, note_cmp}
 use Rattle.vault_core_model.specs.Vault.{Vault, config_of, has_department}
 use Rattle.vault_core_model.specs.Reads.{entry_of}
-use Rattle.vault_core_model.specs.Totals.{admitted_bytes}
-use Rattle.vault_core_model.specs.Checks.{most_content, most_ids, most_settings, has_period}
+use Rattle.vault_core_model.specs.Totals.{admitted_bytes, received_bytes}
+use Rattle.vault_core_model.specs.Checks.{most_content, most_ids, most_settings, has_period, most_moves}
 use Rattle.vault_core_model.specs.IntakeOutcome.{is_line}
 
 -- the ids are n, n + 1, n + 2 and so on
@@ -51,6 +53,41 @@ IsWholeAs true e content settings = (e.size ≡ 0) × (e.digest ≡ None) × (co
 
 abbrev pub IsWhole : History → Type 0
 IsWhole h = IsWholeAs h.entry.marker h.entry h.content h.settings
+
+-- the tenures behind this one: each by a later move, from no earlier moment, and of another department than the one before; none begins after the end
+abbrev pub FollowOn : ℕ → ℕ → Tenure → List Tenure → Type 0
+FollowOn moves end t [] = t.from ≤ end
+FollowOn moves end t (u ∷ us) =
+    (t.number < u.number) × (u.number ≤ moves) × (t.from ≤ u.from) × (bytes_eq t.dept u.dept ≡ false) × FollowOn moves end u us
+
+-- the last moment, or that of the removal
+abbrev pub end_of : ℕ → Option Removal → ℕ
+end_of last None = last
+end_of last (Some r) = r.at
+
+-- the first tenure is from the admission
+abbrev pub AreTenures : Vault → Entry → List Tenure → Type 0
+AreTenures v e [] = ⊥
+AreTenures v e (t ∷ ts) = (t.number ≡ 0) × (t.from ≡ e.admitted) × FollowOn v.moves (end_of v.last e.removal) t ts
+
+abbrev pub last_tenure : List Tenure → Option Tenure
+last_tenure [] = None
+last_tenure (t ∷ []) = Some t
+last_tenure (t ∷ u ∷ us) = last_tenure (u ∷ us)
+
+-- while it is held, the last tenure is that of the bucket's department
+abbrev pub IsWithBucket : Vault → Option Removal → History → Type 0
+IsWithBucket v None h = option_map (λ t. t.dept) (last_tenure h.tenures) ≡ option_map (λ c. c.dept) (config_of v h.entry.bucket)
+IsWithBucket v (Some r) h = Unit {0}
+
+-- the tenures of a version, each of a department that is there; a marker has none
+abbrev pub HasTenuresAs : Bool → Vault → History → Type 0
+HasTenuresAs true v h = h.tenures ≡ []
+HasTenuresAs false v h =
+    AreTenures v h.entry h.tenures × AllByRecursion (λ t. IsTrue (has_department v t.dept)) h.tenures × IsWithBucket v h.entry.removal h
+
+abbrev pub HasTenures : Vault → History → Type 0
+HasTenures v h = HasTenuresAs h.entry.marker v h
 
 -- the bucket of the entry is there
 abbrev pub IsPlaced : Vault → History → Type 0
@@ -99,7 +136,9 @@ pub record Sound (v : Vault) : Type 0 where
   pub in_time : AllByRecursion (IsInTime v.last) v.histories
   pub whole : AllByRecursion IsWhole v.histories
   pub placed : AllByRecursion (IsPlaced v) v.histories
-  pub within : (dept : List ℕ) → admitted_bytes v dept ≤ quota
+  pub within : (dept : List ℕ) → admitted_bytes v dept + received_bytes v dept ≤ quota
+  pub tenured : AllByRecursion (HasTenures v) v.histories
+  pub enough_moves : v.moves ≤ most_moves
   pub ordered : IsInNameOrder v
   pub employed : AllByRecursion (IsEmployed v) v.callers
   pub owned : AllByRecursion (IsOwned v) v.buckets

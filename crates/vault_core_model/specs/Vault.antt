@@ -12,7 +12,7 @@ use Rattle.vault_core_model.specs.declared.records.History.{History}
 use Rattle.vault_core_model.specs.declared.records.Note.{Note}
 use Rattle.vault_core_model.specs.Rights.{no_rights}
 
--- The last moment is the reading of the last change. The history with id k stands at place k.
+-- The last moment is the reading of the last change. The history with id k stands at place k. The moves of buckets are counted.
 pub record Vault : Type 0 where
   pub last : ℕ
   pub departments : List (List ℕ)
@@ -20,6 +20,7 @@ pub record Vault : Type 0 where
   pub buckets : List Bucket
   pub notes : List Note
   pub histories : List History
+  pub moves : ℕ
 
 -- the name of the one caller of a new vault
 abbrev pub registrar_name : List ℕ
@@ -33,7 +34,7 @@ registrar =
 -- a new vault
 abbrev pub opening : Vault
 opening =
-    record { last = 0; departments = []; callers = registrar ∷ []; buckets = []; notes = []; histories = [] }
+    record { last = 0; departments = []; callers = registrar ∷ []; buckets = []; notes = []; histories = []; moves = 0 }
 
 -- whether there is such a department
 abbrev pub has_department : Vault → List ℕ → Bool

@@ -223,12 +223,86 @@ impl Clone for Settings {
     }
 }
 
-/// An entry with its bytes, while it is held, and its settings.
+/// A department that has a version, and since when.
+#[derive(Drop)]
+pub struct Tenure {
+    pub dept: DeptName,
+    pub from: Moment,
+    /// The move of the bucket that began it, counted over the vault from 1; 0 is the admission.
+    pub number: u32,
+}
+
+impl Clone for Tenure {
+    ghost is_clone = { λ s t. t ≡ s };
+
+    fn clone(&self) -> Result<Tenure, AllocError> {
+        Ok(Tenure {
+            dept: self.dept.clone()?,
+            from: self.from,
+            number: self.number,
+        })
+    }
+}
+
+/// The tenures of a version, oldest first.
+#[derive(Drop)]
+pub struct Tenures {
+    tenures: Vec<Tenure>,
+}
+
+impl Model for Tenures {
+    ghost use Rattle.std.specs.Prelude.{List};
+    ghost use Rattle.vault_core_model.specs.declared.records.Tenure.{Tenure};
+
+    ghost Value = { List Tenure };
+
+    ghost view = { λ t. t.tenures.items };
+}
+
+impl Tenures {
+    /// No tenure.
+    pub fn new(alloc: Global) -> Tenures
+        ensures { result ≡ [] }
+    {
+        Tenures {
+            tenures: Vec::new(alloc),
+        }
+    }
+
+    /// One tenure more, the newest.
+    pub fn push(&mut self, tenure: Tenure) -> Result<(), AllocError>
+        ensures ok { OnOk result (self.new ≡ self.old ++ tenure ∷ []) }
+        ensures err { OnErr result (self.new ≡ self.old) }
+    {
+        self.tenures.push(tenure)?;
+        Ok(())
+    }
+
+    /// The tenures, oldest first.
+    pub fn as_slice(&self) -> &[Tenure]
+        ensures { result.now ≡ self.now }
+    {
+        self.tenures.as_slice()
+    }
+}
+
+impl Clone for Tenures {
+    ghost is_clone = { λ s t. t ≡ s };
+
+    fn clone(&self) -> Result<Tenures, AllocError> {
+        Ok(Tenures {
+            tenures: self.tenures.clone()?,
+        })
+    }
+}
+
+/// An entry with its bytes, while it is held, its settings and its tenures.
 #[derive(Drop)]
 pub struct History {
     pub entry: Entry,
     pub content: Option<Content>,
     pub settings: Settings,
+    pub tenures: Tenures,
 }
 
 impl Clone for History {
@@ -239,6 +313,7 @@ impl Clone for History {
             entry: self.entry.clone()?,
             content: self.content.clone()?,
             settings: self.settings.clone()?,
+            tenures: self.tenures.clone()?,
         })
     }
 }
