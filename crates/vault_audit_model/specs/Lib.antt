@@ -4,6 +4,7 @@ pub mod Tables
 pub mod Texts
 pub mod Rows
 pub mod Limits
+pub mod Tenures
 pub mod Spells
 pub mod Relations
 pub mod Faults

@@ -3,7 +3,7 @@ use Rattle.std.specs.Prelude.{◌≡◌, ℕ, ◌+◌, ◌≤◌, Bool, true, fa
 use Rattle.std.specs.List.{AllByRecursion}
 use Rattle.std.specs.declared.cmp.Ordering.TheVariants.{Less}
 use Rattle.sqlite.specs.Effect.{Database}
-use Rattle.vault_tally.specs.Row.{size_of, quota}
+use Rattle.vault_tally.specs.Row.{admitted_size, received_size, quota}
 use Rattle.vault_core_model.specs.declared.records.Bucket.{Bucket}
 use Rattle.vault_core_model.specs.declared.records.Entry.{Entry}
 use Rattle.vault_core_model.specs.declared.records.History.{History}
@@ -11,13 +11,13 @@ use Rattle.vault_core_model.specs.declared.records.Note.{Note}
 use Rattle.vault_core_model.specs.Checks.{most_settings}
 use Rattle.vault_core_model.specs.Order.{IsAscending, name_cmp, bucket_cmp, note_cmp}
 use Rattle.vault_core_model.specs.Sound.{HasItsBytes, IsNoted, LiesBetween}
-use Rattle.vault_core_model.specs.Totals.{items_in}
 use Rattle.vault_core_model.specs.Vault.{Vault}
 use Rattle.vault_audit_model.specs.declared.rows.DepartmentRow.{DepartmentRow}
 use Rattle.vault_audit_model.specs.declared.schema.Edition.{Edition}
 use Rattle.vault_audit_model.specs.Limits.{IsBucket, IsEntry, IsNote, IsPlainName, IsSetting}
 use Rattle.vault_audit_model.specs.Rows.{bucket_row, rule_row, entry_row, content_row, setting_row, note_row, department_row, head_row, bucket_columns, rule_columns_as, entry_columns, content_columns, setting_columns, note_columns, department_columns, head_columns}
 use Rattle.vault_audit_model.specs.Spells.{bucket_of, rules_in, contents_in, settings_in, sums_over, heads_in}
+use Rattle.vault_audit_model.specs.Tenures.{items_with}
 use Rattle.vault_audit_model.specs.Tables.{departments_tree, buckets_tree, rules_tree, entries_tree, contents_tree, settings_tree, intake_tree, heads_tree}
 
 -- ---- names
@@ -117,13 +117,13 @@ TellBuckets n db false = (bs : List Bucket) → ¬ AreBuckets n db bs
 abbrev pub IsPast : ℕ → Entry → Type 0
 IsPast last e = (e.admitted ≤ last) × LiesBetween e.admitted last e.removal
 
--- a department with the sums over the versions among these that its buckets had, removed ones included
+-- a department with the sums over the tenures that it has among these, ended ones included
 abbrev pub department_with : List Bucket → List History → List ℕ → DepartmentRow
-department_with bs hs name = record { name = name; sums = sums_over (items_in bs name hs) }
+department_with bs hs name = record { name = name; sums = sums_over (items_with bs name hs) }
 
--- it didn't admit more than it may
+-- it didn't admit and receive more than it may
 abbrev pub IsWithin : List Bucket → List History → List ℕ → Type 0
-IsWithin bs hs name = sum_by size_of (items_in bs name hs) ≤ quota
+IsWithin bs hs name = sum_by admitted_size (items_with bs name hs) + sum_by received_size (items_with bs name hs) ≤ quota
 
 -- the rows of departments are these departments with their sums
 abbrev pub AreSums : Database → List Bucket → List History → List (List ℕ) → Type 0

@@ -4,7 +4,7 @@ use Rattle.std.specs.List.{AllByRecursion}
 use Rattle.sqlite_value.specs.declared.value.Value.TheVariants.{Text}
 use Rattle.sqlite_value.specs.Order.{column}
 use Rattle.sqlite.specs.Effect.{Database}
-use Rattle.vault_tally.specs.Row.{Item, size_of, held_size, removed_size, weight, closed_byte_days}
+use Rattle.vault_tally.specs.Row.{Item, admitted_size, received_size, held_size, removed_size, handed_size, weight, closed_byte_days}
 use Rattle.vault_tally.specs.declared.row.Row.{Row as Sums}
 use Rattle.vault_rules.specs.declared.rule.Rule.{Rule}
 use Rattle.vault_core_model.specs.declared.records.Bucket.{Bucket}
@@ -29,6 +29,7 @@ use Rattle.vault_audit_model.specs.Editions.{number_of, newest}
 use Rattle.vault_audit_model.specs.Tables.{schema_of, meta_tree, departments_tree, callers_tree, buckets_tree, rules_tree, entries_tree, contents_tree, settings_tree, intake_tree, heads_tree}
 use Rattle.vault_audit_model.specs.Rows.{meta_row, department_row, caller_row, bucket_row, rule_row, entry_row, content_row, setting_row, note_row, head_row, meta_columns, department_columns, caller_columns, bucket_columns, rule_columns_as, entry_columns, content_columns, setting_columns, note_columns, head_columns}
 use Rattle.vault_audit_model.specs.Limits.{IsInLimits}
+use Rattle.vault_audit_model.specs.Tenures.{IsUnmoved}
 
 -- ---- the rows of a vault
 
@@ -75,17 +76,19 @@ entries_in hs = map (λ h. h.entry) hs
 
 -- ---- the running numbers of a vault, taken over its entries
 
--- the five sums over these versions
+-- the seven sums over these tenures
 abbrev pub sums_over : List Item → Sums
 sums_over items = record {
-  admitted = sum_by size_of items;
+  admitted = sum_by admitted_size items;
+  received = sum_by received_size items;
   held = sum_by held_size items;
   removed = sum_by removed_size items;
+  handed = sum_by handed_size items;
   weighted = sum_by weight items;
   closed = sum_by closed_byte_days items;
 }
 
--- a department with the sums over its versions, removed ones included
+-- a department with the sums over the tenures that it has, ended ones included
 abbrev pub department_in : Vault → List ℕ → DepartmentRow
 department_in v name = record { name = name; sums = sums_over (items_of v name) }
 
@@ -103,10 +106,11 @@ heads_in v = map (head_in v) (filter (is_current v) v.histories)
 
 -- ---- what holds beyond the limits of values
 
--- a vault as it may be kept: in its limits, and sound
+-- a vault as it may be kept: in its limits, sound, and with no tenures but those that the tables tell
 pub record IsKept (v : Vault) : Type 0 where
   pub limits : IsInLimits v
   pub sound : Sound v
+  pub unmoved : IsUnmoved v
 
 -- ---- the vault that the rows spell
 
