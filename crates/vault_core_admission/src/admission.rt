@@ -2,13 +2,13 @@
 ghost use Rattle.std.specs.Prelude.{◌≡◌, ◌≤◌, ◌+◌, length, [], ◌∷◌, IsTrue, IfOk, OnOk, Some, false};
 ghost use Rattle.vault_core_model.specs.Halts.{Finds, is_device, Rose};
 ghost use Rattle.vault_core_model.specs.EntryOutcomes as outcome;
-ghost use Rattle.vault_core_model.specs.Totals.{admitted_bytes};
+ghost use Rattle.vault_core_model.specs.Totals.{admitted_bytes, received_bytes};
 ghost use Rattle.vault_core_model.specs.Vault.{config_of};
 ghost use Rattle.vault_tally.specs.Row.{quota};
 
 use std::alloc::{AllocError, Global};
 use vault_base::moment::Moment;
-use vault_base::name::{CallerName, VersionId};
+use vault_base::name::{CallerName, DeptName, VersionId};
 use vault_base::right::Right;
 use vault_core_checks::argument::{check_end, check_size};
 use vault_core_checks::caller::{check_right_if, find_access};
@@ -18,7 +18,9 @@ use vault_core_model::access::Access;
 use vault_core_model::command::Put;
 use vault_core_model::halt::Halt;
 use vault_core_model::keeper::Keeper;
-use vault_core_model::records::{Author, Entry, History, Setting, Settings};
+use vault_core_model::records::{
+    Author, Entry, History, Setting, Settings, Tenure, Tenures,
+};
 use vault_lock::lock::Lock;
 
 /// A caller that may put, and set what is given of retention and hold.
@@ -60,7 +62,7 @@ pub(crate) fn find_lock_to_admit<K: Keeper>(
 ) -> Result<Lock, Halt>
     ensures found { K.is_honest keeper.new → Finds result (outcome.lock_to_admit (K.vault keeper.old) at command.now access.now) }
     ensures small { OnOk result (length command.now.content ≤ 1048576) }
-    ensures fits { K.is_honest keeper.new → OnOk result (admitted_bytes (K.vault keeper.old) access.now.bucket.dept + length command.now.content ≤ quota) }
+    ensures fits { K.is_honest keeper.new → OnOk result (admitted_bytes (K.vault keeper.old) access.now.bucket.dept + received_bytes (K.vault keeper.old) access.now.bucket.dept + length command.now.content ≤ quota) }
     ensures same { K.vault keeper.new ≡ K.vault keeper.old }
     ensures honest { K.is_honest keeper.new → K.is_honest keeper.old }
     ensures counted { K.count keeper.old ≤ K.count keeper.new }
@@ -74,18 +76,20 @@ pub(crate) fn find_lock_to_admit<K: Keeper>(
     Ok(lock)
 }
 
-/// The version that a put admits, with its first setting.
+/// The version that a put admits, with its first setting and its bucket's department.
 pub(crate) fn new_version(
     alloc: Global,
     id: VersionId,
     at: Moment,
     who: &CallerName,
+    dept: &DeptName,
     command: &Put,
     lock: Lock,
 ) -> Result<History, AllocError>
-    ensures { IfOk result (λ history. history ≡ outcome.new_version id at who.now command.now lock) }
+    ensures { IfOk result (λ history. history ≡ outcome.new_version id at who.now dept.now command.now lock) }
 {
     let settings = first_settings(alloc, at, who, lock)?;
+    let tenures = first_tenures(alloc, at, dept)?;
     let content = command.content.clone()?;
     let entry = Entry {
         id,
@@ -102,6 +106,7 @@ pub(crate) fn new_version(
         entry,
         content: Some(content),
         settings,
+        tenures,
     })
 }
 
@@ -122,4 +127,17 @@ fn first_settings(
         bypass: false,
     })?;
     Ok(settings)
+}
+
+/// The tenures of a new version: that of its bucket's department alone.
+fn first_tenures(alloc: Global, at: Moment, dept: &DeptName) -> Result<Tenures, AllocError>
+    ensures { IfOk result (λ tenures. tenures ≡ record { dept = dept.now; from = at; number = 0 } ∷ []) }
+{
+    let mut tenures = Tenures::new(alloc);
+    tenures.push(Tenure {
+        dept: dept.clone()?,
+        from: at,
+        number: 0,
+    })?;
+    Ok(tenures)
 }

@@ -4,14 +4,14 @@ ghost use Rattle.vault_core_model.specs.Halts.{Finds, Meets, is_device, is_devic
 ghost use Rattle.vault_core_model.specs.EntryOutcomes.{new_version};
 ghost use Rattle.vault_core_model.specs.IntakeOutcome as outcome;
 ghost use Rattle.vault_core_model.specs.Sound.{Sound};
-ghost use Rattle.vault_core_model.specs.Totals.{admitted_bytes};
+ghost use Rattle.vault_core_model.specs.Totals.{admitted_bytes, received_bytes};
 ghost use Rattle.vault_core_model.specs.Vault.{config_of, note_of};
 ghost use Rattle.vault_tally.specs.Row.{quota};
 
 use crate::admission::{find_access_to_put, find_lock_to_admit, new_version};
 use std::alloc::{AllocError, Global};
 use vault_base::moment::Moment;
-use vault_base::name::{CallerName, VersionId};
+use vault_base::name::{CallerName, DeptName, VersionId};
 use vault_base::refusal::Refusal;
 use vault_core_checks::limit::find_id;
 use vault_core_model::access::Access;
@@ -91,7 +91,8 @@ fn take_in<K: Keeper>(
 {
     let lock = find_lock_to_take_in(keeper, at, command, access)?;
     let id = find_id(keeper)?;
-    let admission = new_admission(alloc, id, at, who, command, lock)?;
+    let dept = &access.bucket.dept;
+    let admission = new_admission(alloc, id, at, who, dept, command, lock)?;
     make_change(keeper, at, Change::Admit(admission))?;
     Ok(Answer::TakenIn(TakenIn { id, again: false }))
 }
@@ -102,13 +103,14 @@ fn new_admission(
     id: VersionId,
     at: Moment,
     who: &CallerName,
+    dept: &DeptName,
     command: &Intake,
     lock: Lock,
 ) -> Result<Admission, AllocError>
-    ensures history { IfOk result (λ admission. admission.history ≡ new_version id at who.now command.now.put lock) }
+    ensures history { IfOk result (λ admission. admission.history ≡ new_version id at who.now dept.now command.now.put lock) }
     ensures note { IfOk result (λ admission. admission.note ≡ Some (outcome.new_note id command.now)) }
 {
-    let history = new_version(alloc, id, at, who, &command.put, lock)?;
+    let history = new_version(alloc, id, at, who, dept, &command.put, lock)?;
     match new_note(id, command) {
         Ok(note) => Ok(Admission {
             history,
@@ -131,7 +133,7 @@ fn find_lock_to_take_in<K: Keeper>(
     ensures found { K.is_honest keeper.new → Finds result (outcome.lock_to_take_in (K.vault keeper.old) at command.now access.now) }
     ensures line { OnOk result (IsTrue (outcome.is_line command.now.line)) }
     ensures small { OnOk result (length command.now.put.content ≤ 1048576) }
-    ensures fits { K.is_honest keeper.new → OnOk result (admitted_bytes (K.vault keeper.old) access.now.bucket.dept + length command.now.put.content ≤ quota) }
+    ensures fits { K.is_honest keeper.new → OnOk result (admitted_bytes (K.vault keeper.old) access.now.bucket.dept + received_bytes (K.vault keeper.old) access.now.bucket.dept + length command.now.put.content ≤ quota) }
     ensures same { K.vault keeper.new ≡ K.vault keeper.old }
     ensures honest { K.is_honest keeper.new → K.is_honest keeper.old }
     ensures counted { K.count keeper.old ≤ K.count keeper.new }

@@ -1,17 +1,22 @@
 //! A put.
-ghost use Rattle.std.specs.Prelude.{◌≡◌, ◌≤◌, IsTrue, false};
-ghost use Rattle.vault_core_model.specs.Halts.{Meets, is_device, Rose};
+ghost use Rattle.std.specs.Prelude.{◌≡◌, ◌≤◌, IsTrue, IfOk, Some, None, false};
+ghost use Rattle.vault_core_model.specs.Allowed.{IsAdmission};
+ghost use Rattle.vault_core_model.specs.Halts.{Finds, Meets, is_device, Rose};
 ghost use Rattle.vault_core_model.specs.EntryOutcomes as outcome;
+ghost use Rattle.vault_core_model.specs.Sound.{Sound};
+ghost use Rattle.vault_core_model.specs.Vault.{config_of};
 
 use crate::admission::{find_access_to_put, find_lock_to_admit, new_version};
 use std::alloc::Global;
 use vault_base::moment::Moment;
 use vault_base::name::CallerName;
 use vault_core_checks::limit::find_id;
+use vault_core_model::access::Access;
 use vault_core_model::change::{Admission, Change};
 use vault_core_model::command::Put;
 use vault_core_model::halt::Halt;
 use vault_core_model::keeper::{Keeper, make_change};
+use vault_core_model::records::History;
 use vault_core_model::reply::Answer;
 
 /// Admits a new content version above whatever the key has.
@@ -29,14 +34,38 @@ pub fn put<K: Keeper>(
     ensures steady { is_device result ≡ false → K.count keeper.new ≡ K.count keeper.old }
 {
     let access = find_access_to_put(keeper, at, who, command)?;
-    let found = find_lock_to_admit(keeper, at, command, &access);
+    let found = find_version_to_admit(alloc, keeper, at, who, command, &access);
     drop(access);
-    let lock = found?;
-    let id = find_id(keeper)?;
+    let history = found?;
+    let id = history.entry.id;
     let admission = Admission {
-        history: new_version(alloc, id, at, who, command, lock)?,
+        history,
         note: None,
     };
     make_change(keeper, at, Change::Admit(admission))?;
     Ok(Answer::Admitted(id))
+}
+
+/// The version that a put admits, with the next id.
+fn find_version_to_admit<K: Keeper>(
+    alloc: Global,
+    keeper: &mut K,
+    at: Moment,
+    who: &CallerName,
+    command: &Put,
+    access: &Access,
+) -> Result<History, Halt>
+    requires there { K.is_honest keeper.old → config_of (K.vault keeper.old) command.now.bucket ≡ Some access.now.bucket }
+    ensures found { K.is_honest keeper.new → Finds result (outcome.admission (K.vault keeper.old) at who.now command.now access.now) }
+    ensures allowed { K.is_honest keeper.new → IfOk result (λ history. IsAdmission (K.vault keeper.old) at (record { history = history; note = None })) }
+    ensures same { K.vault keeper.new ≡ K.vault keeper.old }
+    ensures honest { K.is_honest keeper.new → K.is_honest keeper.old }
+    ensures counted { K.count keeper.old ≤ K.count keeper.new }
+    ensures device { IsTrue (is_device result) → Rose (K.count keeper.old) (K.count keeper.new) }
+    ensures steady { is_device result ≡ false → K.count keeper.new ≡ K.count keeper.old }
+{
+    let lock = find_lock_to_admit(keeper, at, command, access)?;
+    let id = find_id(keeper)?;
+    let dept = &access.bucket.dept;
+    Ok(new_version(alloc, id, at, who, dept, command, lock)?)
 }

@@ -3,7 +3,7 @@ ghost use Rattle.std.specs.Prelude.{◌≡◌, ◌≤◌, ◌+◌, IsTrue, IfOk,
 ghost use Rattle.vault_base.specs.Name.{is_version_id};
 ghost use Rattle.vault_core_model.specs.Halts.{Finds, is_device, is_device_refusal, Rose};
 ghost use Rattle.vault_core_model.specs.Vault.{next_id};
-ghost use Rattle.vault_core_model.specs.Totals.{admitted_bytes};
+ghost use Rattle.vault_core_model.specs.Totals.{admitted_bytes, received_bytes};
 ghost use Rattle.vault_core_model.specs.Checks.{check, within_quota, free_id, most_ids, most_settings};
 ghost use Rattle.vault_base.specs.declared.refusal.Refusal.TheVariants.{VaultFull};
 ghost use Rattle.vault_tally.specs.Row.{quota};
@@ -16,10 +16,10 @@ use vault_core_model::keeper::Keeper;
 /// The settings of one version at most.
 pub const MOST_SETTINGS: u64 = 1_000_000_000;
 
-/// The department may admit so many bytes more; else QuotaExceeded.
+/// The department may admit or receive so many bytes more; else QuotaExceeded.
 pub fn check_quota<K: Keeper>(keeper: &mut K, dept: &DeptName, size: u64) -> Result<(), Halt>
     ensures found { K.is_honest keeper.new → Finds result (within_quota (K.vault keeper.old) dept.now size) }
-    ensures fits { K.is_honest keeper.new → OnOk result (admitted_bytes (K.vault keeper.old) dept.now + size ≤ quota) }
+    ensures fits { K.is_honest keeper.new → OnOk result (admitted_bytes (K.vault keeper.old) dept.now + received_bytes (K.vault keeper.old) dept.now + size ≤ quota) }
     ensures same { K.vault keeper.new ≡ K.vault keeper.old }
     ensures honest { K.is_honest keeper.new → K.is_honest keeper.old }
     ensures counted { K.count keeper.old ≤ K.count keeper.new }

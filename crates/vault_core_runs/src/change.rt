@@ -16,7 +16,7 @@ use vault_core_checks::limit::find_id;
 use vault_core_model::change::{Admission, Change};
 use vault_core_model::halt::{Fault, Halt};
 use vault_core_model::keeper::{Keeper, make_change};
-use vault_core_model::records::{Author, Cause, Entry, History, Removal, Settings};
+use vault_core_model::records::{Author, Cause, Entry, History, Removal, Settings, Tenures};
 use vault_core_model::reply::Counts;
 use vault_rules::plan::Step;
 use vault_rules::rule_set::RuleSet;
@@ -180,6 +180,7 @@ fn new_marker(
         entry,
         content: None,
         settings: Settings::new(alloc),
+        tenures: Tenures::new(alloc),
     })
 }
 

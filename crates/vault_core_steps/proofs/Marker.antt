@@ -18,6 +18,7 @@ marker_allowed v t id bucket key by config sound there next few = record {
   first = refl;
   bucket = config;
   placed = there;
+  tenured = refl;
   fits = omega (arith, sound.within config.dept);
   noted = tt;
 }

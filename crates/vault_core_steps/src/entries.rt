@@ -19,7 +19,7 @@ use vault_core_model::change::{Admission, Change};
 use vault_core_model::command::{Delete, DeleteVersion, Get, Head};
 use vault_core_model::halt::{Fault, Halt};
 use vault_core_model::keeper::{Keeper, make_change};
-use vault_core_model::records::{Author, Cause, Entry, History, Removal, Settings};
+use vault_core_model::records::{Author, Cause, Entry, History, Removal, Settings, Tenures};
 use vault_core_model::reply::{Answer, Removed, Version};
 use vault_lock::lock::Permit;
 
@@ -146,6 +146,7 @@ fn new_marker(
         entry,
         content: None,
         settings: Settings::new(alloc),
+        tenures: Tenures::new(alloc),
     })
 }
 
