@@ -1,5 +1,5 @@
 -- Histories put together of their contents and their settings.
-use Rattle.std.proofs.Common.{◌≡◌, ℕ, ◌+◌, ◌≤◌, List, [], ◌∷◌, ◌++◌, length, map, filter, flat_map, find, option_map, cond, Bool, true, false, not, ◌&&◌, ◌==◌, Some, None, Option, IsSome, IsTrue, refl, sym, ap, subst, ◌∙◌, arith}
+use Rattle.std.proofs.Common.{◌≡◌, ℕ, List, [], ◌∷◌, ◌++◌, flat_map, find, option_map, cond, Bool, true, false, ◌==◌, Some, Option, refl, sym, ap, subst, ◌∙◌}
 use Rattle.std.specs.List.{AllByRecursion}
 use Rattle.vault_tally.specs.Row.{Item}
 use Rattle.vault_core_model.specs.declared.records.Bucket.{Bucket}

@@ -1,5 +1,5 @@
 -- The vault of the parts is sound, in its limits, and spelled by the rows.
-use Rattle.std.proofs.Common.{◌≡◌, ℕ, ◌+◌, ◌≤◌, ◌==◌, List, [], ◌∷◌, ◌++◌, length, map, filter, flat_map, find, option_map, sum_by, Bool, true, false, Some, None, Option, IsSome, IsTrue, IfSome, IsPermutation, nat_le, refl, sym, ap, subst, ◌∙◌, arith}
+use Rattle.std.proofs.Common.{◌≡◌, ℕ, ◌+◌, ◌≤◌, ◌==◌, List, [], ◌∷◌, length, map, find, sum_by, Bool, true, false, Some, None, Option, IsSome, IsTrue, IfSome, IsPermutation, refl, sym, ap, subst, ◌∙◌, arith}
 use Rattle.std.specs.List.{AllByRecursion}
 use Rattle.std.proofs.lemmas.List.{length-map}
 use Rattle.sqlite_trees.proofs.ListLemmas.{map-map}
@@ -15,21 +15,19 @@ use Rattle.vault_core_model.specs.declared.records.Caller.{Caller}
 use Rattle.vault_core_model.specs.declared.records.Entry.{Entry}
 use Rattle.vault_core_model.specs.declared.records.History.{History}
 use Rattle.vault_core_model.specs.declared.records.Note.{Note}
-use Rattle.vault_core_model.specs.declared.records.Removal.{Removal}
 use Rattle.vault_core_model.specs.declared.records.Setting.{Setting}
 use Rattle.vault_core_model.specs.declared.records.Tenure.{Tenure}
-use Rattle.vault_core_model.specs.Checks.{most_content, most_ids, most_settings, has_period}
+use Rattle.vault_core_model.specs.Checks.{most_content, most_ids, has_period}
 use Rattle.vault_core_model.specs.IntakeOutcome.{is_line}
-use Rattle.vault_core_model.specs.Order.{IsAscending, name_cmp, caller_cmp, bucket_cmp, note_cmp}
-use Rattle.vault_core_model.specs.Sound.{Sound, AreIdsFrom, AreInOrder, IsInTime, HasItsBytes, IsWhole, IsWholeAs, HasTenures, IsPlaced, IsNoted, NamesItsVersion, HasLine, HasPeriod, HasRuleSet, IsInNameOrder, LiesBetween}
+use Rattle.vault_core_model.specs.Sound.{Sound, AreIdsFrom, AreInOrder, IsInTime, IsWhole, IsWholeAs, HasTenures, IsPlaced, IsNoted, NamesItsVersion, IsInNameOrder, LiesBetween}
 use Rattle.vault_core_model.specs.Totals.{items_in}
 use Rattle.vault_core_model.specs.Vault.{next_id, Vault, config_in}
 use Rattle.vault_audit_model.specs.declared.schema.Edition.{Edition}
 use Rattle.vault_audit_model.specs.declared.rows.MetaRow.{MetaRow}
-use Rattle.vault_audit_model.specs.Limits.{IsInLimits, IsHistory, IsEntry, IsSizedAs, IsSetting, IsBucket, AreRules, IsRule, IsNote}
+use Rattle.vault_audit_model.specs.Limits.{IsInLimits, IsHistory, IsEntry, IsSizedAs, IsBucket, AreRules, IsNote}
 use Rattle.vault_audit_model.specs.Relations.{AreNumbered, IsPast, HasContent, HasContentAs, HasSettings, HasSettingsAs, NamesOneOf}
 use Rattle.vault_audit_model.specs.Rows.{meta_row, meta_columns, entry_row, entry_columns, content_row, content_columns, setting_row, setting_columns}
-use Rattle.vault_audit_model.specs.Spells.{SpellsAs, IsKept, contents_in, settings_in, meta_as, entries_in}
+use Rattle.vault_audit_model.specs.Spells.{SpellsAs, meta_as, entries_in}
 use Rattle.vault_audit_model.specs.Tables.{meta_tree, entries_tree, contents_tree, settings_tree}
 use Rattle.vault_audit_model.specs.Tenures.{HasFirstTenures}
 use Rattle.vault_audit_model.proofs.ListLemmas.{all_as, all_both}

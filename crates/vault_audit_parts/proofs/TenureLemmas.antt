@@ -41,7 +41,7 @@ module _ (v : Vault) where
   first_has : (marker : Bool) (config : Option BucketConfig) (h : History) → config_of v h.entry.bucket ≡ config → IsSome config → IsOf (has_department v) config → IsPast v.last h.entry
       → HasTenuresAs marker v (tenured_as h (first_tenures marker h.entry.admitted config))
   first_has true config h is there owned past = refl
-  first_has false None h is there owned past = elim there [ ]
+  first_has false None h is there owned past = absurd (cc there)
   first_has false (Some c) h is there owned past =
       ((refl, refl, by_end h.entry.admitted v.last h.entry.removal past.0 past.1), (owned, tt), with_bucket h.entry.removal h c is)
 
