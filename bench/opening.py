@@ -65,6 +65,17 @@ def by_size(wanted, vaults, results):
         measure(wanted, vaults, results, fixture.Shape(size), size)
 
 
+def by_departments(wanted, vaults, results):
+    """Vaults of 10,000 entries in buckets of one department and of a hundred, opened in turn; the size that is told is
+    the number of departments."""
+    shapes = {count: fixture.Shape(10_000, departments=count) for count in (1, 100)}
+    for _ in range(wanted.turns):
+        for count, shape in shapes.items():
+            path = vaults.of(shape)
+            note(results, "open to first reply", count, PROGRAM, open_once(vaults, PROGRAM, path))
+            note(results, "verify", count, PROGRAM, verify(vaults, path))
+
+
 def by_bytes(wanted, vaults, results):
     """Vaults of rising bytes of contents of 1 MiB; the size that is told is in MiB. Each is removed behind it. What the
     machine may have too little memory for isn't measured."""
