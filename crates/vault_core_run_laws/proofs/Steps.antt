@@ -81,6 +81,7 @@ marker_allowed v t bucket key by sound there few =
       first = refl;
       bucket = config.0;
       placed = config.1;
+      tenured = refl;
       fits = omega (arith, sound.within config.0.dept);
       noted = tt;
     }

@@ -29,7 +29,7 @@ use Rattle.vault_core_model.specs.declared.reply.Removed.{Removed}
 use Rattle.vault_core_model.specs.Vault.{Vault, caller_of, config_of, next_id, note_of}
 use Rattle.vault_core_model.specs.Reads.{entry_of, lock_of}
 use Rattle.vault_core_model.specs.Sound.{Sound}
-use Rattle.vault_core_model.specs.Totals.{admitted_bytes}
+use Rattle.vault_core_model.specs.Totals.{admitted_bytes, received_bytes}
 use Rattle.vault_core_model.specs.Allowed.{IsFirstNote, IsHeldId}
 use Rattle.vault_core_model.specs.Checks.{check, needs_if, access, small_enough, most_content, most_ids, ends_later_if_given, held_entry, version_meant, permitted, lock_at_admission, within_quota, free_id}
 use Rattle.vault_core_model.specs.Change.{changed}
@@ -54,15 +54,15 @@ access_to_put-is v t who c =
 
 -- the content is in its limit, and fits the quota
 abbrev Fits : Vault → Put → Access → Type 0
-Fits v c a = (length c.content ≤ most_content) × (admitted_bytes v a.bucket.dept + length c.content ≤ quota)
+Fits v c a = (length c.content ≤ most_content) × (admitted_bytes v a.bucket.dept + received_bytes v a.bucket.dept + length c.content ≤ quota)
 
 lock_to_admit-is : (v : Vault) (t : ℕ) (c : Put) (a : Access) → IfOk (entries.lock_to_admit v t c a) (λ lock. Fits v c a)
 lock_to_admit-is v t c a =
     bind_if (small_enough c.content) (λ u. nat_le (length c.content) most_content ≡ true) _ _ (check-is (nat_le (length c.content) most_content) EntityTooLarge)
     (λ u small. bind_if (ends_later_if_given t c.retention) (λ u. Unit {0}) _ _ (any-is (ends_later_if_given t c.retention))
     (λ w later. bind_if (lock_at_admission a.bucket c.retention c.hold t) (λ u. Unit {0}) _ _ (any-is (lock_at_admission a.bucket c.retention c.hold t))
-    (λ lock first. bind_if (within_quota v a.bucket.dept (length c.content)) (λ u. nat_le (admitted_bytes v a.bucket.dept + length c.content) quota ≡ true) _ _ (check-is (nat_le (admitted_bytes v a.bucket.dept + length c.content) quota) QuotaExceeded)
-    (λ z fits. (leb-true (length c.content) most_content small, leb-true (admitted_bytes v a.bucket.dept + length c.content) quota fits)))))
+    (λ lock first. bind_if (within_quota v a.bucket.dept (length c.content)) (λ u. nat_le (admitted_bytes v a.bucket.dept + received_bytes v a.bucket.dept + length c.content) quota ≡ true) _ _ (check-is (nat_le (admitted_bytes v a.bucket.dept + received_bytes v a.bucket.dept + length c.content) quota) QuotaExceeded)
+    (λ z fits. (leb-true (length c.content) most_content small, leb-true (admitted_bytes v a.bucket.dept + received_bytes v a.bucket.dept + length c.content) quota fits)))))
 
 -- the next id, while one is left
 abbrev IsFree : Vault → ℕ → Type 0
@@ -76,11 +76,11 @@ free_id-is : (v : Vault) → IfOk (free_id v) (IsFree v)
 free_id-is v = if_free v (nat_le (next_id v) most_ids) refl
 
 -- a version that fits is admitted with the next id, and with the note of an intake line or none
-admit_one : (v : Vault) (t : ℕ) (who : List ℕ) (c : Put) (a : Access) (lock : Lock) (id : ℕ) (note : ℕ → Option Note) → IsFirstNote v (entries.new_version (next_id v) t who c lock).entry (note (next_id v)) → HasAccess v t who c.bucket a → Fits v c a → IsFree v id → LeadsOnce v t who (changed v t (change.Admit (record { history = entries.new_version id t who c lock; note = note id })))
+admit_one : (v : Vault) (t : ℕ) (who : List ℕ) (c : Put) (a : Access) (lock : Lock) (id : ℕ) (note : ℕ → Option Note) → IsFirstNote v (entries.new_version (next_id v) t who a.bucket.dept c lock).entry (note (next_id v)) → HasAccess v t who c.bucket a → Fits v c a → IsFree v id → LeadsOnce v t who (changed v t (change.Admit (record { history = entries.new_version id t who a.bucket.dept c lock; note = note id })))
 admit_one v t who c a lock id note noted at fits free =
-    let P : ℕ → Type 0 = λ i. LeadsOnce v t who (changed v t (change.Admit (record { history = entries.new_version i t who c lock; note = note i }))) in
+    let P : ℕ → Type 0 = λ i. LeadsOnce v t who (changed v t (change.Admit (record { history = entries.new_version i t who a.bucket.dept c lock; note = note i }))) in
     subst P (sym free.0)
-    (one_change v t who (change.Admit (record { history = entries.new_version (next_id v) t who c lock; note = note (next_id v) })) (record {
+    (one_change v t who (change.Admit (record { history = entries.new_version (next_id v) t who a.bucket.dept c lock; note = note (next_id v) })) (record {
       in_time = at.in_time;
       allowed = record {
         id = refl;
@@ -91,6 +91,7 @@ admit_one v t who c a lock id note noted at fits free =
         first = (refl, refl);
         bucket = a.bucket;
         placed = at.bucket;
+        tenured = refl;
         fits = fits.1;
         noted = noted;
       };
@@ -101,7 +102,7 @@ admit_one v t who c a lock id note noted at fits free =
 pub record IsNewVersion (v : Vault) (t : ℕ) (who : List ℕ) (c : Put) (a : Access) (h : History) : Type 0 where
   pub lock : Lock
   pub id : ℕ
-  pub new : h ≡ entries.new_version id t who c lock
+  pub new : h ≡ entries.new_version id t who a.bucket.dept c lock
   pub free : IsFree v id
   pub fits : Fits v c a
 
@@ -208,6 +209,7 @@ delete-changes v t who c sound =
         first = refl;
         bucket = is.access.bucket;
         placed = is.bucket;
+        tenured = refl;
         fits = omega (arith, sound.within is.access.bucket.dept);
         noted = tt;
       };

@@ -24,6 +24,8 @@ continues_itself h = record {
   content = λ held. refl;
   more = [];
   settings = sym (append-nil h.settings);
+  further = [];
+  tenures = sym (append-nil h.tenures);
 }
 
 continues_on : (f g h : History) → Continues f g → Continues g h → Continues f h
@@ -33,6 +35,8 @@ continues_on f g h a b = record {
   content = λ held. b.content held ∙ a.content (was_held b.removal held);
   more = a.more ++ b.more;
   settings = b.settings ∙ (ap (λ ss. ss ++ b.more) a.settings ∙ append_assoc f.settings a.more b.more);
+  further = a.further ++ b.further;
+  tenures = b.tenures ∙ (ap (λ ts. ts ++ b.further) a.tenures ∙ append_assoc f.tenures a.further b.further);
 }
   where
     by_removal : (f.entry.removal ≡ None) ⊎ (g.entry.removal ≡ f.entry.removal) → (g.entry.removal ≡ None) ⊎ (h.entry.removal ≡ g.entry.removal) → (f.entry.removal ≡ None) ⊎ (h.entry.removal ≡ f.entry.removal)
@@ -65,7 +69,7 @@ extends_map P f go (h ∷ hs) all = (go h all.0, extends_map P f go hs all.1)
 with_one_more : (id : ℕ) (s : Setting) (h : History) → Continues h (with_setting id s h)
 with_one_more id s h =
     elim (eqb h.entry.id id) as (λ b. Continues h (if b then record h { settings = h.settings ++ s ∷ [] } else h)) [
-      | true ↦ record { entry = refl; removal = inr refl; content = λ held. refl; more = s ∷ []; settings = refl }
+      | true ↦ record { entry = refl; removal = inr refl; content = λ held. refl; more = s ∷ []; settings = refl; further = []; tenures = sym (append-nil h.tenures) }
       | false ↦ continues_itself h
     ]
 
@@ -79,6 +83,8 @@ removed_once v id r h held own = by_id (eqb h.entry.id id) refl
       content = λ none. absurd (cc none);
       more = [];
       settings = sym (append-nil h.settings);
+      further = [];
+      tenures = sym (append-nil h.tenures);
     }
     by_id false e = continues_itself h
 

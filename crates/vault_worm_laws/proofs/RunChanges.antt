@@ -115,6 +115,7 @@ may_step v bucket config t who key (Mark r) sound le placed finds free = record 
     first = refl;
     bucket = config;
     placed = placed;
+    tenured = refl;
     fits = omega (arith, sound.within config.dept);
     noted = tt;
   };

@@ -1,9 +1,9 @@
 -- Where the bytes of each version stand that was ever admitted.
-use Rattle.std.specs.Prelude.{◌≡◌, ◌⊎◌, ℕ, Bool, true, false, List, [], length, filter, sum_by, unwrap_or, Some, None, IsSome}
+use Rattle.std.specs.Prelude.{◌≡◌, ◌⊎◌, ◌&&◌, ℕ, Bool, true, false, not, List, [], length, filter, sum_by, Option, unwrap_or, Some, None, option_map, IsSome}
 use Rattle.std.specs.List.{AllByRecursion}
+use Rattle.std.specs.Str.{bytes_eq}
 use Rattle.vault_core_model.specs.declared.records.History.{History}
-use Rattle.vault_core_model.specs.Vault.{Vault}
-use Rattle.vault_core_model.specs.Totals.{is_version_of}
+use Rattle.vault_core_model.specs.Vault.{Vault, config_of}
 
 -- held, with all its bytes
 abbrev pub IsHeldWhole : History → Type 0
@@ -26,6 +26,20 @@ EachStandsOnce v = AllByRecursion (λ h. StandsOnce h.entry.marker h) v.historie
 abbrev pub content_size : History → ℕ
 content_size h = length (unwrap_or h.content [])
 
--- and of a department's versions
+-- and of all versions
+abbrev pub all_stored_bytes : Vault → ℕ
+all_stored_bytes v = sum_by content_size v.histories
+
+-- it is that department
+abbrev pub is_department : List ℕ → Option (List ℕ) → Bool
+is_department dept None = false
+is_department dept (Some own) = bytes_eq own dept
+
+-- a content version in a bucket of the department
+abbrev pub is_version_of : Vault → List ℕ → History → Bool
+is_version_of v dept h =
+    not h.entry.marker && is_department dept (option_map (λ c. c.dept) (config_of v h.entry.bucket))
+
+-- and of the versions in a department's buckets
 abbrev pub stored_bytes : Vault → List ℕ → ℕ
-stored_bytes v dept = sum_by content_size (filter (is_version_of v.buckets dept) v.histories)
+stored_bytes v dept = sum_by content_size (filter (is_version_of v dept) v.histories)

@@ -9,13 +9,13 @@ ghost use Rattle.vault_core_model.specs.declared.reply.Reply.{Reply};
 ghost use Rattle.vault_core_model.specs.Vault.{Vault};
 ghost use Rattle.vault_core_model.specs.Step.{Step, Run, Reached};
 ghost use Rattle.vault_core_model.specs.Sound.{Sound};
-ghost use Rattle.vault_core_model.specs.Totals.{admitted_bytes, removed_bytes};
+ghost use Rattle.vault_core_model.specs.Totals.{admitted_bytes, received_bytes, removed_bytes, handed_bytes, over_departments};
 ghost use Rattle.vault_worm_laws.specs.Callers.{KeepsCallers};
 ghost use Rattle.vault_worm_laws.specs.Chains.{Leads};
 ghost use Rattle.vault_worm_laws.specs.Once.{Extends};
 ghost use Rattle.vault_worm_laws.specs.Removals.{RemovalsWerePermitted};
 ghost use Rattle.vault_worm_laws.specs.Repeated.{BeginRun, CompleteRun};
-ghost use Rattle.vault_worm_laws.specs.Stored.{EachStandsOnce, stored_bytes};
+ghost use Rattle.vault_worm_laws.specs.Stored.{EachStandsOnce, stored_bytes, all_stored_bytes};
 ghost use Rattle.vault_worm_laws.specs.SumBounds.{DepartmentsAreFarBelow, RowsAreFarBelow};
 ghost use Rattle.vault_worm_laws.specs.Worm.{Worm};
 
@@ -45,11 +45,21 @@ pub fn retention_and_holds_are_kept()
 {}
 
 /// Of every sound vault, the bytes of each version stand in the held content or it was removed, never
-/// both; so the bytes that a department ever admitted are those that stand there and those removed.
+/// both; so the bytes that a department ever admitted and received are those that stand in its buckets,
+/// those removed, and those handed over. What the vault ever admitted stands there or was removed.
 pub fn bytes_are_conserved()
     ensures each { (v : Vault) → Sound v → EachStandsOnce v }
     ensures total { (v : Vault) (dept : List ℕ) → Sound v →
-        admitted_bytes v dept ≡ stored_bytes v dept + removed_bytes v dept }
+        admitted_bytes v dept + received_bytes v dept ≡ stored_bytes v dept + (removed_bytes v dept + handed_bytes v dept) }
+    ensures vault { (v : Vault) → Sound v →
+        over_departments v (admitted_bytes v) ≡ all_stored_bytes v + over_departments v (removed_bytes v) }
+{}
+
+/// Of every vault that is reached, no bucket moved, and no department received bytes or handed any over.
+pub fn no_bucket_moves()
+    ensures moves { (v : Vault) → Reached v → v.moves ≡ 0 }
+    ensures bytes { (v : Vault) (dept : List ℕ) → Reached v →
+        (received_bytes v dept ≡ 0) × (handed_bytes v dept ≡ 0) }
 {}
 
 /// The sums by days of a department's row, and what a charge adds up of them, stay below 2^63: so they never
@@ -60,7 +70,7 @@ pub fn sums_stay_far_below()
 {}
 
 /// Over any run from a sound vault, each history stays at its place: its entry is never altered, but for
-/// one removal; its bytes stand as long as it is held; and settings are only added.
+/// one removal; its bytes stand as long as it is held; and settings and tenures are only added.
 pub fn histories_are_written_once()
     ensures { (v after : Vault) (commands : List Timed) (replies : List Reply) →
         Sound v → Run v commands replies after → Extends v.histories after.histories }
