@@ -5,3 +5,4 @@ pub mod KeySets
 pub mod LastSettings
 pub mod Places
 pub mod Rows
+pub mod Shares

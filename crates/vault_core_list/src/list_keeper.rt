@@ -36,6 +36,7 @@ pub struct ListKeeper {
     buckets: Vec<Bucket>,
     notes: Vec<Note>,
     histories: Vec<History>,
+    moves: u32,
 }
 
 impl Model for ListKeeper {
@@ -44,9 +45,9 @@ impl Model for ListKeeper {
 
     ghost Value = { Vault };
 
-    ghost view = { λ k. record { last = k.last; departments = k.departments.items; callers = k.callers.items; buckets = k.buckets.items; notes = k.notes.items; histories = k.histories.items } };
+    ghost view = { λ k. record { last = k.last; departments = k.departments.items; callers = k.callers.items; buckets = k.buckets.items; notes = k.notes.items; histories = k.histories.items; moves = k.moves } };
 
-    ghost invariant = { λ k. Sound (record { last = k.last; departments = k.departments.items; callers = k.callers.items; buckets = k.buckets.items; notes = k.notes.items; histories = k.histories.items }) };
+    ghost invariant = { λ k. Sound (record { last = k.last; departments = k.departments.items; callers = k.callers.items; buckets = k.buckets.items; notes = k.notes.items; histories = k.histories.items; moves = k.moves }) };
 }
 
 /// The caller of a new vault, who may administer it.
@@ -79,6 +80,7 @@ impl ListKeeper {
             buckets: Vec::new(alloc),
             notes: Vec::new(alloc),
             histories: Vec::new(alloc),
+            moves: 0,
         })
     }
 }
@@ -193,7 +195,7 @@ impl Keeper for ListKeeper {
         // Only the proof reads this: it gives that the last moment is within the range of moments. No day is
         // past that of the last moment, and no department is past its quota: so the sums fit.
         let _seconds = self.last.secs();
-        Ok(sums::row(&self.buckets, &self.histories, dept))
+        Ok(sums::row(&self.histories, dept))
     }
 
     fn apply(&mut self, at: Moment, change: &Change) -> Result<(), Fault> {

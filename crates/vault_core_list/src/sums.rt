@@ -1,54 +1,68 @@
-//! The sums of a department, over all its versions.
+//! The sums of a department, over the tenures of all versions.
 ghost use Rattle.std.specs.Prelude.{◌≡◌, [], ◌∷◌, ◌++◌, List};
-ghost use Rattle.vault_core_model.specs.Totals.{is_of_department, is_version_of, item_of, items_in};
-ghost use Rattle.vault_core_model.specs.Vault.{config_in};
+ghost use Rattle.std.specs.Option.{option_copied};
+ghost use Rattle.vault_core_model.specs.Totals.{items_by, items_in, removal_day, shares_of};
+ghost use Rattle.vault_core_list.specs.Shares.{share_by};
 ghost use Rattle.vault_tally.specs.Row.{Item, IsRowOf, AreBounded};
 
-use crate::find;
-use vault_base::name::{BucketName, DeptName};
-use vault_core_model::records::{Bucket, History};
+use vault_base::name::DeptName;
+use vault_core_model::records::{Entry, History, Tenure};
 use vault_tally::row::Row;
 
-/// Whether the bucket of that name is the department's.
-fn is_of_department(buckets: &[Bucket], dept: &DeptName, name: &BucketName) -> bool
-    ensures { result ≡ is_of_department dept.now (config_in buckets.now name.now) }
+/// The day of the removal of an entry, where it was removed.
+fn removal_day(entry: &Entry) -> Option<u64>
+    ensures { result ≡ removal_day entry.now.removal }
 {
-    let Some(bucket) = find::bucket(buckets, name) else {
-        return false;
-    };
-    bucket.config.dept == *dept
+    match &entry.removal {
+        None => None,
+        Some(removal) => Some(removal.at.day()),
+    }
 }
 
-/// Whether it is a content version in a bucket of the department.
-fn is_version_of(buckets: &[Bucket], dept: &DeptName, history: &History) -> bool
-    ensures { result ≡ is_version_of buckets.now dept.now history.now }
+/// Counts a tenure in, where it is the department's: it ends as the next one begins, or with the removal.
+fn count_tenure(
+    row: &mut Row,
+    dept: &DeptName,
+    entry: &Entry,
+    first: bool,
+    tenure: &Tenure,
+    next: Option<&Tenure>,
+)
+    ensures { (items : List Item) →
+        let own = items_by dept.now (share_by entry.now first tenure.now (option_copied next.entry) ∷ []) in
+        IsRowOf row.old items → AreBounded (items ++ own) → IsRowOf row.new (items ++ own) }
 {
-    !history.entry.marker && is_of_department(buckets, dept, &history.entry.bucket)
+    if tenure.dept != *dept {
+        return;
+    }
+    let from_day = tenure.from.day();
+    match next {
+        Some(next) => row.count(entry.size, first, from_day, Some(next.from.day()), false),
+        None => row.count(entry.size, first, from_day, removal_day(entry), true),
+    }
 }
 
-/// Counts a version in, and its removal where it was removed.
-fn count_in(row: &mut Row, history: &History)
-    ensures { (items : List Item) → IsRowOf row.old items →
-        AreBounded (items ++ item_of history.now ∷ []) →
-        IsRowOf row.new (items ++ item_of history.now ∷ []) }
+/// Counts in the department's tenures of one version.
+fn count_tenures(row: &mut Row, dept: &DeptName, history: &History)
+    ensures { (items : List Item) →
+        let own = items_by dept.now (shares_of history.now) in
+        IsRowOf row.old items → AreBounded (items ++ own) → IsRowOf row.new (items ++ own) }
 {
-    let entry = &history.entry;
-    row.admit(entry.size, entry.admitted.day());
-    if let Some(removal) = &entry.removal {
-        row.remove(entry.size, entry.admitted.day(), removal.at.day());
+    let tenures = history.tenures.as_slice();
+    for (place, tenure) in tenures.iter().enumerate() {
+        let next = tenures[place + 1..].first();
+        count_tenure(row, dept, &history.entry, place == 0, tenure, next);
     }
 }
 
 /// The row of a department whose sums fit.
-pub(crate) fn row(buckets: &[Bucket], histories: &[History], dept: &DeptName) -> Row
-    requires { AreBounded (items_in buckets.now dept.now histories.now) }
-    ensures { IsRowOf result (items_in buckets.now dept.now histories.now) }
+pub(crate) fn row(histories: &[History], dept: &DeptName) -> Row
+    requires { AreBounded (items_in dept.now histories.now) }
+    ensures { IsRowOf result (items_in dept.now histories.now) }
 {
     let mut row = Row::new();
     for history in histories {
-        if is_version_of(buckets, dept, history) {
-            count_in(&mut row, history);
-        }
+        count_tenures(&mut row, dept, history);
     }
     row
 }

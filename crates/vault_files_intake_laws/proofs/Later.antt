@@ -3,27 +3,29 @@ use Rattle.std.proofs.Common.{◌≡◌, ℕ, ◌≤◌, List, [], ◌∷◌, �
 use Rattle.std.proofs.lemmas.Bool.{eqb-true, eq-eqb, and_parts, false_from_ne_true}
 use Rattle.std.proofs.lemmas.List.{length-map}
 use Rattle.std.proofs.lemmas.Slice.Eq.{bytes_eq-Decides}
-use Rattle.std.specs.Prelude.{find, ◌&&◌, ◌==◌, if◌then◌else◌}
+use Rattle.std.specs.Prelude.{find, sum_by, ◌&&◌, ◌==◌, if◌then◌else◌}
 use Rattle.std.specs.Str.{bytes_eq}
 use Rattle.std.specs.declared.cmp.Ordering.{Ordering}
 use Rattle.std.specs.declared.cmp.Ordering.TheVariants.{Less, Equal, Greater}
+use Rattle.vault_tally.specs.Row.{size_of}
+use Rattle.vault_tally.proofs.Bounds.{got}
 use Rattle.vault_core_model.specs.declared.change.Change.TheVariants.{Admit, Remove}
 use Rattle.vault_core_model.specs.declared.records.History.{History}
 use Rattle.vault_core_model.specs.declared.records.Note.{Note}
 use Rattle.vault_core_model.specs.declared.records.Removal.{Removal}
 use Rattle.vault_core_model.specs.Change.{changed, removed_if}
 use Rattle.vault_core_model.specs.Order.{placed, placed_by, note_cmp}
-use Rattle.vault_core_model.specs.Totals.{admitted_bytes}
+use Rattle.vault_core_model.specs.Totals.{items_of, admitted_bytes, received_bytes}
 use Rattle.vault_core_model.specs.Vault.{Vault, note_of}
 use Rattle.vault_core_laws.proofs.Buckets.{find-placed}
-use Rattle.vault_core_laws.proofs.Items.{admitted-push, admitted-removed}
+use Rattle.vault_core_laws.proofs.Items.{sizes-push, sizes-removed}
 
--- the same callers and buckets, each note that was there, and no fewer bytes and entries ever admitted
+-- the same callers and buckets, each note that was there, and no fewer bytes ever admitted and received, nor entries
 pub record IsLater (v w : Vault) : Type 0 where
   pub callers : w.callers ≡ v.callers
   pub buckets : w.buckets ≡ v.buckets
   pub notes : (bucket batch : List ℕ) (line : ℕ) (n : Note) → note_of v bucket batch line ≡ Some n → note_of w bucket batch line ≡ Some n
-  pub admitted : (dept : List ℕ) → admitted_bytes v dept ≤ admitted_bytes w dept
+  pub got : (dept : List ℕ) → admitted_bytes v dept + received_bytes v dept ≤ admitted_bytes w dept + received_bytes w dept
   pub entries : length v.histories ≤ length w.histories
 
 pub later-itself : (v : Vault) → IsLater v v
@@ -31,7 +33,7 @@ later-itself v = record {
   callers = refl;
   buckets = refl;
   notes = λ bucket batch line n there. there;
-  admitted = λ dept. omega arith;
+  got = λ dept. omega arith;
   entries = omega arith;
 }
 
@@ -40,7 +42,7 @@ later-on u v w a b = record {
   callers = b.callers ∙ a.callers;
   buckets = b.buckets ∙ a.buckets;
   notes = λ bucket batch line n there. b.notes bucket batch line n (a.notes bucket batch line n there);
-  admitted = λ dept. omega (arith, a.admitted dept, b.admitted dept);
+  got = λ dept. omega (arith, a.got dept, b.got dept);
   entries = omega (arith, a.entries, b.entries);
 }
 
@@ -104,12 +106,16 @@ other_line v t h n bucket batch line other =
 
 -- ---- the two changes
 
+-- no less was admitted and received where the tenures' sizes come to no less
+got_more : (v w : Vault) (dept : List ℕ) → sum_by size_of (items_of v dept) ≤ sum_by size_of (items_of w dept) → admitted_bytes v dept + received_bytes v dept ≤ admitted_bytes w dept + received_bytes w dept
+got_more v w dept more = omega (arith, got (items_of v dept), got (items_of w dept), more)
+
 pub later-admitted : (v : Vault) (t : ℕ) (h : History) (n : Note) → note_of v n.bucket n.batch n.line ≡ None → IsLater v (changed v t (Admit (record { history = h; note = Some n })))
 later-admitted v t h n free = record {
   callers = refl;
   buckets = refl;
   notes = λ bucket batch line m there. find-placed note_cmp (is_line_of bucket batch line) n v.notes (is_other v n m bucket batch line free there) ∙ there;
-  admitted = λ dept. omega (arith, admitted-push v.buckets dept v.histories h);
+  got = λ dept. got_more v (changed v t (Admit (record { history = h; note = Some n }))) dept (omega (arith, sizes-push dept v.histories h));
   entries = omega (arith, length-append v.histories (h ∷ []));
 }
 
@@ -118,6 +124,6 @@ later-removed v t id r = record {
   callers = refl;
   buckets = refl;
   notes = λ bucket batch line n there. there;
-  admitted = λ dept. omega (arith, admitted-removed v.buckets dept id r v.histories);
+  got = λ dept. got_more v (changed v t (Remove id r)) dept (omega (arith, sizes-removed dept id r v.histories));
   entries = omega (arith, length-map v.histories (removed_if id r));
 }

@@ -26,7 +26,7 @@ use Rattle.vault_core_model.specs.Change.{changed}
 use Rattle.vault_core_model.specs.Checks.{◌>>=◌, check, found, small_enough, ends_later_if_given, lock_at_admission, within_quota, free_id, most_ids}
 use Rattle.vault_core_model.specs.EntryOutcomes.{access_to_put, new_version}
 use Rattle.vault_core_model.specs.IntakeOutcome.{is_same_retention, is_same_hold, agrees, is_line, new_note, lock_to_take_in, take_in, intake_by, intake}
-use Rattle.vault_core_model.specs.Totals.{admitted_bytes}
+use Rattle.vault_core_model.specs.Totals.{admitted_bytes, received_bytes}
 use Rattle.vault_core_model.specs.Vault.{Vault, note_of, next_id}
 use Rattle.vault_files_intake_laws.proofs.Ends.{lock-before}
 use Rattle.vault_files_intake_laws.proofs.Later.{IsLater, later-same, later-admitted, new_note-found, other_line}
@@ -94,10 +94,11 @@ record WasThere (v : Vault) (c : Intake) (x : Answer) (after : Vault) : Type 0 w
 -- or there was none, and it is admitted with one
 record IsNew (v : Vault) (t : ℕ) (who : List ℕ) (c : Intake) (x : Answer) (after : Vault) : Type 0 where
   id : ℕ
+  dept : List ℕ
   lock : Lock
   free : note_for v c ≡ None
   told : x ≡ answer.TakenIn (record { id = id; again = false })
-  made : after ≡ changed v t (Admit (record { history = new_version id t who c.put lock; note = Some (new_note id c) }))
+  made : after ≡ changed v t (Admit (record { history = new_version id t who dept c.put lock; note = Some (new_note id c) }))
 
 -- either, of a caller who may put
 record Does (v : Vault) (t : ℕ) (who : List ℕ) (c : Intake) (x : Answer) (after : Vault) : Type 0 where
@@ -126,18 +127,18 @@ by_agreement v c n x after true is h =
     (is, same.0, same.1)
 by_agreement v c n x after false is h = absurd (cc h)
 
-by_lock : (v : Vault) (t : ℕ) (who : List ℕ) (c : Intake) (x : Answer) (after : Vault) (lock : Result Lock Refusal) (id : Result ℕ Refusal)
+by_lock : (v : Vault) (t : ℕ) (who dept : List ℕ) (c : Intake) (x : Answer) (after : Vault) (lock : Result Lock Refusal) (id : Result ℕ Refusal)
     → note_for v c ≡ None
-    → (lock >>= λ (l : Lock). id >>= λ (n : ℕ). answered (answer.TakenIn (record { id = n; again = false })) (changed v t (Admit (record { history = new_version n t who c.put l; note = Some (new_note n c) })))) ≡ Ok (x, after)
+    → (lock >>= λ (l : Lock). id >>= λ (n : ℕ). answered (answer.TakenIn (record { id = n; again = false })) (changed v t (Admit (record { history = new_version n t who dept c.put l; note = Some (new_note n c) })))) ≡ Ok (x, after)
     → IsNew v t who c x after
-by_lock v t who c x after (Err e) id free h = absurd (cc h)
-by_lock v t who c x after (Ok l) (Err e) free h = absurd (cc h)
-by_lock v t who c x after (Ok l) (Ok n) free h =
-    let same = same_pair (answer.TakenIn (record { id = n; again = false })) x (changed v t (Admit (record { history = new_version n t who c.put l; note = Some (new_note n c) }))) after h in
-    record { id = n; lock = l; free = free; told = same.0; made = same.1 }
+by_lock v t who dept c x after (Err e) id free h = absurd (cc h)
+by_lock v t who dept c x after (Ok l) (Err e) free h = absurd (cc h)
+by_lock v t who dept c x after (Ok l) (Ok n) free h =
+    let same = same_pair (answer.TakenIn (record { id = n; again = false })) x (changed v t (Admit (record { history = new_version n t who dept c.put l; note = Some (new_note n c) }))) after h in
+    record { id = n; dept = dept; lock = l; free = free; told = same.0; made = same.1 }
 
 by_note : (v : Vault) (t : ℕ) (who : List ℕ) (c : Intake) (a : Access) (x : Answer) (after : Vault) (o : Option Note) → note_for v c ≡ o → intake_by v t who c a o ≡ Ok (x, after) → WasThere v c x after ⊎ IsNew v t who c x after
-by_note v t who c a x after None is h = inr (by_lock v t who c x after (lock_to_take_in v t c a) (free_id v) is h)
+by_note v t who c a x after None is h = inr (by_lock v t who a.bucket.dept c x after (lock_to_take_in v t c a) (free_id v) is h)
 by_note v t who c a x after (Some n) is h =
     let agreed = by_agreement v c n x after (agrees n c.put) refl h in
     inl (record { note = n; there = is; agreed = agreed.0; told = agreed.1; same = agreed.2 })
@@ -157,7 +158,7 @@ done-later v t who c x after h = by_doing (done-does v t who c x after h).does
     by_doing (inl was) = later-same v after was.same
     by_doing (inr new) =
         let P : Vault → Type 0 = λ w. IsLater v w in
-        subst P (sym new.made) (later-admitted v t (new_version new.id t who c.put new.lock) (new_note new.id c) new.free)
+        subst P (sym new.made) (later-admitted v t (new_version new.id t who new.dept c.put new.lock) (new_note new.id c) new.free)
 
 -- and the same note of every other line of the batch
 pub done-other_lines : (v : Vault) (t : ℕ) (who : List ℕ) (c : Intake) (x : Answer) (after : Vault) (line : ℕ) → intake v t who c ≡ Ok (x, after) → (c.line ≡ line → ⊥) → note_of after c.put.bucket c.batch line ≡ note_of v c.put.bucket c.batch line
@@ -165,7 +166,7 @@ done-other_lines v t who c x after line h other = by_doing (done-does v t who c 
   where
     by_doing : WasThere v c x after ⊎ IsNew v t who c x after → note_of after c.put.bucket c.batch line ≡ note_of v c.put.bucket c.batch line
     by_doing (inl was) = rw (was.same) refl
-    by_doing (inr new) = rw (new.made) (other_line v t (new_version new.id t who c.put new.lock) (new_note new.id c) c.put.bucket c.batch line other)
+    by_doing (inr new) = rw (new.made) (other_line v t (new_version new.id t who new.dept c.put new.lock) (new_note new.id c) c.put.bucket c.batch line other)
 
 -- the last moment is the reading at most
 pub done-last : (v : Vault) (t : ℕ) (who : List ℕ) (c : Intake) (x : Answer) (after : Vault) → intake v t who c ≡ Ok (x, after) → v.last ≤ t → after.last ≤ t
@@ -203,7 +204,7 @@ done-accepted v t who c y after h = by_doing (done-does v t who c (answer.TakenI
       access = may.access;
       may = may.may;
       note = new_note new.id c;
-      noted = rw (new.made) (new_note-found v t (new_version new.id t who c.put new.lock) (new_note new.id c) new.free);
+      noted = rw (new.made) (new_note-found v t (new_version new.id t who new.dept c.put new.lock) (new_note new.id c) new.free);
       agreed = new_note-agrees new.id c;
       named = let told : y ≡ record { id = new.id; again = false } = cc (new.told) in sym (ap (λ (z : TakenIn). z.id) told);
     }
@@ -248,8 +249,10 @@ lock-was b r hold t u h top later =
 
 quota-was : (v w : Vault) (dept : List ℕ) (size : ℕ) → IsLater v w → is_ok (within_quota w dept size) ≡ true → is_ok (within_quota v dept size) ≡ true
 quota-was v w dept size later h =
-    let fits = leb-true (admitted_bytes w dept + size) 1000000000000 (sym (passes-check (nat_le (admitted_bytes w dept + size) 1000000000000) QuotaExceeded) ∙ h) in
-    passes-check (nat_le (admitted_bytes v dept + size) 1000000000000) QuotaExceeded ∙ le-leb (admitted_bytes v dept + size) 1000000000000 (omega (arith, later.admitted dept))
+    let then = admitted_bytes v dept + received_bytes v dept + size in
+    let now = admitted_bytes w dept + received_bytes w dept + size in
+    let fits = leb-true now 1000000000000 (sym (passes-check (nat_le now 1000000000000) QuotaExceeded) ∙ h) in
+    passes-check (nat_le then 1000000000000) QuotaExceeded ∙ le-leb then 1000000000000 (omega (arith, later.got dept))
 
 passes-id : (v : Vault) (b : Bool) → is_ok {T = ℕ} {E = Refusal} (if b then Ok (next_id v) else Err VaultFull) ≡ b
 passes-id v true = refl
