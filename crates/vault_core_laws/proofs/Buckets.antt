@@ -10,7 +10,6 @@ use Rattle.vault_core_model.specs.declared.records.BucketConfig.{BucketConfig}
 use Rattle.vault_core_model.specs.Order.{placed, placed_by, bucket_cmp}
 use Rattle.vault_core_model.specs.Vault.{bucket_in, config_in}
 use Rattle.vault_core_model.specs.Change.{new_bucket, with_default, with_rules}
-use Rattle.vault_core_model.specs.Totals.{is_of_department}
 use Rattle.vault_lock.specs.declared.retention.Default.{Default}
 use Rattle.vault_rules.specs.declared.rule.Rule.{Rule}
 
@@ -59,12 +58,12 @@ still_some f (Some b) there = refl
 pub placed-mapped : (f : Bucket → Bucket) → ((b : Bucket) → (f b).name ≡ b.name) → (bs : List Bucket) (name : List ℕ) → IsSome (config_in bs name) → IsSome (config_in (map f bs) name)
 placed-mapped f same bs name there = rw (bucket_in-mapped f same bs name) (still_some f (bucket_in bs name) there)
 
-dept_same : (f : Bucket → Bucket) → ((b : Bucket) → (f b).config.dept ≡ b.config.dept) → (dept : List ℕ) (o : Option Bucket) → is_of_department dept (option_map (λ (b : Bucket). b.config) (option_map f o)) ≡ is_of_department dept (option_map (λ (b : Bucket). b.config) o)
-dept_same f same dept None = refl
-dept_same f same dept (Some b) = ap (λ own. bytes_eq own dept) (same b)
+dept_same : (f : Bucket → Bucket) → ((b : Bucket) → (f b).config.dept ≡ b.config.dept) → (o : Option Bucket) → option_map (λ (c : BucketConfig). c.dept) (option_map (λ (b : Bucket). b.config) (option_map f o)) ≡ option_map (λ (c : BucketConfig). c.dept) (option_map (λ (b : Bucket). b.config) o)
+dept_same f same None = refl
+dept_same f same (Some b) = ap (λ own. Some own) (same b)
 
-pub department-mapped : (f : Bucket → Bucket) → ((b : Bucket) → (f b).name ≡ b.name) → ((b : Bucket) → (f b).config.dept ≡ b.config.dept) → (bs : List Bucket) (dept name : List ℕ) → is_of_department dept (config_in (map f bs) name) ≡ is_of_department dept (config_in bs name)
-department-mapped f same_name same_dept bs dept name = rw (bucket_in-mapped f same_name bs name) (dept_same f same_dept dept (bucket_in bs name))
+pub owner-mapped : (f : Bucket → Bucket) → ((b : Bucket) → (f b).name ≡ b.name) → ((b : Bucket) → (f b).config.dept ≡ b.config.dept) → (bs : List Bucket) (name : List ℕ) → option_map (λ (c : BucketConfig). c.dept) (config_in (map f bs) name) ≡ option_map (λ (c : BucketConfig). c.dept) (config_in bs name)
+owner-mapped f same_name same_dept bs name = rw (bucket_in-mapped f same_name bs name) (dept_same f same_dept (bucket_in bs name))
 
 pub name-with_default : (name : List ℕ) (default : Option Default) (b : Bucket) → (with_default name default b).name ≡ b.name
 name-with_default name default b = elim (bytes_eq b.name name) as (λ x. (if x then record b { config = record { dept = b.config.dept; default = default } } else b).name ≡ b.name) [ true ↦ refl | false ↦ refl ]

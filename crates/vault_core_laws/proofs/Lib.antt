@@ -1,6 +1,7 @@
+pub mod Balance
 pub mod Bounds
 pub mod Buckets
-pub mod Conserved
+pub mod Exchange
 pub mod Items
 pub mod Lists
 pub mod NameOrder
@@ -8,4 +9,7 @@ pub mod Newest
 pub mod References
 pub mod Runs
 pub mod Soundness
+pub mod Telescope
+pub mod Tenures
 pub mod Tests
+pub mod Unmoved

@@ -29,6 +29,11 @@ pub All-weaker : {X : Type 0} (P Q : X → Type 0) → ((x : X) → P x → Q x)
 All-weaker P Q f [] all = tt
 All-weaker P Q f (y ∷ ys) all = (f y all.0, All-weaker P Q f ys all.1)
 
+-- two facts of each element, together
+pub All-both : {X : Type 0} (P Q R : X → Type 0) → ((x : X) → P x → Q x → R x) → (xs : List X) → AllByRecursion P xs → AllByRecursion Q xs → AllByRecursion R xs
+All-both P Q R f [] ps qs = tt
+All-both P Q R f (x ∷ xs) ps qs = (f x ps.0 qs.0, All-both P Q R f xs ps.1 qs.1)
+
 -- two facts of each element, after a map
 pub All-map : {X : Type 0} (P Q R : X → Type 0) (g : X → X) → ((x : X) → P x → Q x → R (g x)) → (xs : List X) → AllByRecursion P xs → AllByRecursion Q xs → AllByRecursion R (map g xs)
 All-map P Q R g f [] ps qs = tt

@@ -12,7 +12,7 @@ use Rattle.vault_core_model.specs.Vault.{Vault}
 use Rattle.vault_core_model.specs.Places.{is_held, is_held_at, held_at, is_current, current}
 use Rattle.vault_core_model.specs.Reads.{head_over, head_of, entry_of}
 use Rattle.vault_core_model.specs.Sound.{AreIdsFrom, Sound}
-use Rattle.vault_core_laws.proofs.Lists.{All-weaker, All-filter}
+use Rattle.vault_core_laws.proofs.Lists.{All-weaker, All-both, All-filter}
 
 -- ---- ids rise
 
@@ -125,10 +125,6 @@ finds_itself n (h ∷ hs) ids = (
       (above h.entry.id hs (rising_ids h.entry.id (n + 1) hs (omega (arith, ids.0)) ids.1))
       (finds_itself (n + 1) hs ids.1),
 )
-  where
-    All-both : (P Q R : History → Type 0) → ((x : History) → P x → Q x → R x) → (xs : List History) → AllByRecursion P xs → AllByRecursion Q xs → AllByRecursion R xs
-    All-both P Q R f [] ps qs = tt
-    All-both P Q R f (x ∷ xs) ps qs = (f x ps.0 qs.0, All-both P Q R f xs ps.1 qs.1)
 
 -- ---- the law
 

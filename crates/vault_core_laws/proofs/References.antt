@@ -37,7 +37,7 @@ any-placed cmp p x (y ∷ ys) there =
           [ true ↦ λ there. refl | false ↦ λ there. any-placed cmp p x ys there ] there
     ]
 
-department-stays : (v : Vault) (t : ℕ) (name dept : List ℕ) → IsTrue (has_department v dept) → IsTrue (has_department (changed v t (AddDept name)) dept)
+pub department-stays : (v : Vault) (t : ℕ) (name dept : List ℕ) → IsTrue (has_department v dept) → IsTrue (has_department (changed v t (AddDept name)) dept)
 department-stays v t name dept there = any-placed name_cmp (λ d. bytes_eq d dept) name v.departments there
 
 given-stays : (v : Vault) (t : ℕ) (name : List ℕ) (o : Option (List ℕ)) → IsTrue (passes_if_given (has_department v) o) → IsTrue (passes_if_given (has_department (changed v t (AddDept name))) o)

@@ -1,6 +1,6 @@
 -- A change that is allowed keeps a vault sound.
 use Rattle.std.proofs.Common.{◌≡◌, ℕ, ◌+◌, ◌≤◌, ◌<◌, List, [], ◌∷◌, ◌++◌, length, map, Bool, true, false, Option, Some, None, refl, sym, ap, ◌∙◌, subst, arith, eqb}
-use Rattle.std.specs.Prelude.{if◌then◌else◌, IsSome, find, option_map, option_and_then, ◌==◌}
+use Rattle.std.specs.Prelude.{if◌then◌else◌, IsSome, find, option_map, option_and_then, sum_by, ◌==◌}
 use Rattle.std.specs.Prelude.{IsTrue}
 use Rattle.std.specs.List.{AllByRecursion}
 use Rattle.std.specs.Str.{bytes_eq}
@@ -9,8 +9,10 @@ use Rattle.std.proofs.lemmas.List.{length-map, length-append}
 use Rattle.vault_lock.specs.declared.retention.Default.{Default}
 use Rattle.vault_rules.specs.declared.rule.Rule.{Rule}
 use Rattle.vault_rules.specs.Rules.{is_rule_set, passes_if_given}
-use Rattle.vault_tally.specs.Row.{quota}
+use Rattle.vault_tally.specs.Row.{quota, size_of}
+use Rattle.vault_tally.proofs.Bounds.{got}
 use Rattle.vault_core_model.specs.declared.records.Bucket.{Bucket}
+use Rattle.vault_core_model.specs.declared.records.BucketConfig.{BucketConfig}
 use Rattle.vault_core_model.specs.declared.records.Entry.{Entry}
 use Rattle.vault_core_model.specs.Reads.{setting_of, last_setting, count_by}
 use Rattle.vault_core_model.specs.declared.records.History.{History}
@@ -21,17 +23,18 @@ use Rattle.vault_core_model.specs.declared.change.Change.{Change}
 use Rattle.vault_core_model.specs.declared.change.Change.TheVariants.{AddDept, AddCaller, CloseCaller, AddBucket, SetDefault, SetRules, Admit, AddSetting, Remove}
 use Rattle.vault_core_model.specs.Checks.{most_ids, most_settings}
 use Rattle.vault_core_model.specs.Order.{placed, placed_if_given, bucket_cmp, note_cmp}
-use Rattle.vault_core_model.specs.Vault.{Vault, config_in}
+use Rattle.vault_core_model.specs.Vault.{Vault, has_department}
 use Rattle.vault_core_model.specs.Change.{changed, removed_by, removed_if, new_bucket, with_default, with_rules, with_setting}
-use Rattle.vault_core_model.specs.Sound.{AreIdsFrom, AreInOrder, IsInTime, LiesBetween, HasItsBytes, IsWhole, IsWholeAs, IsPlaced, IsNoted, NamesItsVersion, IsEmployed, IsOwned, HasPeriod, HasLine, HasRuleSet, IsInNameOrder, Sound}
+use Rattle.vault_core_model.specs.Sound.{AreIdsFrom, AreInOrder, IsInTime, LiesBetween, HasItsBytes, IsWhole, IsWholeAs, IsPlaced, IsNoted, NamesItsVersion, IsEmployed, IsOwned, HasPeriod, HasLine, HasRuleSet, IsInNameOrder, HasTenures, Sound}
 use Rattle.vault_core_model.specs.Allowed.{Allows, IsNextSetting, IsFirstNote}
-use Rattle.vault_core_model.specs.Totals.{admitted_bytes, is_of_department}
-use Rattle.vault_core_laws.proofs.Lists.{All-push, All-last, All-placed, All-weaker, All-map}
-use Rattle.vault_core_laws.proofs.Buckets.{config_in-placed, placed-mapped, department-mapped, name-with_default, dept-with_default, name-with_rules, dept-with_rules}
-use Rattle.vault_core_laws.proofs.Items.{admitted-push, admitted-removed, admitted-other, admitted-setting, share_fits}
+use Rattle.vault_core_model.specs.Totals.{admitted_bytes, received_bytes, items_of}
+use Rattle.vault_core_laws.proofs.Lists.{All-push, All-last, All-placed, All-weaker, All-both, All-map}
+use Rattle.vault_core_laws.proofs.Buckets.{config_in-placed, placed-mapped, owner-mapped, name-with_default, dept-with_default, name-with_rules, dept-with_rules}
+use Rattle.vault_core_laws.proofs.Items.{brought, sizes-push, sizes-removed, sizes-setting, first_fits}
 use Rattle.vault_core_laws.proofs.NameOrder.{ordered-changed}
 use Rattle.vault_core_laws.proofs.Newest.{finds_itself}
-use Rattle.vault_core_laws.proofs.References.{employed-changed, owned-changed, periods-changed, lines-changed}
+use Rattle.vault_core_laws.proofs.References.{department-stays, employed-changed, owned-changed, periods-changed, lines-changed}
+use Rattle.vault_core_laws.proofs.Tenures.{IsLater, all_tenured-later, tenured-later, tenured-setting, tenured-removed, tenured-admitted}
 
 -- ---- ids
 
@@ -203,6 +206,14 @@ recorded-changed v t c sound allowed = record {
   lines = lines-changed v t c sound allowed;
 }
 
+-- the vault after a change at t
+later : (v : Vault) (t : ℕ) (w : Vault) → v.last ≤ t → w.last ≡ t → w.moves ≡ v.moves → ((dept : List ℕ) → IsTrue (has_department v dept) → IsTrue (has_department w dept)) → IsLater v w
+later v t w le last moves known = record { last = omega (arith, le, last); moves = omega (arith, moves); known = known }
+
+-- all that a department admitted and received stays within the quota
+within_more : (v w : Vault) (dept : List ℕ) (more : ℕ) → sum_by size_of (items_of w dept) ≡ sum_by size_of (items_of v dept) + more → admitted_bytes v dept + received_bytes v dept + more ≤ quota → admitted_bytes w dept + received_bytes w dept ≤ quota
+within_more v w dept more sizes fits = omega (arith, got (items_of w dept), got (items_of v dept), sizes, fits)
+
 -- a vault whose buckets are set anew, each with its name and its department
 buckets_set : (v : Vault) (t : ℕ) (f : Bucket → Bucket) → ((b : Bucket) → (f b).name ≡ b.name) → ((b : Bucket) → (f b).config.dept ≡ b.config.dept) → ((b : Bucket) → HasRuleSet b → HasRuleSet (f b)) → Sound v → v.last ≤ t → AreRecorded (record v { last = t; buckets = map f v.buckets }) → Sound (record v { last = t; buckets = map f v.buckets })
 buckets_set v t f same_name same_dept same_rules sound le recorded = record {
@@ -212,7 +223,9 @@ buckets_set v t f same_name same_dept same_rules sound le recorded = record {
   in_time = IsInTime-later v.last t v.histories le sound.in_time;
   whole = sound.whole;
   placed = All-weaker (IsPlaced v) (IsPlaced (record v { last = t; buckets = map f v.buckets })) (λ h there. placed-mapped f same_name v.buckets h.entry.bucket there) v.histories sound.placed;
-  within = λ d. rw (admitted-other v.buckets (map f v.buckets) d v.histories (each (λ h. department-mapped f same_name same_dept v.buckets d h.entry.bucket) v.histories)) (sound.within d);
+  within = sound.within;
+  tenured = all_tenured-later v (record v { last = t; buckets = map f v.buckets }) (later v t (record v { last = t; buckets = map f v.buckets }) le refl refl (λ dept there. there)) (owner-mapped f same_name same_dept v.buckets) v.histories sound.tenured;
+  enough_moves = sound.enough_moves;
   ordered = recorded.ordered;
   employed = recorded.employed;
   owned = recorded.owned;
@@ -221,10 +234,6 @@ buckets_set v t f same_name same_dept same_rules sound le recorded = record {
   lines = recorded.lines;
   notes = sound.notes;
 }
-  where
-    each : {P : History → Type 0} → ((h : History) → P h) → (hs : List History) → AllByRecursion P hs
-    each p [] = tt
-    each p (h ∷ hs) = (p h, each p hs)
 
 -- ---- one setting more
 
@@ -288,6 +297,8 @@ Sound-changed v t (AddDept name) sound le allowed =
       whole = sound.whole;
       placed = sound.placed;
       within = sound.within;
+      tenured = all_tenured-later v (changed v t (AddDept name)) (later v t (changed v t (AddDept name)) le refl refl (λ dept. department-stays v t name dept)) (λ bucket. refl) v.histories sound.tenured;
+      enough_moves = sound.enough_moves;
       ordered = recorded.ordered;
       employed = recorded.employed;
       owned = recorded.owned;
@@ -305,6 +316,8 @@ Sound-changed v t (AddCaller c) sound le allowed =
       whole = sound.whole;
       placed = sound.placed;
       within = sound.within;
+      tenured = all_tenured-later v (changed v t (AddCaller c)) (later v t (changed v t (AddCaller c)) le refl refl (λ dept there. there)) (λ bucket. refl) v.histories sound.tenured;
+      enough_moves = sound.enough_moves;
       ordered = recorded.ordered;
       employed = recorded.employed;
       owned = recorded.owned;
@@ -322,6 +335,8 @@ Sound-changed v t (CloseCaller name) sound le allowed =
       whole = sound.whole;
       placed = sound.placed;
       within = sound.within;
+      tenured = all_tenured-later v (changed v t (CloseCaller name)) (later v t (changed v t (CloseCaller name)) le refl refl (λ dept there. there)) (λ bucket. refl) v.histories sound.tenured;
+      enough_moves = sound.enough_moves;
       ordered = recorded.ordered;
       employed = recorded.employed;
       owned = recorded.owned;
@@ -333,14 +348,17 @@ Sound-changed v t (CloseCaller name) sound le allowed =
 Sound-changed v t (SetDefault name default) sound le allowed = buckets_set v t (with_default name default) (name-with_default name default) (dept-with_default name default) (HasRuleSet-default name default) sound le (recorded-changed v t (SetDefault name default) sound allowed)
 Sound-changed v t (SetRules name rules) sound le allowed = buckets_set v t (with_rules name rules) (name-with_rules name rules) (dept-with_rules name rules) (HasRuleSet-rules name rules allowed.1) sound le (recorded-changed v t (SetRules name rules) sound allowed)
 Sound-changed v t (AddSetting id s) sound le allowed =
-    let recorded = recorded-changed v t (AddSetting id s) sound allowed in record {
+    let recorded = recorded-changed v t (AddSetting id s) sound allowed in
+    let tenured = all_tenured-later v (changed v t (AddSetting id s)) (later v t (changed v t (AddSetting id s)) le refl refl (λ dept there. there)) (λ bucket. refl) v.histories sound.tenured in record {
       ids = AreIdsFrom-setting id s 1 v.histories sound.ids;
       enough_ids = rw (length-map v.histories (with_setting id s)) sound.enough_ids;
       order = AreInOrder-setting id s 0 t v.histories (AreInOrder-later 0 v.last t v.histories le sound.order);
       in_time = All-map (IsInTime t) (IsInTime t) (IsInTime t) (with_setting id s) (λ h in_time same. IsInTime-setting t id s h in_time) v.histories (IsInTime-later v.last t v.histories le sound.in_time) (IsInTime-later v.last t v.histories le sound.in_time);
       whole = All-map (λ y. find (λ h. h.entry.id == y.entry.id) v.histories ≡ Some y) IsWhole IsWhole (with_setting id s) (λ h found whole. IsWhole-setting v t id s h allowed found whole) v.histories (finds_itself 1 v.histories sound.ids) sound.whole;
       placed = All-map (IsPlaced v) (IsPlaced v) (IsPlaced v) (with_setting id s) (λ h placed same. IsPlaced-setting v id s h placed) v.histories sound.placed sound.placed;
-      within = λ dept. rw (admitted-setting v.buckets dept id s v.histories) (sound.within dept);
+      within = λ dept. within_more v (changed v t (AddSetting id s)) dept 0 (omega (arith, sizes-setting dept id s v.histories)) (omega (arith, sound.within dept));
+      tenured = All-map (HasTenures (changed v t (AddSetting id s))) (HasTenures (changed v t (AddSetting id s))) (HasTenures (changed v t (AddSetting id s))) (with_setting id s) (λ h has same. tenured-setting (changed v t (AddSetting id s)) id s h has) v.histories tenured tenured;
+      enough_moves = sound.enough_moves;
       ordered = recorded.ordered;
       employed = recorded.employed;
       owned = recorded.owned;
@@ -351,8 +369,6 @@ Sound-changed v t (AddSetting id s) sound le allowed =
     }
 Sound-changed v t (AddBucket name dept) sound le allowed =
     let recorded = recorded-changed v t (AddBucket name dept) sound allowed in
-    let buckets = placed bucket_cmp (new_bucket name dept) v.buckets in
-    let same = All-weaker (IsPlaced v) (λ h. config_in buckets h.entry.bucket ≡ config_in v.buckets h.entry.bucket) (λ h there. config_in-placed v.buckets name dept h.entry.bucket allowed.0 there) v.histories sound.placed in
     record {
       ids = sound.ids;
       enough_ids = sound.enough_ids;
@@ -360,7 +376,9 @@ Sound-changed v t (AddBucket name dept) sound le allowed =
       in_time = IsInTime-later v.last t v.histories le sound.in_time;
       whole = sound.whole;
       placed = All-weaker (IsPlaced v) (IsPlaced (changed v t (AddBucket name dept))) (λ h there. rw (config_in-placed v.buckets name dept h.entry.bucket allowed.0 there) there) v.histories sound.placed;
-      within = λ d. rw (admitted-other v.buckets buckets d v.histories (All-weaker (λ h. config_in buckets h.entry.bucket ≡ config_in v.buckets h.entry.bucket) (λ h. is_of_department d (config_in buckets h.entry.bucket) ≡ is_of_department d (config_in v.buckets h.entry.bucket)) (λ h e. ap (is_of_department d) e) v.histories same)) (sound.within d);
+      within = sound.within;
+      tenured = All-both (IsPlaced v) (HasTenures v) (HasTenures (changed v t (AddBucket name dept))) (λ h there has. tenured-later v (changed v t (AddBucket name dept)) (later v t (changed v t (AddBucket name dept)) le refl refl (λ d there. there)) h (ap (λ (o : Option BucketConfig). option_map (λ c. c.dept) o) (config_in-placed v.buckets name dept h.entry.bucket allowed.0 there)) has) v.histories sound.placed sound.tenured;
+      enough_moves = sound.enough_moves;
       ordered = recorded.ordered;
       employed = recorded.employed;
       owned = recorded.owned;
@@ -377,7 +395,9 @@ Sound-changed v t (Admit a) sound le allowed =
       in_time = All-push (IsInTime t) v.histories a.history (IsInTime-later v.last t v.histories le sound.in_time) (rw allowed.held tt);
       whole = All-push IsWhole v.histories a.history sound.whole allowed.whole;
       placed = All-push (IsPlaced v) v.histories a.history sound.placed (rw allowed.placed refl);
-      within = λ dept. rw (admitted-push v.buckets dept v.histories a.history) (share_fits v.buckets a.history allowed.bucket dept quota (admitted_bytes v) allowed.placed allowed.fits (sound.within dept));
+      within = λ dept. within_more v (changed v t (Admit a)) dept (brought dept a.history) (sizes-push dept v.histories a.history) (first_fits a.history.entry.marker t allowed.bucket.dept dept a.history quota (λ d. admitted_bytes v d + received_bytes v d) allowed.tenured allowed.fits (sound.within dept));
+      tenured = All-push (HasTenures (changed v t (Admit a))) v.histories a.history (all_tenured-later v (changed v t (Admit a)) (later v t (changed v t (Admit a)) le refl refl (λ dept there. there)) (λ bucket. refl) v.histories sound.tenured) (tenured-admitted (changed v t (Admit a)) a.history allowed.bucket allowed.now allowed.held allowed.placed recorded.owned allowed.tenured);
+      enough_moves = sound.enough_moves;
       ordered = recorded.ordered;
       employed = recorded.employed;
       owned = recorded.owned;
@@ -394,7 +414,9 @@ Sound-changed v t (Remove id r) sound le allowed =
       in_time = All-map (λ h. h.entry.admitted ≤ v.last) (IsInTime v.last) (IsInTime t) (removed_if id r) (λ h early in_time. IsInTime-removed v.last t id r h le allowed.now early in_time) v.histories (admitted_by 0 v.last v.histories sound.order) sound.in_time;
       whole = All-map IsWhole IsWhole IsWhole (removed_if id r) (λ h whole same. IsWhole-removed id r h whole) v.histories sound.whole sound.whole;
       placed = All-map (IsPlaced v) (IsPlaced v) (IsPlaced v) (removed_if id r) (λ h placed same. IsPlaced-removed v id r h placed) v.histories sound.placed sound.placed;
-      within = λ dept. rw (admitted-removed v.buckets dept id r v.histories) (sound.within dept);
+      within = λ dept. within_more v (changed v t (Remove id r)) dept 0 (omega (arith, sizes-removed dept id r v.histories)) (omega (arith, sound.within dept));
+      tenured = All-map (IsInTime v.last) (HasTenures v) (HasTenures (changed v t (Remove id r))) (removed_if id r) (λ h lies has. tenured-removed v (changed v t (Remove id r)) (later v t (changed v t (Remove id r)) le refl refl (λ dept there. there)) id r h allowed.now refl lies has) v.histories sound.in_time sound.tenured;
+      enough_moves = sound.enough_moves;
       ordered = recorded.ordered;
       employed = recorded.employed;
       owned = recorded.owned;

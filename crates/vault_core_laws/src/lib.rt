@@ -4,7 +4,7 @@
 
 ghost use Rattle.std.specs.Prelude.{◌≡◌, ◌+◌, ◌++◌, ℕ, ◌≤◌, List, Some, None};
 ghost use Rattle.vault_base.specs.Days.{last_moment, day};
-ghost use Rattle.vault_tally.specs.Row.{AreBounded, AreAdmittedBy};
+ghost use Rattle.vault_tally.specs.Row.{AreBounded, AreBegunBy};
 ghost use Rattle.vault_core_model.specs.declared.change.Change.{Change};
 ghost use Rattle.vault_core_model.specs.declared.command.Timed.{Timed};
 ghost use Rattle.vault_core_model.specs.declared.records.Head.{Head};
@@ -17,18 +17,18 @@ ghost use Rattle.vault_core_model.specs.Reads.{head_of, entry_of};
 ghost use Rattle.vault_core_model.specs.Step.{Run};
 ghost use Rattle.vault_core_model.specs.Sound.{Sound};
 ghost use Rattle.vault_core_model.specs.Allowed.{Allows};
-ghost use Rattle.vault_core_model.specs.Totals.{items_of, admitted_bytes, held_bytes, removed_bytes};
+ghost use Rattle.vault_core_model.specs.Totals.{items_of, admitted_bytes, received_bytes, held_bytes, removed_bytes, handed_bytes, byte_days_at, over_departments, vault_byte_days};
 
 /// A sound vault stays sound under every change that it allows.
 pub fn allowed_changes_keep_soundness()
     ensures { (v : Vault) (t : ℕ) (c : Change) → Sound v → v.last ≤ t → Allows v t c → Sound (changed v t c) }
 {}
 
-/// The days of a sound vault's versions are in order, and no department admitted more than the quota:
-/// so no sum of a department's row overflows.
+/// The days of the tenures of a sound vault's versions are in order, and no department admitted and received
+/// more than the quota: so no sum of a department's row overflows.
 pub fn sums_of_sound_vaults_are_bounded()
     ensures bounded { (v : Vault) (dept : List ℕ) → Sound v → v.last ≤ last_moment → AreBounded (items_of v dept) }
-    ensures admitted { (v : Vault) (dept : List ℕ) (t : ℕ) → Sound v → v.last ≤ t → AreAdmittedBy (day t) (items_of v dept) }
+    ensures begun { (v : Vault) (dept : List ℕ) (t : ℕ) → Sound v → v.last ≤ t → AreBegunBy (day t) (items_of v dept) }
 {}
 
 /// In a sound vault the current entry of a key is the newest that is held: the one that its head names.
@@ -44,7 +44,33 @@ pub fn runs_go_on()
         Run v cs rs mid → Run mid ds ss end → Run v (cs ++ ds) (rs ++ ss) end }
 {}
 
-/// Of each department, the bytes that were ever admitted are those held and those removed.
-pub fn admitted_bytes_are_held_or_removed()
-    ensures { (v : Vault) (dept : List ℕ) → admitted_bytes v dept ≡ held_bytes v dept + removed_bytes v dept }
+/// Each byte that a department admitted or received is held, was removed, or was handed over.
+pub fn each_byte_has_one_place()
+    ensures { (v : Vault) (dept : List ℕ) →
+        admitted_bytes v dept + received_bytes v dept ≡ held_bytes v dept + (removed_bytes v dept + handed_bytes v dept) }
+{}
+
+/// Over all departments of a sound vault, what was received is what was handed over; so what the vault
+/// admitted is what it holds and what was removed.
+pub fn moves_balance()
+    ensures moved { (v : Vault) → Sound v → over_departments v (received_bytes v) ≡ over_departments v (handed_bytes v) }
+    ensures conserved { (v : Vault) → Sound v →
+        over_departments v (admitted_bytes v) ≡ over_departments v (held_bytes v) + over_departments v (removed_bytes v) }
+{}
+
+/// Over all departments of a sound vault, the byte-days that are charged are each version's size times its
+/// whole days held.
+pub fn days_add_up()
+    ensures { (v : Vault) (t : ℕ) → Sound v → v.last ≤ t →
+        over_departments v (λ dept. byte_days_at v dept t) ≡ vault_byte_days v t }
+{}
+
+/// As long as nothing moved, no department received bytes or handed any over: what it admitted it holds, or
+/// it was removed. No change moves anything.
+pub fn bytes_stay_until_a_move()
+    ensures received { (v : Vault) (dept : List ℕ) → Sound v → v.moves ≡ 0 → received_bytes v dept ≡ 0 }
+    ensures handed { (v : Vault) (dept : List ℕ) → Sound v → v.moves ≡ 0 → handed_bytes v dept ≡ 0 }
+    ensures conserved { (v : Vault) (dept : List ℕ) → Sound v → v.moves ≡ 0 →
+        admitted_bytes v dept ≡ held_bytes v dept + removed_bytes v dept }
+    ensures moves { (v : Vault) (t : ℕ) (c : Change) → (changed v t c).moves ≡ v.moves }
 {}
