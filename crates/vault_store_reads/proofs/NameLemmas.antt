@@ -109,12 +109,12 @@ module _ (v : Vault) (name : List ℕ) (rows : List Row) (finds : Finds v depart
       let other : is_version_of v.buckets name h ≡ false = and_right (not h.entry.marker) _ (no_bucket v name none v.buckets finds.1.spells.kept.sound.owned h.entry.bucket) in
       rw other (no_items none hs)
 
-  pub totals_of_none : ◌≡◌ {A = Option Row} None (slice_get rows 0) → IsRowFor v name (record { admitted = 0; held = 0; removed = 0; weighted = 0; closed = 0 })
+  pub totals_of_none : ◌≡◌ {A = Option Row} None (slice_get rows 0) → IsRowFor v name (record { admitted = 0; received = 0; held = 0; removed = 0; handed = 0; weighted = 0; closed = 0 })
   totals_of_none none =
       let gone = none_of row_in (filter (λ d. bytes_eq d name) v.departments) rows departments_found none in
       let missing : has_department v name ≡ false = any_left (λ d. bytes_eq d name) v.departments ∙ ap (λ (ds : List (List ℕ)). not (length ds == 0)) gone in
       let empty : items_of v name ≡ [] = ap (map item_of) (no_items missing v.histories) in
-      subst (IsRowOf (record { admitted = 0; held = 0; removed = 0; weighted = 0; closed = 0 })) (sym empty) (record { admitted = refl; held = refl; removed = refl; weighted = refl; closed = refl })
+      subst (IsRowOf (record { admitted = 0; received = 0; held = 0; removed = 0; handed = 0; weighted = 0; closed = 0 })) (sym empty) (record { admitted = refl; held = refl; removed = refl; weighted = refl; closed = refl })
 
 -- ---- callers
 
