@@ -87,7 +87,7 @@ module _ (n : Edition) (db : Database) (m : MetaRow) (schema : db.schema ≡ sch
         sums_are = summed.1;
       } in
       let v = found_vault m departments.0 callers.0 buckets.0 notes.0 contents settings in
-      let same : map (λ (h : History). h.entry) v.histories ≡ es = joined_entries contents settings (contents_are.0 ∙ sym settings_are.0) ∙ contents_are.0 in
+      let same : map (λ (h : History). h.entry) v.histories ≡ es = joined_entries buckets.0 contents settings (contents_are.0 ∙ sym settings_are.0) ∙ contents_are.0 in
       let sound : AreSoundAs n db v = record {
         spells = found_spelled n db m departments.0 callers.0 buckets.0 notes.0 es contents settings summed.0 all;
         numbers = found_sums n db m departments.0 callers.0 buckets.0 notes.0 es contents settings summed.0 all;

@@ -20,10 +20,11 @@ use Rattle.vault_audit_model.specs.Relations.{department_with}
 use Rattle.vault_audit_model.specs.Rows.{department_row, department_columns}
 use Rattle.vault_audit_model.specs.Spells.{SpellsAs, sums_over, department_in}
 use Rattle.vault_audit_model.specs.Tables.{departments_tree}
+use Rattle.vault_audit_model.specs.Tenures.{items_with}
 use Rattle.vault_audit_laws.specs.Ties.{is_among}
 use Rattle.vault_audit_laws.proofs.RecordTies.{callers_employed, buckets_owned, entries_placed}
 use Rattle.vault_audit_parts.specs.Parts.{AreParts, joined}
-use Rattle.vault_audit_parts.proofs.JoinLemmas.{items_same, joined_entries}
+use Rattle.vault_audit_parts.proofs.JoinLemmas.{joined_items}
 use Rattle.vault_audit_parts.proofs.PartLemmas.{spelled}
 use Rattle.vault_audit_found.specs.Found.{AreFound, names_of, found_vault, HaveSums}
 use Rattle.vault_audit_found.proofs.NameLemmas.{name_column, names_are, same_names, by_name}
@@ -81,8 +82,8 @@ module _ (ed : Edition) (db : Database) (m : MetaRow) (departments : List Depart
   pub found_spelled : SpellsAs ed db (found_vault m departments callers buckets notes contents settings)
   found_spelled = spelled ed db m names callers buckets notes entries contents settings parts
 
-  same_items : (dept : List ℕ) → items_in buckets dept contents ≡ items_in buckets dept (joined contents settings)
-  same_items dept = items_same buckets dept contents (joined contents settings) (sym (joined_entries contents settings (are.contents_are.0 ∙ sym are.settings_are.0)))
+  same_items : (dept : List ℕ) → items_with buckets dept contents ≡ items_in dept (joined buckets contents settings)
+  same_items dept = sym (joined_items buckets dept contents settings (are.contents_are.0 ∙ sym are.settings_are.0))
 
   same_rows : (ns : List (List ℕ)) → map (λ n. department_row (department_with buckets contents n)) ns ≡ map (λ n. department_row (department_in (found_vault m departments callers buckets notes contents settings) n)) ns
   same_rows [] = refl

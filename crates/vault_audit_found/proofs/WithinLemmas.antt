@@ -1,16 +1,19 @@
--- A department that isn't there has no versions.
-use Rattle.std.proofs.Common.{◌≡◌, ◌≤◌, ◌&&◌, ◌||◌, not, ℕ, List, [], ◌∷◌, map, filter, find, cond, option_map, sum_by, Bool, true, false, Option, Some, IsTrue, refl, sym, ap, subst, ◌∙◌, arith}
+-- A department that isn't there has no tenures.
+use Rattle.std.proofs.Common.{◌≡◌, ◌+◌, ◌≤◌, ◌||◌, ℕ, List, [], ◌∷◌, ◌++◌, map, cond, sum_by, Bool, true, false, Option, Some, None, IsTrue, refl, sym, ap, subst, ◌∙◌, arith}
 use Rattle.std.specs.List.{AllByRecursion}
 use Rattle.std.specs.Str.{bytes_eq}
 use Rattle.std.proofs.lemmas.Slice.Eq.{bytes_eq-Decides}
 use Rattle.std.proofs.lemmas.Bool.{false_from_ne_true}
-use Rattle.vault_tally.specs.Row.{size_of, quota}
+use Rattle.vault_tally.specs.Row.{Item, admitted_size, received_size, quota}
 use Rattle.vault_core_model.specs.declared.records.Bucket.{Bucket}
+use Rattle.vault_core_model.specs.declared.records.BucketConfig.{BucketConfig}
 use Rattle.vault_core_model.specs.declared.records.History.{History}
-use Rattle.vault_core_model.specs.Totals.{item_of, items_in, is_of_department, is_version_of}
+use Rattle.vault_core_model.specs.Totals.{Share, share, shares_from, removal_day, items_by}
 use Rattle.vault_core_model.specs.Vault.{config_in}
 use Rattle.vault_audit_model.specs.Relations.{IsWithin}
+use Rattle.vault_audit_model.specs.Tenures.{first_tenures, items_with}
 use Rattle.vault_audit_laws.specs.Ties.{is_among}
+use Rattle.vault_audit_parts.proofs.TenureLemmas.{IsOf, of_found}
 
 module _ (names : List (List ℕ)) (dept : List ℕ) (none : is_among names dept ≡ false) where
   not_its : (name : List ℕ) → IsTrue (is_among names name) → bytes_eq name dept ≡ false
@@ -19,27 +22,19 @@ module _ (names : List (List ℕ)) (dept : List ℕ) (none : is_among names dept
       let same : name ≡ dept = (bytes_eq-Decides name dept).0 yes in
       let both : ◌≡◌ {A = Bool} true false = sym there ∙ ap (is_among names) same ∙ none in absurd cc)
 
-  found_owner : (test : Bool) (b : Bucket) (found : Option Bucket) → IsTrue (is_among names b.config.dept) → is_of_department dept (option_map (λ (x : Bucket). x.config) found) ≡ false
-      → is_of_department dept (option_map (λ (x : Bucket). x.config) (cond test (Some b) found)) ≡ false
-  found_owner true b found there rest = not_its b.config.dept there
-  found_owner false b found there rest = rest
+  none_of : (h : History) (marker : Bool) (config : Option BucketConfig) → IsOf (is_among names) config
+      → items_by dept (shares_from h.entry.size h.entry.removal true (first_tenures marker h.entry.admitted config)) ≡ []
+  none_of h true config there = refl
+  none_of h false None there = refl
+  none_of h false (Some c) there =
+      let first = share h.entry.size true (record { dept = c.dept; from = h.entry.admitted; number = 0 }) (removal_day h.entry.removal) true in
+      ap (λ (its : Bool). map (λ (s : Share). s.item) (cond its (first ∷ []) [])) (not_its c.dept there)
 
-  no_owner : (bs : List Bucket) (bucket : List ℕ) → AllByRecursion (λ (b : Bucket). IsTrue (is_among names b.config.dept)) bs → is_of_department dept (config_in bs bucket) ≡ false
-  no_owner [] bucket owned = refl
-  no_owner (b ∷ bs) bucket owned = found_owner (bytes_eq b.name bucket) b (find (λ c. bytes_eq c.name bucket) bs) owned.0 (no_owner bs bucket owned.1)
-
-  none_of : (marker : Bool) → (not marker && false) ≡ false
-  none_of true = refl
-  none_of false = refl
-
-  dropped : (b : Bool) (h : History) (hs : List History) → b ≡ false → map item_of hs ≡ [] → map item_of (cond b (h ∷ hs) hs) ≡ []
-  dropped true h hs is rest = absurd cc
-  dropped false h hs is rest = rest
-
-  pub no_items : (bs : List Bucket) (hs : List History) → AllByRecursion (λ (b : Bucket). IsTrue (is_among names b.config.dept)) bs → items_in bs dept hs ≡ []
+  pub no_items : (bs : List Bucket) (hs : List History) → AllByRecursion (λ (b : Bucket). IsTrue (is_among names b.config.dept)) bs → items_with bs dept hs ≡ []
   no_items bs [] owned = refl
   no_items bs (h ∷ hs) owned =
-      dropped (is_version_of bs dept h) h (filter (is_version_of bs dept) hs) (ap (λ t. not h.entry.marker && t) (no_owner bs h.entry.bucket owned) ∙ none_of h.entry.marker) (no_items bs hs owned)
+      ap (λ (items : List Item). items ++ items_with bs dept hs) (none_of h h.entry.marker (config_in bs h.entry.bucket) (of_found (is_among names) bs h.entry.bucket owned))
+      ∙ no_items bs hs owned
 
 within_of : (bs : List Bucket) (hs : List History) (dept : List ℕ) (names : List (List ℕ)) → IsTrue (is_among names dept) → AllByRecursion (IsWithin bs hs) names → IsWithin bs hs dept
 within_of bs hs dept [] there all = absurd cc
@@ -55,4 +50,4 @@ each_within bs hs names owned all dept = by (is_among names dept) refl
   where
     by : (b : Bool) → is_among names dept ≡ b → IsWithin bs hs dept
     by true there = within_of bs hs dept names there all
-    by false none = subst (λ items. sum_by size_of items ≤ quota) (sym (no_items names dept none bs hs owned)) (omega arith)
+    by false none = subst (λ (items : List Item). sum_by admitted_size items + sum_by received_size items ≤ quota) (sym (no_items names dept none bs hs owned)) (omega arith)

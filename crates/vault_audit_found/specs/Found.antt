@@ -29,7 +29,7 @@ names_of ds = map (λ (d : DepartmentRow). d.name) ds
 abbrev pub found_vault : MetaRow → List DepartmentRow → List Caller → List Bucket → List Note → List History → List History → Vault
 found_vault m departments callers buckets notes contents settings = vault_of m (names_of departments) callers buckets notes contents settings
 
--- the rows of departments have the five sums over the versions of the vault
+-- the rows of departments have the sums over the tenures of the vault
 abbrev pub HaveSums : Database → Vault → Type 0
 HaveSums db v = IsPermutation (map (λ d. department_row (department_in v d)) v.departments) (map department_columns (db.trees departments_tree))
 

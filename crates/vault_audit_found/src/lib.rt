@@ -16,7 +16,7 @@ ghost use Rattle.vault_audit_model.specs.Spells.{SpellsAs};
 ghost use Rattle.vault_audit_found.specs.Found.{AreFound, found_vault, HaveSums};
 
 /// What the looks find is a vault that the rows spell, and the rows of departments have the sums over
-/// its versions.
+/// its tenures.
 pub fn looks_find_a_vault()
     ensures spelled { (ed : Edition) (db : Database) (m : MetaRow) (departments : List DepartmentRow) (callers : List Caller) (buckets : List Bucket)
         (notes : List Note) (entries : List Entry) (contents settings : List History) (summed : List (List ℕ)) →

@@ -16,6 +16,7 @@ use Rattle.vault_core_model.specs.declared.records.Entry.{Entry}
 use Rattle.vault_core_model.specs.declared.records.History.{History}
 use Rattle.vault_core_model.specs.declared.records.Note.{Note}
 use Rattle.vault_core_model.specs.declared.records.Setting.{Setting}
+use Rattle.vault_core_model.specs.declared.records.Tenure.{Tenure}
 use Rattle.vault_core_model.specs.Order.{IsAscending, name_cmp, caller_cmp, bucket_cmp, note_cmp}
 use Rattle.vault_core_model.specs.Sound.{AreIdsFrom, HasRuleSet}
 use Rattle.vault_core_model.specs.Vault.{Vault}
@@ -27,6 +28,7 @@ use Rattle.vault_audit_model.specs.Editions.{newest}
 use Rattle.vault_audit_model.specs.Rows.{meta_row, caller_row, bucket_row, rule_row, entry_row, content_row, setting_row, note_row, meta_columns, caller_columns, bucket_columns, rule_columns_as, entry_columns, content_columns, setting_columns, note_columns}
 use Rattle.vault_audit_model.specs.Spells.{SpellsAs, meta_as, bucket_of, rules_from, rules_if_given, rules_in, content_if_given, contents_in, settings_from, settings_in}
 use Rattle.vault_audit_model.specs.Tables.{meta_tree, departments_tree, callers_tree, buckets_tree, rules_tree, entries_tree, contents_tree, settings_tree, intake_tree}
+use Rattle.vault_audit_model.specs.Tenures.{HasFirstTenures, tenures_in}
 use Rattle.vault_audit_model.proofs.SameRows.{text_same, same_meta, same_caller, same_bucket, same_rule, same_entry, same_content, same_setting, same_note}
 use Rattle.vault_core_laws.proofs.NameOrder.{callers_total, buckets_total, notes_total}
 use Rattle.vault_audit_laws.proofs.Members.{IsWithin, matched, within_by_rows, tied_same, same_ascending, AreNumberedFrom, ascending_numbered, by_number_total, same_parts}
@@ -131,18 +133,18 @@ bucket_with name config rules = record { name = name; config = config; rules = r
 alike_buckets : (a b : List ℕ) (c d : BucketConfig) (e f : Option (List Rule)) → a ≡ b → c ≡ d → e ≡ f → bucket_with a c e ≡ bucket_with b d f
 alike_buckets a b c d e f p q r = rw (p, q, r) refl
 
-abbrev history_with : Entry → Option (List ℕ) → List Setting → History
-history_with entry content settings = record { entry = entry; content = content; settings = settings }
+abbrev history_with : Entry → Option (List ℕ) → List Setting → List Tenure → History
+history_with entry content settings tenures = record { entry = entry; content = content; settings = settings; tenures = tenures }
 
-alike_histories : (a b : Entry) (c d : Option (List ℕ)) (e f : List Setting) → a ≡ b → c ≡ d → e ≡ f → history_with a c e ≡ history_with b d f
-alike_histories a b c d e f p q r = rw (p, q, r) refl
+alike_histories : (a b : Entry) (c d : Option (List ℕ)) (e f : List Setting) (g h : List Tenure) → a ≡ b → c ≡ d → e ≡ f → g ≡ h → history_with a c e g ≡ history_with b d f h
+alike_histories a b c d e f g h p q r s = rw (p, q, r, s) refl
 
-abbrev vault_with : ℕ → List (List ℕ) → List Caller → List Bucket → List Note → List History → Vault
-vault_with last departments callers buckets notes histories =
-    record { last = last; departments = departments; callers = callers; buckets = buckets; notes = notes; histories = histories }
+abbrev vault_with : ℕ → List (List ℕ) → List Caller → List Bucket → List Note → List History → ℕ → Vault
+vault_with last departments callers buckets notes histories moves =
+    record { last = last; departments = departments; callers = callers; buckets = buckets; notes = notes; histories = histories; moves = moves }
 
-alike_vaults : (a0 a1 : ℕ) (b0 b1 : List (List ℕ)) (c0 c1 : List Caller) (d0 d1 : List Bucket) (e0 e1 : List Note) (f0 f1 : List History) → a0 ≡ a1 → b0 ≡ b1 → c0 ≡ c1 → d0 ≡ d1 → e0 ≡ e1 → f0 ≡ f1 → vault_with a0 b0 c0 d0 e0 f0 ≡ vault_with a1 b1 c1 d1 e1 f1
-alike_vaults a0 a1 b0 b1 c0 c1 d0 d1 e0 e1 f0 f1 p q r s t u = rw (p, q, r, s, t, u) refl
+alike_vaults : (a0 a1 : ℕ) (b0 b1 : List (List ℕ)) (c0 c1 : List Caller) (d0 d1 : List Bucket) (e0 e1 : List Note) (f0 f1 : List History) (g0 g1 : ℕ) → a0 ≡ a1 → b0 ≡ b1 → c0 ≡ c1 → d0 ≡ d1 → e0 ≡ e1 → f0 ≡ f1 → g0 ≡ g1 → vault_with a0 b0 c0 d0 e0 f0 g0 ≡ vault_with a1 b1 c1 d1 e1 f1 g1
+alike_vaults a0 a1 b0 b1 c0 c1 d0 d1 e0 e1 f0 f1 g0 g1 p q r s t u w = rw (p, q, r, s, t, u, w) refl
 
 -- ---- what the one vault has the other has
 
@@ -197,6 +199,16 @@ module _ (n : Edition) (db : Database) where
       let found = matched (λ b. bucket_row (bucket_of b)) v.buckets w.buckets (map bucket_columns (db.trees buckets_tree)) it.buckets is.buckets a in_v in
       subst (λ b. Has w.buckets b) (sym (same_bucket_there v w it is a found.0 in_v found.1 (same_bucket (bucket_of a) (bucket_of found.0) found.2))) found.1
 
+  same_buckets : (v w : Vault) → SpellsAs n db v → SpellsAs n db w → v.buckets ≡ w.buckets
+  same_buckets v w it is =
+      same_ascending bucket_cmp buckets_total v.buckets w.buckets it.kept.sound.ordered.buckets is.kept.sound.ordered.buckets (buckets_within v w it is) (buckets_within w v is it)
+
+  -- the tenures follow from the entry and the buckets
+  same_tenures : (v w : Vault) → SpellsAs n db v → SpellsAs n db w → (g h : History) → Has v.histories g → Has w.histories h → g.entry ≡ h.entry → g.tenures ≡ h.tenures
+  same_tenures v w it is g h in_v in_w same =
+      all_has (HasFirstTenures v.buckets) v.histories g it.kept.unmoved.tenures in_v ∙ ap (λ (bs : List Bucket). tenures_in bs g.entry) (same_buckets v w it is)
+      ∙ ap (tenures_in w.buckets) same ∙ sym (all_has (HasFirstTenures w.buckets) w.histories h is.kept.unmoved.tenures in_w)
+
   same_history_there : (v w : Vault) → SpellsAs n db v → SpellsAs n db w → (g h : History) → Has v.histories g → Has w.histories h → g.entry ≡ h.entry → g ≡ h
   same_history_there v w it is g h in_v in_w same =
       let id : g.entry.id ≡ h.entry.id = ap (λ e. e.id) same in
@@ -206,7 +218,7 @@ module _ (n : Edition) (db : Database) where
       let settings : g.settings ≡ h.settings =
       same_settings g.entry.id 1 g.settings h.settings (subst (λ i. IsWithin (settings_in g) (settings_from i 1 h.settings)) (sym id) (history_settings v w it is g h in_v in_w id))
       (subst (λ i. IsWithin (settings_from i 1 h.settings) (settings_in g)) (sym id) (history_settings w v is it h g in_w in_v (sym id))) in
-      alike_histories g.entry h.entry g.content h.content g.settings h.settings same content settings
+      alike_histories g.entry h.entry g.content h.content g.settings h.settings g.tenures h.tenures same content settings (same_tenures v w it is g h in_v in_w same)
 
   histories_within : (v w : Vault) → SpellsAs n db v → SpellsAs n db w → IsWithin v.histories w.histories
   histories_within v w it is g in_v =
@@ -226,13 +238,14 @@ pub same_vault_as : (n : Edition) (db : Database) (v w : Vault) → SpellsAs n d
 same_vault_as n db v w it is =
     let first = it.kept.sound.ordered in
     let second = is.kept.sound.ordered in
-    alike_vaults v.last w.last v.departments w.departments v.callers w.callers v.buckets w.buckets v.notes w.notes v.histories w.histories
+    alike_vaults v.last w.last v.departments w.departments v.callers w.callers v.buckets w.buckets v.notes w.notes v.histories w.histories v.moves w.moves
     (same_last n db v w it is)
     (same_ascending name_cmp nat_list_cmp_total v.departments w.departments first.departments second.departments (departments_within n db v w it is) (departments_within n db w v is it))
     (same_ascending caller_cmp callers_total v.callers w.callers first.callers second.callers (callers_within n db v w it is) (callers_within n db w v is it))
-    (same_ascending bucket_cmp buckets_total v.buckets w.buckets first.buckets second.buckets (buckets_within n db v w it is) (buckets_within n db w v is it))
+    (same_buckets n db v w it is)
     (same_ascending note_cmp notes_total v.notes w.notes first.notes second.notes (notes_within n db v w it is) (notes_within n db w v is it))
     (same_ascending (on id_of nat_cmp) (by_number_total id_of) v.histories w.histories (ordered_ids n db v it) (ordered_ids n db w is) (histories_within n db v w it is) (histories_within n db w v is it))
+    (it.kept.unmoved.moves ∙ sym is.kept.unmoved.moves)
 
 pub same_vault : (db : Database) (v w : Vault) → SpellsAs newest db v → SpellsAs newest db w → v ≡ w
 same_vault db v w it is = same_vault_as newest db v w it is

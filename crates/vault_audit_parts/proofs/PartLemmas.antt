@@ -1,5 +1,5 @@
 -- The vault of the parts is sound, in its limits, and spelled by the rows.
-use Rattle.std.proofs.Common.{◌≡◌, ℕ, ◌+◌, ◌≤◌, ◌==◌, List, [], ◌∷◌, ◌++◌, length, map, filter, flat_map, find, option_map, sum_by, Bool, true, false, Some, None, Option, IsSome, IsTrue, IfSome, IsPermutation, nat_le, refl, sym, ap, subst, ◌∙◌, arith}
+use Rattle.std.proofs.Common.{◌≡◌, ℕ, ◌+◌, ◌≤◌, ◌==◌, List, [], ◌∷◌, length, map, find, sum_by, Bool, true, false, Some, None, Option, IsSome, IsTrue, IfSome, IsPermutation, refl, sym, ap, subst, ◌∙◌, arith}
 use Rattle.std.specs.List.{AllByRecursion}
 use Rattle.std.proofs.lemmas.List.{length-map}
 use Rattle.sqlite_trees.proofs.ListLemmas.{map-map}
@@ -9,30 +9,31 @@ use Rattle.vault_lock.specs.declared.retention.Default.{Default}
 use Rattle.vault_lock.specs.Retention.{is_period}
 use Rattle.vault_rules.specs.Rules.{is_rule_set, passes_if_given}
 use Rattle.vault_rules.specs.declared.rule.Rule.{Rule}
-use Rattle.vault_tally.specs.Row.{size_of, quota}
+use Rattle.vault_tally.specs.Row.{Item, admitted_size, received_size, quota}
 use Rattle.vault_core_model.specs.declared.records.Bucket.{Bucket}
 use Rattle.vault_core_model.specs.declared.records.Caller.{Caller}
 use Rattle.vault_core_model.specs.declared.records.Entry.{Entry}
 use Rattle.vault_core_model.specs.declared.records.History.{History}
 use Rattle.vault_core_model.specs.declared.records.Note.{Note}
-use Rattle.vault_core_model.specs.declared.records.Removal.{Removal}
 use Rattle.vault_core_model.specs.declared.records.Setting.{Setting}
-use Rattle.vault_core_model.specs.Checks.{most_content, most_ids, most_settings, has_period}
+use Rattle.vault_core_model.specs.declared.records.Tenure.{Tenure}
+use Rattle.vault_core_model.specs.Checks.{most_content, most_ids, has_period}
 use Rattle.vault_core_model.specs.IntakeOutcome.{is_line}
-use Rattle.vault_core_model.specs.Order.{IsAscending, name_cmp, caller_cmp, bucket_cmp, note_cmp}
-use Rattle.vault_core_model.specs.Sound.{Sound, AreIdsFrom, AreInOrder, IsInTime, HasItsBytes, IsWhole, IsWholeAs, IsPlaced, IsNoted, NamesItsVersion, HasLine, HasPeriod, HasRuleSet, IsInNameOrder, LiesBetween}
+use Rattle.vault_core_model.specs.Sound.{Sound, AreIdsFrom, AreInOrder, IsInTime, IsWhole, IsWholeAs, HasTenures, IsPlaced, IsNoted, NamesItsVersion, IsInNameOrder, LiesBetween}
 use Rattle.vault_core_model.specs.Totals.{items_in}
 use Rattle.vault_core_model.specs.Vault.{next_id, Vault, config_in}
 use Rattle.vault_audit_model.specs.declared.schema.Edition.{Edition}
 use Rattle.vault_audit_model.specs.declared.rows.MetaRow.{MetaRow}
-use Rattle.vault_audit_model.specs.Limits.{IsInLimits, IsHistory, IsEntry, IsSizedAs, IsSetting, IsBucket, AreRules, IsRule, IsNote}
+use Rattle.vault_audit_model.specs.Limits.{IsInLimits, IsHistory, IsEntry, IsSizedAs, IsBucket, AreRules, IsNote}
 use Rattle.vault_audit_model.specs.Relations.{AreNumbered, IsPast, HasContent, HasContentAs, HasSettings, HasSettingsAs, NamesOneOf}
 use Rattle.vault_audit_model.specs.Rows.{meta_row, meta_columns, entry_row, entry_columns, content_row, content_columns, setting_row, setting_columns}
-use Rattle.vault_audit_model.specs.Spells.{SpellsAs, IsKept, contents_in, settings_in, meta_as, entries_in}
+use Rattle.vault_audit_model.specs.Spells.{SpellsAs, meta_as, entries_in}
 use Rattle.vault_audit_model.specs.Tables.{meta_tree, entries_tree, contents_tree, settings_tree}
+use Rattle.vault_audit_model.specs.Tenures.{HasFirstTenures}
 use Rattle.vault_audit_model.proofs.ListLemmas.{all_as, all_both}
 use Rattle.vault_audit_parts.specs.Parts.{AreParts, joined, vault_of}
-use Rattle.vault_audit_parts.proofs.JoinLemmas.{joined_entries, joined_contents, joined_settings, items_same, entry_found, joined_contents_are, joined_settings_are}
+use Rattle.vault_audit_parts.proofs.JoinLemmas.{joined_entries, joined_contents, joined_settings, joined_tenures, joined_items, entry_found, joined_contents_are, joined_settings_are}
+use Rattle.vault_audit_parts.proofs.TenureLemmas.{first_tenured}
 
 -- ---- lists
 
@@ -69,12 +70,12 @@ sized : (e : Entry) (size : ℕ) (digest : Option (List ℕ)) → IsSizedAs fals
 sized e size None is = elim is [ ]
 sized e size (Some d) is = is.0
 
-whole_as : (marker : Bool) (e : Entry) (content : Option (List ℕ)) (settings : List Setting) → IsSizedAs marker e.size e.digest → HasContentAs marker (record { entry = e; content = content; settings = settings }) → HasSettingsAs marker (record { entry = e; content = content; settings = settings }) → IsWholeAs marker e content settings
-whole_as true e content settings is has sets = (is.0, is.1, has, sets)
-whole_as false e content settings is has sets = (sized e e.size e.digest is, has, sets.0, sets.1)
+whole_as : (marker : Bool) (e : Entry) (content : Option (List ℕ)) (settings : List Setting) (tenures : List Tenure) → IsSizedAs marker e.size e.digest → HasContentAs marker (record { entry = e; content = content; settings = settings; tenures = tenures }) → HasSettingsAs marker (record { entry = e; content = content; settings = settings; tenures = tenures }) → IsWholeAs marker e content settings
+whole_as true e content settings tenures is has sets = (is.0, is.1, has, sets)
+whole_as false e content settings tenures is has sets = (sized e e.size e.digest is, has, sets.0, sets.1)
 
 whole : (h : History) → (IsEntry h.entry × HasContent h) × HasSettings h → IsWhole h
-whole h ((is, has), sets) = whole_as h.entry.marker h.entry h.content h.settings is.sized has sets.0
+whole h ((is, has), sets) = whole_as h.entry.marker h.entry h.content h.settings h.tenures is.sized has sets.0
 
 limited : (h : History) → (IsEntry h.entry × HasContent h) × HasSettings h → IsHistory h
 limited h ((is, has), sets) = record { entry = is; settings = sets.1 }
@@ -96,7 +97,7 @@ line n (low, high) = grind (arith, low, high)
 
 module _ (ed : Edition) (db : Database) (m : MetaRow) (departments : List (List ℕ)) (callers : List Caller) (buckets : List Bucket) (notes : List Note) (entries : List Entry) (contents settings : List History) (are : AreParts ed db m departments callers buckets notes entries contents settings) where
   abbrev hs : List History
-  hs = joined contents settings
+  hs = joined buckets contents settings
 
   abbrev v : Vault
   v = vault_of m departments callers buckets notes contents settings
@@ -105,7 +106,7 @@ module _ (ed : Edition) (db : Database) (m : MetaRow) (departments : List (List 
   same_entries = are.contents_are.0 ∙ sym are.settings_are.0
 
   hs_entries : entries_in hs ≡ entries
-  hs_entries = joined_entries contents settings same_entries ∙ are.contents_are.0
+  hs_entries = joined_entries buckets contents settings same_entries ∙ are.contents_are.0
 
   numbered : AreNumbered 1 0 (entries_in hs)
   numbered = subst (AreNumbered 1 0) (sym hs_entries) are.entries_are.1
@@ -116,11 +117,12 @@ module _ (ed : Edition) (db : Database) (m : MetaRow) (departments : List (List 
   each : AllByRecursion (λ (h : History). (IsEntry h.entry × HasContent h) × HasSettings h) hs
   each =
       all_both (λ (h : History). IsEntry h.entry × HasContent h) HasSettings hs
-      (all_both (λ (h : History). IsEntry h.entry) HasContent hs (all_of_entries IsEntry hs (entries_are_in_limits 1 0 (entries_in hs) numbered)) (joined_contents_are contents settings same_entries are.contents_are.2))
-      (joined_settings_are contents settings same_entries are.settings_are.2)
+      (all_both (λ (h : History). IsEntry h.entry) HasContent hs (all_of_entries IsEntry hs (entries_are_in_limits 1 0 (entries_in hs) numbered)) (joined_contents_are buckets contents settings same_entries are.contents_are.2))
+      (joined_settings_are buckets contents settings same_entries are.settings_are.2)
 
-  within : (dept : List ℕ) → sum_by size_of (items_in buckets dept hs) ≤ quota
-  within dept = subst (λ is. sum_by size_of is ≤ quota) (sym (items_same buckets dept hs contents (joined_entries contents settings same_entries))) (are.within dept)
+  within : (dept : List ℕ) → sum_by admitted_size (items_in dept hs) + sum_by received_size (items_in dept hs) ≤ quota
+  within dept =
+      subst (λ (is : List Item). sum_by admitted_size is + sum_by received_size is ≤ quota) (sym (joined_items buckets dept contents settings same_entries)) (are.within dept)
 
   many : length hs ≡ length entries
   many =
@@ -137,6 +139,15 @@ module _ (ed : Edition) (db : Database) (m : MetaRow) (departments : List (List 
 
   places : AllByRecursion (IsPlaced v) hs
   places = all_of_entries (λ e. IsSome (config_in buckets e.bucket)) hs (subst (AllByRecursion (λ (e : Entry). IsSome (config_in buckets e.bucket))) (sym hs_entries) are.placed)
+
+  firsts : AllByRecursion (HasFirstTenures buckets) hs
+  firsts = joined_tenures buckets contents settings
+
+  tenured : AllByRecursion (HasTenures v) hs
+  tenured =
+      all_as (λ (h : History) (it : (HasFirstTenures buckets h × IsPlaced v h) × IsPast m.last h.entry). first_tenured v are.owned h it.0.0 it.0.1 it.1) hs
+      (all_both (λ (h : History). HasFirstTenures buckets h × IsPlaced v h) (λ (h : History). IsPast m.last h.entry) hs
+      (all_both (HasFirstTenures buckets) (IsPlaced v) hs firsts places) (all_of_entries (IsPast m.last) hs past))
 
   named : (n : Note) → NamesOneOf entries n → NamesItsVersion v n
   named n is =
@@ -155,6 +166,8 @@ module _ (ed : Edition) (db : Database) (m : MetaRow) (departments : List (List 
     whole = all_as whole hs each;
     placed = places;
     within = within;
+    tenured = tenured;
+    enough_moves = omega arith;
     ordered = names;
     employed = are.employed;
     owned = are.owned;
@@ -192,8 +205,8 @@ module _ (ed : Edition) (db : Database) (m : MetaRow) (departments : List (List 
     buckets = are.buckets_are.0;
     rules = are.buckets_are.1;
     entries = entry_rows;
-    contents = subst (λ rows. IsPermutation (map content_row rows) (map content_columns (db.trees contents_tree))) (sym (joined_contents contents settings same_entries)) are.contents_are.1;
-    settings = subst (λ rows. IsPermutation (map setting_row rows) (map setting_columns (db.trees settings_tree))) (sym (joined_settings contents settings same_entries)) are.settings_are.1;
+    contents = subst (λ rows. IsPermutation (map content_row rows) (map content_columns (db.trees contents_tree))) (sym (joined_contents buckets contents settings same_entries)) are.contents_are.1;
+    settings = subst (λ rows. IsPermutation (map setting_row rows) (map setting_columns (db.trees settings_tree))) (sym (joined_settings buckets contents settings same_entries)) are.settings_are.1;
     intake = are.notes_are.0;
-    kept = record { limits = limits; sound = sound };
+    kept = record { limits = limits; sound = sound; unmoved = record { moves = refl; tenures = firsts } };
   }

@@ -1,5 +1,5 @@
 -- What the tables tell, each by itself, and the vault that this makes.
-use Rattle.std.specs.Prelude.{◌≡◌, ℕ, ◌+◌, ◌≤◌, List, [], ◌∷◌, length, map, IsSome, IsTrue, IsPermutation}
+use Rattle.std.specs.Prelude.{◌≡◌, ℕ, ◌+◌, List, [], ◌∷◌, length, map, IsSome, IsTrue, IsPermutation}
 use Rattle.std.specs.List.{AllByRecursion, list_any}
 use Rattle.std.specs.Str.{bytes_eq}
 use Rattle.sqlite_value.specs.declared.value.Value.TheVariants.{Text}
@@ -20,6 +20,7 @@ use Rattle.vault_audit_model.specs.Limits.{IsMetaRow, IsPlainName, IsCaller}
 use Rattle.vault_audit_model.specs.Relations.{AreEntries, AreContents, AreSettings, AreNotes, AreBuckets, IsPast, IsWithin}
 use Rattle.vault_audit_model.specs.Rows.{meta_row, caller_row, meta_columns, caller_columns}
 use Rattle.vault_audit_model.specs.Tables.{schema_of, meta_tree, departments_tree, callers_tree}
+use Rattle.vault_audit_model.specs.Tenures.{tenures_in}
 
 -- the rows of departments have these names
 abbrev pub AreDepartments : Database → List (List ℕ) → Type 0
@@ -46,11 +47,11 @@ IsAmong ds name = IsTrue (list_any (λ d. bytes_eq d name) ds)
 abbrev pub WorksFor : List (List ℕ) → Caller → Type 0
 WorksFor ds c = IsTrue (passes_if_given (λ name. list_any (λ d. bytes_eq d name) ds) c.dept)
 
--- the contents are those of the first, the settings those of the second; both are of the same entries
-abbrev pub joined : List History → List History → List History
-joined [] ss = []
-joined (c ∷ cs) [] = []
-joined (c ∷ cs) (s ∷ ss) = record { entry = c.entry; content = c.content; settings = s.settings } ∷ joined cs ss
+-- the contents are those of the first, the settings those of the second; both are of the same entries, and the tenures are those that the buckets tell
+abbrev pub joined : List Bucket → List History → List History → List History
+joined bs [] ss = []
+joined bs (c ∷ cs) [] = []
+joined bs (c ∷ cs) (s ∷ ss) = record { entry = c.entry; content = c.content; settings = s.settings; tenures = tenures_in bs c.entry } ∷ joined bs cs ss
 
 -- the vault of these parts
 abbrev pub vault_of : MetaRow → List (List ℕ) → List Caller → List Bucket → List Note → List History → List History → Vault
@@ -60,7 +61,8 @@ vault_of m departments callers buckets notes contents settings = record {
   callers = callers;
   buckets = buckets;
   notes = notes;
-  histories = joined contents settings;
+  histories = joined buckets contents settings;
+  moves = 0;
 }
 
 -- what each table tells by itself, and what ties them to each other

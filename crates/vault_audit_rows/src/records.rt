@@ -59,7 +59,7 @@ pub fn read_meta(row: &Row) -> Result<MetaRow, Misread>
 fn sums(row: &Row) -> Option<Sums>
     ensures { MatchOption result
         ((s : SumsOf) → column row.now 1 ≡ value s.admitted → column row.now 2 ≡ value s.held → column row.now 3 ≡ value s.removed → column row.now 4 ≡ value s.weighted → column row.now 5 ≢ value s.closed)
-        (λ s. (column row.now 1 ≡ value s.admitted) × (column row.now 2 ≡ value s.held) × (column row.now 3 ≡ value s.removed) × (column row.now 4 ≡ value s.weighted) × (column row.now 5 ≡ value s.closed)) }
+        (λ s. (column row.now 1 ≡ value s.admitted) × (column row.now 2 ≡ value s.held) × (column row.now 3 ≡ value s.removed) × (column row.now 4 ≡ value s.weighted) × (column row.now 5 ≡ value s.closed) × (s.received ≡ 0) × (s.handed ≡ 0)) }
 {
     let admitted = number(row, 1)?;
     let held = number(row, 2)?;
@@ -68,17 +68,20 @@ fn sums(row: &Row) -> Option<Sums>
     let closed = number(row, 5)?;
     Some(Sums {
         admitted,
+        received: 0,
         held,
         removed,
+        handed: 0,
         weighted,
         closed,
     })
 }
 
-/// A row of `departments`.
+/// A row of `departments`. It tells five of the sums: no bucket was moved to the department or away from it.
 #[tactic(auto, using(crate::proofs::RowLemmas::row_of_6))]
 pub fn read_department(row: &Row) -> Result<DepartmentRow, Misread>
     ensures ok { IfOk result (λ x. (row.now ≡ department_row x) × IsDepartmentRow x) }
+    ensures unmoved { IfOk result (λ x. (x.sums.received ≡ 0) × (x.sums.handed ≡ 0)) }
     ensures wrong { IfErr result (λ e. e ≡ Misread.Wrong → (x : DepartmentRow) → IsDepartmentRow x → row.now ≢ department_row x) }
 {
     if row.column_count() != 6 {

@@ -16,7 +16,8 @@ use Rattle.vault_audit_walk.specs.Pass.{Takes, Refuses, AllFit, after}
 use Rattle.vault_audit_walk.specs.Walk.{Goes, Walked}
 use Rattle.vault_audit_walk.proofs.ScanLemmas.{first_cmp, first_cmp_total, goes_on_to}
 
-module _ {P X : Type 0} (row_of : X → Row) (Fits : P → X → Type 0) (next : P → X → P) (same_row : (x y : X) → row_of x ≡ row_of y → x ≡ y) where
+-- where items of one row lead on alike, also where the row doesn't tell all of an item
+module _ {P X : Type 0} (row_of : X → Row) (Fits : P → X → Type 0) (next : P → X → P) (same_next : (p : P) (x y : X) → row_of x ≡ row_of y → next p x ≡ next p y) where
   abbrev step : P → Row → P → Type 0
   step = Takes row_of Fits next
 
@@ -39,38 +40,54 @@ module _ {P X : Type 0} (row_of : X → Row) (Fits : P → X → Type 0) (next :
   stuck p m (r ∷ rows) row tail (x ∷ xs) (n, one, more) never e fit =
       let rest : rows ++ row ∷ tail ≡ map row_of xs = cc in
       let first : row_of x ≡ row_of one.0 = cc in
-      let same : next p x ≡ n = ap (next p) (same_row x one.0 first) ∙ sym one.3 in
+      let same : next p x ≡ n = same_next p x one.0 first ∙ sym one.3 in
       stuck n m rows row tail xs more never rest (subst (λ k. AllFit row_of Fits next k xs) same fit.1)
 
   -- where the answer is in an order in which the rows of items that fit rise
   module _ (cmp : Row → Row → Ordering) (total : IsTotalOrder cmp) (schema : Schema) (sql : List ℕ) (q : Query) (names : List (List ℕ)) (is : command_of (understood schema sql) ≡ Select (record { lets = []; body = q }) names)
       (source : Database → List Row) (answers : (a b : State) → a.now.schema ≡ schema → (rows : List Row) → Shown sql [] a b rows → IsPermutation (source a.now) rows × IsSorted cmp rows)
       (old new : State) (has : old.now.schema ≡ schema) (same : IsUnchanged old new) (p r : P) where
-    pub pass_yes : Walked step (Refuses row_of Fits next) sql old new p r true
+    pub rows_yes : Walked step (Refuses row_of Fits next) sql old new p r true
         → (xs : List X) × IsPermutation (map row_of xs) (source new.now) × AllFit row_of Fits next p xs × (r ≡ after row_of Fits next p xs)
-    pass_yes (rows, shown, goes) =
+    rows_yes (rows, shown, goes) =
         let it = gone p r rows goes in
         let whole = (answers old new has rows shown).0 in
         let db : new.now ≡ old.now = same.0.now_is in
         (it.0, subst (λ (d : Database). IsPermutation (map row_of it.0) (source d)) (sym db) (subst (λ xs. IsPermutation xs (source old.now)) it.1 (IsPermutation-sym _ _ whole)), it.2, it.3)
 
-    pub pass_no : ((xs : List X) → AllFit row_of Fits next p xs → IsAscending (λ a b. cmp a b ≡ Less) (map row_of xs)) → Walked step (Refuses row_of Fits next) sql old new p r false
+    pub rows_no : ((xs : List X) → AllFit row_of Fits next p xs → IsAscending (λ a b. cmp a b ≡ Less) (map row_of xs)) → Walked step (Refuses row_of Fits next) sql old new p r false
         → (xs : List X) → IsPermutation (map row_of xs) (source new.now) → ¬ AllFit row_of Fits next p xs
-    pass_no rise (rows, row, m, begins, goes, never) xs are fit =
+    rows_no rise (rows, row, m, begins, goes, never) xs are fit =
         let known : new.now.schema ≡ schema = ap (λ (d : Database). d.schema) same.0.now_is ∙ has in
         let on = goes_on_to sql new schema known q names is same.0.is_open (rows ++ row ∷ []) begins in
         let whole = answers new new known ((rows ++ row ∷ []) ++ on.0) on.1 in
         let order = sorted_unique cmp total (map row_of xs) ((rows ++ row ∷ []) ++ on.0) (rise xs fit) (IsPermutation-trans _ _ _ are whole.0) whole.1 in
         stuck p m rows row on.0 xs goes never (sym (append_assoc rows (row ∷ []) on.0) ∙ order) fit
 
+-- the same, where the row tells the item
+module _ {P X : Type 0} (row_of : X → Row) (Fits : P → X → Type 0) (next : P → X → P) (same_row : (x y : X) → row_of x ≡ row_of y → x ≡ y) where
+  leads_on : (p : P) (x y : X) → row_of x ≡ row_of y → next p x ≡ next p y
+  leads_on p x y e = ap (next p) (same_row x y e)
+
+  module _ (cmp : Row → Row → Ordering) (total : IsTotalOrder cmp) (schema : Schema) (sql : List ℕ) (q : Query) (names : List (List ℕ)) (is : command_of (understood schema sql) ≡ Select (record { lets = []; body = q }) names)
+      (source : Database → List Row) (answers : (a b : State) → a.now.schema ≡ schema → (rows : List Row) → Shown sql [] a b rows → IsPermutation (source a.now) rows × IsSorted cmp rows)
+      (old new : State) (has : old.now.schema ≡ schema) (same : IsUnchanged old new) (p r : P) where
+    pub pass_yes : Walked (Takes row_of Fits next) (Refuses row_of Fits next) sql old new p r true
+        → (xs : List X) × IsPermutation (map row_of xs) (source new.now) × AllFit row_of Fits next p xs × (r ≡ after row_of Fits next p xs)
+    pass_yes = rows_yes row_of Fits next leads_on cmp total schema sql q names is source answers old new has same p r
+
+    pub pass_no : ((xs : List X) → AllFit row_of Fits next p xs → IsAscending (λ a b. cmp a b ≡ Less) (map row_of xs)) → Walked (Takes row_of Fits next) (Refuses row_of Fits next) sql old new p r false
+        → (xs : List X) → IsPermutation (map row_of xs) (source new.now) → ¬ AllFit row_of Fits next p xs
+    pass_no = rows_no row_of Fits next leads_on cmp total schema sql q names is source answers old new has same p r
+
   -- in the order of the first column
   module _ (schema : Schema) (sql : List ℕ) (q : Query) (names : List (List ℕ)) (is : command_of (understood schema sql) ≡ Select (record { lets = []; body = q }) names)
       (source : Database → List Row) (answers : (a b : State) → a.now.schema ≡ schema → (rows : List Row) → Shown sql [] a b rows → IsPermutation (source a.now) rows × IsSorted first_cmp rows)
       (old new : State) (has : old.now.schema ≡ schema) (same : IsUnchanged old new) (p r : P) where
-    pub walk_yes : Walked step (Refuses row_of Fits next) sql old new p r true
+    pub walk_yes : Walked (Takes row_of Fits next) (Refuses row_of Fits next) sql old new p r true
         → (xs : List X) × IsPermutation (map row_of xs) (source new.now) × AllFit row_of Fits next p xs × (r ≡ after row_of Fits next p xs)
     walk_yes = pass_yes first_cmp first_cmp_total schema sql q names is source answers old new has same p r
 
-    pub walk_no : ((xs : List X) → AllFit row_of Fits next p xs → IsAscending (λ a b. first_cmp a b ≡ Less) (map row_of xs)) → Walked step (Refuses row_of Fits next) sql old new p r false
+    pub walk_no : ((xs : List X) → AllFit row_of Fits next p xs → IsAscending (λ a b. first_cmp a b ≡ Less) (map row_of xs)) → Walked (Takes row_of Fits next) (Refuses row_of Fits next) sql old new p r false
         → (xs : List X) → IsPermutation (map row_of xs) (source new.now) → ¬ AllFit row_of Fits next p xs
     walk_no = pass_no first_cmp first_cmp_total schema sql q names is source answers old new has same p r

@@ -107,6 +107,7 @@ const ROWS: &[&str] = &[
 
 fn is_row(row: Row) -> bool {
     (row.admitted, row.held, row.removed) == (3, 2, 1)
+        && (row.received, row.handed) == (0, 0)
         && (row.weighted, row.closed) == (59_028, 19_676)
 }
 
