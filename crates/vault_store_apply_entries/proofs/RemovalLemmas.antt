@@ -20,7 +20,7 @@ use Rattle.vault_core_model.specs.Reads.{entry_of, head_of, head_over}
 use Rattle.vault_core_model.specs.Sound.{Sound}
 use Rattle.vault_core_model.specs.Totals.{items_of}
 use Rattle.vault_core_model.specs.Vault.{Vault, config_of, history_of}
-use Rattle.vault_audit_model.specs.Spells.{department_in}
+use Rattle.vault_audit_model.specs.Spells.{IsKept, department_in}
 use Rattle.vault_store_model.specs.Rows.{Rows}
 use Rattle.vault_store_model.specs.Edits.{and_then, at_moment}
 use Rattle.vault_store_changes.specs.Edits.{summed, headed, others_at, without_entry}
@@ -83,7 +83,7 @@ entry_same x y e = cc e
 
 -- ---- the edit
 
-module _ (v : Vault) (t id : ℕ) (r : Removal) (e : Entry) (config : BucketConfig) (row sums : Sums) (head left : Option Head) (newest : Option ℕ) (sound : Sound v) (later : v.last ≤ t) (low : t ≤ last_moment)
+module _ (v : Vault) (t id : ℕ) (r : Removal) (e : Entry) (config : BucketConfig) (row sums : Sums) (head left : Option Head) (newest : Option ℕ) (kept : IsKept v) (later : v.last ≤ t) (low : t ≤ last_moment)
     (is : IsRemoval v t id r) (there : entry_of v id ≡ Some e) (placed : Some config ≡ config_of v e.bucket) (told : IsRowOf row (items_of v config.dept))
     (counted : CountsOut row e.size (day e.admitted) (day t) sums) (headed_is : head ≡ head_of v e.bucket e.key) (newest_is : newest ≡ newest_but v e.bucket e.key id)
     (left_is : left ≡ head_without newest head) where
@@ -94,7 +94,7 @@ module _ (v : Vault) (t id : ℕ) (r : Removal) (e : Entry) (config : BucketConf
   held = subst (λ (x : Entry). x.removal ≡ None) (entry_same is.held.0 e (sym is.held.1 ∙ there)) is.held.2
 
   removed_sums : e.marker ≡ false → sums ≡ (department_in after config.dept).sums
-  removed_sums version = sums_removed v t id r e config row sums sound later low is there version (sym placed) told counted
+  removed_sums version = sums_removed v t id r e config row sums kept.sound kept.unmoved later low is there version (sym placed) told counted
 
   heads_left : (rows : List Row) → left_rows e.bucket e.key left rows ≡ headed e.bucket e.key (head_of v e.bucket e.key) (head_over (others_at v id e.bucket e.key)) rows
   heads_left rows =
@@ -102,7 +102,7 @@ module _ (v : Vault) (t id : ℕ) (r : Removal) (e : Entry) (config : BucketConf
       let others = head_over (others_at v id e.bucket e.key) in
       let same : left ≡ others =
       left_is ∙ ap (λ n. head_without n head) newest_is ∙ ap (head_without (newest_but v e.bucket e.key id)) (headed_is ∙ old.1)
-      ∙ left_of others old.0 (λ new after_is. count_removed v id e old.0 sound there held old.1 new after_is) in
+      ∙ left_of others old.0 (λ new after_is. count_removed v id e old.0 kept.sound there held old.1 new after_is) in
       ap (λ (o : Option Head). left_rows e.bucket e.key o rows) same ∙ rows_left e.bucket e.key old.0 others rows
       ∙ ap (λ (o : Option Head). headed e.bucket e.key o others rows) (sym old.1)
 

@@ -23,7 +23,8 @@ use Rattle.vault_audit_model.specs.Spells.{contents_in, settings_in, department_
 use Rattle.vault_store_model.specs.Rows.{rows_of}
 use Rattle.vault_store_changes.specs.Edits.{edit_of, added_if_given, summed}
 use Rattle.vault_store_changes.specs.Beside.{AreSameBesideHeads}
-use Rattle.vault_store_changes.proofs.EntryLemmas.{items_other, sums_written, marker_not_of, not_of_other}
+use Rattle.vault_store_changes.proofs.TenureLemmas.{marker_admitted, other_admitted}
+use Rattle.vault_store_changes.proofs.EntryLemmas.{items_other, sums_written, texts_turned}
 use Rattle.vault_store_changes.proofs.ListLemmas.{placed_in_front, pushed_in_front, flat_map-append, flat_map_one}
 use Rattle.vault_store_changes.proofs.RecordLemmas.{sums_by_items}
 
@@ -83,7 +84,7 @@ entry_admitted v t a sound is table.Settings beside =
 entry_admitted v t a sound is table.Intake beside = note_added a.note v.notes
 entry_admitted v t a sound is table.Departments beside =
     IsPermutation-same _ _ (sums_changed v (changed v t (Admit a)) a.history.entry.marker (config_of v a.history.entry.bucket) is.bucket is.placed
-    (λ marker d. items_other v.buckets d v.histories a.history (marker_not_of a.history.entry.marker _ marker))
-    (λ d other. items_other v.buckets d v.histories a.history (not_of_other v.buckets d a.history.entry.bucket is.bucket a.history.entry.marker is.placed other)))
+    (λ marker d. items_other d v.histories a.history (marker_admitted a.history.entry.marker t is.bucket.dept d a.history is.tenured marker))
+    (λ d other. items_other d v.histories a.history (other_admitted a.history.entry.marker t is.bucket.dept d a.history is.tenured (texts_turned d is.bucket.dept false other))))
 entry_admitted v t a sound is table.Heads beside = absurd (cc beside)
 entry_admitted v t a sound is _ beside = IsPermutation-refl _

@@ -19,7 +19,7 @@ pub beside_heads : (v : Vault) (t : ℕ) (c : Change) → Sound v → Allows v t
 beside_heads v t (AddDept name) sound allowed s beside = dept_added v t name sound allowed s
 beside_heads v t (AddCaller c) sound allowed s beside = caller_added v t c s
 beside_heads v t (CloseCaller name) sound allowed s beside = caller_closed v t name s
-beside_heads v t (AddBucket name dept) sound allowed s beside = bucket_added v t name dept sound allowed.0 s
+beside_heads v t (AddBucket name dept) sound allowed s beside = bucket_added v t name dept s
 beside_heads v t (SetDefault name default) sound allowed s beside = default_set v t name default s
 beside_heads v t (SetRules name rules) sound allowed s beside = rules_set v t name rules sound allowed.0 s
 beside_heads v t (Admit a) sound allowed s beside = entry_admitted v t a sound allowed s beside

@@ -7,38 +7,25 @@ use Rattle.std.proofs.lemmas.List.{map-append}
 use Rattle.std.proofs.lemmas.List.Sorted.{IsPermutation-refl, IsPermutation-map, IsPermutation-trans, IsPermutation-append_right}
 use Rattle.std.proofs.lemmas.Map.Text.{is_eq-slice_cmp}
 use Rattle.std.proofs.lemmas.Slice.Eq.{bytes_eq-Decides}
-use Rattle.sqlite_trees.proofs.ListLemmas.{IsPermutation-same, filter_all, all_of, all_weaker}
+use Rattle.sqlite_trees.proofs.ListLemmas.{IsPermutation-same, filter_all, all_weaker}
 use Rattle.sqlite_value.specs.Order.{Row}
 use Rattle.vault_base.specs.declared.refusal.Table.TheVariants as table
 use Rattle.vault_lock.specs.declared.retention.Default.{Default}
 use Rattle.vault_rules.specs.declared.rule.Rule.{Rule}
 use Rattle.vault_core_model.specs.declared.records.Bucket.{Bucket}
-use Rattle.vault_core_model.specs.declared.records.History.{History}
 use Rattle.vault_core_model.specs.declared.change.Change.TheVariants.{SetDefault, SetRules}
 use Rattle.vault_core_model.specs.Change.{changed, with_default, with_rules}
 use Rattle.vault_core_model.specs.Order.{IsAscending, bucket_cmp}
 use Rattle.vault_core_model.specs.Sound.{Sound}
-use Rattle.vault_core_model.specs.Totals.{is_of_department}
 use Rattle.vault_core_model.specs.Vault.{Vault, config_in, config_of, bucket_in}
-use Rattle.vault_core_laws.proofs.Buckets.{department-mapped, name-with_default, dept-with_default, name-with_rules, dept-with_rules}
 use Rattle.vault_audit_model.specs.declared.rows.RuleRow.{RuleRow}
-use Rattle.vault_audit_model.specs.Rows.{department_row, bucket_row, rule_row}
-use Rattle.vault_audit_model.specs.Spells.{bucket_of, rules_in, rules_if_given, rules_from, department_in}
+use Rattle.vault_audit_model.specs.Rows.{bucket_row, rule_row}
+use Rattle.vault_audit_model.specs.Spells.{bucket_of, rules_in, rules_if_given, rules_from}
 use Rattle.vault_store_model.specs.Rows.{AreSameRows, rows_of}
 use Rattle.vault_store_model.specs.Edits.{changed_if, pushed}
 use Rattle.vault_store_model.specs.Tests.{is_named, with_default_columns}
 use Rattle.vault_store_changes.specs.Edits.{edit_of}
 use Rattle.vault_store_changes.proofs.ListLemmas.{second_first, pushed_in_front, map_rows, map_untold, flat_map_untold, filter-append, clash}
-use Rattle.vault_store_changes.proofs.RecordLemmas.{items_same_by, sums_by_items}
-
--- ---- the sums stay, since no bucket goes to another department
-
-sums_stay : (v : Vault) (f : Bucket → Bucket) → ((b : Bucket) → (f b).name ≡ b.name) → ((b : Bucket) → (f b).config.dept ≡ b.config.dept) → (t : ℕ)
-    → map (λ d. department_row (department_in (record v { last = t; buckets = map f v.buckets }) d)) v.departments ≡ map (λ d. department_row (department_in v d)) v.departments
-sums_stay v f name dept t =
-    sums_by_items v (record v { last = t; buckets = map f v.buckets }) (λ d.
-    items_same_by v.buckets (map f v.buckets) d v.histories
-    (all_of (λ (h : History). is_of_department d (config_in (map f v.buckets) h.entry.bucket) ≡ is_of_department d (config_in v.buckets h.entry.bucket)) (λ h. department-mapped f name dept v.buckets d h.entry.bucket) v.histories))
 
 -- ---- a default
 
@@ -55,7 +42,6 @@ pub default_set : (v : Vault) (t : ℕ) (name : List ℕ) (default : Option Defa
 default_set v t name default table.Buckets =
     IsPermutation-same _ _ (map_rows (λ b. bucket_row (bucket_of b)) (with_default name default) (changed_if (is_named name) (with_default_columns default)) (bucket_row_set name default) v.buckets)
 default_set v t name default table.Rules = IsPermutation-same _ _ (ap (map rule_row) (flat_map_untold rules_in (with_default name default) (rules_kept name default) v.buckets))
-default_set v t name default table.Departments = IsPermutation-same _ _ (sums_stay v (with_default name default) (name-with_default name default) (dept-with_default name default) t)
 default_set v t name default _ = IsPermutation-refl _
 
 -- ---- rules
@@ -149,5 +135,4 @@ rules_replaced name rules bs there up =
 pub rules_set : (v : Vault) (t : ℕ) (name : List ℕ) (rules : Option (List Rule)) → Sound v → IsSome (config_of v name) → AreSameRows (rows_of (changed v t (SetRules name rules))) (edit_of v t (SetRules name rules) (rows_of v))
 rules_set v t name rules sound there table.Buckets = IsPermutation-same _ _ (map_untold (λ b. bucket_row (bucket_of b)) (with_rules name rules) (bucket_row_kept name rules) v.buckets)
 rules_set v t name rules sound there table.Rules = rules_replaced name rules v.buckets there sound.ordered.buckets
-rules_set v t name rules sound there table.Departments = IsPermutation-same _ _ (sums_stay v (with_rules name rules) (name-with_rules name rules) (dept-with_rules name rules) t)
 rules_set v t name rules sound there _ = IsPermutation-refl _

@@ -1,29 +1,27 @@
 -- The history of an id, and what becomes of a department's sums where histories change.
-use Rattle.std.proofs.Common.{◌≡◌, ℕ, ◌+◌, ◌<◌, ◌==◌, List, [], ◌∷◌, ◌++◌, map, filter, cond, not, ◌&&◌, Bool, true, false, Option, Some, None, refl, sym, ap, subst, ◌∙◌, arith, append-nil}
+use Rattle.std.proofs.Common.{◌≡◌, ℕ, ◌+◌, ◌<◌, ◌==◌, List, [], ◌∷◌, ◌++◌, map, cond, Bool, true, false, Option, Some, None, refl, sym, ap, subst, ◌∙◌, arith, append-nil}
 use Rattle.std.specs.Prelude.{find, option_map}
 use Rattle.std.specs.List.{AllByRecursion}
 use Rattle.std.specs.Str.{bytes_eq}
-use Rattle.std.proofs.lemmas.Bool.{eqb-true, and_right}
+use Rattle.std.proofs.lemmas.Bool.{eqb-true}
 use Rattle.std.proofs.lemmas.Cmp.{nat_list_eq_equiv}
-use Rattle.std.proofs.lemmas.List.{map-append}
 use Rattle.std.proofs.lemmas.Slice.Eq.{bytes_eq-Decides}
 use Rattle.sqlite_trees.proofs.ListLemmas.{all_weaker}
 use Rattle.sqlite_value.specs.Order.{Row}
 use Rattle.vault_tally.specs.Row.{Item}
-use Rattle.vault_core_model.specs.declared.records.Bucket.{Bucket}
 use Rattle.vault_core_model.specs.declared.records.BucketConfig.{BucketConfig}
 use Rattle.vault_core_model.specs.declared.records.Entry.{Entry}
 use Rattle.vault_core_model.specs.declared.records.History.{History}
 use Rattle.vault_core_model.specs.Sound.{AreIdsFrom}
-use Rattle.vault_core_model.specs.Totals.{is_of_department, is_version_of, item_of, items_in, items_of}
-use Rattle.vault_core_model.specs.Vault.{Vault, config_in}
+use Rattle.vault_core_model.specs.Totals.{items_by, items_in, items_of, shares_of}
+use Rattle.vault_core_model.specs.Vault.{Vault}
 use Rattle.vault_core_laws.proofs.Newest.{finds_itself}
 use Rattle.vault_audit_model.specs.Rows.{department_row}
 use Rattle.vault_audit_model.specs.Spells.{department_in, sums_over}
 use Rattle.vault_store_model.specs.Edits.{changed_if}
 use Rattle.vault_store_model.specs.Tests.{is_named, with_sums}
 use Rattle.vault_store_changes.specs.Edits.{summed}
-use Rattle.vault_store_changes.proofs.ListLemmas.{filter-append}
+use Rattle.vault_store_changes.proofs.ListLemmas.{flat_map-append, flat_map_one}
 
 -- ---- ids
 
@@ -53,39 +51,19 @@ each_is hs id g ids found =
 
 -- ---- items
 
-no_item : (b : Bool) (h : History) → b ≡ false → map item_of (cond b (h ∷ []) []) ≡ []
-no_item true h e = absurd (cc e)
-no_item false h e = refl
+pub items_push : (dept : List ℕ) (hs : List History) (h : History) → items_in dept (hs ++ h ∷ []) ≡ items_in dept hs ++ items_by dept (shares_of h)
+items_push dept hs h =
+    flat_map-append (λ (x : History). items_by dept (shares_of x)) hs (h ∷ []) ∙ ap (λ (items : List Item). items_in dept hs ++ items) (flat_map_one (λ (x : History). items_by dept (shares_of x)) h)
 
-one_item : (b : Bool) (h : History) → b ≡ true → map item_of (cond b (h ∷ []) []) ≡ item_of h ∷ []
-one_item true h e = refl
-one_item false h e = absurd (cc e)
+-- an entry more that doesn't count for the department
+pub items_other : (dept : List ℕ) (hs : List History) (h : History) → items_by dept (shares_of h) ≡ [] → items_in dept (hs ++ h ∷ []) ≡ items_in dept hs
+items_other dept hs h none = items_push dept hs h ∙ ap (λ (items : List Item). items_in dept hs ++ items) none ∙ append-nil (items_in dept hs)
 
-pub items_push : (bs : List Bucket) (dept : List ℕ) (hs : List History) (h : History) → items_in bs dept (hs ++ h ∷ []) ≡ items_in bs dept hs ++ items_in bs dept (h ∷ [])
-items_push bs dept hs h = ap (map item_of) (filter-append (is_version_of bs dept) hs (h ∷ [])) ∙ map-append item_of (filter (is_version_of bs dept) hs) (filter (is_version_of bs dept) (h ∷ []))
-
--- an entry more that is no version of the department
-pub items_other : (bs : List Bucket) (dept : List ℕ) (hs : List History) (h : History) → is_version_of bs dept h ≡ false → items_in bs dept (hs ++ h ∷ []) ≡ items_in bs dept hs
-items_other bs dept hs h other =
-    items_push bs dept hs h ∙ ap (λ (items : List Item). items_in bs dept hs ++ items) (no_item (is_version_of bs dept h) h other) ∙ append-nil (items_in bs dept hs)
-
-pub items_version : (bs : List Bucket) (dept : List ℕ) (hs : List History) (h : History) → is_version_of bs dept h ≡ true → items_in bs dept (hs ++ h ∷ []) ≡ items_in bs dept hs ++ item_of h ∷ []
-items_version bs dept hs h version = items_push bs dept hs h ∙ ap (λ (items : List Item). items_in bs dept hs ++ items) (one_item (is_version_of bs dept h) h version)
-
--- histories that are altered, of which those of the department count as before
-pub items_mapped : (bs : List Bucket) (dept : List ℕ) (f : History → History) → ((h : History) → is_version_of bs dept (f h) ≡ is_version_of bs dept h) → (hs : List History)
-    → AllByRecursion (λ h. is_version_of bs dept h ≡ true → item_of (f h) ≡ item_of h) hs → items_in bs dept (map f hs) ≡ items_in bs dept hs
-items_mapped bs dept f same [] all = refl
-items_mapped bs dept f same (h ∷ hs) all =
-    let rest = items_mapped bs dept f same hs all.1 in
-    ap (λ b. map item_of (cond b (f h ∷ filter (is_version_of bs dept) (map f hs)) (filter (is_version_of bs dept) (map f hs)))) (same h)
-    ∙ elim (is_version_of bs dept h) as (λ b. (b ≡ true → item_of (f h) ≡ item_of h) → map item_of (cond b (f h ∷ filter (is_version_of bs dept) (map f hs)) (filter (is_version_of bs dept) (map f hs))) ≡ map item_of (cond b (h ∷ filter (is_version_of bs dept) hs) (filter (is_version_of bs dept) hs))) [
-      | true ↦ λ item. one (item_of (f h)) (item_of h) (items_in bs dept (map f hs)) (items_in bs dept hs) (item refl) rest
-      | false ↦ λ item. rest
-    ] all.0
-  where
-    one : (i j : Item) (is js : List Item) → i ≡ j → is ≡ js → i ∷ is ≡ j ∷ js
-    one i j is js e es = cc (e, es)
+-- histories that are altered, and count as before for the department
+pub items_mapped : (dept : List ℕ) (f : History → History) (hs : List History) → AllByRecursion (λ h. items_by dept (shares_of (f h)) ≡ items_by dept (shares_of h)) hs → items_in dept (map f hs) ≡ items_in dept hs
+items_mapped dept f [] all = refl
+items_mapped dept f (h ∷ hs) all =
+    ap (λ (items : List Item). items ++ items_in dept (map f hs)) all.0 ∙ ap (λ (items : List Item). items_by dept (shares_of h) ++ items) (items_mapped dept f hs all.1)
 
 -- ---- the row of a department
 
@@ -100,7 +78,7 @@ one_summed v w dept d others =
       | false ↦ λ other. ap (λ (items : List Item). department_row (record { name = d; sums = sums_over items })) (others other)
     ] refl
 
--- the rows of departments, where only the versions of one department changed
+-- the rows of departments, where only the tenures of one department changed
 pub sums_written : (v w : Vault) (config : BucketConfig) (ds : List (List ℕ)) → ((d : List ℕ) → bytes_eq d config.dept ≡ false → items_of w d ≡ items_of v d)
     → map (λ d. department_row (department_in w d)) ds ≡ summed w false (Some config) (map (λ d. department_row (department_in v d)) ds)
 sums_written v w config [] others = refl
@@ -109,14 +87,3 @@ sums_written v w config (d ∷ ds) others =
   where
     one : (x y : Row) (xs ys : List Row) → x ≡ y → xs ≡ ys → x ∷ xs ≡ y ∷ ys
     one x y xs ys e es = cc (e, es)
-
--- a marker is no version of a department
-pub marker_not_of : (m b : Bool) → m ≡ true → (not m && b) ≡ false
-marker_not_of true b e = refl
-marker_not_of false b e = absurd (cc e)
-
--- nor is a version of another department's bucket
-pub not_of_other : (bs : List Bucket) (d bucket : List ℕ) (config : BucketConfig) (m : Bool) → config_in bs bucket ≡ Some config → bytes_eq d config.dept ≡ false → (not m && is_of_department d (config_in bs bucket)) ≡ false
-not_of_other bs d bucket config m there other =
-    let P : Option BucketConfig → Type 0 = λ o. (not m && is_of_department d o) ≡ false in
-    subst P (sym there) (and_right (not m) (bytes_eq config.dept d) (texts_turned d config.dept false other))

@@ -1,8 +1,10 @@
 pub mod ListLemmas
 pub mod OrderLemmas
+pub mod UnmovedLemmas
 pub mod KeptLemmas
 pub mod RecordLemmas
 pub mod ConfigLemmas
+pub mod TenureLemmas
 pub mod EntryLemmas
 pub mod SettingLemmas
 pub mod AdmissionLemmas

@@ -7,7 +7,6 @@ use Rattle.std.proofs.lemmas.List.Sorted.{IsPermutation-refl}
 use Rattle.sqlite_trees.proofs.ListLemmas.{IsPermutation-same, all_weaker}
 use Rattle.sqlite_value.specs.Order.{Row}
 use Rattle.vault_base.specs.declared.refusal.Table.TheVariants as table
-use Rattle.vault_core_model.specs.declared.records.Bucket.{Bucket}
 use Rattle.vault_core_model.specs.declared.records.BucketConfig.{BucketConfig}
 use Rattle.vault_core_model.specs.declared.records.Entry.{Entry}
 use Rattle.vault_core_model.specs.declared.records.History.{History}
@@ -16,8 +15,8 @@ use Rattle.vault_core_model.specs.declared.change.Change.TheVariants.{Remove}
 use Rattle.vault_core_model.specs.Allowed.{IsRemoval}
 use Rattle.vault_core_model.specs.Change.{changed, removed_by, removed_if}
 use Rattle.vault_core_model.specs.Reads.{entry_of}
-use Rattle.vault_core_model.specs.Sound.{Sound, IsPlaced}
-use Rattle.vault_core_model.specs.Totals.{is_version_of, item_of, items_of}
+use Rattle.vault_core_model.specs.Sound.{Sound, HasTenures, IsPlaced}
+use Rattle.vault_core_model.specs.Totals.{items_by, items_of, shares_of}
 use Rattle.vault_core_model.specs.Vault.{Vault, config_of, history_of}
 use Rattle.vault_audit_model.specs.Rows.{entry_row, content_row, setting_row}
 use Rattle.vault_audit_model.specs.Spells.{contents_in, settings_in, content_if_given}
@@ -27,9 +26,10 @@ use Rattle.vault_store_model.specs.Tests.{is_numbered, removed_row}
 use Rattle.vault_store_changes.specs.Edits.{edit_of, without_entry}
 use Rattle.vault_store_changes.specs.Beside.{AreSameBesideHeads}
 use Rattle.vault_store_changes.proofs.AdmissionLemmas.{sums_changed}
-use Rattle.vault_store_changes.proofs.EntryLemmas.{found_history, each_is, items_mapped, marker_not_of, not_of_other}
-use Rattle.vault_store_changes.proofs.ListLemmas.{map_rows, flat_map_untold, filter-append, clash}
+use Rattle.vault_store_changes.proofs.EntryLemmas.{found_history, each_is, items_mapped, texts_turned}
+use Rattle.vault_store_changes.proofs.ListLemmas.{map_rows, flat_map_untold, filter-append}
 use Rattle.vault_store_changes.proofs.SettingLemmas.{next_kept}
+use Rattle.vault_store_changes.proofs.TenureLemmas.{other_removed, marker_removed}
 
 -- ---- rows of one entry
 
@@ -62,26 +62,25 @@ contents_dropped id r (h ∷ hs) =
 
 -- ---- sums
 
-version_kept : (bs : List Bucket) (d : List ℕ) (id : ℕ) (r : Removal) (h : History) → is_version_of bs d (removed_if id r h) ≡ is_version_of bs d h
-version_kept bs d id r h = elim (eqb h.entry.id id) as (λ b. is_version_of bs d (if b then removed_by r h else h) ≡ is_version_of bs d h) [ true ↦ refl | false ↦ refl ]
-
--- an entry that isn't the removed one, or is no version of the department, counts as before
-item_kept : (bs : List Bucket) (d : List ℕ) (id : ℕ) (r : Removal) (g : History) → is_version_of bs d g ≡ false → (h : History) → ((h.entry.id == id) ≡ true → h ≡ g) → is_version_of bs d h ≡ true → item_of (removed_if id r h) ≡ item_of h
-item_kept bs d id r g other h same version =
-    elim (eqb h.entry.id id) as (λ b. eqb h.entry.id id ≡ b → item_of (if b then removed_by r h else h) ≡ item_of h) [
-      | true ↦ λ here. absurd (clash (is_version_of bs d h) version (subst (λ x. is_version_of bs d x ≡ false) (sym (same here)) other))
+-- a history that isn't the removed one counts as before, and so does that one where its tenures do
+history_kept : (d : List ℕ) (id : ℕ) (r : Removal) (g : History) → items_by d (shares_of (removed_by r g)) ≡ items_by d (shares_of g) → (h : History) → ((h.entry.id == id) ≡ true → h ≡ g)
+    → items_by d (shares_of (removed_if id r h)) ≡ items_by d (shares_of h)
+history_kept d id r g same h is =
+    elim (eqb h.entry.id id) as (λ b. eqb h.entry.id id ≡ b → items_by d (shares_of (if b then removed_by r h else h)) ≡ items_by d (shares_of h)) [
+      | true ↦ λ here. subst (λ (x : History). items_by d (shares_of (removed_by r x)) ≡ items_by d (shares_of x)) (sym (is here)) same
       | false ↦ λ _. refl
     ] refl
 
-items_kept : (v : Vault) (t id : ℕ) (r : Removal) (g : History) (d : List ℕ) → Sound v → history_of v id ≡ Some g → is_version_of v.buckets d g ≡ false → items_of (changed v t (Remove id r)) d ≡ items_of v d
-items_kept v t id r g d sound found other =
-    items_mapped v.buckets d (removed_if id r) (version_kept v.buckets d id r) v.histories
-    (all_weaker (λ h. (h.entry.id == id) ≡ true → h ≡ g) (λ h. is_version_of v.buckets d h ≡ true → item_of (removed_if id r h) ≡ item_of h)
-    (λ h same version. item_kept v.buckets d id r g other h same version) v.histories (each_is v.histories id g sound.ids found))
+items_kept : (v : Vault) (t id : ℕ) (r : Removal) (g : History) (d : List ℕ) → Sound v → history_of v id ≡ Some g → items_by d (shares_of (removed_by r g)) ≡ items_by d (shares_of g)
+    → items_of (changed v t (Remove id r)) d ≡ items_of v d
+items_kept v t id r g d sound found same =
+    items_mapped d (removed_if id r) v.histories
+    (all_weaker (λ h. (h.entry.id == id) ≡ true → h ≡ g) (λ h. items_by d (shares_of (removed_if id r h)) ≡ items_by d (shares_of h))
+    (λ h is. history_kept d id r g same h is) v.histories (each_is v.histories id g sound.ids found))
 
--- ---- the bucket of a history that was found
+-- ---- the history that was found
 
-found_all : (P : History → Type 0) (p : History → Bool) (hs : List History) (g : History) → AllByRecursion P hs → find p hs ≡ Some g → P g
+pub found_all : (P : History → Type 0) (p : History → Bool) (hs : List History) (g : History) → AllByRecursion P hs → find p hs ≡ Some g → P g
 found_all P p [] g all found = absurd (cc found)
 found_all P p (h ∷ hs) g all found =
     elim (p h) as (λ b. (if b then Some h else find p hs) ≡ Some g → P g) [
@@ -95,18 +94,18 @@ some_is (Some x) there = (x, refl)
 
 -- ---- the change
 
-removed : (v : Vault) (t id : ℕ) (r : Removal) (g : History) (config : BucketConfig) → Sound v → history_of v id ≡ Some g → config_of v g.entry.bucket ≡ Some config
+removed : (v : Vault) (t id : ℕ) (r : Removal) (g : History) (config : BucketConfig) → Sound v → history_of v id ≡ Some g → HasTenures v g → g.entry.removal ≡ None → config_of v g.entry.bucket ≡ Some config
     → AreSameBesideHeads (rows_of (changed v t (Remove id r))) (and_then (without_entry v (changed v t (Remove id r)) id r (Some g.entry)) (at_moment t) (rows_of v))
-removed v t id r g config sound found placed table.Meta beside = IsPermutation-same _ _ (ap (λ row. row ∷ []) (next_kept t (removed_if id r) v.histories))
-removed v t id r g config sound found placed table.Entries beside = IsPermutation-same _ _ (map_rows (λ h. entry_row h.entry) (removed_if id r) (changed_if (is_numbered id) (removed_row r)) (entry_row_removed id r) v.histories)
-removed v t id r g config sound found placed table.Contents beside = IsPermutation-same _ _ (contents_dropped id r v.histories)
-removed v t id r g config sound found placed table.Settings beside = IsPermutation-same _ _ (ap (map setting_row) (flat_map_untold settings_in (removed_if id r) (settings_kept id r) v.histories))
-removed v t id r g config sound found placed table.Departments beside =
+removed v t id r g config sound found tenured held placed table.Meta beside = IsPermutation-same _ _ (ap (λ row. row ∷ []) (next_kept t (removed_if id r) v.histories))
+removed v t id r g config sound found tenured held placed table.Entries beside = IsPermutation-same _ _ (map_rows (λ h. entry_row h.entry) (removed_if id r) (changed_if (is_numbered id) (removed_row r)) (entry_row_removed id r) v.histories)
+removed v t id r g config sound found tenured held placed table.Contents beside = IsPermutation-same _ _ (contents_dropped id r v.histories)
+removed v t id r g config sound found tenured held placed table.Settings beside = IsPermutation-same _ _ (ap (map setting_row) (flat_map_untold settings_in (removed_if id r) (settings_kept id r) v.histories))
+removed v t id r g config sound found tenured held placed table.Departments beside =
     IsPermutation-same _ _ (sums_changed v (changed v t (Remove id r)) g.entry.marker (config_of v g.entry.bucket) config placed
-    (λ marker d. items_kept v t id r g d sound found (marker_not_of g.entry.marker _ marker))
-    (λ d other. items_kept v t id r g d sound found (not_of_other v.buckets d g.entry.bucket config g.entry.marker placed other)))
-removed v t id r g config sound found placed table.Heads beside = absurd (cc beside)
-removed v t id r g config sound found placed _ beside = IsPermutation-refl _
+    (λ marker d. items_kept v t id r g d sound found (marker_removed v g.entry.marker g r d tenured marker))
+    (λ d other. items_kept v t id r g d sound found (other_removed v g.entry.marker g r config d tenured held placed (texts_turned d config.dept false other))))
+removed v t id r g config sound found tenured held placed table.Heads beside = absurd (cc beside)
+removed v t id r g config sound found tenured held placed _ beside = IsPermutation-refl _
 
 pub entry_removed : (v : Vault) (t id : ℕ) (r : Removal) → Sound v → IsRemoval v t id r → AreSameBesideHeads (rows_of (changed v t (Remove id r))) (edit_of v t (Remove id r) (rows_of v))
 entry_removed v t id r sound is =
@@ -116,4 +115,4 @@ entry_removed v t id r sound is =
     let config = some_is (config_of v g.entry.bucket) (found_all (IsPlaced v) (λ h. h.entry.id == id) v.histories g sound.placed found.1) in
     let there : entry_of v id ≡ Some g.entry = held.1 ∙ ap Some (sym found.2) in
     subst (λ (o : Option Entry). AreSameBesideHeads (rows_of (changed v t (Remove id r))) (and_then (without_entry v (changed v t (Remove id r)) id r o) (at_moment t) (rows_of v))) (sym there)
-    (removed v t id r g config.0 sound found.1 config.1)
+    (removed v t id r g config.0 sound found.1 (found_all (HasTenures v) (λ h. h.entry.id == id) v.histories g sound.tenured found.1) (ap (λ (e : Entry). e.removal) found.2 ∙ held.2) config.1)

@@ -7,7 +7,6 @@ use Rattle.std.proofs.lemmas.List.{length-map}
 use Rattle.std.proofs.lemmas.List.Sorted.{IsPermutation-refl, IsPermutation-map, IsPermutation-trans, IsPermutation-middle, IsPermutation-append_right}
 use Rattle.sqlite_trees.proofs.ListLemmas.{IsPermutation-same, all_of}
 use Rattle.vault_base.specs.declared.refusal.Table.TheVariants as table
-use Rattle.vault_core_model.specs.declared.records.Bucket.{Bucket}
 use Rattle.vault_core_model.specs.declared.records.History.{History}
 use Rattle.vault_core_model.specs.declared.records.Setting.{Setting}
 use Rattle.vault_core_model.specs.declared.change.Change.TheVariants.{AddSetting}
@@ -15,7 +14,7 @@ use Rattle.vault_core_model.specs.Allowed.{IsNextSetting}
 use Rattle.vault_core_model.specs.Change.{changed, with_setting}
 use Rattle.vault_core_model.specs.Reads.{last_setting, setting_of, count_by}
 use Rattle.vault_core_model.specs.Sound.{Sound, AreIdsFrom}
-use Rattle.vault_core_model.specs.Totals.{is_version_of, item_of, items_of}
+use Rattle.vault_core_model.specs.Totals.{items_by, items_of, shares_of}
 use Rattle.vault_core_model.specs.Vault.{Vault, history_of}
 use Rattle.vault_audit_model.specs.declared.rows.SettingRow.{SettingRow}
 use Rattle.vault_audit_model.specs.Editions.{number_of, newest}
@@ -96,16 +95,11 @@ entry_kept id s h = elim (eqb h.entry.id id) as (λ b. entry_row (if b then reco
 content_kept : (id : ℕ) (s : Setting) (h : History) → contents_in (with_setting id s h) ≡ contents_in h
 content_kept id s h = elim (eqb h.entry.id id) as (λ b. contents_in (if b then record h { settings = h.settings ++ s ∷ [] } else h) ≡ contents_in h) [ true ↦ refl | false ↦ refl ]
 
-version_kept : (bs : List Bucket) (d : List ℕ) (id : ℕ) (s : Setting) (h : History) → is_version_of bs d (with_setting id s h) ≡ is_version_of bs d h
-version_kept bs d id s h = elim (eqb h.entry.id id) as (λ b. is_version_of bs d (if b then record h { settings = h.settings ++ s ∷ [] } else h) ≡ is_version_of bs d h) [ true ↦ refl | false ↦ refl ]
-
-item_kept : (id : ℕ) (s : Setting) (h : History) → item_of (with_setting id s h) ≡ item_of h
-item_kept id s h = elim (eqb h.entry.id id) as (λ b. item_of (if b then record h { settings = h.settings ++ s ∷ [] } else h) ≡ item_of h) [ true ↦ refl | false ↦ refl ]
-
 items_kept : (v : Vault) (t id : ℕ) (s : Setting) (d : List ℕ) → items_of (changed v t (AddSetting id s)) d ≡ items_of v d
 items_kept v t id s d =
-    items_mapped v.buckets d (with_setting id s) (version_kept v.buckets d id s) v.histories
-    (all_of (λ h. is_version_of v.buckets d h ≡ true → item_of (with_setting id s h) ≡ item_of h) (λ h version. item_kept id s h) v.histories)
+    items_mapped d (with_setting id s) v.histories
+    (all_of (λ h. items_by d (shares_of (with_setting id s h)) ≡ items_by d (shares_of h))
+    (λ h. elim (eqb h.entry.id id) as (λ b. items_by d (shares_of (if b then record h { settings = h.settings ++ s ∷ [] } else h)) ≡ items_by d (shares_of h)) [ true ↦ refl | false ↦ refl ]) v.histories)
 
 pub next_kept : (t : ℕ) (f : History → History) (hs : List History) → meta_row (record { schema = number_of newest; last = t; next = length (map f hs) + 1 }) ≡ meta_row (record { schema = number_of newest; last = t; next = length hs + 1 })
 next_kept t f hs = ap (λ n. meta_row (record { schema = number_of newest; last = t; next = n + 1 })) (length-map hs f)

@@ -82,7 +82,7 @@ without_entry v w id r (Some e) xs =
 -- the edits that a change at t is
 abbrev pub edit_of : Vault → ℕ → Change → Rows → Rows
 edit_of v t (AddDept name) =
-    and_then (with_row table.Departments (department_row (record { name = name; sums = record { admitted = 0; held = 0; removed = 0; weighted = 0; closed = 0 } })))
+    and_then (with_row table.Departments (department_row (record { name = name; sums = record { admitted = 0; received = 0; held = 0; removed = 0; handed = 0; weighted = 0; closed = 0 } })))
     (at_moment t)
 edit_of v t (AddCaller c) = and_then (with_row table.Callers (caller_row c)) (at_moment t)
 edit_of v t (CloseCaller name) = and_then (with_changed table.Callers (is_named name) closed_row) (at_moment t)

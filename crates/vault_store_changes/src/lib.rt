@@ -8,17 +8,17 @@ ghost use Rattle.vault_base.specs.Days.{day, last_moment};
 ghost use Rattle.vault_tally.specs.Row.{IsRowOf};
 ghost use Rattle.vault_tally.specs.declared.row.Row.{Row};
 ghost use Rattle.vault_core_model.specs.declared.records.BucketConfig.{BucketConfig};
-ghost use Rattle.vault_core_model.specs.declared.records.Entry.{Entry};
+ghost use Rattle.vault_core_model.specs.declared.records.History.{History};
 ghost use Rattle.vault_core_model.specs.declared.records.Removal.{Removal};
+ghost use Rattle.vault_core_model.specs.declared.records.Tenure.{Tenure};
 ghost use Rattle.vault_core_model.specs.declared.change.Admission.{Admission};
 ghost use Rattle.vault_core_model.specs.declared.change.Change.TheVariants.{Admit, Remove};
 ghost use Rattle.vault_core_model.specs.declared.change.Change.{Change};
 ghost use Rattle.vault_core_model.specs.Allowed.{Allows, IsAdmission, IsRemoval};
 ghost use Rattle.vault_core_model.specs.Change.{changed};
-ghost use Rattle.vault_core_model.specs.Reads.{entry_of};
-ghost use Rattle.vault_core_model.specs.Sound.{Sound};
+ghost use Rattle.vault_core_model.specs.Sound.{Sound, last_tenure};
 ghost use Rattle.vault_core_model.specs.Totals.{items_of};
-ghost use Rattle.vault_core_model.specs.Vault.{Vault, config_of};
+ghost use Rattle.vault_core_model.specs.Vault.{Vault, config_of, history_of};
 ghost use Rattle.vault_audit_model.specs.Spells.{IsKept, department_in};
 ghost use Rattle.vault_store_model.specs.Edits.{IgnoresOrder};
 ghost use Rattle.vault_store_model.specs.Rows.{rows_of};
@@ -47,16 +47,17 @@ pub fn edits_make_all_rows_but_heads()
 {}
 
 /// The sums of a department after the admission or the removal of a version are those that its row comes
-/// to by counting the version in, or its removal: what `Row::admit` and `Row::remove` promise.
+/// to by counting the version in, or the end of the tenure that it has of it: what `Row::admit` and
+/// `Row::remove` promise.
 pub fn sums_come_of_the_row()
     ensures admitted { (v : Vault) (t : ℕ) (a : Admission) (config : BucketConfig) (row new : Row) → Sound v → v.last ≤ t →
         t ≤ last_moment → IsAdmission v t a → a.history.entry.marker ≡ false →
         config_of v a.history.entry.bucket ≡ Some config → IsRowOf row (items_of v config.dept) →
         CountsIn row a.history.entry.size (day t) new →
         new ≡ (department_in (changed v t (Admit a)) config.dept).sums }
-    ensures removed { (v : Vault) (t id : ℕ) (r : Removal) (e : Entry) (config : BucketConfig) (row new : Row) → Sound v →
-        v.last ≤ t → t ≤ last_moment → IsRemoval v t id r → entry_of v id ≡ Some e → e.marker ≡ false →
-        config_of v e.bucket ≡ Some config → IsRowOf row (items_of v config.dept) →
-        CountsOut row e.size (day e.admitted) (day t) new →
-        new ≡ (department_in (changed v t (Remove id r)) config.dept).sums }
+    ensures removed { (v : Vault) (t id : ℕ) (r : Removal) (h : History) (tenure : Tenure) (row new : Row) → Sound v →
+        v.last ≤ t → t ≤ last_moment → IsRemoval v t id r → history_of v id ≡ Some h →
+        last_tenure h.tenures ≡ Some tenure → IsRowOf row (items_of v tenure.dept) →
+        CountsOut row h.entry.size (day tenure.from) (day t) new →
+        new ≡ (department_in (changed v t (Remove id r)) tenure.dept).sums }
 {}

@@ -1,4 +1,4 @@
--- A new vault is in its limits, and sound.
+-- A new vault is in its limits, sound, and unmoved.
 use Rattle.std.proofs.Common.{◌≡◌, lit≤, refl, sym, subst}
 use Rattle.sqlite_trees.specs.Tree.{Trees}
 use Rattle.sqlite_catalog.specs.Listing.{IsSound}
@@ -29,6 +29,8 @@ is_sound = record {
   whole = tt;
   placed = tt;
   within = λ dept. lit≤ tt;
+  tenured = tt;
+  enough_moves = lit≤ tt;
   ordered = record { departments = tt; callers = (tt, tt); buckets = tt; notes = tt };
   employed = (refl, tt);
   owned = tt;
@@ -39,7 +41,7 @@ is_sound = record {
 }
 
 pub is_kept : IsKept opening
-is_kept = record { limits = is_in_limits; sound = is_sound }
+is_kept = record { limits = is_in_limits; sound = is_sound; unmoved = record { moves = refl; tenures = tt } }
 
 -- what stands in the tables of a new vault is read again
 pub left : (db : Database) → IsFilled db → (trees : Trees) → trees ≡ db.trees → AreOpening trees

@@ -55,7 +55,7 @@ module _ (last : ℕ) where
 -- ---- departments
 
 abbrev pub new_department : List ℕ → Row
-new_department name = department_row (record { name = name; sums = record { admitted = 0; held = 0; removed = 0; weighted = 0; closed = 0 } })
+new_department name = department_row (record { name = name; sums = record { admitted = 0; received = 0; held = 0; removed = 0; handed = 0; weighted = 0; closed = 0 } })
 
 pub puts_department : (name : List ℕ) (old new : State) (count : ℕ) → old.now.schema ≡ vault_schema → Executes department_text (Text name ∷ []) old new (Ok count)
     → Leaves old new (with_row table.Departments (new_department name))

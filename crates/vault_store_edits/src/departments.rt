@@ -24,7 +24,7 @@ pub fn put_department<S: Alter>(
     ensures same_reference { tx.new.conn.ghost_name ≡ tx.old.conn.ghost_name }
     ensures edits { HasCleanDisk (state S.Store tx.new.conn.now) → IsTrue tx.old.conn.now.in_transaction
         → OnOk result (Edits (state S.Store tx.old.conn.now) (state S.Store tx.new.conn.now)
-        (with_row table.Departments (department_row (record { name = name.now; sums = record { admitted = 0; held = 0; removed = 0; weighted = 0; closed = 0 } })))) }
+        (with_row table.Departments (department_row (record { name = name.now; sums = record { admitted = 0; received = 0; held = 0; removed = 0; handed = 0; weighted = 0; closed = 0 } })))) }
     ensures sound { HasCleanDisk (state S.Store tx.new.conn.now) → IsTrue tx.old.conn.now.in_transaction
         → (state S.Store tx.old.conn.now).now.schema ≡ vault_schema → OnOk result (IsDatabase (state S.Store tx.new.conn.now).now) }
     ensures kept { HasCleanDisk (state S.Store tx.new.conn.now) → IsTrue tx.old.conn.now.in_transaction

@@ -178,7 +178,7 @@ heads_made : (v : Vault) (t : ℕ) (c : Change) → Sound v → v.last ≤ t →
 heads_made v t (AddDept name) sound later allowed = dept_added v t name sound allowed table.Heads
 heads_made v t (AddCaller c) sound later allowed = caller_added v t c table.Heads
 heads_made v t (CloseCaller name) sound later allowed = caller_closed v t name table.Heads
-heads_made v t (AddBucket name dept) sound later allowed = bucket_added v t name dept sound allowed.0 table.Heads
+heads_made v t (AddBucket name dept) sound later allowed = bucket_added v t name dept table.Heads
 heads_made v t (SetDefault name default) sound later allowed = default_set v t name default table.Heads
 heads_made v t (SetRules name rules) sound later allowed = rules_set v t name rules sound allowed.0 table.Heads
 heads_made v t (Admit a) sound later allowed = heads_of_admission v t a sound later allowed

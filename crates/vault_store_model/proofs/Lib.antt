@@ -1,3 +1,4 @@
 pub mod RowsLemmas
 pub mod EditLemmas
 pub mod ScanLemmas
+pub mod DepartmentLemmas

@@ -12,7 +12,7 @@ use Rattle.vault_store_model.specs.Tests.{is_named, closed_row, with_default_col
 
 abbrev pub department_added : List ℕ → ℕ → Rows → Rows
 department_added name t =
-    and_then (with_row table.Departments (department_row (record { name = name; sums = record { admitted = 0; held = 0; removed = 0; weighted = 0; closed = 0 } }))) (at_moment t)
+    and_then (with_row table.Departments (department_row (record { name = name; sums = record { admitted = 0; received = 0; held = 0; removed = 0; handed = 0; weighted = 0; closed = 0 } }))) (at_moment t)
 
 abbrev pub caller_added : Caller → ℕ → Rows → Rows
 caller_added c t = and_then (with_row table.Callers (caller_row c)) (at_moment t)

@@ -3,7 +3,7 @@ use Rattle.std.proofs.Common.{◌≡◌, inl, inr, ℕ, suc, ◌==◌, List, [],
 use Rattle.std.specs.Prelude.{option_map}
 use Rattle.std.specs.List.{AllByRecursion, list_any}
 use Rattle.std.specs.Str.{bytes_eq}
-use Rattle.std.proofs.lemmas.Bool.{cases_Bool, and_right}
+use Rattle.std.proofs.lemmas.Bool.{cases_Bool}
 use Rattle.std.proofs.lemmas.Cmp.{nat_list_cmp_total, tied_itself}
 use Rattle.std.proofs.lemmas.List.{length-map}
 use Rattle.std.proofs.lemmas.List.Sorted.{length_permutation}
@@ -18,17 +18,17 @@ use Rattle.sqlite_sql.specs.Ops.{binary, is_true}
 use Rattle.vault_tally.specs.Row.{IsRowOf}
 use Rattle.vault_core_model.specs.declared.records.Bucket.{Bucket}
 use Rattle.vault_core_model.specs.declared.records.Caller.{Caller}
-use Rattle.vault_core_model.specs.declared.records.History.{History}
 use Rattle.vault_core_model.specs.Order.{name_cmp, caller_cmp, bucket_cmp}
-use Rattle.vault_core_model.specs.Sound.{IsOwned}
-use Rattle.vault_core_model.specs.Totals.{IsRowFor, is_of_department, is_version_of, items_of, item_of}
-use Rattle.vault_core_model.specs.Vault.{Vault, has_department, caller_of, bucket_in, config_in, config_of}
+use Rattle.vault_core_model.specs.Totals.{IsRowFor, items_of}
+use Rattle.vault_core_model.specs.Vault.{Vault, has_department, caller_of, bucket_in, config_of}
+use Rattle.vault_core_laws.proofs.Unmoved.{none_received, none_handed}
 use Rattle.vault_audit_model.specs.declared.rows.BucketRow.{BucketRow}
 use Rattle.vault_audit_model.specs.declared.rows.DepartmentRow.{DepartmentRow}
 use Rattle.vault_audit_model.specs.Rows.{department_row, department_columns, caller_row, caller_columns, bucket_row, bucket_columns}
 use Rattle.vault_audit_model.specs.Spells.{department_in, bucket_of}
 use Rattle.vault_audit_model.specs.Tables.{departments_tree, callers_tree, buckets_tree}
 use Rattle.vault_audit_model.proofs.SameRows.{number_same, same_caller, same_bucket}
+use Rattle.vault_store_model.proofs.DepartmentLemmas.{no_items}
 use Rattle.vault_store_query.specs.Queries.{Finds}
 use Rattle.vault_store_query.proofs.FindLemmas.{records_found, at_most_one, first_found, none_found, read_found}
 use Rattle.vault_store_reads.proofs.ListLemmas.{has_filtered, first_of, none_of}
@@ -57,20 +57,6 @@ any_left p (x ∷ xs) = elim (cases_Bool (p x)) [
   | inr failed ↦ rw failed (any_left p xs)
 ]
 
-none_unless : (b : Bool) → b ≡ false → IsTrue b → ⊥
-none_unless b e h = cc (sym e ∙ h)
-
--- no bucket is of a department that isn't there
-no_bucket : (v : Vault) (name : List ℕ) → has_department v name ≡ false → (bs : List Bucket) → AllByRecursion (IsOwned v) bs → (bucket : List ℕ) → is_of_department name (config_in bs bucket) ≡ false
-no_bucket v name none [] owned bucket = refl
-no_bucket v name none (b ∷ bs) owned bucket = elim (cases_Bool (bytes_eq b.name bucket)) [
-  | inl this ↦ rw this (elim (cases_Bool (bytes_eq b.config.dept name)) [
-    | inl of_it ↦ absurd (none_unless (has_department v name) none (subst (λ d. IsTrue (has_department v d)) (named b.config.dept name of_it) owned.0))
-    | inr other ↦ other
-  ])
-  | inr other ↦ rw other (no_bucket v name none bs owned.1 bucket)
-]
-
 module _ (v : Vault) (name : List ℕ) (rows : List Row) (finds : Finds v department_text (Text name ∷ []) rows) where
   abbrev row_in : List ℕ → Row
   row_in d = department_row (department_in v d)
@@ -86,35 +72,33 @@ module _ (v : Vault) (name : List ℕ) (rows : List Row) (finds : Finds v depart
       let each : length (map row_in (filter (λ d. bytes_eq d name) v.departments)) ≡ length (filter (λ d. bytes_eq d name) v.departments) = simp length-map in
       sym (any_left (λ d. bytes_eq d name) v.departments ∙ ap (λ n. not (n == 0)) (sym each ∙ sym few))
 
-  sums_read : (d : DepartmentRow) (x : List ℕ) → department_row d ≡ row_in x → IsRowFor v x d.sums
-  sums_read d x e =
+  -- the row tells five of the sums; nothing moved, so the other two are 0
+  sums_read : (d : DepartmentRow) (x : List ℕ) → department_row d ≡ row_in x → (d.sums.received ≡ 0) × (d.sums.handed ≡ 0) → IsRowFor v x d.sums
+  sums_read d x e none =
       let at = λ (n : ℕ). ap (λ r. column r n) e in
+      let kept = finds.1.spells.kept in
       record {
         admitted = number_same _ _ (at 1);
+        received = none.0 ∙ sym (none_received v x kept.sound kept.unmoved.moves);
         held = number_same _ _ (at 2);
         removed = number_same _ _ (at 3);
+        handed = none.1 ∙ sym (none_handed v x kept.sound kept.unmoved.moves);
         weighted = number_same _ _ (at 4);
         closed = number_same _ _ (at 5);
       }
 
-  pub totals_read : (row : Row) (d : DepartmentRow) → slice_get rows 0 ≡ Some row → row ≡ department_row d → IsRowFor v name d.sums
-  totals_read row d first reads =
+  pub totals_read : (row : Row) (d : DepartmentRow) → slice_get rows 0 ≡ Some row → row ≡ department_row d → (d.sums.received ≡ 0) × (d.sums.handed ≡ 0) → IsRowFor v name d.sums
+  totals_read row d first reads none =
       let it = first_of row_in (filter (λ d. bytes_eq d name) v.departments) rows row departments_found first in
       let is = has_filtered (λ d. bytes_eq d name) v.departments it.0 it.1 in
-      subst (λ x. IsRowFor v x d.sums) (named it.0 name is.1) (sums_read d it.0 (sym reads ∙ it.2))
+      subst (λ x. IsRowFor v x d.sums) (named it.0 name is.1) (sums_read d it.0 (sym reads ∙ it.2) none)
 
-  no_items : has_department v name ≡ false → (hs : List History) → filter (is_version_of v.buckets name) hs ≡ []
-  no_items none [] = refl
-  no_items none (h ∷ hs) =
-      let other : is_version_of v.buckets name h ≡ false = and_right (not h.entry.marker) _ (no_bucket v name none v.buckets finds.1.spells.kept.sound.owned h.entry.bucket) in
-      rw other (no_items none hs)
-
-  pub totals_of_none : ◌≡◌ {A = Option Row} None (slice_get rows 0) → IsRowFor v name (record { admitted = 0; held = 0; removed = 0; weighted = 0; closed = 0 })
+  pub totals_of_none : ◌≡◌ {A = Option Row} None (slice_get rows 0) → IsRowFor v name (record { admitted = 0; received = 0; held = 0; removed = 0; handed = 0; weighted = 0; closed = 0 })
   totals_of_none none =
       let gone = none_of row_in (filter (λ d. bytes_eq d name) v.departments) rows departments_found none in
       let missing : has_department v name ≡ false = any_left (λ d. bytes_eq d name) v.departments ∙ ap (λ (ds : List (List ℕ)). not (length ds == 0)) gone in
-      let empty : items_of v name ≡ [] = ap (map item_of) (no_items missing v.histories) in
-      subst (IsRowOf (record { admitted = 0; held = 0; removed = 0; weighted = 0; closed = 0 })) (sym empty) (record { admitted = refl; held = refl; removed = refl; weighted = refl; closed = refl })
+      let empty : items_of v name ≡ [] = no_items v name finds.1.spells.kept.sound missing in
+      subst (IsRowOf (record { admitted = 0; received = 0; held = 0; removed = 0; handed = 0; weighted = 0; closed = 0 })) (sym empty) (record { admitted = refl; received = refl; held = refl; removed = refl; handed = refl; weighted = refl; closed = refl })
 
 -- ---- callers
 

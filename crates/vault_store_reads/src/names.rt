@@ -49,8 +49,10 @@ pub fn read_totals<S: Alter>(conn: &mut Connection<S>, dept: &DeptName) -> Resul
         },
         None => Ok(Sums {
             admitted: 0,
+            received: 0,
             held: 0,
             removed: 0,
+            handed: 0,
             weighted: 0,
             closed: 0,
         }),

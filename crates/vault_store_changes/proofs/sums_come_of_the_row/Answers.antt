@@ -1,8 +1,8 @@
-use Rattle.vault_store_changes.proofs.SumLemmas.{sums_admitted, sums_removed}
+use Rattle.vault_store_changes.proofs.SumLemmas.{sums_admitted, sums_ended}
 use Rattle.vault_store_changes.proofs.sums_come_of_the_row.Goals as goal
 
 pub returns-clause-admitted : goal.returns-clause-admitted
 returns-clause-admitted c = sums_admitted
 
 pub returns-clause-removed : goal.returns-clause-removed
-returns-clause-removed c = sums_removed
+returns-clause-removed c = sums_ended

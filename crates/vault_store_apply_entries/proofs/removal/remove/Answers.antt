@@ -32,7 +32,7 @@ returns-clause-done g c clean given =
     let told = c.in-Ok-read_place.ensures.value clean3 v was2 in
     let place = c.in-Ok-read_place.place in
     edits_removal v t c.args.id c.args.removal.now c.in_ok-entry.entry place.config place.sums c.without_version-sums.result place.head c.left_head-left.result c.in-Ok.newest
-    (was3 is_open).0.spells.kept.sound later low allowed (sym (c.in_ok-entry.ensures.value clean1 v was)) told.0 told.1 c.without_version-sums.ensures told.2 (c.in-Ok.ensures.value clean2 v was1) c.left_head-left.ensures))
+    (was3 is_open).0.spells.kept later low allowed (sym (c.in_ok-entry.ensures.value clean1 v was)) told.0 told.1 c.without_version-sums.ensures told.2 (c.in-Ok.ensures.value clean2 v was1) c.left_head-left.ensures))
 
 pub returns-clause-crash : goal.returns-clause-crash
 returns-clause-crash g c given v was =
@@ -59,7 +59,7 @@ returns-clause-crash g c given v was =
     let told = c.in-Ok-read_place.ensures.value clean3 v was2 in
     let place = c.in-Ok-read_place.place in
     edits_removal v t c.args.id c.args.removal.now c.in_ok-entry.entry place.config place.sums c.without_version-sums.result place.head c.left_head-left.result c.in-Ok.newest
-    (was3 is_open).0.spells.kept.sound later low allowed (sym (c.in_ok-entry.ensures.value clean1 v was)) told.0 told.1 c.without_version-sums.ensures told.2 (c.in-Ok.ensures.value clean2 v was1) c.left_head-left.ensures))
+    (was3 is_open).0.spells.kept later low allowed (sym (c.in_ok-entry.ensures.value clean1 v was)) told.0 told.1 c.without_version-sums.ensures told.2 (c.in-Ok.ensures.value clean2 v was1) c.left_head-left.ensures))
     reads c.commit_part-removed.ensures.crash
 
 pub returns-clause-nothing : goal.returns-clause-nothing
