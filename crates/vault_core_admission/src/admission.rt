@@ -18,9 +18,7 @@ use vault_core_model::access::Access;
 use vault_core_model::command::Put;
 use vault_core_model::halt::Halt;
 use vault_core_model::keeper::Keeper;
-use vault_core_model::records::{
-    Author, Entry, History, Setting, Settings, Tenure, Tenures,
-};
+use vault_core_model::records::{Author, Entry, History, Setting, Settings, Tenure, Tenures};
 use vault_lock::lock::Lock;
 
 /// A caller that may put, and set what is given of retention and hold.

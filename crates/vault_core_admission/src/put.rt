@@ -3,13 +3,12 @@ ghost use Rattle.std.specs.Prelude.{◌≡◌, ◌≤◌, IsTrue, IfOk, Some, No
 ghost use Rattle.vault_core_model.specs.Allowed.{IsAdmission};
 ghost use Rattle.vault_core_model.specs.Halts.{Finds, Meets, is_device, Rose};
 ghost use Rattle.vault_core_model.specs.EntryOutcomes as outcome;
-ghost use Rattle.vault_core_model.specs.Sound.{Sound};
 ghost use Rattle.vault_core_model.specs.Vault.{config_of};
 
 use crate::admission::{find_access_to_put, find_lock_to_admit, new_version};
 use std::alloc::Global;
 use vault_base::moment::Moment;
-use vault_base::name::CallerName;
+use vault_base::name::{CallerName, VersionId};
 use vault_core_checks::limit::find_id;
 use vault_core_model::access::Access;
 use vault_core_model::change::{Admission, Change};
@@ -37,7 +36,7 @@ pub fn put<K: Keeper>(
     let found = find_version_to_admit(alloc, keeper, at, who, command, &access);
     drop(access);
     let history = found?;
-    let id = history.entry.id;
+    let id = id_of(&history);
     let admission = Admission {
         history,
         note: None,
@@ -68,4 +67,11 @@ fn find_version_to_admit<K: Keeper>(
     let id = find_id(keeper)?;
     let dept = &access.bucket.dept;
     Ok(new_version(alloc, id, at, who, dept, command, lock)?)
+}
+
+/// The id of a version, read before the version is handed on.
+fn id_of(history: &History) -> VersionId
+    ensures { result ≡ history.now.entry.id }
+{
+    history.entry.id
 }
