@@ -7,9 +7,9 @@ ghost use Rattle.vault_core_model.specs.Step.{Run, Reached};
 ghost use Rattle.vault_worm_laws.specs.Once.{Extends};
 ghost use Rattle.vault_worm_laws.specs.Removals.{RemovalsWerePermitted};
 ghost use Rattle.vault_worm_laws.specs.Repeated.{BeginRun, CompleteRun};
-ghost use Rattle.vault_worm_laws.specs.Stored.{EachStandsOnce, stored_bytes};
+ghost use Rattle.vault_worm_laws.specs.Stored.{EachStandsOnce, stored_bytes, all_stored_bytes};
 ghost use Rattle.vault_worm_laws.specs.Worm.{Worm};
-ghost use Rattle.vault_core_model.specs.Totals.{admitted_bytes, held_bytes, removed_bytes};
+ghost use Rattle.vault_core_model.specs.Totals.{admitted_bytes, received_bytes, held_bytes, removed_bytes, handed_bytes, byte_days_at, over_departments, vault_byte_days};
 
 use crate::step::step;
 use std::alloc::{AllocError, Global};
@@ -37,13 +37,26 @@ pub fn run<K: Keeper>(
     // What was admitted is neither lost nor altered, and its bytes stand in the held content or were removed.
     ensures once { K.is_honest keeper.new → Sound (K.vault keeper.old) → Extends (K.vault keeper.old).histories (K.vault keeper.new).histories }
     ensures stored { K.is_honest keeper.new → Sound (K.vault keeper.old) → EachStandsOnce (K.vault keeper.new) }
-    ensures total { K.is_honest keeper.new → Sound (K.vault keeper.old) →
-        (dept : List ℕ) → admitted_bytes (K.vault keeper.new) dept ≡ stored_bytes (K.vault keeper.new) dept + removed_bytes (K.vault keeper.new) dept }
+    ensures total { K.is_honest keeper.new → Sound (K.vault keeper.old) → (dept : List ℕ) →
+        admitted_bytes (K.vault keeper.new) dept + received_bytes (K.vault keeper.new) dept
+        ≡ stored_bytes (K.vault keeper.new) dept + (removed_bytes (K.vault keeper.new) dept + handed_bytes (K.vault keeper.new) dept) }
+    // Over all departments, what was received was handed over, and what was admitted stands or was removed; the byte-days charged are each version's size times its whole days held.
+    ensures moved { K.is_honest keeper.new → Sound (K.vault keeper.old) →
+        over_departments (K.vault keeper.new) (received_bytes (K.vault keeper.new)) ≡ over_departments (K.vault keeper.new) (handed_bytes (K.vault keeper.new)) }
+    ensures whole { K.is_honest keeper.new → Sound (K.vault keeper.old) →
+        over_departments (K.vault keeper.new) (admitted_bytes (K.vault keeper.new)) ≡ all_stored_bytes (K.vault keeper.new) + over_departments (K.vault keeper.new) (removed_bytes (K.vault keeper.new)) }
+    ensures days { K.is_honest keeper.new → Sound (K.vault keeper.old) → (t : ℕ) → (K.vault keeper.new).last ≤ t →
+        over_departments (K.vault keeper.new) (λ dept. byte_days_at (K.vault keeper.new) dept t) ≡ vault_byte_days (K.vault keeper.new) t }
+    // No command moves a bucket yet: no department received bytes or handed any over.
+    ensures unmoved { K.is_honest keeper.new → Reached (K.vault keeper.old) → (dept : List ℕ) →
+        (received_bytes (K.vault keeper.new) dept ≡ 0) × (handed_bytes (K.vault keeper.new) dept ≡ 0) }
     // Lifecycle runs that were cut are the beginning of one run, and a last one that is done completes it.
     ensures begun { K.is_honest keeper.new → Sound (K.vault keeper.old) → IfOk result (λ replies. BeginRun (K.vault keeper.old) commands.now replies.items (K.vault keeper.new)) }
     ensures completed { K.is_honest keeper.new → Sound (K.vault keeper.old) → IfOk result (λ replies. CompleteRun (K.vault keeper.old) commands.now replies.items (K.vault keeper.new)) }
-    // These are the numbers that a report tells.
-    ensures conserved { (dept : List ℕ) → admitted_bytes (K.vault keeper.new) dept ≡ held_bytes (K.vault keeper.new) dept + removed_bytes (K.vault keeper.new) dept }
+    // These are the numbers that a department's row has.
+    ensures conserved { (dept : List ℕ) →
+        admitted_bytes (K.vault keeper.new) dept + received_bytes (K.vault keeper.new) dept
+        ≡ held_bytes (K.vault keeper.new) dept + (removed_bytes (K.vault keeper.new) dept + handed_bytes (K.vault keeper.new) dept) }
     ensures honest { K.is_honest keeper.new → K.is_honest keeper.old }
     ensures counted { K.count keeper.old ≤ K.count keeper.new }
     // That the device failed is told only where its count of failures rose, or stands at its greatest value; where no reply tells it, the count is as it was.

@@ -6,11 +6,12 @@ use Rattle.std.proofs.lemmas.List.{take_more}
 use Rattle.vault_core_model.specs.declared.command.Timed.{Timed}
 use Rattle.vault_core_model.specs.Step.{Run}
 use Rattle.vault_core_laws.proofs.Runs.{Run-push, Run-append}
-use Rattle.vault_core_laws.proofs.Conserved.{admitted-conserved}
+use Rattle.vault_core_laws.proofs.Balance.{moved, one_place}
+use Rattle.vault_core_laws.proofs.Telescope.{days_joined}
 use Rattle.vault_worm_laws.proofs.Once.{extends_itself}
 use Rattle.vault_worm_laws.proofs.Repeated.{run-begins, run-completes}
-use Rattle.vault_worm_laws.proofs.Reached.{reached-permitted, reached-Worm, run-Sound, run-extends}
-use Rattle.vault_worm_laws.proofs.Stored.{Sound-stands_once, Sound-conserved}
+use Rattle.vault_worm_laws.proofs.Reached.{reached-permitted, reached-Worm, reached-stays, run-Sound, run-extends}
+use Rattle.vault_worm_laws.proofs.Stored.{Sound-stands_once, Sound-conserved, Sound-all_conserved}
 use Rattle.vault_core.proofs.Device.{any_last, none_last, Rose-before, Rose-after}
 use Rattle.vault_core.proofs.run.run.Goals as goal
 
@@ -41,10 +42,10 @@ pub returns-clause-reached : goal.returns-clause-reached
 returns-clause-reached g c = λ h before. (before.0 ++ _, before.1 ++ _, Run-append _ _ _ before.0 _ before.1 _ before.2 (c.loop-timed.invariant.so_far h))
 
 pub returns-in_err-replies-clause-conserved : goal.returns-in_err-replies-clause-conserved
-returns-in_err-replies-clause-conserved g c = admitted-conserved (g.K.Keeper.vault c.args.keeper.now)
+returns-in_err-replies-clause-conserved g c = one_place (g.K.Keeper.vault c.args.keeper.now)
 
 pub returns-clause-conserved : goal.returns-clause-conserved
-returns-clause-conserved g c = admitted-conserved (g.K.Keeper.vault c.loop-timed.keeper)
+returns-clause-conserved g c = one_place (g.K.Keeper.vault c.loop-timed.keeper)
 
 -- ---- the laws of every vault that is reached
 
@@ -77,6 +78,30 @@ returns-in_err-replies-clause-total g c = λ h sound dept. Sound-conserved _ dep
 
 pub returns-clause-total : goal.returns-clause-total
 returns-clause-total g c = λ h sound dept. Sound-conserved _ dept (run-Sound _ _ _ _ sound (c.loop-timed.invariant.so_far h))
+
+pub returns-in_err-replies-clause-moved : goal.returns-in_err-replies-clause-moved
+returns-in_err-replies-clause-moved g c = λ h sound. moved _ sound
+
+pub returns-clause-moved : goal.returns-clause-moved
+returns-clause-moved g c = λ h sound. moved _ (run-Sound _ _ _ _ sound (c.loop-timed.invariant.so_far h))
+
+pub returns-in_err-replies-clause-whole : goal.returns-in_err-replies-clause-whole
+returns-in_err-replies-clause-whole g c = λ h sound. Sound-all_conserved _ sound
+
+pub returns-clause-whole : goal.returns-clause-whole
+returns-clause-whole g c = λ h sound. Sound-all_conserved _ (run-Sound _ _ _ _ sound (c.loop-timed.invariant.so_far h))
+
+pub returns-in_err-replies-clause-days : goal.returns-in_err-replies-clause-days
+returns-in_err-replies-clause-days g c = λ h sound t late. days_joined _ t sound late
+
+pub returns-clause-days : goal.returns-clause-days
+returns-clause-days g c = λ h sound t late. days_joined _ t (run-Sound _ _ _ _ sound (c.loop-timed.invariant.so_far h)) late
+
+pub returns-in_err-replies-clause-unmoved : goal.returns-in_err-replies-clause-unmoved
+returns-in_err-replies-clause-unmoved g c = λ h before dept. reached-stays _ dept before
+
+pub returns-clause-unmoved : goal.returns-clause-unmoved
+returns-clause-unmoved g c = λ h before dept. reached-stays _ dept (returns-clause-reached g c h before)
 
 pub returns-clause-begun : goal.returns-clause-begun
 returns-clause-begun g c = λ h sound.
