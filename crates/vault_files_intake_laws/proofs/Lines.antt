@@ -249,10 +249,10 @@ lock-was b r hold t u h top later =
 
 quota-was : (v w : Vault) (dept : List ℕ) (size : ℕ) → IsLater v w → is_ok (within_quota w dept size) ≡ true → is_ok (within_quota v dept size) ≡ true
 quota-was v w dept size later h =
-    let then = admitted_bytes v dept + received_bytes v dept + size in
-    let now = admitted_bytes w dept + received_bytes w dept + size in
-    let fits = leb-true now 1000000000000 (sym (passes-check (nat_le now 1000000000000) QuotaExceeded) ∙ h) in
-    passes-check (nat_le then 1000000000000) QuotaExceeded ∙ le-leb then 1000000000000 (omega (arith, later.got dept))
+    let before = admitted_bytes v dept + received_bytes v dept + size in
+    let after = admitted_bytes w dept + received_bytes w dept + size in
+    let fits = leb-true after 1000000000000 (sym (passes-check (nat_le after 1000000000000) QuotaExceeded) ∙ h) in
+    passes-check (nat_le before 1000000000000) QuotaExceeded ∙ le-leb before 1000000000000 (omega (arith, later.got dept))
 
 passes-id : (v : Vault) (b : Bool) → is_ok {T = ℕ} {E = Refusal} (if b then Ok (next_id v) else Err VaultFull) ≡ b
 passes-id v true = refl
