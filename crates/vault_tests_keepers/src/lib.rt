@@ -1,5 +1,5 @@
 //! Tests of vaults that are made, opened and kept: rows over tables in memory, runs that a device stops over each
-//! kind of keeper, commands over tables, and which stores are made and opened.
+//! kind of keeper, commands over tables, which stores are made and opened, and how much is read of them.
 #![tactic(auto)]
 
 #[cfg(test)]
@@ -12,6 +12,8 @@ mod create;
 mod exchange;
 #[cfg(test)]
 mod intake;
+#[cfg(test)]
+mod lookups;
 #[cfg(test)]
 mod opens;
 #[cfg(test)]

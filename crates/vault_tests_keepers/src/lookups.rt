@@ -1,10 +1,11 @@
 //! What a report reads, and what is read of one key, takes as many steps in a large vault as in a small one.
-use crate::calls::{bucket_name, dept_name, key_prefix, made_with, object_key};
 use sqlite::{Alter, Connection, Error, params};
 use std::alloc::Global;
 use std::process::Abort;
 use std::test::Fail;
 use vault_base::name::{BucketName, DeptName, KeyPrefix, ObjectKey};
+use vault_base::refusal::Refusal;
+use vault_store_create::create::fill;
 use vault_store_ordered::reads::{read_entries, read_keys};
 use vault_store_reads::heads::read_head;
 use vault_store_reads::meta::read_last;
@@ -28,7 +29,32 @@ enum Reading {
     Keys,
 }
 
-// These have no clause, so that the proof of a test does not carry the state of each call.
+// These have no clause, so that the proof of a test does not carry the state of each call, nor work out a name.
+
+fn made<S: Alter>(conn: &mut Connection<S>) -> Result<(), Refusal> {
+    fill(conn)
+}
+
+fn batch<S: Alter>(conn: &mut Connection<S>, sql: &str) -> Result<(), Error> {
+    conn.execute_batch(sql)
+}
+
+fn dept_name(alloc: Global, text: &str) -> Result<DeptName, Fail> {
+    Ok(DeptName::read(alloc, text)?.ok().ok_or("a name")?)
+}
+
+fn bucket_name(alloc: Global, text: &str) -> Result<BucketName, Fail> {
+    Ok(BucketName::read(alloc, text)?.ok().ok_or("a name")?)
+}
+
+fn object_key(alloc: Global, text: &str) -> Result<ObjectKey, Fail> {
+    Ok(ObjectKey::read(alloc, text)?.ok().ok_or("a key")?)
+}
+
+fn key_prefix(alloc: Global, text: &str) -> Result<KeyPrefix, Fail> {
+    Ok(KeyPrefix::read(alloc, text)?.ok().ok_or("a prefix")?)
+}
+
 fn entries<S: Alter>(conn: &mut Connection<S>) -> Result<i64, Error> {
     conn.query_row("SELECT count(*) FROM entries", &[])?.get(0)
 }
@@ -139,12 +165,19 @@ fn what_a_command_reads_does_not_grow_with_the_vault(rt: HostRuntime) -> Result<
     judged
 }
 
+/// Makes a vault of ten versions in an empty store.
+fn make_small<S: Alter>(rt: &impl Abort, conn: &mut Connection<S>) -> Result<(), Fail> {
+    assert_eq!(rt; made(conn), Ok(()));
+    batch(conn, TEN_VERSIONS)?;
+    Ok(())
+}
+
 fn read_in_small_and_large<S: Alter>(
     rt: &impl Abort,
     alloc: Global,
     conn: &mut Connection<S>,
 ) -> Result<(), Fail> {
-    made_with(rt, conn, &[TEN_VERSIONS])?;
+    make_small(rt, conn)?;
     let names = read_names(alloc)?;
     let judged = judge_steps(rt, alloc, conn, &names);
     drop(names);
