@@ -1,7 +1,7 @@
 use Rattle.std.proofs.Common.{rules, ◌≡◌, true, false, sym, subst, ◌∙◌, arith}
 use Rattle.sqlite.specs.Held.{state}
 use Rattle.sqlite.specs.State.{HasCleanDisk}
-use Rattle.vault_audit.specs.OtherEdition.{AreBucketRows, AreCallerRows, AreDepartmentRows, HasMetaOf}
+use Rattle.vault_audit.specs.OtherEdition.{AreCallerRows, AreDepartmentRows, HasMetaOf}
 use Rattle.vault_audit.proofs.other_edition.look_at_other.Goals as goal
 
 pub returns-then-not-departments-clause-told : goal.returns-then-not-departments-clause-told
