@@ -5,6 +5,7 @@
 ghost use Rattle.std.specs.Prelude.{◌≡◌, ◌≢◌};
 ghost use Rattle.vaultctl_perform.specs.Status as spec;
 
+use crate::replay::fault_of;
 use crate::telling::{status, tell_cause};
 use sqlite::Start;
 use std::alloc::Global;
@@ -97,9 +98,7 @@ fn replayed(answered: Result<(), ReplayFault>) -> Result<Outcome, JobFault>
 {
     match answered {
         Ok(()) => Ok(Outcome::Done),
-        Err(ReplayFault::Read) => Err(JobFault::Read),
-        Err(ReplayFault::Write) => Err(JobFault::Write),
-        Err(ReplayFault::Memory) => Err(JobFault::Memory),
+        Err(fault) => Err(fault_of(fault)),
     }
 }
 
