@@ -20,6 +20,8 @@ use vault_http_values::fault::LineFault;
 use vaultctl_commands::carrying::{carry_out, tell_refusal};
 use vaultctl_commands::fault::JobFault;
 use vaultctl_commands::outcome::Outcome;
+use vaultctl_commands::told_keeper::ToldKeeper;
+use vaultctl_machine::terminal::terminal;
 use vaultctl_machine::vaults::{FileVault, Machine, close_vault};
 use vaultctl_serve::clock::now;
 use vaultctl_values::asked::Asked;
@@ -74,7 +76,7 @@ fn ask_keeper<K: Keeper, W: Write>(
     carry_out_asked(rt.alloc(), rt, keeper, asked, out)
 }
 
-/// Asks it of a vault, and closes the vault.
+/// Asks it of a vault, and closes the vault; on a terminal a run tells how far it has come.
 fn ask_vault<S: Start, W: Write>(
     rt: &HostRuntime,
     vault: FileVault<S>,
@@ -85,9 +87,9 @@ fn ask_vault<S: Start, W: Write>(
     ensures reader { result ≢ Err JobFault.Read }
     ensures device { result ≢ Err JobFault.Device }
 {
-    let mut vault = vault;
-    let outcome = ask_keeper(rt, &mut vault, asked, out);
-    close_vault(vault);
+    let mut told = ToldKeeper::new(vault, terminal(rt));
+    let outcome = ask_keeper(rt, &mut told, asked, out);
+    close_vault(told.into_keeper());
     outcome
 }
 
