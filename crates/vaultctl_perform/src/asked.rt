@@ -49,6 +49,8 @@ fn carry_out_asked<C: Clock, K: Keeper, W: Write>(
     ensures done { K.is_honest keeper.new → IfOk result (λ told. spec.IsDoneAt (Rose (K.count keeper.old) (K.count keeper.new)) asked.now.at asked.now (K.vault keeper.old) (K.vault keeper.new) told (W.contents out.old) (W.contents out.new)) }
     // Whatever the device does, what is answered is what the printed reply says.
     ensures told { IfOk result (λ told. TellsReply told (W.contents out.old) (W.contents out.new)) }
+    // And that the device failed is told just where it did, whatever it does.
+    ensures steady { spec.IsSteadyAt (K.is_honest keeper.new) asked.now.at asked.now (K.vault keeper.old) (K.vault keeper.new) (K.count keeper.old) (K.count keeper.new) result (W.contents out.old) (W.contents out.new) }
     ensures reached { K.is_honest keeper.new → Reached (K.vault keeper.old) → Reached (K.vault keeper.new) }
     ensures honest { K.is_honest keeper.new → K.is_honest keeper.old }
     ensures counted { K.count keeper.old ≤ K.count keeper.new }
