@@ -7,8 +7,8 @@ import re
 TOP = pathlib.Path(__file__).resolve().parent.parent
 
 # A subcommand: its name, what it does, the words of its usage, its arguments and options as (words, text), the
-# paragraphs below, and the lines of its example.
-Command = collections.namedtuple("Command", "name about usage arguments options notes examples")
+# paragraphs below, the lines of its example, and what each exit status says.
+Command = collections.namedtuple("Command", "name about usage arguments options notes examples statuses")
 
 
 def texts():
@@ -49,17 +49,20 @@ def items(lines):
 def command_of(name, lines):
     about, *rest = blocks(lines)
     parts = {"Arguments:": [], "Options:": [], "Example:": []}
-    usage, notes = [], []
+    usage, notes, statuses = [], [], []
     for block in rest:
         if block[0].startswith("Usage: "):
             usage = " ".join(block).removeprefix("Usage: vaultctl ").split()[1:]
         elif block[0] in parts:
             parts[block[0]] = block[1:]
-        else:
+        elif block[0].startswith("Status: "):
+            statuses = re.split(r"; (?=[12] )", " ".join(block).removeprefix("Status: "))
+        elif not block[0].startswith("More: "):
             notes.append(" ".join(block))
     options = [it for it in items(parts["Options:"]) if it[0] != "-h, --help"]
     examples = [it.strip() for it in parts["Example:"]]
-    return Command(name, " ".join(about), usage, items(parts["Arguments:"]), options, notes, examples)
+    arguments = items(parts["Arguments:"])
+    return Command(name, " ".join(about), usage, arguments, options, notes, examples, [it.split(" ", 1) for it in statuses])
 
 
 def commands():

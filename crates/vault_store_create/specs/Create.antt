@@ -9,7 +9,7 @@ use Rattle.sqlite.specs.State.{State}
 use Rattle.vault_base.specs.declared.refusal.Table.{Table}
 use Rattle.vault_base.specs.declared.refusal.Table.TheVariants as table
 use Rattle.vault_base.specs.declared.refusal.Refusal.{Refusal}
-use Rattle.vault_base.specs.declared.refusal.Refusal.TheVariants.{Memory, Device}
+use Rattle.vault_base.specs.declared.refusal.Refusal.TheVariants.{Damaged, Memory, Device}
 use Rattle.vault_core_model.specs.Vault.{opening}
 use Rattle.vault_audit_model.specs.Tables.{vault_schema, meta_tree}
 use Rattle.vault_audit_model.specs.Rows.{meta_row, meta_columns}
@@ -68,3 +68,7 @@ pub record AreOpening (trees : Trees) : Type 0 where
 -- the refusals of a making that was begun
 abbrev pub IsFault : Refusal → Type 0
 IsFault r = (r ≡ Memory) ⊎ (r ≡ Device)
+
+-- where no table is, the first of a vault's isn't there
+abbrev pub without_tables : Refusal
+without_tables = Damaged table.Meta

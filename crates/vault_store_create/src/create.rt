@@ -6,19 +6,26 @@ ghost use Rattle.vault_core_model.specs.Vault.{opening};
 ghost use Rattle.vault_audit_model.specs.Spells.{AreSound};
 ghost use Rattle.vault_audit_model.specs.Tables.{no_schema};
 ghost use Rattle.vault_audit_model.specs.Faults.{refusal_of};
-ghost use Rattle.vault_store_create.specs.Create.{Moves, HasFirst, IsFilled, AreOpening, IsFault};
+ghost use Rattle.vault_store_create.specs.Create.{Moves, HasFirst, IsFilled, AreOpening, IsFault, without_tables};
 
 use crate::first_rows::{put_meta, put_registrar};
 use crate::tables::make_tables;
 use sqlite::{Alter, Connection, Error, ErrorCode, Transaction};
 use sqlite_schema::schema::Schema;
-use vault_base::refusal::Refusal;
+use vault_base::refusal::{Refusal, Table};
 
 /// Whether a store has no table, index or view.
 pub fn is_blank(schema: &Schema) -> bool
     ensures { IsTrue result ↔ (schema.now ≡ no_schema) }
 {
     schema.tables.is_empty() && schema.indexes.is_empty() && schema.views.is_empty()
+}
+
+/// What it is told as that no table is where a vault should be: the first of a vault's isn't there.
+pub fn without_tables() -> Refusal
+    ensures { result ≡ without_tables }
+{
+    Refusal::Damaged(Table::Meta)
 }
 
 /// What an error of the store is told as.

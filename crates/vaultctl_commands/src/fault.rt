@@ -17,3 +17,20 @@ pub enum JobFault {
     #[error("Device")]
     Device,
 }
+
+impl JobFault {
+    ghost use Rattle.std.specs.Prelude.{◌≡◌};
+    ghost use Rattle.vaultctl_commands.specs.Faults.{fault_name};
+
+    /// Its name, as `Read`.
+    pub fn name(self) -> &'static str
+        ensures { result.now ≡ fault_name self }
+    {
+        match self {
+            JobFault::Read => "Read",
+            JobFault::Write => "Write",
+            JobFault::Memory => "Memory",
+            JobFault::Device => "Device",
+        }
+    }
+}

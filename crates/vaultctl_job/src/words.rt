@@ -28,7 +28,7 @@ fn command<'a>(alloc: Global) -> Result<Command<'a>, AllocError>
     let top = Command::new(alloc, "vaultctl")
         .about("A records vault: what is put in stays until its retention ends")
         .after_help(
-            "'vaultctl COMMAND --help' tells the words of a command.\n\nExample:\n  vaultctl init records.vault\n  vaultctl dept records.vault records --as registrar\n  vaultctl verify records.vault",
+            "'vaultctl COMMAND --help' tells the words of a command, and how it refuses.\n\nExample:\n  vaultctl init records.vault\n  vaultctl dept records.vault records --as registrar\n  vaultctl verify records.vault\n\nStatus: 0 done; 1 refused, stopped, or a fault; 2 the words aren't understood,\nor ask for help.\n\nMore: man vaultctl, and the manual: docs/MANUAL.md, in the package\nhtml/MANUAL.html.",
         );
     let top = with_records(alloc, needs_subcommand(top))?;
     let top = with_work(alloc, top)?;

@@ -3,21 +3,17 @@ use Rattle.sqlite.specs.declared.error.Error.{Error}
 use Rattle.sqlite.specs.declared.error.Error.TheVariants.{SqliteFailure}
 use Rattle.sqlite.specs.declared.error.ErrorCode.TheVariants as code
 use Rattle.vault_base.specs.declared.refusal.Refusal.{Refusal}
-use Rattle.vault_base.specs.declared.refusal.Refusal.TheVariants.{Damaged, Device, Memory, NameTaken}
-use Rattle.vault_base.specs.declared.refusal.Table.TheVariants.{Meta}
+use Rattle.vault_base.specs.declared.refusal.Refusal.TheVariants.{Device, Memory, NameTaken}
+use Rattle.vault_store_create.specs.Create.{without_tables}
 use Rattle.vaultctl_machine.specs.declared.unopened.Unopened.{Unopened}
 use Rattle.vaultctl_machine.specs.declared.unopened.Unopened.TheVariants.{Held, Refused}
-
--- what holds no tables has no table `meta`, the first of a vault's
-abbrev pub no_tables : Refusal
-no_tables = Damaged Meta
 
 -- where a vault should be in it: what is no store of tables holds none
 abbrev pub unopened_of : Error → Refusal
 unopened_of (SqliteFailure code.OutOfMemory) = Memory
-unopened_of (SqliteFailure code.NotADatabase) = no_tables
-unopened_of (SqliteFailure code.DatabaseCorrupt) = no_tables
-unopened_of (SqliteFailure code.TooBig) = no_tables
+unopened_of (SqliteFailure code.NotADatabase) = without_tables
+unopened_of (SqliteFailure code.DatabaseCorrupt) = without_tables
+unopened_of (SqliteFailure code.TooBig) = without_tables
 unopened_of _ = Device
 
 -- where a new vault is to be made in it: what is there is never written over

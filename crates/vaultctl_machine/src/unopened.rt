@@ -2,7 +2,7 @@
 ghost use Rattle.std.specs.Prelude.{◌≡◌};
 ghost use Rattle.vaultctl_machine.specs.Faults as spec;
 
-use vault_base::refusal::{Refusal, Table};
+use vault_base::refusal::Refusal;
 
 /// Why the vault in a file isn't opened or made.
 #[derive(Clone, Copy, Debug, PartialEq, Eq)]
@@ -23,11 +23,4 @@ impl Unopened {
             Unopened::Refused(refusal) => refusal,
         }
     }
-}
-
-/// What a file is told as that holds no tables: the first of a vault's isn't there.
-pub fn no_tables() -> Refusal
-    ensures { result ≡ spec.no_tables }
-{
-    Refusal::Damaged(Table::Meta)
 }

@@ -11,12 +11,13 @@ ghost use Rattle.vaultctl_machine.specs.Faults as spec;
 ghost use Rattle.vaultctl_machine.specs.Files.{IsFoundIn, IsHeldIn};
 
 use crate::places::place_at;
-use crate::unopened::{Unopened, no_tables};
+use crate::unopened::Unopened;
 use sqlite::{Connection, Error, ErrorCode, FileFrom, FileStore, Start};
 use std::alloc::Global;
 use std::io::{self, ErrorKind};
 use vault_base::refusal::Refusal;
 use vault_store::sql_keeper::SqlKeeper;
+use vault_store_create::create::without_tables;
 
 /// The store of a vault in files, which held what `S` says when they were opened.
 pub type VaultStore<S> = FileStore<FileFrom<S>>;
@@ -39,7 +40,7 @@ fn unopened(error: Error) -> Refusal
         Error::SqliteFailure(ErrorCode::OutOfMemory) => Refusal::Memory,
         Error::SqliteFailure(
             ErrorCode::NotADatabase | ErrorCode::DatabaseCorrupt | ErrorCode::TooBig,
-        ) => no_tables(),
+        ) => without_tables(),
         _ => Refusal::Device,
     }
 }
@@ -106,7 +107,7 @@ pub(crate) fn connect_there<S: Start>(
 {
     match place_at(rt, path) {
         Ok(place) if place.may_hold_tables() => {}
-        Ok(_) => return Err(Unopened::Refused(no_tables())),
+        Ok(_) => return Err(Unopened::Refused(without_tables())),
         Err(error) => return Err(unseen(error)),
     }
     match connect(rt, path, start) {

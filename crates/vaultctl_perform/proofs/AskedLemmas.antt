@@ -1,10 +1,11 @@
 -- On the reading at which a thing was done.
-use Rattle.std.proofs.Common.{◌≡◌, ℕ, List, Option, None, Some, inl, inr, refl, subst}
+use Rattle.std.proofs.Common.{◌≡◌, ℕ, List, Option, None, Some, Result, inl, inr, refl, subst}
 use Rattle.std.specs.Prelude.{MatchOption, ⊤}
 use Rattle.vault_core_model.specs.Vault.{Vault}
+use Rattle.vaultctl_commands.specs.declared.fault.JobFault.{JobFault}
 use Rattle.vaultctl_commands.specs.declared.outcome.Outcome.{Outcome}
 use Rattle.vaultctl_values.specs.declared.asked.Asked.{Asked}
-use Rattle.vaultctl_perform.specs.Asked.{IsDone, IsUnread, IsDoneAt}
+use Rattle.vaultctl_perform.specs.Asked.{IsDone, IsUnread, IsDoneAt, IsSteady, IsUnreadSteady, IsSteadyAt}
 
 module _ (Failed : Type 0) (asked : Asked) (v v' : Vault) (told : Outcome) (before after : Option (List ℕ)) where
   -- the reading that is given is the one that was taken
@@ -16,3 +17,13 @@ module _ (Failed : Type 0) (asked : Asked) (v v' : Vault) (told : Outcome) (befo
   pub unread_at : (given : Option ℕ) → ((t : ℕ) → given ≡ Some t → None ≡ Some t) → IsUnread v v' told before after → IsDoneAt Failed given asked v v' told before after
   unread_at None same u = inr u
   unread_at (Some t) same u = absurd (subst (λ (o : Option ℕ). MatchOption o ⊤ (λ _. ⊥)) (same t refl) tt)
+
+-- the same of what is told of the device
+module _ (Honest : Type 0) (asked : Asked) (v v' : Vault) (n n' : ℕ) (result : Result Outcome JobFault) (before after : Option (List ℕ)) where
+  pub steady_at : (given : Option ℕ) (at : ℕ) → ((t : ℕ) → given ≡ Some t → Some at ≡ Some t) → IsSteady Honest at asked v v' n n' result before after → IsSteadyAt Honest given asked v v' n n' result before after
+  steady_at None at same s = inl (at, s)
+  steady_at (Some t) at same s = subst (λ (o : Option ℕ). IsSteadyAt Honest o asked v v' n n' result before after) (same t refl) s
+
+  pub unread_steady_at : (given : Option ℕ) → ((t : ℕ) → given ≡ Some t → None ≡ Some t) → IsUnreadSteady v v' n n' result before after → IsSteadyAt Honest given asked v v' n n' result before after
+  unread_steady_at None same u = inr u
+  unread_steady_at (Some t) same u = absurd (subst (λ (o : Option ℕ). MatchOption o ⊤ (λ _. ⊥)) (same t refl) tt)

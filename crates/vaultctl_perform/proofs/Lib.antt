@@ -1,2 +1,3 @@
 mod AskedLemmas
 mod StatusLemmas
+mod TellingLemmas

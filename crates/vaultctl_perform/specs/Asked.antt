@@ -1,13 +1,15 @@
 -- What comes of what is asked of a vault.
-use Rattle.std.specs.Prelude.{ℕ, ◌≡◌, ◌⊎◌, List, IsTrue, Option, None, Some}
+use Rattle.std.specs.Prelude.{ℕ, ◌≡◌, ◌⊎◌, List, IsTrue, IfOk, Option, None, Some, Result}
 use Rattle.std.specs.Io.KnownBytes.{Appends}
 use Rattle.vault_base.specs.declared.refusal.Refusal.TheVariants.{ClockOutOfRange}
+use Rattle.vault_core.specs.Told.{CountAsTold}
 use Rattle.vault_core_model.specs.Halts.{is_device_reply}
 use Rattle.vault_core_model.specs.Step.{Step}
 use Rattle.vault_core_model.specs.Vault.{Vault}
 use Rattle.vault_core_model.specs.declared.reply.Reply.{Reply}
 use Rattle.vault_core_model.specs.declared.reply.Reply.TheVariants.{Refused}
 use Rattle.vaultctl_commands.specs.Printed.{outcome_of, printed}
+use Rattle.vaultctl_commands.specs.declared.fault.JobFault.{JobFault}
 use Rattle.vaultctl_commands.specs.declared.outcome.Outcome.{Outcome}
 use Rattle.vaultctl_commands.specs.declared.outcome.Outcome.TheVariants as outcome
 use Rattle.vaultctl_values.specs.declared.asked.Asked.{Asked}
@@ -25,3 +27,18 @@ IsUnread v v' told before after = (v' ≡ v) × (told ≡ outcome.Refused) × Ap
 abbrev pub IsDoneAt : Type 0 → Option ℕ → Asked → Vault → Vault → Outcome → Option (List ℕ) → Option (List ℕ) → Type 0
 IsDoneAt Failed (Some at) asked v v' told before after = IsDone Failed at asked v v' told before after
 IsDoneAt Failed None asked v v' told before after = ((at : ℕ) × IsDone Failed at asked v v' told before after) ⊎ IsUnread v v' told before after
+
+-- One step was made at that reading, and its reply is printed where anything is. The reply tells that the device failed just where the count of failures rose, or can rise no further; where it doesn't, the count is as it was. Honest says that the device has returned what was written.
+abbrev pub IsSteady : Type 0 → ℕ → Asked → Vault → Vault → ℕ → ℕ → Result Outcome JobFault → Option (List ℕ) → Option (List ℕ) → Type 0
+IsSteady Honest at asked v v' n n' result before after =
+    (reply : Reply) × (Honest → Step v at asked.who asked.command reply v') × IfOk result (λ told. (told ≡ outcome_of reply) × Appends before after (printed reply))
+    × CountAsTold n n' (is_device_reply reply)
+
+-- the clock shows no moment: nothing is done, and the count is as it was
+abbrev pub IsUnreadSteady : Vault → Vault → ℕ → ℕ → Result Outcome JobFault → Option (List ℕ) → Option (List ℕ) → Type 0
+IsUnreadSteady v v' n n' result before after = (n' ≡ n) × IfOk result (λ told. IsUnread v v' told before after)
+
+-- the same at the reading that is given, or else at one of the clock's
+abbrev pub IsSteadyAt : Type 0 → Option ℕ → Asked → Vault → Vault → ℕ → ℕ → Result Outcome JobFault → Option (List ℕ) → Option (List ℕ) → Type 0
+IsSteadyAt Honest (Some at) asked v v' n n' result before after = IsSteady Honest at asked v v' n n' result before after
+IsSteadyAt Honest None asked v v' n n' result before after = ((at : ℕ) × IsSteady Honest at asked v v' n n' result before after) ⊎ IsUnreadSteady v v' n n' result before after

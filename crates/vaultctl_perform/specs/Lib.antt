@@ -1,4 +1,5 @@
 pub mod Asked
+pub mod Named
 pub mod Replay
 pub mod Status
 pub mod Told

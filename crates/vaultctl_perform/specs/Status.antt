@@ -30,12 +30,16 @@ exported (Err export.Write) = Err fault.Write
 exported (Err export.Memory) = Err fault.Memory
 exported (Err export.Device) = Err fault.Device
 
+-- a fault of a script, by its name
+abbrev pub replay_fault : ReplayFault → JobFault
+replay_fault replay.Read = fault.Read
+replay_fault replay.Write = fault.Write
+replay_fault replay.Memory = fault.Memory
+
 -- a script is answered or a fault is told, by its name
 abbrev pub replayed : Result (Unit {0}) ReplayFault → Result Outcome JobFault
 replayed (Ok t) = Ok Done
-replayed (Err replay.Read) = Err fault.Read
-replayed (Err replay.Write) = Err fault.Write
-replayed (Err replay.Memory) = Err fault.Memory
+replayed (Err fault) = Err (replay_fault fault)
 
 -- so many requests were served, or a port can't be had
 abbrev pub served : Result (Unit {0}) PortFault → Result Outcome JobFault

@@ -20,6 +20,8 @@ use vault_http_values::fault::LineFault;
 use vaultctl_commands::carrying::{carry_out, tell_refusal};
 use vaultctl_commands::fault::JobFault;
 use vaultctl_commands::outcome::Outcome;
+use vaultctl_commands::told_keeper::ToldKeeper;
+use vaultctl_machine::terminal::terminal;
 use vaultctl_machine::vaults::{FileVault, Machine, close_vault};
 use vaultctl_serve::clock::now;
 use vaultctl_values::asked::Asked;
@@ -47,6 +49,8 @@ fn carry_out_asked<C: Clock, K: Keeper, W: Write>(
     ensures done { K.is_honest keeper.new → IfOk result (λ told. spec.IsDoneAt (Rose (K.count keeper.old) (K.count keeper.new)) asked.now.at asked.now (K.vault keeper.old) (K.vault keeper.new) told (W.contents out.old) (W.contents out.new)) }
     // Whatever the device does, what is answered is what the printed reply says.
     ensures told { IfOk result (λ told. TellsReply told (W.contents out.old) (W.contents out.new)) }
+    // And that the device failed is told just where it did, whatever it does.
+    ensures steady { spec.IsSteadyAt (K.is_honest keeper.new) asked.now.at asked.now (K.vault keeper.old) (K.vault keeper.new) (K.count keeper.old) (K.count keeper.new) result (W.contents out.old) (W.contents out.new) }
     ensures reached { K.is_honest keeper.new → Reached (K.vault keeper.old) → Reached (K.vault keeper.new) }
     ensures honest { K.is_honest keeper.new → K.is_honest keeper.old }
     ensures counted { K.count keeper.old ≤ K.count keeper.new }
@@ -74,7 +78,7 @@ fn ask_keeper<K: Keeper, W: Write>(
     carry_out_asked(rt.alloc(), rt, keeper, asked, out)
 }
 
-/// Asks it of a vault, and closes the vault.
+/// Asks it of a vault, and closes the vault; on a terminal a run tells how far it has come.
 fn ask_vault<S: Start, W: Write>(
     rt: &HostRuntime,
     vault: FileVault<S>,
@@ -85,9 +89,9 @@ fn ask_vault<S: Start, W: Write>(
     ensures reader { result ≢ Err JobFault.Read }
     ensures device { result ≢ Err JobFault.Device }
 {
-    let mut vault = vault;
-    let outcome = ask_keeper(rt, &mut vault, asked, out);
-    close_vault(vault);
+    let mut told = ToldKeeper::new(vault, terminal(rt));
+    let outcome = ask_keeper(rt, &mut told, asked, out);
+    close_vault(told.into_keeper());
     outcome
 }
 

@@ -5,6 +5,7 @@
 ghost use Rattle.std.specs.Prelude.{◌≡◌, ◌≢◌};
 ghost use Rattle.vaultctl_perform.specs.Status as spec;
 
+use crate::replay::fault_of;
 use crate::telling::{status, tell_cause};
 use sqlite::Start;
 use std::alloc::Global;
@@ -14,6 +15,8 @@ use vault_files_register::ExportFault;
 use vault_files_register::register::export_register;
 use vaultctl_commands::fault::JobFault;
 use vaultctl_commands::outcome::Outcome;
+use vaultctl_commands::told_writer::ToldWriter;
+use vaultctl_machine::terminal::terminal_beside;
 use vaultctl_machine::unopened::Unopened;
 use vaultctl_machine::vaults::{FileVault, Machine, close_vault};
 use vaultctl_replay::{ReplayFault, replay};
@@ -54,23 +57,24 @@ fn done_or_fault(written: Result<(), ExportFault>) -> Result<Outcome, JobFault>
     }
 }
 
-/// Writes the register of any keeper.
+/// Writes the register of any keeper; on a terminal it tells how far it has come, unless that is shown there.
 fn export<K: Keeper, W: Write>(
-    alloc: Global,
+    rt: &HostRuntime,
     keeper: &mut K,
     out: &mut W,
 ) -> Result<Outcome, JobFault> {
-    done_or_fault(export_register(alloc, keeper, out))
+    let mut told = ToldWriter::new(out, terminal_beside(rt));
+    done_or_fault(export_register(rt.alloc(), keeper, &mut told))
 }
 
 /// Writes a vault's register, and closes the vault.
 fn write_register<S: Start, W: Write>(
-    alloc: Global,
+    rt: &HostRuntime,
     vault: FileVault<S>,
     out: &mut W,
 ) -> Result<Outcome, JobFault> {
     let mut vault = vault;
-    let outcome = export(alloc, &mut vault, out);
+    let outcome = export(rt, &mut vault, out);
     close_vault(vault);
     outcome
 }
@@ -85,9 +89,9 @@ pub fn register<S: Start, W: Write, E: Write>(
 ) -> u8
     ensures status { result ≢ 2 }
 {
-    let alloc = machine.runtime().alloc();
+    let rt = machine.runtime();
     match machine.open(file, start) {
-        Ok(vault) => status(err, "register", write_register(alloc, vault, out)),
+        Ok(vault) => status(err, "register", write_register(rt, vault, out)),
         Err(cause) => tell_cause(err, "open", cause),
     }
 }
@@ -97,9 +101,7 @@ fn replayed(answered: Result<(), ReplayFault>) -> Result<Outcome, JobFault>
 {
     match answered {
         Ok(()) => Ok(Outcome::Done),
-        Err(ReplayFault::Read) => Err(JobFault::Read),
-        Err(ReplayFault::Write) => Err(JobFault::Write),
-        Err(ReplayFault::Memory) => Err(JobFault::Memory),
+        Err(fault) => Err(fault_of(fault)),
     }
 }
 

@@ -3,7 +3,7 @@ ghost use Rattle.std.specs.Prelude.{◌≡◌, ◌≢◌, IfOk, Result, Err};
 ghost use Rattle.vault_base.specs.declared.refusal.Refusal.{Refusal as AnyRefusal};
 ghost use Rattle.vault_core_model.specs.Step.{Reached};
 ghost use Rattle.vault_http_values.specs.Fault.{Gives};
-ghost use Rattle.vaultctl_commands.specs.Told.{TellsIntake};
+ghost use Rattle.vaultctl_commands.specs.Told.{IsIntakeSteady, TellsIntake};
 ghost use Rattle.vaultctl_values.specs.declared.asked.AskedIntake.{AskedIntake as AskedOf};
 
 use crate::asked::reading;
@@ -39,6 +39,8 @@ fn take_in_read<K: Keeper, W: Write>(
 ) -> Result<Outcome, JobFault>
     // Done is answered only behind the lines that say so.
     ensures told { IfOk result (λ told. told ≡ Outcome.Done → TellsIntake Outcome.Done (W.contents out.old) (W.contents out.new)) }
+    // That the vault's device failed is told where it did.
+    ensures steady { IsIntakeSteady (K.count keeper.old) (K.count keeper.new) result (W.contents out.old) (W.contents out.new) }
     ensures reached { K.is_honest keeper.new → Reached (K.vault keeper.old) → Reached (K.vault keeper.new) }
     ensures honest { K.is_honest keeper.new → K.is_honest keeper.old }
     ensures reader { result ≢ Err JobFault.Read }
@@ -71,6 +73,7 @@ fn take_in_list<K: Keeper, W: Write>(
     out: &mut W,
 ) -> Result<Outcome, JobFault>
     ensures told { IfOk result (λ told. told ≡ Outcome.Done → TellsIntake Outcome.Done (W.contents out.old) (W.contents out.new)) }
+    ensures steady { IsIntakeSteady (K.count keeper.old) (K.count keeper.new) result (W.contents out.old) (W.contents out.new) }
     ensures reached { K.is_honest keeper.new → Reached (K.vault keeper.old) → Reached (K.vault keeper.new) }
     ensures honest { K.is_honest keeper.new → K.is_honest keeper.old }
     ensures reader { result ≢ Err JobFault.Read }

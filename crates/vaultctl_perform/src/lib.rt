@@ -18,8 +18,10 @@ mod replay;
 mod telling;
 mod verify;
 
+use crate::telling::tell_fault;
 use sqlite::Start;
 use std::io::{Read, Write};
+use vaultctl_commands::fault::JobFault;
 use vaultctl_job::fault::WordsFault;
 use vaultctl_job::job::{Job, Replay};
 use vaultctl_job::words::job_of;
@@ -181,9 +183,6 @@ pub fn answer_words<A: Start, B: Start, R: Read, W: Write, E: Write>(
             let _ = write!(err, "{text}");
             2
         }
-        Err(WordsFault::Memory) => {
-            let _ = writeln!(err, "words: Memory");
-            1
-        }
+        Err(WordsFault::Memory) => tell_fault(err, "words", JobFault::Memory),
     }
 }

@@ -1,11 +1,25 @@
 //! A script over a new vault in memory.
 ghost use Rattle.std.specs.Prelude.{◌≡◌, ◌≢◌, OnOk};
 ghost use Rattle.vaultctl_perform.specs.Replay.{AnswersFromNew};
+ghost use Rattle.vaultctl_perform.specs.Status.{replay_fault};
 
+use crate::telling::tell_fault;
 use std::alloc::Global;
 use std::io::{Read, Write};
 use vault_core_list::list_keeper::ListKeeper;
+use vaultctl_commands::fault::JobFault;
 use vaultctl_replay::{ReplayFault, replay};
+
+/// What a fault of a script is told as.
+pub fn fault_of(fault: ReplayFault) -> JobFault
+    ensures { result ≡ replay_fault fault }
+{
+    match fault {
+        ReplayFault::Read => JobFault::Read,
+        ReplayFault::Write => JobFault::Write,
+        ReplayFault::Memory => JobFault::Memory,
+    }
+}
 
 fn answer_all<R: Read, W: Write>(
     alloc: Global,
@@ -32,10 +46,6 @@ pub fn from_new<R: Read, W: Write, E: Write>(
 {
     match answer_all(alloc, reader, out) {
         Ok(()) => 0,
-        Err(fault) => {
-            // Where even this can't be written, the status tells alone.
-            let _ = writeln!(err, "replay: {fault}");
-            1
-        }
+        Err(fault) => tell_fault(err, "replay", fault_of(fault)),
     }
 }

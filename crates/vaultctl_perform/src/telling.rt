@@ -1,31 +1,78 @@
 //! What is told on standard error, and exit statuses.
-ghost use Rattle.std.specs.Prelude.{◌≡◌, ◌≢◌};
+ghost use Rattle.std.specs.Prelude.{◌≡◌, ◌≢◌, ◌++◌, OnOk, OnErr};
+ghost use Rattle.std.specs.Io.KnownBytes.{Appends};
+ghost use Rattle.vault_io.specs.Begins.{Begins};
+ghost use Rattle.vaultctl_perform.specs.Named as named;
 ghost use Rattle.vaultctl_perform.specs.Status as spec;
 
 use std::alloc::Global;
-use std::io::Write;
-use vault_base::refusal::Refusal;
+use std::io::{self, Write};
+use vault_base::refusal::{Refusal, Table};
+use vault_io::writing::write_bytes;
 use vaultctl_commands::carrying::tell_refusal;
 use vaultctl_commands::fault::JobFault;
 use vaultctl_commands::outcome::Outcome;
 use vaultctl_machine::unopened::Unopened;
 
-/// Names a fault, as `replay: Read`. Where even this can't be written, the status tells alone.
-pub fn tell_fault<E: Write>(err: &mut E, subcommand: &str, fault: JobFault) -> u8
-    ensures { result ≡ 1 }
+/// Writes two texts, one behind the other.
+fn write_both<E: Write>(err: &mut E, first: &str, second: &str) -> io::Result<()>
+    ensures ok { OnOk result (Appends (E.contents err.old) (E.contents err.new) (first.now ++ second.now)) }
+    ensures err { OnErr result (Begins (E.contents err.old) (E.contents err.new) (first.now ++ second.now)) }
 {
-    let _ = writeln!(err, "{subcommand}: {fault}");
+    write_bytes(err, first.as_bytes())?;
+    write_bytes(err, second.as_bytes())
+}
+
+/// Writes the line that tells this of a subcommand or of an opening.
+fn write_line<E: Write>(err: &mut E, deed: &str, what: &str) -> io::Result<()>
+    ensures ok { OnOk result (Appends (E.contents err.old) (E.contents err.new) (named.line deed.now what.now)) }
+    ensures err { OnErr result (Begins (E.contents err.old) (E.contents err.new) (named.line deed.now what.now)) }
+{
+    write_both(err, deed, ": ")?;
+    write_both(err, what, "\n")
+}
+
+/// Names a fault, as `replay: Read`. Where even this can't be written, the status tells alone.
+#[tactic(auto, using(crate::proofs::TellingLemmas::begins_anyway))]
+pub fn tell_fault<E: Write>(err: &mut E, subcommand: &str, fault: JobFault) -> u8
+    ensures status { result ≡ 1 }
+    // What is written is that line, or a beginning of it where the writer fails.
+    ensures named { Begins (E.contents err.old) (E.contents err.new) (named.fault_line subcommand.now fault) }
+{
+    let _ = write_line(err, subcommand, fault.name());
     1
 }
 
+/// Writes the line that tells this of a table.
+fn write_table_line<E: Write>(err: &mut E, deed: &str, what: &str, table: &str) -> io::Result<()>
+    ensures ok { OnOk result (Appends (E.contents err.old) (E.contents err.new) (named.table_line deed.now what.now table.now)) }
+    ensures err { OnErr result (Begins (E.contents err.old) (E.contents err.new) (named.table_line deed.now what.now table.now)) }
+{
+    write_both(err, deed, ": ")?;
+    write_both(err, what, " ")?;
+    write_both(err, table, "\n")
+}
+
+/// The table that a refusal speaks of.
+fn table_of(refusal: Refusal) -> Option<Table>
+    ensures { result ≡ named.table_of refusal }
+{
+    match refusal {
+        Refusal::Damaged(table) => Some(table),
+        _ => None,
+    }
+}
+
 /// Names why a vault can't be opened or made, as `open: Damaged meta`.
+#[tactic(auto, using(crate::proofs::TellingLemmas::begins_anyway))]
 pub fn tell_unopened<E: Write>(err: &mut E, deed: &str, refusal: Refusal) -> u8
-    ensures { result ≡ 1 }
+    ensures status { result ≡ 1 }
+    ensures named { Begins (E.contents err.old) (E.contents err.new) (named.refusal_line deed.now refusal) }
 {
     let name = refusal.name();
-    let _ = match refusal {
-        Refusal::Damaged(table) => writeln!(err, "{deed}: {name} {}", table.name()),
-        _ => writeln!(err, "{deed}: {name}"),
+    let _ = match table_of(refusal) {
+        Some(table) => write_table_line(err, deed, name, table.name()),
+        None => write_line(err, deed, name),
     };
     1
 }
@@ -63,6 +110,8 @@ pub fn tell_value<W: Write, E: Write>(
 /// The exit status of a job: 0 where it was done, 1 where it was refused or a fault stopped it, which is named.
 pub fn status<E: Write>(err: &mut E, subcommand: &str, outcome: Result<Outcome, JobFault>) -> u8
     ensures outcome { result ≡ spec.status_of outcome }
+    // A fault alone is named.
+    ensures named { Begins (E.contents err.old) (E.contents err.new) (named.named subcommand.now outcome) }
     ensures status { result ≢ 2 }
 {
     match outcome {

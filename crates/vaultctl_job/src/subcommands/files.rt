@@ -17,7 +17,11 @@ fn register<'a>(alloc: Global) -> Result<Command<'a>, AllocError>
         alloc,
         "register",
         "Prints the register of all removals as CSV",
-        "Example:\n  vaultctl register records.vault > register.csv",
+        below!(
+            "register",
+            "Example:\n  vaultctl register records.vault > register.csv",
+            "0 done; 1 refused, as 'open: Damaged entries' on standard error, or a\nfault, as 'register: Device' there; 2 the words aren't understood, or ask for\nhelp."
+        ),
     )
     .arg(place(alloc, "FILE", "The vault's file"))
 }
@@ -30,7 +34,11 @@ fn verify<'a>(alloc: Global) -> Result<Command<'a>, AllocError>
         alloc,
         "verify",
         "Audits a vault's file",
-        "Prints 'sound', or 'damaged TABLE' with the first table that isn't.\n\nExample:\n  vaultctl verify records.vault",
+        below!(
+            "verify",
+            "Prints 'sound', or 'damaged TABLE' with the first table that isn't.\n\nExample:\n  vaultctl verify records.vault",
+            "0 sound; 1 damaged, or a fault, named on standard error, as\n'open: Device'; 2 the words aren't understood, or ask for help."
+        ),
     )
     .arg(place(alloc, "FILE", "The vault's file"))
 }
@@ -43,7 +51,11 @@ fn replay<'a>(alloc: Global) -> Result<Command<'a>, AllocError>
         alloc,
         "replay",
         "Answers a script of commands on standard input",
-        "A script has one command a line, as a JSON object; each gets a line of reply.\n\nExample:\n  vaultctl replay records.vault < day.jsonl > replies.jsonl",
+        below!(
+            "replay",
+            "A script has one command a line, as a JSON object; each gets a line of reply.\n\nExample:\n  vaultctl replay records.vault < day.jsonl > replies.jsonl",
+            "0 every line was answered, one that was refused by a reply as\n{\"error\":{\"code\":\"NoSuchBucket\",\"n\":4}}; 1 a fault, named on standard error, as\n'open: Device' or 'replay: Read'; 2 the words aren't understood, or ask for\nhelp."
+        ),
     )
     .arg(optional_place(
         alloc,
@@ -60,7 +72,11 @@ fn serve<'a>(alloc: Global) -> Result<Command<'a>, AllocError>
         alloc,
         "serve",
         "Serves HTTP requests on 127.0.0.1",
-        "Example:\n  vaultctl serve records.vault 8080 --count 1000",
+        below!(
+            "serve",
+            "Example:\n  vaultctl serve records.vault 8080 --count 1000",
+            "0 all requests were answered, one that was refused by a status as 404\nand a body as {\"code\":\"NoSuchBucket\",\"n\":4}; 1 a fault, named on standard\nerror, as 'open: Device', or 'serve: Device' where the port can't be had; 2 the\nwords aren't understood, or ask for help."
+        ),
     )
     .arg(place(alloc, "FILE", "The vault's file"))?
     .arg(port(alloc))?
@@ -75,7 +91,11 @@ fn migrate<'a>(alloc: Global) -> Result<Command<'a>, AllocError>
         alloc,
         "migrate",
         "Copies the vault of an earlier version into a new file",
-        "OLD isn't changed. Prints 'migrated' once the copy is whole.\n\nExample:\n  vaultctl migrate records.vault records-2.vault",
+        below!(
+            "migrate",
+            "OLD isn't changed. Prints 'migrated' once the copy is whole.\n\nExample:\n  vaultctl migrate records.vault records-2.vault",
+            "0 done; 1 refused, as 'migrate: NameTaken' on standard error, or a\nfault, as 'migrate: Device' there; 2 the words aren't understood, or ask for\nhelp."
+        ),
     )
     .arg(place(alloc, "OLD", "The vault's file, made by an earlier version"))?
     .arg(place(

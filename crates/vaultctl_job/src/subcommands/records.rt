@@ -17,7 +17,11 @@ fn init<'a>(alloc: Global) -> Result<Command<'a>, AllocError>
         alloc,
         "init",
         "Makes a new vault in a file",
-        "The new vault has one caller, registrar, with the right admin.\n\nExample:\n  vaultctl init records.vault",
+        below!(
+            "init",
+            "The new vault has one caller, registrar, with the right admin.\n\nExample:\n  vaultctl init records.vault",
+            "0 done; 1 refused, as 'init: NameTaken' on standard error, or a fault,\nas 'init: Device' there; 2 the words aren't understood, or ask for help."
+        ),
     )
     .arg(place(
         alloc,
@@ -34,7 +38,11 @@ fn dept<'a>(alloc: Global) -> Result<Command<'a>, AllocError>
         alloc,
         "dept",
         "Adds a department",
-        "Example:\n  vaultctl dept records.vault records --as registrar",
+        below!(
+            "dept",
+            "Example:\n  vaultctl dept records.vault records --as registrar",
+            "0 done; 1 refused, with a line of JSON on standard output, as\n{\"error\":{\"code\":\"NameTaken\",\"n\":9}}, or a fault, named on standard error, as\n'open: Device'; 2 the words aren't understood, or ask for help."
+        ),
     )
     .arg(place(alloc, "FILE", "The vault's file"))?
     .arg(place(
@@ -54,7 +62,11 @@ fn caller<'a>(alloc: Global) -> Result<Command<'a>, AllocError>
         alloc,
         "caller",
         "Adds a caller with rights, or closes one for good",
-        "Example:\n  vaultctl caller records.vault ann put get --as registrar --dept records\n  vaultctl caller records.vault ann --as registrar --close",
+        below!(
+            "caller",
+            "Example:\n  vaultctl caller records.vault ann put get --as registrar --dept records\n  vaultctl caller records.vault ann --as registrar --close",
+            "0 done; 1 refused, with a line of JSON on standard output, as\n{\"error\":{\"code\":\"NameTaken\",\"n\":9}}, or a fault, named on standard error, as\n'open: Device'; 2 the words aren't understood, or ask for help."
+        ),
     )
     .arg(place(alloc, "FILE", "The vault's file"))?
     .arg(place(
@@ -77,7 +89,11 @@ fn bucket<'a>(alloc: Global) -> Result<Command<'a>, AllocError>
         alloc,
         "bucket",
         "Adds a bucket to a department",
-        "Example:\n  vaultctl bucket records.vault docs records --as registrar",
+        below!(
+            "bucket",
+            "Example:\n  vaultctl bucket records.vault docs records --as registrar",
+            "0 done; 1 refused, with a line of JSON on standard output, as\n{\"error\":{\"code\":\"BucketAlreadyExists\",\"n\":8}}, or a fault, named on standard\nerror, as 'open: Device'; 2 the words aren't understood, or ask for help."
+        ),
     )
     .arg(place(alloc, "FILE", "The vault's file"))?
     .arg(place(

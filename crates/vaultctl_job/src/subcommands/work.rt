@@ -17,7 +17,11 @@ fn intake<'a>(alloc: Global) -> Result<Command<'a>, AllocError>
         alloc,
         "intake",
         "Takes in files of a folder by a list",
-        "A list is CSV with the first line file,key,mode,until,hold. Each further line\nis answered by a line: its number, and 'admitted ID', 'again ID' (it was taken\nin before) or 'refused NAME'.\n\nExample:\n  vaultctl intake records.vault docs 2024-01 list.csv scans --as ann",
+        below!(
+            "intake",
+            "A list is CSV with the first line file,key,mode,until,hold. Each further line\nis answered by a line: its number, and 'admitted ID', 'again ID' (it was taken\nin before) or 'refused NAME'.\n\nExample:\n  vaultctl intake records.vault docs 2024-01 list.csv scans --as ann",
+            "0 every row was taken in, now or before; 1 refused, with a line of JSON\non standard output, as {\"error\":{\"code\":\"InvalidBucketName\",\"n\":15}}, or a row\nwas, as '3 refused InvalidArgument', or stopped, with 'stopped NAME' as the\nlast line, or a fault, named on standard error, as 'open: Device'; 2 the words\naren't understood, or ask for help."
+        ),
     )
     .override_usage(
         "vaultctl intake [OPTIONS] --as <CALLER> <FILE> <BUCKET> <BATCH>\n                       <LIST> <FOLDER>",
@@ -43,7 +47,11 @@ fn run<'a>(alloc: Global) -> Result<Command<'a>, AllocError>
         alloc,
         "run",
         "Carries out the lifecycle rules of a bucket",
-        "Example:\n  vaultctl run records.vault docs --as ann",
+        below!(
+            "run",
+            "Example:\n  vaultctl run records.vault docs --as ann",
+            "0 done; 1 refused, with a line of JSON on standard output, as\n{\"error\":{\"code\":\"NoSuchBucket\",\"n\":4}}, or stopped, as\n{\"stopped\":{\"changes\":2,\"fault\":\"Device\"}}, or a fault, named on standard\nerror, as 'open: Device'; 2 the words aren't understood, or ask for help."
+        ),
     )
     .arg(place(alloc, "FILE", "The vault's file"))?
     .arg(place(alloc, "BUCKET", "The bucket's name"))?
@@ -59,7 +67,11 @@ fn report<'a>(alloc: Global) -> Result<Command<'a>, AllocError>
         alloc,
         "report",
         "Prints the sums of a department",
-        "Sizes are in bytes; byte-days are bytes times whole days held.\n\nExample:\n  vaultctl report records.vault records --as ann",
+        below!(
+            "report",
+            "Sizes are in bytes; byte-days are bytes times whole days held.\n\nExample:\n  vaultctl report records.vault records --as ann",
+            "0 done; 1 refused, with a line of JSON on standard output, as\n{\"error\":{\"code\":\"AccessDenied\",\"n\":3,\"reason\":\"department\"}}, or a fault,\nnamed on standard error, as 'open: Device'; 2 the words aren't understood, or\nask for help."
+        ),
     )
     .arg(place(alloc, "FILE", "The vault's file"))?
     .arg(place(alloc, "DEPT", "The department's name"))?
@@ -75,7 +87,11 @@ fn certificate<'a>(alloc: Global) -> Result<Command<'a>, AllocError>
         alloc,
         "certificate",
         "Prints the certificate of destruction of a removed version",
-        "Example:\n  vaultctl certificate records.vault docs 1 --as ann",
+        below!(
+            "certificate",
+            "Example:\n  vaultctl certificate records.vault docs 1 --as ann",
+            "0 done; 1 refused, with a line of JSON on standard output, as\n{\"error\":{\"code\":\"NoSuchVersion\",\"n\":6}}, or a fault, named on standard error,\nas 'open: Device'; 2 the words aren't understood, or ask for help."
+        ),
     )
     .arg(place(alloc, "FILE", "The vault's file"))?
     .arg(place(alloc, "BUCKET", "The bucket that the version was in"))?

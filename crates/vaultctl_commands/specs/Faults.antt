@@ -1,0 +1,11 @@
+-- The names of the faults of a job.
+use Rattle.std.specs.Prelude.{ℕ, List, codes}
+use Rattle.vaultctl_commands.specs.declared.fault.JobFault.{JobFault}
+use Rattle.vaultctl_commands.specs.declared.fault.JobFault.TheVariants.{Read, Write, Memory, Device}
+
+-- the name by which a fault is told
+abbrev pub fault_name : JobFault → List ℕ
+fault_name Read = codes "Read"
+fault_name Write = codes "Write"
+fault_name Memory = codes "Memory"
+fault_name Device = codes "Device"
