@@ -12,7 +12,7 @@ use Rattle.vault_audit_schema.specs.Compare.{IsFirstUnlike}
 use Rattle.vault_audit_schema.specs.Places.{place_of, IsInPlace, AreInPlace, BeginTo, IsToldOf, IsToldIn}
 use Rattle.vault_audit_schema.proofs.CompareLemmas.{unlike_not}
 
-place_below : (t : Table) → place_of t < 10
+pub place_below : (t : Table) → place_of t < 10
 place_below Meta = omega arith
 place_below Departments = omega arith
 place_below Callers = omega arith
@@ -46,6 +46,10 @@ get_in_take (suc n) (x ∷ xs) (suc k) h = get_in_take n xs k (omega arith)
 
 agree_before : {X : Type 0} (xs ys : List X) (n k : ℕ) → take n xs ≡ take n ys → k < n → slice_get xs k ≡ slice_get ys k
 agree_before xs ys n k e h = sym (get_in_take n xs k h) ∙ ap (λ (l : List _). slice_get l k) e ∙ get_in_take n ys k h
+
+-- a table that the tables begin with stands in its place
+pub in_place : (n : Edition) (tables : List Made) (t : Table) → BeginTo n tables t → IsInPlace n tables t
+in_place n tables t begin = agree_before tables (schema_of n).tables (place_of t + 1) (place_of t) begin (omega arith)
 
 same_place : (n : Edition) (tables : List Made) (at : ℕ) (t : Table) → IsFirstUnlike tables (schema_of n).tables at
     → ((u : Table) → place_of u < place_of t → IsInPlace n tables u) → ¬ IsInPlace n tables t → place_of t ≡ at
