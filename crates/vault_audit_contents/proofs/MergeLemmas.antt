@@ -55,7 +55,7 @@ some_digest size None h = absurd h
 some_digest size (Some d) h = refl
 
 -- an entry that isn't held has no bytes
-bare : (marker : Bool) (removal : Option Removal) (e : Entry) → e.removal ≡ removal → IsSizedAs marker e.size e.digest → (not marker && is_none removal) ≡ false → HasContentAs marker (record { entry = e; content = None; settings = [] })
+bare : (marker : Bool) (removal : Option Removal) (e : Entry) → e.removal ≡ removal → IsSizedAs marker e.size e.digest → (not marker && is_none removal) ≡ false → HasContentAs marker (record { entry = e; content = None; settings = []; tenures = [] })
 bare true removal e same sized free = refl
 bare false None e same sized free = absurd (true≢false free)
 bare false (Some r) e same sized free = subst (λ x. HasItsBytes x None e) (sym same) (some_digest e.size e.digest sized)
@@ -66,10 +66,10 @@ no_marker true size digest d sized is = absurd (let none : None ≡ Some d = sym
 no_marker false size digest d sized is = refl
 
 abbrev with_bytes : Entry → List ℕ → History
-with_bytes e bytes = record { entry = e; content = Some bytes; settings = [] }
+with_bytes e bytes = record { entry = e; content = Some bytes; settings = []; tenures = [] }
 
 abbrev without_bytes : Entry → History
-without_bytes e = record { entry = e; content = None; settings = [] }
+without_bytes e = record { entry = e; content = None; settings = []; tenures = [] }
 
 held_if : (e : Entry) (c : ContentRow) → IsEntry e → IsContentOf (Some e) c → is_held e ≡ true
 held_if e c is h =

@@ -1,5 +1,5 @@
 -- What the walks by name tell.
-use Rattle.std.proofs.Common.{◌≡◌, ℕ, List, [], ◌∷◌, map, true, false, Bool, None, Option, Less, Result, Ok, Err, IfOk, OnOk, IsPermutation, IsSorted, refl, sym, subst}
+use Rattle.std.proofs.Common.{◌≡◌, ℕ, List, [], ◌∷◌, map, true, false, Bool, None, Some, Option, Less, Result, Ok, Err, IfOk, OnOk, IsPermutation, IsSorted, refl, sym, ap, subst}
 use Rattle.std.specs.List.{AllByRecursion}
 use Rattle.sqlite_value.specs.Order.{Row}
 use Rattle.sqlite_value.proofs.OrderLemmas.{value_cmp-Text}
@@ -19,11 +19,11 @@ use Rattle.vault_audit_model.specs.Tables.{schema_of, callers_tree, departments_
 use Rattle.vault_audit_model.proofs.SameRows.{same_caller}
 use Rattle.vault_audit_walk.specs.Pass.{Takes, Refuses}
 use Rattle.vault_audit_walk.specs.Walk.{Walked}
-use Rattle.vault_audit_walk.proofs.ScanLemmas.{walked, first_cmp}
-use Rattle.vault_audit_walk.proofs.PassLemmas.{walk_yes, walk_no}
+use Rattle.vault_audit_walk.proofs.ScanLemmas.{walked, first_cmp, first_cmp_total}
+use Rattle.vault_audit_walk.proofs.PassLemmas.{walk_yes, walk_no, rows_yes, rows_no}
 use Rattle.vault_audit_names.specs.Names.{IsNextCaller, with_caller, TellCallers, department_cmp, IsNextDepartment, with_department, TellDepartments}
 use Rattle.vault_audit_names.proofs.RiseLemmas.{ascending, in_limits, rise, fitting}
-use Rattle.vault_audit_names.proofs.RowLemmas.{same_department}
+use Rattle.vault_audit_names.proofs.RowLemmas.{same_name}
 use Rattle.vault_audit_names.proofs.TextLemmas.{callers_walk, callers_walk_is, callers_walk_plain, departments_walk, departments_walk_is, departments_walk_plain}
 use Rattle.vault_audit_model.specs.declared.schema.Edition.{Edition}
 
@@ -51,6 +51,9 @@ departments_answer : (n : Edition) → (a b : State) → a.now.schema ≡ schema
 departments_answer n a b schema rows shown =
     walked departments_walk a b (schema_of n) schema (departments_walk_plain n) (departments_walk_is n).1 1 1 (col 1 2 ∷ col 1 3 ∷ col 1 4 ∷ col 1 5 ∷ col 1 6 ∷ []) _ (departments_walk_is n).0 refl rows shown
 
+alike : (before : Option (List ℕ)) (x y : DepartmentRow) → department_row x ≡ department_row y → with_department before x ≡ with_department before y
+alike before x y e = ap Some (same_name x y e)
+
 -- ---- the walks
 
 module _ (n : Edition) (old new : State) (has : old.now.schema ≡ schema_of n) (r : Option (List ℕ)) where
@@ -64,10 +67,10 @@ module _ (n : Edition) (old new : State) (has : old.now.schema ≡ schema_of n) 
 
   departments_told : (told : Bool) → IsUnchanged old new → Walked (Takes department_row IsNextDepartment with_department) (Refuses department_row IsNextDepartment with_department) departments_walk old new None r told → TellDepartments new.now told
   departments_told true same h =
-      let it = walk_yes department_row IsNextDepartment with_department same_department (schema_of n) departments_walk _ _ (departments_walk_is n).0 departments_in (departments_answer n) old new has same None r h in
+      let it = rows_yes department_row IsNextDepartment with_department alike first_cmp first_cmp_total (schema_of n) departments_walk _ _ (departments_walk_is n).0 departments_in (departments_answer n) old new has same None r h in
       (it.0, (it.1, ascending department_row (λ (d : DepartmentRow). d.name) IsDepartmentRow departments_first None it.0 it.2, in_limits department_row (λ (d : DepartmentRow). d.name) IsDepartmentRow departments_first None it.0 it.2))
   departments_told false same h = λ ds are.
-      walk_no department_row IsNextDepartment with_department same_department (schema_of n) departments_walk _ _ (departments_walk_is n).0 departments_in (departments_answer n) old new has same None r
+      rows_no department_row IsNextDepartment with_department alike first_cmp first_cmp_total (schema_of n) departments_walk _ _ (departments_walk_is n).0 departments_in (departments_answer n) old new has same None r
       (rise department_row (λ (d : DepartmentRow). d.name) IsDepartmentRow departments_first None) h ds are.0 (fitting department_row (λ (d : DepartmentRow). d.name) IsDepartmentRow departments_first ds are.1 are.2)
 
   -- the same of the answers of such walks

@@ -50,7 +50,7 @@ impl Pass for DepartmentPass {
 
     ghost stops = { λ p row. Refuses department_row IsNextDepartment with_department p row };
 
-    #[tactic(auto, using(crate::proofs::RowLemmas::one_department))]
+    #[tactic(auto, using(crate::proofs::RowLemmas::one_name))]
     fn take(&mut self, row: &Row) -> Result<bool, Error> {
         let found = match read_department(row) {
             Ok(found) => found,

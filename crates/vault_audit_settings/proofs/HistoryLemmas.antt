@@ -121,7 +121,7 @@ all_owned (e ∷ es) (h ∷ hs) same =
 
 -- ---- to histories
 
-settled : (marker : Bool) (e : Entry) (ss : List Setting) → is_some_of ss ≡ not marker → length ss ≤ most_settings → HasSettingsAs marker (record { entry = e; content = None; settings = ss })
+settled : (marker : Bool) (e : Entry) (ss : List Setting) → is_some_of ss ≡ not marker → length ss ≤ most_settings → HasSettingsAs marker (record { entry = e; content = None; settings = ss; tenures = [] })
 settled true e [] some most = refl
 settled true e (s ∷ ss) some most = absurd cc
 settled false e [] some most = absurd cc
@@ -171,7 +171,7 @@ make n low (e ∷ es) xs are fit set low_ids =
     let ids : AllByRecursion (λ x. x.id < (n + 1) + length (e ∷ es)) part.rest = behind_run (λ x. x.id < (n + 1) + length (e ∷ es)) run part.rest (subst (AllByRecursion (λ x. x.id < (n + 1) + length (e ∷ es))) part.whole low_ids) in
     let later = make (n + 1) e.admitted es part.rest are.1 part.fit others (shifted _ _ part.rest (omega arith) ids) in
     record {
-      histories = record { entry = e; content = None; settings = part.settings } ∷ later.histories;
+      histories = record { entry = e; content = None; settings = part.settings; tenures = [] } ∷ later.histories;
       entries = ap (λ (ys : List Entry). e ∷ ys) later.entries;
       rows = ap₂ (λ (i : ℕ) (ys : List SettingRow). settings_from i 1 part.settings ++ ys) id later.rows ∙ sym part.whole;
       have = ((settled e.marker e part.settings some (omega (arith, part.count)), part.are), later.have);

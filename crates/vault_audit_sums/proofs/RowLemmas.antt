@@ -1,9 +1,11 @@
--- One row tells one entry beside its bucket.
-use Rattle.std.proofs.Common.{◌≡◌, ℕ, List, [], ◌∷◌, length, Bool, Option, Some, None, refl, ap}
+-- One row tells one entry beside its bucket, or one department.
+use Rattle.std.proofs.Common.{◌≡◌, ℕ, List, [], ◌∷◌, length, Bool, Option, Some, None, refl, sym, ap, ◌∙◌}
 use Rattle.sqlite_value.specs.declared.value.Value.{Value}
 use Rattle.sqlite_value.specs.Order.{Row, column}
+use Rattle.vault_audit_model.specs.declared.rows.DepartmentRow.{DepartmentRow}
+use Rattle.vault_audit_model.specs.Rows.{department_row}
 use Rattle.vault_audit_model.specs.Values.{number_or_null, text_or_null}
-use Rattle.vault_audit_model.proofs.SameRows.{cell, number_same, flag_same}
+use Rattle.vault_audit_model.proofs.SameRows.{cell, number_same, flag_same, text_same}
 use Rattle.vault_audit_rows.proofs.RowLemmas as rows
 use Rattle.vault_audit_sums.specs.declared.owned.OwnedEntry.{OwnedEntry}
 use Rattle.vault_audit_sums.specs.Owned.{owned_row}
@@ -34,3 +36,18 @@ same_owned x y e =
     let one = λ (at : ℕ). cell (owned_row x) (owned_row y) at e in
     alike x.id y.id x.marker y.marker x.size y.size x.admitted y.admitted x.removed y.removed x.dept y.dept
     (number_same _ _ (one 0)) (flag_same _ _ (one 1)) (number_same _ _ (one 2)) (number_same _ _ (one 3)) (number_or_null_same _ _ (one 4)) (text_or_null_same _ _ (one 5))
+
+-- ---- a row of a department to which no bucket was moved, and from which none was
+
+abbrev department_as : List ℕ → ℕ → ℕ → ℕ → ℕ → ℕ → ℕ → ℕ → DepartmentRow
+department_as n a b c d e f g =
+    record { name = n; sums = record { admitted = a; received = b; held = c; removed = d; handed = e; weighted = f; closed = g } }
+
+departments_alike : (n1 n2 : List ℕ) (a1 a2 b1 b2 c1 c2 d1 d2 e1 e2 f1 f2 g1 g2 : ℕ) → n1 ≡ n2 → a1 ≡ a2 → b1 ≡ b2 → c1 ≡ c2 → d1 ≡ d2 → e1 ≡ e2 → f1 ≡ f2 → g1 ≡ g2 → department_as n1 a1 b1 c1 d1 e1 f1 g1 ≡ department_as n2 a2 b2 c2 d2 e2 f2 g2
+departments_alike n1 n2 a1 a2 b1 b2 c1 c2 d1 d2 e1 e2 f1 f2 g1 g2 n p q r s t u v = rw (n, p, q, r, s, t, u, v) refl
+
+pub one_department : (row : Row) (x y : DepartmentRow) → row ≡ department_row x → row ≡ department_row y → x.sums.received ≡ 0 → x.sums.handed ≡ 0 → y.sums.received ≡ 0 → y.sums.handed ≡ 0 → x ≡ y
+one_department row x y is_x is_y x_received x_handed y_received y_handed =
+    let one = λ (at : ℕ). cell (department_row x) (department_row y) at (sym is_x ∙ is_y) in
+    departments_alike x.name y.name x.sums.admitted y.sums.admitted x.sums.received y.sums.received x.sums.held y.sums.held x.sums.removed y.sums.removed x.sums.handed y.sums.handed x.sums.weighted y.sums.weighted x.sums.closed y.sums.closed
+    (text_same _ _ (one 0)) (number_same _ _ (one 1)) (x_received ∙ sym y_received) (number_same _ _ (one 2)) (number_same _ _ (one 3)) (x_handed ∙ sym y_handed) (number_same _ _ (one 4)) (number_same _ _ (one 5))

@@ -1,11 +1,15 @@
 -- The rows of departments beside their totals, as departments with their sums.
-use Rattle.std.proofs.Common.{◌≡◌, ℕ, ◌≤◌, List, [], ◌∷◌, map, Bool, true, false, Option, Some, None, IsPermutation, refl, sym, ap, subst}
+use Rattle.std.proofs.Common.{◌≡◌, ℕ, ◌+◌, ◌≤◌, List, [], ◌∷◌, map, sum_by, Bool, true, false, Option, Some, None, IsPermutation, refl, sym, ap, ap₂, subst, arith}
 use Rattle.std.specs.List.{AllByRecursion}
 use Rattle.sqlite_trees.proofs.ListLemmas.{map-map}
+use Rattle.sqlite_value.specs.Order.{Row as Values}
 use Rattle.sqlite.specs.Effect.{Database}
+use Rattle.vault_tally.specs.Row.{Item, admitted_size, received_size, quota}
 use Rattle.vault_tally.specs.declared.row.Row.{Row as Sums}
+use Rattle.vault_tally.proofs.Bounds.{got}
 use Rattle.vault_core_model.specs.declared.records.Bucket.{Bucket}
 use Rattle.vault_core_model.specs.declared.records.History.{History}
+use Rattle.vault_core_model.specs.declared.records.Tenure.{Tenure}
 use Rattle.vault_core_model.specs.Sound.{Sound, IsInTime}
 use Rattle.vault_core_model.specs.Totals.{items_in}
 use Rattle.vault_core_model.specs.Vault.{Vault}
@@ -17,6 +21,7 @@ use Rattle.vault_audit_model.specs.Relations.{department_with, IsPast, IsWithin,
 use Rattle.vault_audit_model.specs.Rows.{department_row, department_columns}
 use Rattle.vault_audit_model.specs.Spells.{AreSoundAs, sums_over}
 use Rattle.vault_audit_model.specs.Tables.{departments_tree}
+use Rattle.vault_audit_model.specs.Tenures.{HasFirstTenures, items_with, tenured_in}
 use Rattle.vault_audit_contents.proofs.SoundLemmas.{sound_entries}
 use Rattle.vault_audit_walk.specs.Records.{AreRecords}
 use Rattle.vault_audit_sums.specs.declared.totals.Totals.{Totals}
@@ -24,6 +29,7 @@ use Rattle.vault_audit_sums.specs.Departments.{HasTotal}
 use Rattle.vault_audit_sums.specs.Totals.{total_of, IsTotal}
 use Rattle.vault_audit_sums.specs.Versions.{AreTotals}
 use Rattle.vault_audit_sums.proofs.TotalLemmas.{sums_are}
+use Rattle.vault_audit_sums.proofs.WalkLemmas.{none_received, none_handed}
 
 -- the row has the sums over the versions, which are within what the department may admit
 abbrev HasSums : List Bucket → List History → DepartmentRow → Type 0
@@ -54,8 +60,9 @@ module _ (bs : List Bucket) (hs : List History) where
     -- a department that has its total has its sums
     has_sums : (d : DepartmentRow) → HasTotal t d → HasSums bs hs d
     has_sums d is =
-        let total : IsTotal (Some d.sums) (items_in bs d.name hs) = subst (λ o. IsTotal o (items_in bs d.name hs)) is.1 (totals d.name) in
-        (with_sums d.name d.sums _ (sums_are d.sums (items_in bs d.name hs) total.0), total.1.within)
+        let items = items_with bs d.name hs in
+        let total : IsTotal (Some d.sums) items = subst (λ o. IsTotal o items) is.1 (totals d.name) in
+        (with_sums d.name d.sums _ (sums_are d.sums items total.0), omega (arith, got items, total.1.within))
 
     each_has : (ds : List DepartmentRow) → AllByRecursion (HasTotal t) ds → AllByRecursion (HasSums bs hs) ds
     each_has [] all = tt
@@ -63,11 +70,14 @@ module _ (bs : List Bucket) (hs : List History) where
 
     -- and the sums of a department that is within its quota are its total
     has_total : (name : List ℕ) → IsPlainName name → IsWithin bs hs name → HasTotal t (department_with bs hs name)
-    has_total name is low = (is, of (total_of t name) (totals name))
+    has_total name is low = (is, of (total_of t name) (totals name), none_received bs name hs, none_handed bs name hs)
       where
-        of : (o : Option Sums) → IsTotal o (items_in bs name hs) → o ≡ Some (sums_over (items_in bs name hs))
-        of None above = absurd (above low)
-        of (Some sums) total = ap Some (sums_are sums (items_in bs name hs) total.0)
+        items : List Item
+        items = items_with bs name hs
+
+        of : (o : Option Sums) → IsTotal o items → o ≡ Some (sums_over items)
+        of None above = absurd (above (omega (arith, got items, low)))
+        of (Some sums) total = ap Some (sums_are sums items total.0)
 
     all_total : (ns : List (List ℕ)) → AllByRecursion IsPlainName ns → AllByRecursion (IsWithin bs hs) ns → AllByRecursion (HasTotal t) (map (department_with bs hs) ns)
     all_total [] named low = tt
@@ -87,7 +97,19 @@ past_of : (last : ℕ) (hs : List History) → AllByRecursion (λ (h : History).
 past_of last [] early in_time = tt
 past_of last (h ∷ hs) early in_time = ((early.0, in_time.0), past_of last hs early.1 in_time.1)
 
-each_within : (v : Vault) (ds : List (List ℕ)) → Sound v → AllByRecursion (IsWithin v.buckets v.histories) ds
+-- histories that have the tenures that buckets tell, with these
+tenured_same : (bs : List Bucket) (hs : List History) → AllByRecursion (HasFirstTenures bs) hs → map (tenured_in bs) hs ≡ hs
+tenured_same bs [] all = refl
+tenured_same bs (h ∷ hs) all = ap₂ (λ (g : History) (gs : List History). g ∷ gs) (ap (λ (ts : List Tenure). record h { tenures = ts }) (sym all.0)) (tenured_same bs hs all.1)
+
+-- the row of a department among these histories, and whether it is within its quota
+abbrev row_with : List ℕ → List History → Values
+row_with name hs = department_row (record { name = name; sums = sums_over (items_in name hs) })
+
+abbrev IsLow : List History → List ℕ → Type 0
+IsLow hs name = sum_by admitted_size (items_in name hs) + sum_by received_size (items_in name hs) ≤ quota
+
+each_within : (v : Vault) (ds : List (List ℕ)) → Sound v → AllByRecursion (IsLow v.histories) ds
 each_within v [] sound = tt
 each_within v (d ∷ ds) sound = (sound.within d, each_within v ds sound)
 
@@ -97,6 +119,11 @@ pub no_sums : (n : Edition) (db : Database)
     → (v : Vault) → ¬ AreSoundAs n db v
 no_sums n db told v it =
     let kept = it.spells.kept in
+    let same : v.histories ≡ map (tenured_in v.buckets) v.histories = sym (tenured_same v.buckets v.histories kept.unmoved.tenures) in
     told v.buckets v.histories v.last (it.spells.buckets, it.spells.rules, kept.sound.ordered.buckets, kept.limits.buckets) (sound_entries n db v it)
     (past_of v.last v.histories (admitted_by 0 v.last v.histories kept.sound.order) kept.sound.in_time)
-    v.departments (it.numbers, kept.limits.departments, each_within v v.departments kept.sound)
+    v.departments (
+      subst (λ (hs : List History). IsPermutation (map (λ (d : List ℕ). row_with d hs) v.departments) (map department_columns (db.trees departments_tree))) same it.numbers,
+      kept.limits.departments,
+      subst (λ (hs : List History). AllByRecursion (IsLow hs) v.departments) same (each_within v v.departments kept.sound),
+    )

@@ -1,6 +1,8 @@
 -- The walk over the entries that counts each in for its department.
-use Rattle.std.proofs.Common.{◌≡◌, ℕ, ◌+◌, List, [], ◌∷◌, ◌++◌, map, filter, cond, not, ◌&&◌, option_map, Bool, true, false, Option, Some, None, IfSome, IsTrue, IsPermutation, refl, sym, ap, ap₂, subst, ◌∙◌, arith, append_assoc, append-nil}
+use Rattle.std.proofs.Common.{◌≡◌, ℕ, ◌+◌, ◌≤◌, List, [], ◌∷◌, ◌++◌, map, cond, not, ◌&&◌, if◌then◌else◌, option_map, sum_by, Bool, true, false, Option, Some, None, IfSome, IsTrue, IsPermutation, refl, sym, ap, ap₂, subst, ◌∙◌, arith, append_assoc, append-nil}
 use Rattle.std.specs.List.{AllByRecursion}
+use Rattle.std.specs.Str.{bytes_eq}
+use Rattle.std.proofs.lemmas.List.Sums.{sum_by-cons}
 use Rattle.std.proofs.lemmas.List.Sorted.{IsPermutation-trans}
 use Rattle.sqlite_value.specs.Order.{Row as Values}
 use Rattle.sqlite_trees.proofs.ListLemmas.{all-permutation}
@@ -8,21 +10,22 @@ use Rattle.sqlite_keyed.proofs.SortLemmas.{sorted_unique}
 use Rattle.sqlite.specs.Effect.{Database}
 use Rattle.sqlite.specs.State.{State, IsUnchanged}
 use Rattle.vault_base.specs.Days.{day, last_moment}
-use Rattle.vault_tally.specs.Row.{Item, AreBounded, is_dated}
+use Rattle.vault_tally.specs.Row.{Item, AreBounded, is_dated, if_held, received_size, handed_size}
 use Rattle.vault_tally.specs.declared.row.Row.{Row}
 use Rattle.vault_core_model.specs.declared.records.Bucket.{Bucket}
 use Rattle.vault_core_model.specs.declared.records.BucketConfig.{BucketConfig}
 use Rattle.vault_core_model.specs.declared.records.Entry.{Entry}
 use Rattle.vault_core_model.specs.declared.records.History.{History}
 use Rattle.vault_core_model.specs.declared.records.Removal.{Removal}
-use Rattle.vault_core_model.specs.Sound.{LiesBetween}
-use Rattle.vault_core_model.specs.Totals.{is_of_department, is_version_of, items_in, item_of}
+use Rattle.vault_core_model.specs.Sound.{LiesBetween, end_of}
+use Rattle.vault_core_model.specs.Totals.{Share, share, removal_day, shares_from, items_by}
 use Rattle.vault_core_model.specs.Vault.{config_in}
 use Rattle.vault_core_laws.proofs.Bounds.{dated}
 use Rattle.vault_audit_model.specs.declared.schema.Edition.{Edition}
 use Rattle.vault_audit_model.specs.Limits.{IsEntry, IsRemoval}
 use Rattle.vault_audit_model.specs.Relations.{AreBuckets, AreEntries, AreNumbered, IsPast}
 use Rattle.vault_audit_model.specs.Tables.{schema_of}
+use Rattle.vault_audit_model.specs.Tenures.{first_tenures, items_with}
 use Rattle.vault_audit_walk.specs.Records.{TellsOne}
 use Rattle.vault_audit_walk.specs.Walk.{Goes, Walked}
 use Rattle.vault_audit_walk.proofs.RecordLemmas.{between, front}
@@ -39,46 +42,68 @@ use Rattle.vault_audit_sums.proofs.OwnedLemmas.{source, shown_are, owned_rise, a
 -- ---- versions and their days
 
 abbrev item_as : ℕ → ℕ → Option ℕ → Item
-item_as size admitted removed = record { size = size; admitted = admitted; removed = removed }
+item_as size from ended = record { size = size; first = true; from = from; ended = ended; last = true }
 
-days_alike : (o : Option Removal) → option_map day (option_map (λ (r : Removal). r.at) o) ≡ option_map (λ (r : Removal). day r.at) o
+days_alike : (o : Option Removal) → option_map day (option_map (λ (r : Removal). r.at) o) ≡ removal_day o
 days_alike None = refl
 days_alike (Some r) = refl
 
-told_is : (bs : List Bucket) (e : Entry) → item_told (owned_in bs e) ≡ item_as e.size (day e.admitted) (option_map (λ (r : Removal). day r.at) e.removal)
+told_is : (bs : List Bucket) (e : Entry) → item_told (owned_in bs e) ≡ item_as e.size (day e.admitted) (removal_day e.removal)
 told_is bs e = ap (item_as e.size (day e.admitted)) (days_alike e.removal)
 
 abbrev IsDated : OwnedEntry → Type 0
 IsDated e = IsTrue (is_dated (item_told e))
 
-before_the_last : (admitted last : ℕ) (o : Option Removal) → IfSome o IsRemoval → LiesBetween admitted last o → LiesBetween admitted last_moment o
-before_the_last admitted last None is lies = tt
-before_the_last admitted last (Some r) is lies = (lies.0, is.at)
+before_the_last : (admitted last : ℕ) (o : Option Removal) → admitted ≤ last_moment → IfSome o IsRemoval → LiesBetween admitted last o → (admitted ≤ end_of last_moment o) × (end_of last_moment o ≤ last_moment)
+before_the_last admitted last None early is lies = (early, omega arith)
+before_the_last admitted last (Some r) early is lies = (lies.0, is.at)
 
 is_dated_by : (last : ℕ) (bs : List Bucket) (e : Entry) → IsEntry e → IsPast last e → IsDated (owned_in bs e)
 is_dated_by last bs e is past =
-    subst (λ i. IsTrue (is_dated i)) (sym (told_is bs e)) (dated e.admitted last_moment e.removal is.admitted (omega arith) (before_the_last e.admitted last e.removal is.removal past.1))
+    let lies = before_the_last e.admitted last e.removal is.admitted is.removal past.1 in
+    subst (λ i. IsTrue (is_dated i)) (sym (told_is bs e)) (dated e.admitted last_moment e.removal lies.0 lies.1 (omega arith))
 
 are_dated : (next low last : ℕ) (bs : List Bucket) (es : List Entry) → AreNumbered next low es → AllByRecursion (IsPast last) es → AllByRecursion IsDated (map (owned_in bs) es)
 are_dated next low last bs [] are past = tt
 are_dated next low last bs (e ∷ es) are past = (is_dated_by last bs e are.0.0 past.0, are_dated (next + 1) e.admitted last bs es are.1 past.1)
 
--- ---- the versions that are counted for a department are its versions
+-- ---- the versions that are counted for a department are the tenures that buckets tell
 
-named_is : (name : List ℕ) (o : Option BucketConfig) → is_named name (option_map (λ (c : BucketConfig). c.dept) o) ≡ is_of_department name o
-named_is name None = refl
-named_is name (Some c) = refl
+-- of an entry of these buckets
+one_counted : (name : List ℕ) (bs : List Bucket) (e : Entry) (marker : Bool) (o : Option BucketConfig)
+    → items_where (not marker && is_named name (option_map (λ (c : BucketConfig). c.dept) o)) (owned_in bs e) ≡ items_by name (shares_from e.size e.removal true (first_tenures marker e.admitted o))
+one_counted name bs e true o = refl
+one_counted name bs e false None = refl
+one_counted name bs e false (Some c) = of (bytes_eq c.dept name)
+  where
+    of : (b : Bool) → items_where b (owned_in bs e) ≡ map (λ (s : Share). s.item) (cond b (share e.size true (record { dept = c.dept; from = e.admitted; number = 0 }) (removal_day e.removal) true ∷ []) [])
+    of true = ap (λ (i : Item). i ∷ []) (told_is bs e)
+    of false = refl
 
-chosen : (b : Bool) (bs : List Bucket) (h : History) (hs : List History) (items : List Item) → items ≡ map item_of hs → items_where b (owned_in bs h.entry) ++ items ≡ map item_of (cond b (h ∷ hs) hs)
-chosen true bs h hs items same = ap₂ (λ (i : Item) (is : List Item). i ∷ is) (told_is bs h.entry) same
-chosen false bs h hs items same = same
-
-items_are : (bs : List Bucket) (name : List ℕ) (hs : List History) → items_told name (map (owned_in bs) (map (λ (h : History). h.entry) hs)) ≡ items_in bs name hs
+items_are : (bs : List Bucket) (name : List ℕ) (hs : List History) → items_told name (map (owned_in bs) (map (λ (h : History). h.entry) hs)) ≡ items_with bs name hs
 items_are bs name [] = refl
 items_are bs name (h ∷ hs) =
-    let rest = items_told name (map (owned_in bs) (map (λ (g : History). g.entry) hs)) in
-    let test : counts_for name (owned_in bs h.entry) ≡ is_version_of bs name h = ap (λ t. not h.entry.marker && t) (named_is name (config_in bs h.entry.bucket)) in
-    ap (λ b. items_where b (owned_in bs h.entry) ++ rest) test ∙ chosen (is_version_of bs name h) bs h (filter (is_version_of bs name) hs) rest (items_are bs name hs)
+    ap₂ (λ (xs ys : List Item). xs ++ ys) (one_counted name bs h.entry h.entry.marker (config_in bs h.entry.bucket)) (items_are bs name hs)
+
+-- none of their bytes was received or handed over
+none_told : (f : Item → ℕ) → ((e : OwnedEntry) → f (item_told e) ≡ 0) → (name : List ℕ) (es : List OwnedEntry) → sum_by f (items_told name es) ≡ 0
+none_told f none name [] = refl
+none_told f none name (e ∷ es) = of (counts_for name e) (none_told f none name es)
+  where
+    of : (b : Bool) → sum_by f (items_told name es) ≡ 0 → sum_by f (items_where b e ++ items_told name es) ≡ 0
+    of true more = omega (arith, sum_by-cons f (item_told e) (items_told name es), none e, more)
+    of false more = more
+
+last_stays : (ended : Option ℕ) (size : ℕ) → if_held ended 0 (if true then 0 else size) ≡ 0
+last_stays None size = refl
+last_stays (Some d) size = refl
+
+pub none_received : (bs : List Bucket) (name : List ℕ) (hs : List History) → sum_by received_size (items_with bs name hs) ≡ 0
+none_received bs name hs = subst (λ is. sum_by received_size is ≡ 0) (items_are bs name hs) (none_told received_size (λ e. refl) name (map (owned_in bs) (map (λ (h : History). h.entry) hs)))
+
+pub none_handed : (bs : List Bucket) (name : List ℕ) (hs : List History) → sum_by handed_size (items_with bs name hs) ≡ 0
+none_handed bs name hs =
+    subst (λ is. sum_by handed_size is ≡ 0) (items_are bs name hs) (none_told handed_size (λ e. last_stays (option_map day e.removed) e.size) name (map (owned_in bs) (map (λ (h : History). h.entry) hs)))
 
 -- ---- the entries that went in are counted
 
@@ -108,7 +133,10 @@ none_bounded : AreBounded []
 none_bounded = record { dated = refl; within = omega arith }
 
 no_version : IsTotal (Some empty_sums) []
-no_version = (record { admitted = refl; held = refl; removed = refl; weighted = refl; closed = refl }, none_bounded)
+no_version = (
+  record { admitted = refl; received = refl; held = refl; removed = refl; handed = refl; weighted = refl; closed = refl },
+  none_bounded,
+)
 
 module _ (n : Edition) (old new : State) (has : old.now.schema ≡ schema_of n) (same : IsUnchanged old new) (p r : SumPass) (bs : List Bucket) (hs : List History) (last : ℕ)
     (buckets : AreBuckets n new.now bs) (entries : AreEntries new.now (map (λ (h : History). h.entry) hs)) (past : AllByRecursion (IsPast last) (map (λ (h : History). h.entry) hs)) where

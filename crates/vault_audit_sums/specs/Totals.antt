@@ -9,9 +9,10 @@ use Rattle.vault_core_model.specs.Order.{name_cmp}
 use Rattle.vault_audit_model.specs.Spells.{sums_over}
 use Rattle.vault_audit_sums.specs.declared.totals.Totals.{Totals}
 
--- a version by its size and its moments
+-- a version by its size and its moments: no bucket was moved, so it is its department's from the admission to the removal
 abbrev pub item_of : ℕ → ℕ → Option ℕ → Item
-item_of size admitted removed = record { size = size; admitted = day admitted; removed = option_map day removed }
+item_of size admitted removed =
+    record { size = size; first = true; from = day admitted; ended = option_map day removed; last = true }
 
 -- the sums over no version
 abbrev pub empty_sums : Row

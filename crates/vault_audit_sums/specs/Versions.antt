@@ -5,7 +5,7 @@ use Rattle.sqlite_value.specs.Order.{Row as Values}
 use Rattle.vault_tally.specs.Row.{Item}
 use Rattle.vault_core_model.specs.declared.records.Bucket.{Bucket}
 use Rattle.vault_core_model.specs.declared.records.History.{History}
-use Rattle.vault_core_model.specs.Totals.{items_in}
+use Rattle.vault_audit_model.specs.Tenures.{items_with}
 use Rattle.vault_audit_sums.specs.declared.owned.OwnedEntry.{OwnedEntry}
 use Rattle.vault_audit_sums.specs.declared.totals.Totals.{Totals}
 use Rattle.vault_audit_sums.specs.declared.versions.SumPass.{SumPass}
@@ -47,4 +47,4 @@ TellsNone p row = (e : OwnedEntry) → IsOwned e → row ≢ owned_row e
 
 -- the totals are those over the versions of each department
 abbrev pub AreTotals : List Bucket → List History → Totals → Type 0
-AreTotals bs hs t = (name : List ℕ) → IsTotal (total_of t name) (items_in bs name hs)
+AreTotals bs hs t = (name : List ℕ) → IsTotal (total_of t name) (items_with bs name hs)

@@ -40,6 +40,7 @@ impl Check for SumsCheck {
 
     ghost takes = { λ c. TellsOne department_row (HasTotal c.totals) };
 
+    #[tactic(auto, using(crate::proofs::RowLemmas::one_department))]
     fn is_passed_by(&self, row: &Row) -> Result<bool, Error> {
         match read_department(row) {
             Ok(department) => Ok(has_total(&self.totals, &department)),

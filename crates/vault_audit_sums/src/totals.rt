@@ -29,7 +29,7 @@ fn count_in(sums: &mut Sums, size: u64, admitted: Moment, removed: Option<Moment
 }
 
 /// The total with one version more; none where it is above what a department may admit.
-#[tactic(auto, using(crate::proofs::TotalLemmas::above_before, crate::proofs::TotalLemmas::above_now, crate::proofs::TotalLemmas::bounded_with))]
+#[tactic(auto, using(crate::proofs::TotalLemmas::above_before))]
 fn with_version(
     total: Option<Sums>,
     size: u64,
