@@ -14,9 +14,9 @@ use crate::second_pass::look_again;
 use sqlite::{Alter, Connection, Error, ErrorCode};
 use std::alloc::Global;
 use vault_audit_model::schema::Edition;
-use vault_audit_order::look_at_tables;
+use vault_audit_order::in_order::look_at_tables;
+use vault_audit_order::meta::check_meta;
 use vault_audit_schema::check_schema;
-use vault_audit_tables::meta::check_meta;
 use vault_audit_ties::check_ties;
 use vault_base::refusal::{Refusal, Table};
 

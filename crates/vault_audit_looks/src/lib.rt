@@ -5,4 +5,5 @@
 
 pub mod departments;
 pub mod names;
+pub mod rows;
 pub mod versions;

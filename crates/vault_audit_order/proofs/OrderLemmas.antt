@@ -1,5 +1,5 @@
 -- The tables in their order, and those that are right by themselves.
-use Rattle.std.proofs.Common.{◌≡◌, ◌≢◌, ◌⊎◌, ℕ, zero, suc, ◌+◌, ◌<◌, ◌≤◌, List, [], ◌∷◌, get_or, take, Option, None, Some, IfSome, true, false, refl, sym, ap, subst, ◌∙◌, inl, inr, arith, MatchOption}
+use Rattle.std.proofs.Common.{◌≡◌, ◌≢◌, ◌↔◌, ◌⊎◌, ℕ, zero, suc, ◌+◌, ◌<◌, ◌≤◌, List, [], ◌∷◌, get_or, take, Option, None, Some, IfSome, true, false, refl, sym, ap, subst, ◌∙◌, inl, inr, arith, MatchOption}
 use Rattle.std.proofs.lemmas.Bool.{cases_order}
 use Rattle.std.proofs.lemmas.List.Sorted.{IsPermutation-sym, IsPermutation-trans}
 use Rattle.sqlite.specs.Effect.{Database}
@@ -104,6 +104,18 @@ module _ (n : Edition) (s : Schema) where
   pub no_difference : (difference : Option Table) → Differs difference → IsFrom 10 difference → s ≡ schema_of n
   no_difference None is from = is
   no_difference (Some d) it from = let below = place_below d in absurd (omega (arith, below, from))
+
+  pub differs_as : (difference : Option Table) → ((difference ≡ None) ↔ (s ≡ schema_of n)) → IfSome difference (IsToldIn n s) → Differs difference
+  differs_as None found told = found.0 refl
+  differs_as (Some d) found told = told
+
+  -- it isn't at meta
+  pub begin_meta : (difference : Option Table) → Differs difference → difference ≢ Some Meta → BeginTo n s.tables Meta
+  begin_meta difference it other = begin_at difference Meta 0 refl it (from_behind difference other)
+
+  -- it is at this table
+  pub at_table : (difference : Option Table) (t : Table) → difference ≡ Some t → Differs difference → IsToldIn n s t
+  at_table difference t e it = subst Differs e it
 
 -- ---- tables that are right
 

@@ -3,15 +3,13 @@ ghost use Rattle.std.specs.Prelude.{◌≡◌, ◌↔◌, false, map, IsTrue, If
 ghost use Rattle.sqlite.specs.State.{HasCleanDisk, IsUnchanged, Survives};
 ghost use Rattle.sqlite.specs.Held.{state};
 ghost use Rattle.vault_audit_walk.specs.Records.{AreRecords};
-ghost use Rattle.vault_audit_model.specs.Tables.{entries_tree};
+ghost use Rattle.vault_audit_model.specs.Tables.{schema_of, entries_tree};
 ghost use Rattle.vault_audit_model.specs.Rows.{entry_row, entry_columns};
 ghost use Rattle.vault_core_model.specs.Sound.{LiesBetween};
 ghost use Rattle.vault_core_model.specs.Vault.{Vault};
 ghost use Rattle.vault_audit_model.specs.Spells.{AreSoundAs};
 ghost use Rattle.vault_audit_model.specs.Relations.{IsPast};
 ghost use Rattle.vault_audit_tables.specs.Entries.{IsEntryBy};
-ghost use Rattle.vault_base.specs.declared.refusal.Table.TheVariants as table;
-ghost use Rattle.vault_audit_schema.specs.Places.{BeginTo};
 ghost use Rattle.vault_audit_walk.specs.Health.{IsHealthy, IsMemory};
 
 use crate::row_check::refused;
@@ -69,7 +67,7 @@ pub fn check_entries<S: Alter>(
     edition: Edition,
     last: Moment,
 ) -> Result<bool, Error>
-    requires { HasCleanDisk (state S.Store conn.old) → BeginTo edition (state S.Store conn.old).now.schema.tables table.Entries }
+    requires { HasCleanDisk (state S.Store conn.old) → (state S.Store conn.old).now.schema ≡ schema_of edition }
     ensures told { HasCleanDisk (state S.Store conn.new) → IfOk result (AreRecords entry_row (IsEntryBy last) (map entry_columns ((state S.Store conn.new).now.trees entries_tree))) }
     ensures damaged { HasCleanDisk (state S.Store conn.new) → IfOk result (λ told. told ≡ false → (v : Vault) → v.last ≡ last → ¬ AreSoundAs edition (state S.Store conn.new).now v) }
     ensures same { HasCleanDisk (state S.Store conn.new) → OnOk result (IsUnchanged (state S.Store conn.old) (state S.Store conn.new)) }

@@ -4,9 +4,8 @@ ghost use Rattle.sqlite.specs.State.{HasCleanDisk, IsUnchanged, Survives};
 ghost use Rattle.sqlite.specs.Held.{state};
 ghost use Rattle.vault_core_model.specs.Vault.{Vault};
 ghost use Rattle.vault_audit_model.specs.Spells.{AreSoundAs};
+ghost use Rattle.vault_audit_model.specs.Tables.{schema_of};
 ghost use Rattle.vault_audit_tables.specs.Meta.{IsMetaOf};
-ghost use Rattle.vault_base.specs.declared.refusal.Table.TheVariants as table;
-ghost use Rattle.vault_audit_schema.specs.Places.{BeginTo};
 ghost use Rattle.vault_audit_walk.specs.Health.{IsHealthy, IsMemory};
 
 use crate::row_check::refused;
@@ -54,7 +53,7 @@ pub fn check_meta<S: Alter>(
     conn: &mut Connection<S>,
     edition: Edition,
 ) -> Result<Option<MetaRow>, Error>
-    requires { HasCleanDisk (state S.Store conn.old) → BeginTo edition (state S.Store conn.old).now.schema.tables table.Meta }
+    requires { HasCleanDisk (state S.Store conn.old) → (state S.Store conn.old).now.schema ≡ schema_of edition }
     ensures told { HasCleanDisk (state S.Store conn.new) → IfOk result (IsMetaOf edition (state S.Store conn.new).now) }
     ensures damaged { HasCleanDisk (state S.Store conn.new) → IfOk result (λ found. found ≡ None → (v : Vault) → ¬ AreSoundAs edition (state S.Store conn.new).now v) }
     ensures same { HasCleanDisk (state S.Store conn.new) → OnOk result (IsUnchanged (state S.Store conn.old) (state S.Store conn.new)) }

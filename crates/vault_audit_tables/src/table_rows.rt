@@ -5,11 +5,9 @@ ghost use Rattle.sqlite.specs.Held.{state};
 ghost use Rattle.vault_core_model.specs.Vault.{Vault};
 ghost use Rattle.vault_audit_model.specs.Spells.{AreSoundAs};
 ghost use Rattle.vault_audit_walk.specs.Records.{AreRecords};
-ghost use Rattle.vault_audit_model.specs.Tables.{departments_tree, callers_tree, buckets_tree, rules_tree, contents_tree, settings_tree, intake_tree, heads_tree};
+ghost use Rattle.vault_audit_model.specs.Tables.{schema_of, departments_tree, callers_tree, buckets_tree, rules_tree, contents_tree, settings_tree, intake_tree, heads_tree};
 ghost use Rattle.vault_audit_model.specs.Rows.{department_row, caller_row, bucket_row, rule_row, content_row, setting_row, note_row, head_row, department_columns, caller_columns, bucket_columns, rule_columns_as, content_columns, setting_columns, note_columns, head_columns};
 ghost use Rattle.vault_audit_model.specs.Limits.{IsDepartmentRow, IsCaller, IsBucketRow, IsRuleRow, IsContentRow, IsSettingRow, IsNote, IsHeadRow};
-ghost use Rattle.vault_base.specs.declared.refusal.Table.TheVariants as table;
-ghost use Rattle.vault_audit_schema.specs.Places.{BeginTo};
 ghost use Rattle.vault_audit_walk.specs.Health.{IsHealthy, IsMemory};
 ghost use Rattle.vault_audit_tables.specs.RulesText.{rules_text};
 
@@ -26,7 +24,7 @@ pub fn check_departments<S: Alter>(
     conn: &mut Connection<S>,
     edition: Edition,
 ) -> Result<bool, Error>
-    requires { HasCleanDisk (state S.Store conn.old) → BeginTo edition (state S.Store conn.old).now.schema.tables table.Departments }
+    requires { HasCleanDisk (state S.Store conn.old) → (state S.Store conn.old).now.schema ≡ schema_of edition }
     ensures told { HasCleanDisk (state S.Store conn.new) → IfOk result (AreRecords department_row IsDepartmentRow (map department_columns ((state S.Store conn.new).now.trees departments_tree))) }
     ensures damaged { HasCleanDisk (state S.Store conn.new) → IfOk result (λ told. told ≡ false → (v : Vault) → ¬ AreSoundAs edition (state S.Store conn.new).now v) }
     ensures same { HasCleanDisk (state S.Store conn.new) → OnOk result (IsUnchanged (state S.Store conn.old) (state S.Store conn.new)) }
@@ -42,7 +40,7 @@ pub fn check_departments<S: Alter>(
 
 /// Whether each row of `callers` tells a record in its limits.
 pub fn check_callers<S: Alter>(conn: &mut Connection<S>, edition: Edition) -> Result<bool, Error>
-    requires { HasCleanDisk (state S.Store conn.old) → BeginTo edition (state S.Store conn.old).now.schema.tables table.Callers }
+    requires { HasCleanDisk (state S.Store conn.old) → (state S.Store conn.old).now.schema ≡ schema_of edition }
     ensures told { HasCleanDisk (state S.Store conn.new) → IfOk result (AreRecords caller_row IsCaller (map caller_columns ((state S.Store conn.new).now.trees callers_tree))) }
     ensures damaged { HasCleanDisk (state S.Store conn.new) → IfOk result (λ told. told ≡ false → (v : Vault) → ¬ AreSoundAs edition (state S.Store conn.new).now v) }
     ensures same { HasCleanDisk (state S.Store conn.new) → OnOk result (IsUnchanged (state S.Store conn.old) (state S.Store conn.new)) }
@@ -58,7 +56,7 @@ pub fn check_callers<S: Alter>(conn: &mut Connection<S>, edition: Edition) -> Re
 
 /// Whether each row of `buckets` tells a record in its limits.
 pub fn check_buckets<S: Alter>(conn: &mut Connection<S>, edition: Edition) -> Result<bool, Error>
-    requires { HasCleanDisk (state S.Store conn.old) → BeginTo edition (state S.Store conn.old).now.schema.tables table.Buckets }
+    requires { HasCleanDisk (state S.Store conn.old) → (state S.Store conn.old).now.schema ≡ schema_of edition }
     ensures told { HasCleanDisk (state S.Store conn.new) → IfOk result (AreRecords bucket_row IsBucketRow (map bucket_columns ((state S.Store conn.new).now.trees buckets_tree))) }
     ensures damaged { HasCleanDisk (state S.Store conn.new) → IfOk result (λ told. told ≡ false → (v : Vault) → ¬ AreSoundAs edition (state S.Store conn.new).now v) }
     ensures same { HasCleanDisk (state S.Store conn.new) → OnOk result (IsUnchanged (state S.Store conn.old) (state S.Store conn.new)) }
@@ -88,7 +86,7 @@ fn rules_text(edition: Edition) -> &'static str
 
 /// Whether each row of `rules` tells a record in its limits.
 pub fn check_rules<S: Alter>(conn: &mut Connection<S>, edition: Edition) -> Result<bool, Error>
-    requires { HasCleanDisk (state S.Store conn.old) → BeginTo edition (state S.Store conn.old).now.schema.tables table.Rules }
+    requires { HasCleanDisk (state S.Store conn.old) → (state S.Store conn.old).now.schema ≡ schema_of edition }
     ensures told { HasCleanDisk (state S.Store conn.new) → IfOk result (AreRecords rule_row IsRuleRow (map (rule_columns_as edition) ((state S.Store conn.new).now.trees rules_tree))) }
     ensures damaged { HasCleanDisk (state S.Store conn.new) → IfOk result (λ told. told ≡ false → (v : Vault) → ¬ AreSoundAs edition (state S.Store conn.new).now v) }
     ensures same { HasCleanDisk (state S.Store conn.new) → OnOk result (IsUnchanged (state S.Store conn.old) (state S.Store conn.new)) }
@@ -100,7 +98,7 @@ pub fn check_rules<S: Alter>(conn: &mut Connection<S>, edition: Edition) -> Resu
 
 /// Whether each row of `contents` tells a record in its limits.
 pub fn check_contents<S: Alter>(conn: &mut Connection<S>, edition: Edition) -> Result<bool, Error>
-    requires { HasCleanDisk (state S.Store conn.old) → BeginTo edition (state S.Store conn.old).now.schema.tables table.Contents }
+    requires { HasCleanDisk (state S.Store conn.old) → (state S.Store conn.old).now.schema ≡ schema_of edition }
     ensures told { HasCleanDisk (state S.Store conn.new) → IfOk result (AreRecords content_row IsContentRow (map content_columns ((state S.Store conn.new).now.trees contents_tree))) }
     ensures damaged { HasCleanDisk (state S.Store conn.new) → IfOk result (λ told. told ≡ false → (v : Vault) → ¬ AreSoundAs edition (state S.Store conn.new).now v) }
     ensures same { HasCleanDisk (state S.Store conn.new) → OnOk result (IsUnchanged (state S.Store conn.old) (state S.Store conn.new)) }
@@ -112,7 +110,7 @@ pub fn check_contents<S: Alter>(conn: &mut Connection<S>, edition: Edition) -> R
 
 /// Whether each row of `settings` tells a record in its limits.
 pub fn check_settings<S: Alter>(conn: &mut Connection<S>, edition: Edition) -> Result<bool, Error>
-    requires { HasCleanDisk (state S.Store conn.old) → BeginTo edition (state S.Store conn.old).now.schema.tables table.Settings }
+    requires { HasCleanDisk (state S.Store conn.old) → (state S.Store conn.old).now.schema ≡ schema_of edition }
     ensures told { HasCleanDisk (state S.Store conn.new) → IfOk result (AreRecords setting_row IsSettingRow (map setting_columns ((state S.Store conn.new).now.trees settings_tree))) }
     ensures damaged { HasCleanDisk (state S.Store conn.new) → IfOk result (λ told. told ≡ false → (v : Vault) → ¬ AreSoundAs edition (state S.Store conn.new).now v) }
     ensures same { HasCleanDisk (state S.Store conn.new) → OnOk result (IsUnchanged (state S.Store conn.old) (state S.Store conn.new)) }
@@ -128,7 +126,7 @@ pub fn check_settings<S: Alter>(conn: &mut Connection<S>, edition: Edition) -> R
 
 /// Whether each row of `intake` tells a record in its limits.
 pub fn check_intake<S: Alter>(conn: &mut Connection<S>, edition: Edition) -> Result<bool, Error>
-    requires { HasCleanDisk (state S.Store conn.old) → BeginTo edition (state S.Store conn.old).now.schema.tables table.Intake }
+    requires { HasCleanDisk (state S.Store conn.old) → (state S.Store conn.old).now.schema ≡ schema_of edition }
     ensures told { HasCleanDisk (state S.Store conn.new) → IfOk result (AreRecords note_row IsNote (map note_columns ((state S.Store conn.new).now.trees intake_tree))) }
     ensures damaged { HasCleanDisk (state S.Store conn.new) → IfOk result (λ told. told ≡ false → (v : Vault) → ¬ AreSoundAs edition (state S.Store conn.new).now v) }
     ensures same { HasCleanDisk (state S.Store conn.new) → OnOk result (IsUnchanged (state S.Store conn.old) (state S.Store conn.new)) }
@@ -144,7 +142,7 @@ pub fn check_intake<S: Alter>(conn: &mut Connection<S>, edition: Edition) -> Res
 
 /// Whether each row of `heads` tells a record in its limits.
 pub fn check_heads<S: Alter>(conn: &mut Connection<S>, edition: Edition) -> Result<bool, Error>
-    requires { HasCleanDisk (state S.Store conn.old) → BeginTo edition (state S.Store conn.old).now.schema.tables table.Heads }
+    requires { HasCleanDisk (state S.Store conn.old) → (state S.Store conn.old).now.schema ≡ schema_of edition }
     ensures told { HasCleanDisk (state S.Store conn.new) → IfOk result (AreRecords head_row IsHeadRow (map head_columns ((state S.Store conn.new).now.trees heads_tree))) }
     ensures damaged { HasCleanDisk (state S.Store conn.new) → IfOk result (λ told. told ≡ false → (v : Vault) → ¬ AreSoundAs edition (state S.Store conn.new).now v) }
     ensures same { HasCleanDisk (state S.Store conn.new) → OnOk result (IsUnchanged (state S.Store conn.old) (state S.Store conn.new)) }

@@ -1,15 +1,17 @@
-use Rattle.std.proofs.Common.{◌≡◌, true, false, subst, rules, arith}
+use Rattle.std.proofs.Common.{◌≡◌, true, false, sym, subst, rules, arith}
 use Rattle.sqlite.specs.Held.{state}
 use Rattle.sqlite.specs.State.{HasCleanDisk}
-use Rattle.vault_audit_walk.specs.Health.{IsMemory}
+use Rattle.vault_audit_walk.specs.Health.{Asks, IsMemory}
+use Rattle.sqlite.specs.Given.{IsPlain}
+use Rattle.sqlite.specs.Listing.{understood}
 use Rattle.vault_audit_tables.specs.Meta.{IsMetaOf}
 use Rattle.vault_audit_tables.proofs.DamageLemmas.{no_meta}
 use Rattle.vault_audit_tables.proofs.MetaLemmas.{meta_all, meta_no}
-use Rattle.vault_audit_tables.proofs.TextLemmas.{meta_walks, meta_asks}
+use Rattle.vault_audit_tables.proofs.TextLemmas.{meta_walk, meta_walk_plain, meta_walk_asks}
 use Rattle.vault_audit_tables.proofs.meta.check_meta.Goals as goal
 
 pub walk-requires : goal.walk-requires
-walk-requires g c clean = (meta_walks c.args.edition (state g.S.Store c.args.conn.now).now.schema (c.requires clean)).plain
+walk-requires g c clean = subst (λ s. IsPlain (understood s meta_walk)) (sym (c.requires clean)) (meta_walk_plain c.args.edition)
 
 pub returns-then-not-one-clause-told : goal.returns-then-not-one-clause-told
 returns-then-not-one-clause-told g c clean =
@@ -30,4 +32,4 @@ pub returns-clause-damaged : goal.returns-clause-damaged
 returns-clause-damaged g c clean same v = no_meta c.args.edition (state g.S.Store c.walk.new.conn).now v (subst (IsMetaOf c.args.edition (state g.S.Store c.walk.new.conn).now) same (returns-clause-told g c clean))
 
 pub returns-in_err-one-clause-err : goal.returns-in_err-one-clause-err
-returns-in_err-one-clause-err g c well = let it : IsMemory c.in_err-one.field-0.0 = c.in_err-one.ensures.err well (λ clean. meta_asks c.args.edition (state g.S.Store c.args.conn.now).now.schema (c.requires clean)) in search rules
+returns-in_err-one-clause-err g c well = let it : IsMemory c.in_err-one.field-0.0 = c.in_err-one.ensures.err well (λ clean. subst (λ s. Asks s meta_walk) (sym (c.requires clean)) (meta_walk_asks c.args.edition)) in search rules

@@ -1,19 +1,23 @@
-use Rattle.std.proofs.Common.{map, arith}
+use Rattle.std.proofs.Common.{map, refl, sym, subst, arith}
 use Rattle.sqlite.specs.Held.{state}
 use Rattle.sqlite.specs.State.{HasCleanDisk}
+use Rattle.vault_audit_walk.specs.Health.{Asks}
+use Rattle.sqlite.specs.Given.{IsPlain}
+use Rattle.sqlite.specs.Listing.{understood}
 use Rattle.vault_audit_model.specs.Rows.{rule_row, rule_columns_as}
 use Rattle.vault_audit_model.specs.Limits.{IsRuleRow}
 use Rattle.vault_core_model.specs.Vault.{Vault}
 use Rattle.vault_audit_model.specs.Spells.{AreSoundAs}
 use Rattle.vault_audit_model.specs.Tables.{rules_tree}
 use Rattle.vault_audit_walk.specs.Records.{AreRecords}
+use Rattle.vault_audit_tables.specs.RulesText.{rules_text}
 use Rattle.vault_audit_tables.proofs.DamageLemmas.{refused_if_ok, no_rules}
 use Rattle.vault_audit_tables.proofs.RulesLemmas.{rules_if_ok}
 use Rattle.vault_audit_tables.proofs.TextLemmas.{rules_scan, rules_asks}
 use Rattle.vault_audit_tables.proofs.table_rows.check_rules.Goals as goal
 
 pub check_rows-requires : goal.check_rows-requires
-check_rows-requires g c clean = rw c.rules_text.ensures (rules_scan c.args.edition (state g.S.Store c.args.conn.now).now.schema (c.requires clean)).plain
+check_rows-requires g c clean = rw c.rules_text.ensures (subst (λ s. IsPlain (understood s (rules_text c.args.edition))) (sym (c.requires clean)) (rules_scan c.args.edition).plain)
 
 pub returns-clause-told : goal.returns-clause-told
 returns-clause-told g c clean =
@@ -26,4 +30,4 @@ returns-clause-damaged g c clean =
     refused_if_ok (AreRecords rule_row IsRuleRow (map (rule_columns_as c.args.edition) (db.trees rules_tree))) ((v : Vault) → ¬ AreSoundAs c.args.edition db v) (λ none v. no_rules c.args.edition db v none) c.check_rows.result (returns-clause-told g c clean)
 
 pub returns-clause-err : goal.returns-clause-err
-returns-clause-err g c well = c.check_rows.ensures.err well (λ clean. rw c.rules_text.ensures (rules_asks c.args.edition (state g.S.Store c.args.conn.now).now.schema (c.requires clean)))
+returns-clause-err g c well = c.check_rows.ensures.err well (λ clean. rw c.rules_text.ensures (subst (λ s. Asks s (rules_text c.args.edition)) (sym (c.requires clean)) (rules_asks c.args.edition)))

@@ -1,6 +1,9 @@
-use Rattle.std.proofs.Common.{map, refl, arith}
+use Rattle.std.proofs.Common.{map, refl, sym, subst, arith}
 use Rattle.sqlite.specs.Held.{state}
 use Rattle.sqlite.specs.State.{HasCleanDisk}
+use Rattle.vault_audit_walk.specs.Health.{Asks}
+use Rattle.sqlite.specs.Given.{IsPlain}
+use Rattle.sqlite.specs.Listing.{understood}
 use Rattle.vault_audit_model.specs.Rows.{setting_row, setting_columns}
 use Rattle.vault_audit_model.specs.Limits.{IsSettingRow}
 use Rattle.vault_core_model.specs.Vault.{Vault}
@@ -9,16 +12,16 @@ use Rattle.vault_audit_model.specs.Tables.{settings_tree}
 use Rattle.vault_audit_walk.specs.Records.{AreRecords}
 use Rattle.vault_audit_tables.proofs.DamageLemmas.{refused_if_ok, no_settings}
 use Rattle.vault_audit_walk.proofs.RecordLemmas.{records_if_ok}
-use Rattle.vault_audit_tables.proofs.TextLemmas.{settings_scan, settings_asks}
+use Rattle.vault_audit_tables.proofs.TextLemmas.{settings_text, settings_scan, settings_asks}
 use Rattle.vault_audit_tables.proofs.table_rows.check_settings.Goals as goal
 
 pub check_rows-requires : goal.check_rows-requires
-check_rows-requires g c clean = (settings_scan c.args.edition (state g.S.Store c.args.conn.now).now.schema (c.requires clean)).plain
+check_rows-requires g c clean = subst (λ s. IsPlain (understood s settings_text)) (sym (c.requires clean)) (settings_scan c.args.edition).plain
 
 pub returns-clause-told : goal.returns-clause-told
 returns-clause-told g c clean =
     let early : HasCleanDisk (state g.S.Store c.args.conn.now) = omega (arith, c.check_rows.ensures.crash.clean) in
-    records_if_ok setting_row IsSettingRow (settings_scan c.args.edition (state g.S.Store c.args.conn.now).now.schema (c.requires early)) (state g.S.Store c.args.conn.now) (state g.S.Store c.check_rows.new.conn) refl (λ trees. refl) (c.check_rows.result) (c.check_rows.ensures.same clean) (c.check_rows.ensures.checked clean)
+    records_if_ok setting_row IsSettingRow (settings_scan c.args.edition) (state g.S.Store c.args.conn.now) (state g.S.Store c.check_rows.new.conn) (c.requires early) (λ trees. refl) (c.check_rows.result) (c.check_rows.ensures.same clean) (c.check_rows.ensures.checked clean)
 
 pub returns-clause-damaged : goal.returns-clause-damaged
 returns-clause-damaged g c clean =
@@ -26,4 +29,4 @@ returns-clause-damaged g c clean =
     refused_if_ok (AreRecords setting_row IsSettingRow (map setting_columns (db.trees settings_tree))) ((v : Vault) → ¬ AreSoundAs c.args.edition db v) (λ none v. no_settings c.args.edition db v none) c.check_rows.result (returns-clause-told g c clean)
 
 pub returns-clause-err : goal.returns-clause-err
-returns-clause-err g c well = c.check_rows.ensures.err well (λ clean. settings_asks c.args.edition (state g.S.Store c.args.conn.now).now.schema (c.requires clean))
+returns-clause-err g c well = c.check_rows.ensures.err well (λ clean. subst (λ s. Asks s settings_text) (sym (c.requires clean)) (settings_asks c.args.edition))

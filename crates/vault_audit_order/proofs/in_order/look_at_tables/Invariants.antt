@@ -2,7 +2,7 @@ use Rattle.std.proofs.Common.{◌+◌}
 use Rattle.sqlite.specs.State.{HasCleanDisk, IsUnchanged, Survives}
 use Rattle.sqlite.specs.Held.{state}
 use Rattle.vault_audit_order.proofs.OrderLemmas.{AreRightTo, IsFrom}
-use Rattle.vault_audit_order.proofs.look_at_tables.Given as goal
+use Rattle.vault_audit_order.proofs.in_order.look_at_tables.Given as goal
 
 -- the tables so far are right
 abbrev pub invariant-loop-table : goal.invariant-loop-table

@@ -1,1 +1,0 @@
-use Rattle.vault_audit_order.proofs.look_at_tables.Goals as goal
