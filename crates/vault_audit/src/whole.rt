@@ -50,7 +50,7 @@ fn find_damage<S: Alter>(
     let Some(meta) = check_meta(conn, edition)? else {
         return Ok(Some(Table::Meta));
     };
-    if let Some(table) = look_at_tables(conn, edition, difference, meta)? {
+    if let Some(table) = look_at_tables(conn, edition, difference, &meta)? {
         return Ok(Some(table));
     }
     if let Some(table) = look_again(alloc, conn, edition, meta)? {

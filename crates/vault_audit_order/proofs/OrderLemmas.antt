@@ -1,8 +1,9 @@
 -- The tables in their order, and those that are right by themselves.
-use Rattle.std.proofs.Common.{◌≡◌, ◌≢◌, ◌↔◌, ◌⊎◌, ℕ, zero, suc, ◌+◌, ◌<◌, ◌≤◌, List, [], ◌∷◌, get_or, take, Option, None, Some, IfSome, true, false, refl, sym, ap, subst, ◌∙◌, inl, inr, arith, MatchOption}
+use Rattle.std.proofs.Common.{◌≡◌, ◌≢◌, ◌↔◌, ◌⊎◌, ℕ, zero, suc, ◌+◌, ◌<◌, ◌≤◌, List, [], ◌∷◌, get_or, map, take, Bool, Option, None, Some, IfSome, Result, Ok, Err, IfOk, OnOk, true, false, refl, sym, ap, subst, ◌∙◌, inl, inr, arith, MatchOption}
 use Rattle.std.proofs.lemmas.Bool.{cases_order}
 use Rattle.std.proofs.lemmas.List.Sorted.{IsPermutation-sym, IsPermutation-trans}
 use Rattle.sqlite.specs.Effect.{Database}
+use Rattle.sqlite.specs.declared.error.Error.{Error}
 use Rattle.sqlite.specs.Schema.{Schema}
 use Rattle.sqlite.specs.State.{State, Survives, HasCleanDisk, IsUnchanged}
 use Rattle.sqlite.proofs.Callers.{one_permutation}
@@ -12,18 +13,20 @@ use Rattle.vault_base.specs.declared.refusal.Table.TheVariants.{Meta, Department
 use Rattle.vault_core_model.specs.Vault.{Vault}
 use Rattle.vault_audit_model.specs.declared.schema.Edition.{Edition}
 use Rattle.vault_audit_model.specs.declared.rows.MetaRow.{MetaRow}
-use Rattle.vault_audit_model.specs.Rows.{meta_row}
+use Rattle.vault_audit_model.specs.Rows.{meta_row, entry_row, entry_columns}
 use Rattle.vault_audit_model.specs.Spells.{AreSoundAs, meta_as}
-use Rattle.vault_audit_model.specs.Tables.{schema_of}
+use Rattle.vault_audit_model.specs.Tables.{schema_of, entries_tree}
 use Rattle.vault_audit_model.proofs.SameRows.{same_meta}
 use Rattle.vault_audit_schema.specs.Places.{place_of, BeginTo, IsToldIn}
 use Rattle.vault_audit_schema.proofs.DifferenceLemmas.{in_place, place_below}
+use Rattle.vault_audit_tables.specs.Entries.{IsEntryBy}
 use Rattle.vault_audit_tables.specs.Meta.{IsMetaOf}
+use Rattle.vault_audit_walk.specs.Records.{AreRecords}
 use Rattle.vault_audit_order.specs.InOrder.{AreRowsRight, IsRight, IsToldInOrder, ToldInOrder}
 
 -- ---- places
 
-at : ℕ → Table
+abbrev at : ℕ → Table
 at zero = Meta
 at (suc zero) = Departments
 at (suc (suc zero)) = Callers
@@ -154,7 +157,7 @@ module _ (n : Edition) (db : Database) where
   meta_by_form it = told_by_form Meta (λ u less. absurd (omega (arith, less))) it
 
   pub meta_by_rows : IsMetaOf n db None → ((v : Vault) → ¬ AreSoundAs n db v) → ToldInOrder n db (Some Meta)
-  meta_by_rows none no = told_by_rows Meta (λ u less. absurd (omega (arith, less))) none no
+  meta_by_rows wrong none = told_by_rows Meta (λ u less. absurd (omega (arith, less))) wrong none
 
   -- all are right, and this one doesn't fit the others
   pub told_beside_others : (t : Table) → ToldInOrder n db None → IsToldInOrder n db t
@@ -181,6 +184,20 @@ module _ (n : Edition) (db : Database) where
   -- no vault of that moment, and so none
   pub none_of_meta : (m : MetaRow) → IsMetaOf n db (Some m) → ((v : Vault) → v.last ≡ m.last → ¬ AreSoundAs n db v) → (v : Vault) → ¬ AreSoundAs n db v
   none_of_meta m meta none v it = none v (last_of v m meta it) it
+
+-- ---- the entries beside the row of meta
+
+module _ (n : Edition) (old new : State) (m : MetaRow) (meta : IsMetaOf n old.now (Some m)) where
+  meta_later : IsUnchanged old new → IsMetaOf n new.now (Some m)
+  meta_later same = subst (λ (db : Database). IsMetaOf n db (Some m)) (sym same.0.now_is) meta
+
+  pub entries_tell : (r : Result Bool Error) → OnOk r (IsUnchanged old new) → IfOk r (AreRecords entry_row (IsEntryBy m.last) (map entry_columns (new.now.trees entries_tree))) → IfOk r (AreRowsRight n new.now Entries)
+  entries_tell (Err e) same told = tt
+  entries_tell (Ok right) same told = of_meta n new.now (λ (x : MetaRow). AreRecords entry_row (IsEntryBy x.last) (map entry_columns (new.now.trees entries_tree)) right) m (meta_later same) told
+
+  pub entries_damaged : (r : Result Bool Error) → OnOk r (IsUnchanged old new) → IfOk r (λ right. right ≡ false → (v : Vault) → v.last ≡ m.last → ¬ AreSoundAs n new.now v) → IfOk r (λ right. right ≡ false → (v : Vault) → ¬ AreSoundAs n new.now v)
+  entries_damaged (Err e) same none = tt
+  entries_damaged (Ok right) same none = λ wrong. none_of_meta n new.now m (meta_later same) (none wrong)
 
 pub survives_itself : (s : State) → Survives s s (λ _. ⊥)
 survives_itself s =

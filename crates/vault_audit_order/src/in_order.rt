@@ -39,11 +39,11 @@ static BEHIND_META: [Table; 9] = [
 fn check_rows_of<S: Alter>(
     conn: &mut Connection<S>,
     edition: Edition,
-    meta: MetaRow,
+    meta: &MetaRow,
     table: Table,
 ) -> Result<bool, Error>
     requires begin { HasCleanDisk (state S.Store conn.old) → BeginTo edition (state S.Store conn.old).now.schema.tables table }
-    requires meta { HasCleanDisk (state S.Store conn.old) → IsMetaOf edition (state S.Store conn.old).now (Some meta) }
+    requires meta { HasCleanDisk (state S.Store conn.old) → IsMetaOf edition (state S.Store conn.old).now (Some meta.now) }
     ensures told { HasCleanDisk (state S.Store conn.new) → IfOk result (AreRowsRight edition (state S.Store conn.new).now table) }
     ensures damaged { HasCleanDisk (state S.Store conn.new) → IfOk result (λ right. right ≡ false → (v : Vault) → ¬ AreSoundAs edition (state S.Store conn.new).now v) }
     ensures same { HasCleanDisk (state S.Store conn.new) → OnOk result (IsUnchanged (state S.Store conn.old) (state S.Store conn.new)) }
@@ -73,11 +73,11 @@ pub fn look_at_tables<S: Alter>(
     conn: &mut Connection<S>,
     edition: Edition,
     difference: Option<Table>,
-    meta: MetaRow,
+    meta: &MetaRow,
 ) -> Result<Option<Table>, Error>
     requires difference { HasCleanDisk (state S.Store conn.old) → MatchOption difference ((state S.Store conn.old).now.schema ≡ schema_of edition) (IsToldIn edition (state S.Store conn.old).now.schema) }
     requires behind { difference ≢ Some table.Meta }
-    requires meta { HasCleanDisk (state S.Store conn.old) → IsMetaOf edition (state S.Store conn.old).now (Some meta) }
+    requires meta { HasCleanDisk (state S.Store conn.old) → IsMetaOf edition (state S.Store conn.old).now (Some meta.now) }
     requires open { HasCleanDisk (state S.Store conn.old) → IsTrue (state S.Store conn.old).is_open }
     ensures told { HasCleanDisk (state S.Store conn.new) → IfOk result (ToldInOrder edition (state S.Store conn.new).now) }
     ensures same { HasCleanDisk (state S.Store conn.new) → OnOk result (IsUnchanged (state S.Store conn.old) (state S.Store conn.new)) }
