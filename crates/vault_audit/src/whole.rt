@@ -14,7 +14,7 @@ use crate::second_pass::look_again;
 use sqlite::{Alter, Connection, Error, ErrorCode};
 use std::alloc::Global;
 use vault_audit_model::schema::Edition;
-use vault_audit_order::in_order::look_at_tables;
+use vault_audit_order::in_order::{is_at, look_at_tables};
 use vault_audit_order::meta::check_meta;
 use vault_audit_schema::check_schema;
 use vault_audit_ties::check_ties;
@@ -44,7 +44,7 @@ fn find_damage<S: Alter>(
     ensures crash { Survives (state S.Store conn.old) (state S.Store conn.new) (λ _. ⊥) }
 {
     let difference = check_schema(conn, edition);
-    if difference == Some(Table::Meta) {
+    if is_at(difference, Table::Meta) {
         return Ok(Some(Table::Meta));
     }
     let Some(meta) = check_meta(conn, edition)? else {

@@ -1,5 +1,5 @@
 -- The tables in their order, and those that are right by themselves.
-use Rattle.std.proofs.Common.{◌≡◌, ◌≢◌, ◌↔◌, ◌⊎◌, ℕ, zero, suc, ◌+◌, ◌<◌, ◌≤◌, List, [], ◌∷◌, get_or, map, take, Bool, Option, None, Some, IfSome, Result, Ok, Err, IfOk, OnOk, true, false, refl, sym, ap, subst, ◌∙◌, inl, inr, arith, MatchOption}
+use Rattle.std.proofs.Common.{◌≡◌, ◌≢◌, ◌↔◌, ◌⊎◌, ℕ, zero, suc, ◌+◌, ◌<◌, ◌≤◌, List, [], ◌∷◌, get_or, map, take, Bool, Option, None, Some, IfSome, Result, Ok, Err, IfOk, OnOk, IsTrue, true, false, true≢false, refl, sym, ap, subst, ◌∙◌, inl, inr, arith, MatchOption}
 use Rattle.std.proofs.lemmas.Bool.{cases_order}
 use Rattle.std.proofs.lemmas.List.Sorted.{IsPermutation-sym, IsPermutation-trans}
 use Rattle.sqlite.specs.Effect.{Database}
@@ -57,17 +57,21 @@ same_table t u e = sym (at_place t) ∙ ap at e ∙ at_place u
 abbrev pub behind_meta : List Table
 behind_meta = Departments ∷ Callers ∷ Buckets ∷ Rules ∷ Entries ∷ Contents ∷ Settings ∷ Intake ∷ Heads ∷ []
 
-pub place_behind : (i : ℕ) (t : Table) → i < 9 → t ≡ get_or behind_meta i t → place_of t ≡ i + 1
-place_behind zero t h e = ap place_of e
-place_behind (suc zero) t h e = ap place_of e
-place_behind (suc (suc zero)) t h e = ap place_of e
-place_behind (suc (suc (suc zero))) t h e = ap place_of e
-place_behind (suc (suc (suc (suc zero)))) t h e = ap place_of e
-place_behind (suc (suc (suc (suc (suc zero))))) t h e = ap place_of e
-place_behind (suc (suc (suc (suc (suc (suc zero)))))) t h e = ap place_of e
-place_behind (suc (suc (suc (suc (suc (suc (suc zero))))))) t h e = ap place_of e
-place_behind (suc (suc (suc (suc (suc (suc (suc (suc zero)))))))) t h e = ap place_of e
-place_behind (suc (suc (suc (suc (suc (suc (suc (suc (suc n))))))))) t h e = absurd (omega (arith, h))
+pub place_behind : (i : ℕ) → i < 9 → place_of (get_or behind_meta i Meta) ≡ i + 1
+place_behind zero h = refl
+place_behind (suc zero) h = refl
+place_behind (suc (suc zero)) h = refl
+place_behind (suc (suc (suc zero))) h = refl
+place_behind (suc (suc (suc (suc zero)))) h = refl
+place_behind (suc (suc (suc (suc (suc zero))))) h = refl
+place_behind (suc (suc (suc (suc (suc (suc zero)))))) h = refl
+place_behind (suc (suc (suc (suc (suc (suc (suc zero))))))) h = refl
+place_behind (suc (suc (suc (suc (suc (suc (suc (suc zero)))))))) h = refl
+place_behind (suc (suc (suc (suc (suc (suc (suc (suc (suc n))))))))) h = absurd (omega (arith, h))
+
+-- what a test tells
+pub is_not : {P : Type 0} (b : Bool) → b ≡ false → (IsTrue b ↔ P) → ¬ P
+is_not b e h p = true≢false (sym (h.1 p) ∙ e)
 
 -- ---- the table at which the schema differs, if any
 

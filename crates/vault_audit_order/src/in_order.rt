@@ -1,5 +1,5 @@
 //! All tables, one after the other.
-ghost use Rattle.std.specs.Prelude.{◌≡◌, ◌≢◌, false, Some, IsTrue, IfOk, IfErr, OnOk, MatchOption};
+ghost use Rattle.std.specs.Prelude.{◌≡◌, ◌≢◌, ◌↔◌, false, Some, IsTrue, IfOk, IfErr, OnOk, MatchOption};
 ghost use Rattle.sqlite.specs.State.{HasCleanDisk, IsUnchanged, Survives};
 ghost use Rattle.sqlite.specs.Held.{state};
 ghost use Rattle.vault_base.specs.declared.refusal.Table.TheVariants as table;
@@ -34,6 +34,13 @@ static BEHIND_META: [Table; 9] = [
     Table::Intake,
     Table::Heads,
 ];
+
+/// Whether the schema differs first at this table, where that is where it does.
+pub fn is_at(difference: Option<Table>, table: Table) -> bool
+    ensures { IsTrue result ↔ (difference ≡ Some table) }
+{
+    difference == Some(table)
+}
 
 /// Whether the rows of a table tell records in their limits, each by itself, where this is the row of `meta`.
 fn check_rows_of<S: Alter>(
@@ -85,7 +92,7 @@ pub fn look_at_tables<S: Alter>(
     ensures crash { Survives (state S.Store conn.old) (state S.Store conn.new) (λ _. ⊥) }
 {
     for table in &BEHIND_META {
-        if difference == Some(*table) {
+        if is_at(difference, *table) {
             return Ok(Some(*table));
         }
         let right = check_rows_of(conn, edition, meta, *table)?;
