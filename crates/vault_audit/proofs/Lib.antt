@@ -1,2 +1,1 @@
-pub mod OtherLemmas
 pub mod SoundLemmas

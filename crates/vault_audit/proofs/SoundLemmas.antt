@@ -26,14 +26,6 @@ use Rattle.vault_audit_found.proofs.FoundLemmas.{found_spelled, found_sums}
 use Rattle.vault_audit_looks.specs.Looks.{ArePast}
 use Rattle.vault_audit.specs.Whole.{AllFound}
 
--- the last moment of a vault that the tables are sound for is that of the row of meta
-pub last_of : (n : Edition) (db : Database) (v : Vault) (m : MetaRow) → IsMetaOf n db (Some m) → AreSoundAs n db v → v.last ≡ m.last
-last_of n db v m is it =
-    let rows = one_permutation (meta_row m) _ (IsPermutation-trans _ _ _ is.0 (IsPermutation-sym _ _ it.spells.meta)) in
-    let first : meta_row (meta_as n v) ≡ meta_row m = cc in
-    let same : meta_as n v ≡ m = same_meta (meta_as n v) m first in
-    ap (λ (x : MetaRow). x.last) same
-
 -- the row tells an entry that is past
 abbrev TellsPast : ℕ → Row → Type 0
 TellsPast last row = (e : Entry) × (row ≡ entry_row e) × IsPast last e
@@ -94,7 +86,3 @@ module _ (n : Edition) (db : Database) (m : MetaRow) (schema : db.schema ≡ sch
         heads = found.held.heads v (subst (AreEntries db) (sym same) are);
       } in
       (v, sound)
-
--- no vault of another moment
-pub none_of_meta : (n : Edition) (db : Database) (m : MetaRow) → IsMetaOf n db (Some m) → ((v : Vault) → v.last ≡ m.last → ¬ AreSoundAs n db v) → (v : Vault) → ¬ AreSoundAs n db v
-none_of_meta n db m meta none v it = none v (last_of n db v m meta it) it

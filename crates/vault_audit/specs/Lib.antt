@@ -1,2 +1,1 @@
-pub mod OtherEdition
 pub mod Whole

@@ -1,5 +1,5 @@
 -- What the passes over all tables tell.
-use Rattle.std.specs.Prelude.{◌≡◌, ◌⊎◌, ⊤, ℕ, List, Option, None, Some, Result, Ok, Err}
+use Rattle.std.specs.Prelude.{◌≡◌, ◌⊎◌, ⊤, List, Option, None, Some, Result, Ok, Err}
 use Rattle.sqlite.specs.Effect.{Database}
 use Rattle.vault_base.specs.declared.refusal.Table.{Table}
 use Rattle.vault_base.specs.declared.refusal.Refusal.{Refusal}
@@ -11,12 +11,7 @@ use Rattle.vault_audit_model.specs.declared.rows.MetaRow.{MetaRow}
 use Rattle.vault_audit_model.specs.Relations.{AreEntries, AreHeads}
 use Rattle.vault_audit_model.specs.Spells.{AreSoundAs}
 use Rattle.vault_audit_keys.specs.Keys.{entries_of}
-use Rattle.vault_audit_looks.specs.Looks.{ArePast, DepartmentsFound, NamesFound, VersionsFound}
-
--- no table behind meta is damaged, and no entry is after the last moment; or one is, and the tables are sound for no vault of that moment
-abbrev pub ToldBy : Edition → Database → ℕ → Option Table → Type 0
-ToldBy n db last None = ArePast db last
-ToldBy n db last (Some table) = (v : Vault) → v.last ≡ last → ¬ AreSoundAs n db v
+use Rattle.vault_audit_looks.specs.Looks.{DepartmentsFound, NamesFound, VersionsFound}
 
 -- the entries, what stands beside them, and the heads of their keys
 pub record VersionsAndHeads (db : Database) : Type 0 where

@@ -1,25 +1,22 @@
 //! Both passes, and what they tell.
-ghost use Rattle.std.specs.Prelude.{◌≡◌, ◌≢◌, IfOk, OnOk, IfErr};
+ghost use Rattle.std.specs.Prelude.{◌≡◌, ◌≢◌, None, IfOk, OnOk, IfErr, IfSome};
 ghost use Rattle.sqlite.specs.State.{HasCleanDisk, IsUnchanged, Survives};
 ghost use Rattle.sqlite.specs.Held.{state};
 ghost use Rattle.vault_base.specs.declared.refusal.Table.{Table};
 ghost use Rattle.vault_core_model.specs.Vault.{Vault};
-ghost use Rattle.vault_audit_model.specs.declared.schema.Edition.{Edition};
 ghost use Rattle.vault_audit_model.specs.Spells.{AreSoundAs};
-ghost use Rattle.vault_audit_model.specs.Tables.{schema_of};
 ghost use Rattle.vault_audit_model.specs.Faults.{refusal_of};
-ghost use Rattle.vault_audit.specs.OtherEdition.{IsFirstUnfit};
+ghost use Rattle.vault_audit_order.specs.InOrder.{IsToldInOrder};
 ghost use Rattle.vault_audit.specs.Whole.{IsAudited, IsJudged, IsTold};
 ghost use Rattle.vault_audit_walk.specs.Health.{IsHealthy, IsMemory};
 
-use crate::first_pass::look_at_rows;
-use crate::other_edition::look_at_schema;
 use crate::second_pass::look_again;
 use sqlite::{Alter, Connection, Error, ErrorCode};
 use std::alloc::Global;
 use vault_audit_model::schema::Edition;
+use vault_audit_order::in_order::{is_at, look_at_tables};
+use vault_audit_order::meta::check_meta;
 use vault_audit_schema::check_schema;
-use vault_audit_tables::meta::check_meta;
 use vault_audit_ties::check_ties;
 use vault_base::refusal::{Refusal, Table};
 
@@ -33,22 +30,27 @@ fn refusal_of(error: Error) -> Refusal
     }
 }
 
-/// The first table of a file with a vault's schema that is damaged.
+/// The first table of a file that is damaged.
 fn find_damage<S: Alter>(
     alloc: Global,
     conn: &mut Connection<S>,
     edition: Edition,
 ) -> Result<Option<Table>, Error>
-    requires { HasCleanDisk (state S.Store conn.old) → (state S.Store conn.old).now.schema ≡ schema_of edition }
     ensures told { HasCleanDisk (state S.Store conn.new) → IfOk result (IsAudited edition (state S.Store conn.new).now) }
-    ensures same { HasCleanDisk (state S.Store conn.new) → OnOk result (IsUnchanged (state S.Store conn.old) (state S.Store conn.new)) }
+    ensures order { HasCleanDisk (state S.Store conn.new) → IfOk result (λ found. IfSome found (IsToldInOrder edition (state S.Store conn.new).now)) }
+    ensures same { HasCleanDisk (state S.Store conn.new) → IfOk result (λ found. found ≡ None → IsUnchanged (state S.Store conn.old) (state S.Store conn.new)) }
+    ensures kept { HasCleanDisk (state S.Store conn.new) → OnOk result ((state S.Store conn.new).now ≡ (state S.Store conn.old).now) }
     ensures err { IsHealthy (state S.Store conn.new) → IfErr result IsMemory }
     ensures crash { Survives (state S.Store conn.old) (state S.Store conn.new) (λ _. ⊥) }
 {
+    let difference = check_schema(conn, edition);
+    if is_at(difference, Table::Meta) {
+        return Ok(Some(Table::Meta));
+    }
     let Some(meta) = check_meta(conn, edition)? else {
         return Ok(Some(Table::Meta));
     };
-    if let Some(table) = look_at_rows(conn, edition, meta.last)? {
+    if let Some(table) = look_at_tables(conn, edition, difference, &meta)? {
         return Ok(Some(table));
     }
     if let Some(table) = look_again(alloc, conn, edition, meta)? {
@@ -62,8 +64,7 @@ fn find_damage<S: Alter>(
 /// running numbers and heads.
 ///
 /// `Damaged` with the first table that isn't, in their order: first each is looked at by itself, for its
-/// columns and for the values of its rows, and then beside the others. Where the schema is that of no edition, the
-/// first table that differs is told before any row is looked at. `Memory` where the store wanted memory. `Device`
+/// columns and for the values of its rows, and then beside the others. `Memory` where the store wanted memory. `Device`
 /// where it refused for another cause, as where its disk failed; a store that works never does.
 pub fn audit<S: Alter>(
     alloc: Global,
@@ -74,8 +75,8 @@ pub fn audit<S: Alter>(
     ensures sound { HasCleanDisk (state S.Store conn.new) → OnOk result ((v : Vault) × AreSoundAs edition (state S.Store conn.new).now v) }
     // or they are those of none.
     ensures damaged { HasCleanDisk (state S.Store conn.new) → IfErr result (λ r. (t : Table) → r ≡ Refusal.Damaged t → (v : Vault) → ¬ AreSoundAs edition (state S.Store conn.new).now v) }
-    // A file that has the schema of another edition is told by the first table that isn't as this one has it.
-    ensures other { HasCleanDisk (state S.Store conn.new) → (n : Edition) → (state S.Store conn.new).now.schema ≡ schema_of n → (state S.Store conn.new).now.schema ≢ schema_of edition → IfErr result (λ r. (t : Table) → r ≡ Refusal.Damaged t → IsFirstUnfit edition (state S.Store conn.new).now t) }
+    // The table that is told is the first in their order that isn't right by itself, whatever the schema; or all are.
+    ensures first { HasCleanDisk (state S.Store conn.new) → IfErr result (λ r. (t : Table) → r ≡ Refusal.Damaged t → IsToldInOrder edition (state S.Store conn.new).now t) }
     ensures faults { IfErr result IsTold }
     // A store that works is never told as one that failed.
     ensures healthy { IsHealthy (state S.Store conn.new) → IfErr result (λ r. r ≢ Refusal.Device) }
@@ -83,12 +84,6 @@ pub fn audit<S: Alter>(
     ensures kept { HasCleanDisk (state S.Store conn.new) → IsJudged result → (state S.Store conn.new).now ≡ (state S.Store conn.old).now }
     ensures crash { Survives (state S.Store conn.old) (state S.Store conn.new) (λ _. ⊥) }
 {
-    if let Some(table) = check_schema(conn, edition) {
-        return match look_at_schema(conn, edition, table) {
-            Ok(table) => Err(Refusal::Damaged(table)),
-            Err(error) => Err(refusal_of(error)),
-        };
-    }
     match find_damage(alloc, conn, edition) {
         Ok(None) => Ok(()),
         Ok(Some(table)) => Err(Refusal::Damaged(table)),

@@ -5,5 +5,4 @@
 
 pub mod departments;
 pub mod names;
-pub mod rows;
 pub mod versions;

@@ -1,7 +1,8 @@
 -- The tables in their places.
-use Rattle.std.specs.Prelude.{ℕ, ◌<◌, List, slice_get, ◌≡◌}
+use Rattle.std.specs.Prelude.{ℕ, ◌+◌, ◌<◌, ◌⊎◌, List, slice_get, take, ◌≡◌}
 use Rattle.vault_base.specs.declared.refusal.Table.{Table}
 use Rattle.vault_base.specs.declared.refusal.Table.TheVariants.{Meta, Departments, Callers, Buckets, Rules, Entries, Contents, Settings, Intake, Heads}
+use Rattle.sqlite.specs.Schema.{Schema}
 use Rattle.sqlite.specs.Table.{Table as Made}
 use Rattle.vault_audit_model.specs.declared.schema.Edition.{Edition}
 use Rattle.vault_audit_model.specs.Tables.{schema_of}
@@ -23,7 +24,24 @@ place_of Heads = 9
 abbrev pub IsInPlace : Edition → List Made → Table → Type 0
 IsInPlace n tables t = slice_get tables (place_of t) ≡ slice_get (schema_of n).tables (place_of t)
 
--- the tables differ from the vault's, and if it is at one of its tables, then this is the first such
+-- each of the vault's tables does, whatever stands behind them
+abbrev pub AreInPlace : Edition → List Made → Type 0
+AreInPlace n tables = (t : Table) → IsInPlace n tables t
+
+-- the tables begin with the vault's, up to this one
+abbrev pub BeginTo : Edition → List Made → Table → Type 0
+BeginTo n tables t = take (place_of t + 1) tables ≡ take (place_of t + 1) (schema_of n).tables
+
+-- the tables differ from the vault's, and this one is told: all before it stand in their places, and it doesn't, or all do
 pub record IsToldOf (n : Edition) (tables : List Made) (told : Table) : Type 0 where
   pub differs : ¬ (tables ≡ (schema_of n).tables)
+  pub begin : (t : Table) → place_of t < place_of told → BeginTo n tables t
+  pub here : ¬ IsInPlace n tables told ⊎ AreInPlace n tables
+  -- if they differ at one of its tables, then this is the first such
   pub first : (t : Table) → ((u : Table) → place_of u < place_of t → IsInPlace n tables u) → ¬ IsInPlace n tables t → told ≡ t
+
+-- the schema differs from the vault's, and this table is told: all before it stand in their places, and it doesn't, or all do
+pub record IsToldIn (n : Edition) (schema : Schema) (told : Table) : Type 0 where
+  pub differs : ¬ (schema ≡ schema_of n)
+  pub begin : (t : Table) → place_of t < place_of told → BeginTo n schema.tables t
+  pub here : ¬ IsInPlace n schema.tables told ⊎ AreInPlace n schema.tables

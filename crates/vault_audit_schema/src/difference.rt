@@ -1,10 +1,10 @@
 //! At which table a schema differs from the vault's.
 
-ghost use Rattle.std.specs.Prelude.{◌≡◌, ◌↔◌, ◌<◌, ℕ, None, Some, MatchOption};
+ghost use Rattle.std.specs.Prelude.{◌≡◌, ◌↔◌, ◌<◌, ◌≤◌, ℕ, None, Some, MatchOption, IfSome};
 ghost use Rattle.sqlite.specs.Held.{state};
 ghost use Rattle.vault_base.specs.declared.refusal.Table.{Table};
 ghost use Rattle.vault_audit_model.specs.Tables.{schema_of, vault_schema};
-ghost use Rattle.vault_audit_schema.specs.Places.{place_of, IsInPlace, IsToldOf};
+ghost use Rattle.vault_audit_schema.specs.Places.{place_of, IsInPlace, IsToldOf, IsToldIn};
 
 use crate::compare::first_unlike;
 use crate::index::INDEXES;
@@ -16,7 +16,8 @@ use vault_base::refusal::Table;
 
 /// The table at this place, or `meta` past the last.
 fn table_at(at: usize) -> Table
-    ensures { (t : Table) → place_of t ≡ at → result ≡ t }
+    ensures at { (t : Table) → place_of t ≡ at → result ≡ t }
+    ensures past { 10 ≤ at → result ≡ Table.Meta }
 {
     match TABLES.get(at) {
         Some(form) => form.table,
@@ -64,6 +65,9 @@ fn index_difference(indexes: &[Index]) -> Option<Table>
 pub fn first_difference(edition: Edition, schema: &Schema) -> Option<Table>
     ensures found { (result ≡ None) ↔ (schema.now ≡ schema_of edition) }
 
+    // All before the table that is told are in their places, and it isn't, or all are.
+    ensures told { IfSome result (IsToldIn edition schema.now) }
+
     // The tables before this one are in their places, and this one isn't.
     ensures first { (t : Table) → ((u : Table) → place_of u < place_of t → IsInPlace edition schema.now.tables u) → ¬ IsInPlace edition schema.now.tables t → result ≡ Some t }
 {
@@ -82,7 +86,8 @@ pub fn first_difference(edition: Edition, schema: &Schema) -> Option<Table>
 
 /// The first table at which the schema of a connection's file differs from the vault's, as `first_difference` tells it.
 pub fn check_schema<S: Alter>(conn: &Connection<S>, edition: Edition) -> Option<Table>
-    ensures { (result ≡ None) ↔ ((state S.Store conn.now).now.schema ≡ schema_of edition) }
+    ensures found { (result ≡ None) ↔ ((state S.Store conn.now).now.schema ≡ schema_of edition) }
+    ensures told { IfSome result (IsToldIn edition (state S.Store conn.now).now.schema) }
 {
     first_difference(edition, conn.schema())
 }

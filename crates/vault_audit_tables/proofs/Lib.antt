@@ -1,6 +1,4 @@
 pub mod DamageLemmas
 pub mod EntryLemmas
-pub mod MetaLemmas
 pub mod NumberLemmas
 pub mod TextLemmas
-mod RulesLemmas

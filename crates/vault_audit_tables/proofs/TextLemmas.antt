@@ -1,143 +1,14 @@
--- What the first look at each table reads.
+-- What the second look at entries reads.
 use Rattle.std.proofs.Common.{◌≡◌, List, ℕ, [], ◌∷◌, codes, false, refl, arith}
 use Rattle.sqlite_tied.specs.Compute.{everything}
 use Rattle.sqlite.specs.Command.TheVariants.{Select}
 use Rattle.sqlite.specs.Listing.{understood, reads_listing}
 use Rattle.sqlite.proofs.Callers.{IsPlain, command_of}
-use Rattle.sqlite_value.specs.declared.value.Value.TheVariants.{Null}
-use Rattle.sqlite_sql.specs.Term.{Term, col, lit}
+use Rattle.sqlite_sql.specs.Term.{col}
 use Rattle.vault_audit_model.specs.declared.schema.Edition.{Edition}
-use Rattle.vault_audit_model.specs.declared.schema.Edition.TheVariants.{First, Second}
-use Rattle.vault_audit_tables.specs.RulesText.{rules_text}
-use Rattle.vault_audit_model.specs.Tables.{schema_of, contents_tree, heads_tree, intake_tree, settings_tree}
-use Rattle.vault_audit_walk.proofs.RecordLemmas.{Scans}
+use Rattle.vault_audit_model.specs.Tables.{schema_of}
 use Rattle.vault_audit_walk.proofs.ScanLemmas.{walk_of}
 use Rattle.vault_audit_walk.specs.Health.{Asks}
-
-abbrev pub departments_text : List ℕ
-departments_text = codes "SELECT name, admitted, held, removed, weighted, closed FROM departments"
-
-pub departments_scan : (n : Edition) → Scans (schema_of n) departments_text 1 (col 1 1 ∷ col 1 2 ∷ col 1 3 ∷ col 1 4 ∷ col 1 5 ∷ col 1 6 ∷ []) (codes "name" ∷ codes "admitted" ∷ codes "held" ∷ codes "removed" ∷ codes "weighted" ∷ codes "closed" ∷ [])
-unfolding understood everything
-departments_scan n = record { command = refl; unlisted = refl; plain = (refl, refl) }
-
-pub departments_asks : (n : Edition) → Asks (schema_of n) departments_text
-unfolding understood everything
-departments_asks n = record { is = (omega (arith), refl, (refl, refl, refl, refl)); unlisted = refl }
-
-abbrev pub callers_text : List ℕ
-callers_text = codes "SELECT name, dept, rights, closed FROM callers"
-
-pub callers_scan : (n : Edition) → Scans (schema_of n) callers_text 3 (col 1 1 ∷ col 1 2 ∷ col 1 3 ∷ col 1 4 ∷ []) (codes "name" ∷ codes "dept" ∷ codes "rights" ∷ codes "closed" ∷ [])
-unfolding understood everything
-callers_scan n = record { command = refl; unlisted = refl; plain = (refl, refl) }
-
-pub callers_asks : (n : Edition) → Asks (schema_of n) callers_text
-unfolding understood everything
-callers_asks n = record { is = (omega (arith), refl, (refl, refl, refl, refl)); unlisted = refl }
-
-abbrev pub buckets_text : List ℕ
-buckets_text = codes "SELECT name, dept, mode, days, years FROM buckets"
-
-pub buckets_scan : (n : Edition) → Scans (schema_of n) buckets_text 5 (col 1 1 ∷ col 1 2 ∷ col 1 3 ∷ col 1 4 ∷ col 1 5 ∷ []) (codes "name" ∷ codes "dept" ∷ codes "mode" ∷ codes "days" ∷ codes "years" ∷ [])
-unfolding understood everything
-buckets_scan n = record { command = refl; unlisted = refl; plain = (refl, refl) }
-
-pub buckets_asks : (n : Edition) → Asks (schema_of n) buckets_text
-unfolding understood everything
-buckets_asks n = record { is = (omega (arith), refl, (refl, refl, refl, refl)); unlisted = refl }
-
--- what is shown of the bounds of sizes
-abbrev pub bounds_shown : Edition → List Term
-bounds_shown First = lit Null ∷ lit Null ∷ []
-bounds_shown Second = col 1 10 ∷ col 1 11 ∷ []
-
-abbrev pub bound_names : Edition → List (List ℕ)
-bound_names First = codes "NULL" ∷ codes "NULL" ∷ []
-bound_names Second = codes "larger" ∷ codes "smaller" ∷ []
-
-pub rules_scan : (n : Edition) → Scans (schema_of n) (rules_text n) 7 (col 1 1 ∷ col 1 2 ∷ col 1 3 ∷ col 1 4 ∷ col 1 5 ∷ col 1 6 ∷ col 1 7 ∷ col 1 8 ∷ col 1 9 ∷ bounds_shown n) (codes "bucket" ∷ codes "n" ∷ codes "id" ∷ codes "prefix" ∷ codes "enabled" ∷ codes "days" ∷ codes "lone" ∷ codes "nc_days" ∷ codes "nc_keep" ∷ bound_names n)
-unfolding understood everything
-rules_scan First = record { command = refl; unlisted = refl; plain = (refl, refl) }
-rules_scan Second = record { command = refl; unlisted = refl; plain = (refl, refl) }
-
-pub rules_asks : (n : Edition) → Asks (schema_of n) (rules_text n)
-unfolding understood everything
-rules_asks First = record { is = (omega (arith), refl, (refl, refl, refl, refl)); unlisted = refl }
-rules_asks Second = record { is = (omega (arith), refl, (refl, refl, refl, refl)); unlisted = refl }
-
-abbrev pub contents_text : List ℕ
-contents_text = codes "SELECT id, bytes FROM contents"
-
-pub contents_scan : (n : Edition) → Scans (schema_of n) contents_text contents_tree (col 1 0 ∷ col 1 2 ∷ []) (codes "id" ∷ codes "bytes" ∷ [])
-unfolding understood everything
-contents_scan n = record { command = refl; unlisted = refl; plain = (refl, refl) }
-
-pub contents_asks : (n : Edition) → Asks (schema_of n) contents_text
-unfolding understood everything
-contents_asks n = record { is = (omega (arith), refl, (refl, refl, refl, refl)); unlisted = refl }
-
-abbrev pub settings_text : List ℕ
-settings_text = codes "SELECT id, n, moment, caller, mode, until, hold, bypass FROM settings"
-
-pub settings_scan : (n : Edition) → Scans (schema_of n) settings_text settings_tree (col 1 1 ∷ col 1 2 ∷ col 1 3 ∷ col 1 4 ∷ col 1 5 ∷ col 1 6 ∷ col 1 7 ∷ col 1 8 ∷ []) (codes "id" ∷ codes "n" ∷ codes "moment" ∷ codes "caller" ∷ codes "mode" ∷ codes "until" ∷ codes "hold" ∷ codes "bypass" ∷ [])
-unfolding understood everything
-settings_scan n = record { command = refl; unlisted = refl; plain = (refl, refl) }
-
-pub settings_asks : (n : Edition) → Asks (schema_of n) settings_text
-unfolding understood everything
-settings_asks n = record { is = (omega (arith), refl, (refl, refl, refl, refl)); unlisted = refl }
-
-abbrev pub intake_text : List ℕ
-intake_text = codes "SELECT bucket, batch, line, key, size, digest, mode, until, hold, id FROM intake"
-
-pub intake_scan : (n : Edition) → Scans (schema_of n) intake_text intake_tree (col 1 1 ∷ col 1 2 ∷ col 1 3 ∷ col 1 4 ∷ col 1 5 ∷ col 1 6 ∷ col 1 7 ∷ col 1 8 ∷ col 1 9 ∷ col 1 10 ∷ []) (codes "bucket" ∷ codes "batch" ∷ codes "line" ∷ codes "key" ∷ codes "size" ∷ codes "digest" ∷ codes "mode" ∷ codes "until" ∷ codes "hold" ∷ codes "id" ∷ [])
-unfolding understood everything
-intake_scan n = record { command = refl; unlisted = refl; plain = (refl, refl) }
-
-pub intake_asks : (n : Edition) → Asks (schema_of n) intake_text
-unfolding understood everything
-intake_asks n = record { is = (omega (arith), refl, (refl, refl, refl, refl)); unlisted = refl }
-
-abbrev pub heads_text : List ℕ
-heads_text = codes "SELECT bucket, key, newest, count FROM heads"
-
-pub heads_scan : (n : Edition) → Scans (schema_of n) heads_text heads_tree (col 1 1 ∷ col 1 2 ∷ col 1 3 ∷ col 1 4 ∷ []) (codes "bucket" ∷ codes "key" ∷ codes "newest" ∷ codes "count" ∷ [])
-unfolding understood everything
-heads_scan n = record { command = refl; unlisted = refl; plain = (refl, refl) }
-
-pub heads_asks : (n : Edition) → Asks (schema_of n) heads_text
-unfolding understood everything
-heads_asks n = record { is = (omega (arith), refl, (refl, refl, refl, refl)); unlisted = refl }
-
-abbrev pub entries_text : List ℕ
-entries_text = codes "SELECT id, bucket, key, marker, size, digest, admitted, by_rule, admitted_by, removed, cause, cause_by FROM entries"
-
-pub entries_scan : (n : Edition) → Scans (schema_of n) entries_text 9 (col 1 0 ∷ col 1 2 ∷ col 1 3 ∷ col 1 4 ∷ col 1 5 ∷ col 1 6 ∷ col 1 7 ∷ col 1 8 ∷ col 1 9 ∷ col 1 10 ∷ col 1 11 ∷ col 1 12 ∷ []) (codes "id" ∷ codes "bucket" ∷ codes "key" ∷ codes "marker" ∷ codes "size" ∷ codes "digest" ∷ codes "admitted" ∷ codes "by_rule" ∷ codes "admitted_by" ∷ codes "removed" ∷ codes "cause" ∷ codes "cause_by" ∷ [])
-unfolding understood everything
-entries_scan n = record { command = refl; unlisted = refl; plain = (refl, refl) }
-
-pub entries_asks : (n : Edition) → Asks (schema_of n) entries_text
-unfolding understood everything
-entries_asks n = record { is = (omega (arith), refl, (refl, refl, refl, refl)); unlisted = refl }
-
--- ---- walks in the order of the first column
-
-abbrev pub meta_walk : List ℕ
-meta_walk = codes "SELECT one, schema, last, next FROM meta ORDER BY one"
-
-pub meta_walk_is : (n : Edition) → (command_of (understood (schema_of n) meta_walk) ≡ Select (record { lets = []; body = walk_of 0 0 (col 1 2 ∷ col 1 3 ∷ col 1 4 ∷ []) }) (codes "one" ∷ codes "schema" ∷ codes "last" ∷ codes "next" ∷ []))
-    × (reads_listing (schema_of n) meta_walk ≡ false)
-unfolding understood everything
-meta_walk_is n = (refl, refl)
-
-pub meta_walk_plain : (n : Edition) → IsPlain (understood (schema_of n) meta_walk)
-unfolding understood everything
-meta_walk_plain n = (refl, refl)
-
-pub meta_walk_asks : (n : Edition) → Asks (schema_of n) meta_walk
-unfolding understood everything
-meta_walk_asks n = record { is = (omega (arith), refl, (refl, refl, refl, refl)); unlisted = refl }
 
 abbrev pub numbers_walk : List ℕ
 numbers_walk = codes "SELECT id, bucket, key, marker, size, digest, admitted, by_rule, admitted_by, removed, cause, cause_by FROM entries ORDER BY id"

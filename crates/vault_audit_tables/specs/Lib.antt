@@ -1,4 +1,3 @@
 pub mod Entries
 pub mod Meta
 pub mod Numbers
-pub mod RulesText

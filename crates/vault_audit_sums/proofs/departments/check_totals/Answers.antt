@@ -6,7 +6,7 @@ use Rattle.sqlite.specs.Listing.{understood}
 use Rattle.vault_audit_model.specs.Rows.{department_row}
 use Rattle.vault_audit_walk.specs.Health.{Asks}
 use Rattle.vault_audit_walk.proofs.RecordLemmas.{records_if_ok}
-use Rattle.vault_audit_tables.proofs.TextLemmas.{departments_text, departments_scan, departments_asks}
+use Rattle.vault_audit_sums.proofs.TextLemmas.{departments_text, departments_scan, departments_asks}
 use Rattle.vault_audit_sums.specs.Departments.{HasTotal}
 use Rattle.vault_audit_sums.proofs.departments.check_totals.Goals as goal
 

@@ -1,0 +1,4 @@
+pub mod MetaLemmas
+pub mod OrderLemmas
+pub mod RulesLemmas
+pub mod TextLemmas

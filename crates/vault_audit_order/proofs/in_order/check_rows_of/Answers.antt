@@ -1,0 +1,21 @@
+use Rattle.std.proofs.Common.{◌≡◌, false, map, Ok, Err, IfOk, sym, subst, arith}
+use Rattle.sqlite.specs.Effect.{Database}
+use Rattle.sqlite.specs.State.{HasCleanDisk}
+use Rattle.sqlite.specs.Held.{state}
+use Rattle.vault_base.specs.declared.refusal.Table.TheVariants as table
+use Rattle.vault_core_model.specs.Vault.{Vault}
+use Rattle.vault_audit_model.specs.Spells.{AreSoundAs}
+use Rattle.vault_audit_order.specs.InOrder.{AreRowsRight}
+use Rattle.vault_audit_order.proofs.OrderLemmas.{entries_tell, entries_damaged}
+use Rattle.vault_audit_order.proofs.in_order.check_rows_of.Goals as goal
+
+pub returns-in-Entries-clause-told : goal.returns-in-Entries-clause-told
+returns-in-Entries-clause-told g c clean =
+    let early : HasCleanDisk (state g.S.Store c.args.conn.now) = omega (arith, c.check_entries.ensures.crash.clean) in
+    subst (λ t. IfOk c.check_entries.result (AreRowsRight c.args.edition (state g.S.Store c.check_entries.new.conn).now t)) (sym c.in-Entries.is)
+    (entries_tell c.args.edition (state g.S.Store c.args.conn.now) (state g.S.Store c.check_entries.new.conn) c.args.meta.now (c.requires.meta early) c.check_entries.result (c.check_entries.ensures.same clean) (c.check_entries.ensures.told clean))
+
+pub returns-in-Entries-clause-damaged : goal.returns-in-Entries-clause-damaged
+returns-in-Entries-clause-damaged g c clean =
+    let early : HasCleanDisk (state g.S.Store c.args.conn.now) = omega (arith, c.check_entries.ensures.crash.clean) in
+    entries_damaged c.args.edition (state g.S.Store c.args.conn.now) (state g.S.Store c.check_entries.new.conn) c.args.meta.now (c.requires.meta early) c.check_entries.result (c.check_entries.ensures.same clean) (c.check_entries.ensures.damaged clean)
