@@ -40,9 +40,11 @@ pub fn run<K: Keeper>(
     ensures total { K.is_honest keeper.new → Sound (K.vault keeper.old) → (dept : List ℕ) →
         admitted_bytes (K.vault keeper.new) dept + received_bytes (K.vault keeper.new) dept
         ≡ stored_bytes (K.vault keeper.new) dept + (removed_bytes (K.vault keeper.new) dept + handed_bytes (K.vault keeper.new) dept) }
-    // Over all departments, what was received was handed over, and what was admitted stands or was removed; the byte-days charged are each version's size times its whole days held.
+    // Over all departments, what was received was handed over, and what was admitted is held, so stands, or was removed; the byte-days charged are each version's size times its whole days held.
     ensures moved { K.is_honest keeper.new → Sound (K.vault keeper.old) →
         over_departments (K.vault keeper.new) (received_bytes (K.vault keeper.new)) ≡ over_departments (K.vault keeper.new) (handed_bytes (K.vault keeper.new)) }
+    ensures balanced { K.is_honest keeper.new → Sound (K.vault keeper.old) →
+        over_departments (K.vault keeper.new) (admitted_bytes (K.vault keeper.new)) ≡ over_departments (K.vault keeper.new) (held_bytes (K.vault keeper.new)) + over_departments (K.vault keeper.new) (removed_bytes (K.vault keeper.new)) }
     ensures whole { K.is_honest keeper.new → Sound (K.vault keeper.old) →
         over_departments (K.vault keeper.new) (admitted_bytes (K.vault keeper.new)) ≡ all_stored_bytes (K.vault keeper.new) + over_departments (K.vault keeper.new) (removed_bytes (K.vault keeper.new)) }
     ensures days { K.is_honest keeper.new → Sound (K.vault keeper.old) → (t : ℕ) → (K.vault keeper.new).last ≤ t →

@@ -6,7 +6,7 @@ use Rattle.std.proofs.lemmas.List.{take_more}
 use Rattle.vault_core_model.specs.declared.command.Timed.{Timed}
 use Rattle.vault_core_model.specs.Step.{Run}
 use Rattle.vault_core_laws.proofs.Runs.{Run-push, Run-append}
-use Rattle.vault_core_laws.proofs.Balance.{moved, one_place}
+use Rattle.vault_core_laws.proofs.Balance.{conserved, moved, one_place}
 use Rattle.vault_core_laws.proofs.Telescope.{days_joined}
 use Rattle.vault_worm_laws.proofs.Once.{extends_itself}
 use Rattle.vault_worm_laws.proofs.Repeated.{run-begins, run-completes}
@@ -84,6 +84,12 @@ returns-in_err-replies-clause-moved g c = λ h sound. moved _ sound
 
 pub returns-clause-moved : goal.returns-clause-moved
 returns-clause-moved g c = λ h sound. moved _ (run-Sound _ _ _ _ sound (c.loop-timed.invariant.so_far h))
+
+pub returns-in_err-replies-clause-balanced : goal.returns-in_err-replies-clause-balanced
+returns-in_err-replies-clause-balanced g c = λ h sound. conserved _ sound
+
+pub returns-clause-balanced : goal.returns-clause-balanced
+returns-clause-balanced g c = λ h sound. conserved _ (run-Sound _ _ _ _ sound (c.loop-timed.invariant.so_far h))
 
 pub returns-in_err-replies-clause-whole : goal.returns-in_err-replies-clause-whole
 returns-in_err-replies-clause-whole g c = λ h sound. Sound-all_conserved _ sound
