@@ -11,15 +11,15 @@ ghost use Rattle.vault_audit_tables.specs.Meta.{IsMetaOf};
 ghost use Rattle.vault_audit_order.specs.InOrder.{AreRowsRight, ToldInOrder};
 ghost use Rattle.vault_audit_walk.specs.Health.{IsHealthy, IsMemory};
 
-use sqlite::{Alter, Connection, Error};
-use vault_audit_model::rows::MetaRow;
-use vault_audit_model::schema::Edition;
 use crate::entries::check_entries;
 use crate::meta::check_meta;
 use crate::table_rows::{
     check_buckets, check_callers, check_contents, check_departments, check_heads, check_intake,
     check_rules, check_settings,
 };
+use sqlite::{Alter, Connection, Error};
+use vault_audit_model::rows::MetaRow;
+use vault_audit_model::schema::Edition;
 use vault_base::refusal::Table;
 
 /// The tables behind `meta`, in their order.

@@ -172,8 +172,14 @@ handed_days day (x ∷ xs) h d =
     let ds = and_parts (is_dated y) (list_all is_dated ys) d in
     let e = and_parts (nat_le x.from day) (nat_le day last_day) ds.0 in
     rw (sum_by-cons size_of x xs)
-    (omega (arith, sum_by-cons closed_byte_days y ys, sum_by-cons weight x xs, while_held x.ended (x.size * x.from) 0 (no_end x.ended both.0),
-    one_handed x.size x.from day (leb-true _ _ e.0), handed_days day xs both.1 ds.1))
+    (omega (
+      arith,
+      sum_by-cons closed_byte_days y ys,
+      sum_by-cons weight x xs,
+      while_held x.ended (x.size * x.from) 0 (no_end x.ended both.0),
+      one_handed x.size x.from day (leb-true _ _ e.0),
+      handed_days day xs both.1 ds.1,
+    ))
 
 -- so none of these numbers is above those that a department can have
 pub handed_late : (day : ℕ) (xs : List Item) → IsTrue (list_all is_dated (map (handed_item day) xs)) → sum_by size_of xs * day ≤ sum_by size_of xs * last_day

@@ -138,14 +138,7 @@ impl Row {
 
     /// Counts in a tenure of a version of so many bytes: whether it is the version's first, from which
     /// day, up to which one if it ended, and whether it is the version's last.
-    pub fn count(
-        &mut self,
-        size: u64,
-        first: bool,
-        from_day: u64,
-        ended: Option<u64>,
-        last: bool,
-    )
+    pub fn count(&mut self, size: u64, first: bool, from_day: u64, ended: Option<u64>, last: bool)
         ensures { (items : List Item) → IsRowOf self.old items →
             AreBounded (items ++ tenure_item size first from_day ended last ∷ []) →
             IsRowOf self.new (items ++ tenure_item size first from_day ended last ∷ []) }
