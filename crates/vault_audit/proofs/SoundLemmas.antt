@@ -1,22 +1,21 @@
 -- The vault that the passes find.
-use Rattle.std.proofs.Common.{◌≡◌, ℕ, List, [], ◌∷◌, length, map, Some, refl, sym, ap, subst, ◌∙◌, arith}
+use Rattle.std.proofs.Common.{◌≡◌, ℕ, List, [], ◌∷◌, length, map, Some, refl, sym, subst, ◌∙◌, arith}
 use Rattle.std.specs.List.{AllByRecursion}
 use Rattle.std.proofs.lemmas.List.{length-map}
 use Rattle.std.proofs.lemmas.List.Sorted.{IsPermutation-sym, IsPermutation-trans, length_permutation}
 use Rattle.sqlite_trees.proofs.ListLemmas.{all-permutation, all-map, all_from_map}
 use Rattle.sqlite_value.specs.Order.{Row}
 use Rattle.sqlite.specs.Effect.{Database}
-use Rattle.sqlite.proofs.Callers.{one_permutation}
 use Rattle.vault_core_model.specs.declared.records.Entry.{Entry}
 use Rattle.vault_core_model.specs.declared.records.History.{History}
 use Rattle.vault_core_model.specs.Vault.{Vault}
 use Rattle.vault_audit_model.specs.declared.schema.Edition.{Edition}
 use Rattle.vault_audit_model.specs.declared.rows.MetaRow.{MetaRow}
 use Rattle.vault_audit_model.specs.Relations.{AreEntries, IsPast}
-use Rattle.vault_audit_model.specs.Rows.{meta_row, entry_row, entry_columns}
-use Rattle.vault_audit_model.specs.Spells.{AreSoundAs, meta_as}
+use Rattle.vault_audit_model.specs.Rows.{entry_row, entry_columns}
+use Rattle.vault_audit_model.specs.Spells.{AreSoundAs}
 use Rattle.vault_audit_model.specs.Tables.{schema_of, entries_tree}
-use Rattle.vault_audit_model.proofs.SameRows.{same_meta, same_entry}
+use Rattle.vault_audit_model.proofs.SameRows.{same_entry}
 use Rattle.vault_audit_tables.specs.Entries.{IsEntryBy}
 use Rattle.vault_audit_tables.specs.Meta.{IsMetaOf}
 use Rattle.vault_audit_laws.specs.Ties.{AreTied}

@@ -1,5 +1,5 @@
 -- The first look at rules, of each edition.
-use Rattle.std.proofs.Common.{◌≡◌, Bool, map, Result, OnOk, IfOk, refl}
+use Rattle.std.proofs.Common.{Bool, map, Result, OnOk, IfOk, refl}
 use Rattle.sqlite.specs.declared.error.Error.{Error}
 use Rattle.sqlite.specs.State.{State, IsUnchanged}
 use Rattle.vault_base.specs.declared.refusal.Table.TheVariants.{Rules}

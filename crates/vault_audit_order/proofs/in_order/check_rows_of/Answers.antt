@@ -1,10 +1,6 @@
-use Rattle.std.proofs.Common.{◌≡◌, false, map, Ok, Err, IfOk, sym, subst, arith}
-use Rattle.sqlite.specs.Effect.{Database}
+use Rattle.std.proofs.Common.{IfOk, sym, subst, arith}
 use Rattle.sqlite.specs.State.{HasCleanDisk}
 use Rattle.sqlite.specs.Held.{state}
-use Rattle.vault_base.specs.declared.refusal.Table.TheVariants as table
-use Rattle.vault_core_model.specs.Vault.{Vault}
-use Rattle.vault_audit_model.specs.Spells.{AreSoundAs}
 use Rattle.vault_audit_order.specs.InOrder.{AreRowsRight}
 use Rattle.vault_audit_order.proofs.OrderLemmas.{entries_tell, entries_damaged}
 use Rattle.vault_audit_order.proofs.in_order.check_rows_of.Goals as goal
