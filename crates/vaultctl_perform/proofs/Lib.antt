@@ -1,3 +1,4 @@
 mod AskedLemmas
+mod IntakeLemmas
 mod StatusLemmas
 mod TellingLemmas
