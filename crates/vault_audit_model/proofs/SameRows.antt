@@ -24,7 +24,8 @@ use Rattle.vault_audit_model.specs.declared.rows.ContentRow.{ContentRow}
 use Rattle.vault_audit_model.specs.declared.rows.MetaRow.{MetaRow}
 use Rattle.vault_audit_model.specs.declared.rows.RuleRow.{RuleRow}
 use Rattle.vault_audit_model.specs.declared.rows.SettingRow.{SettingRow}
-use Rattle.vault_audit_model.specs.Rows.{bit, rights_number, mode_number, days_of, years_of, default_mode, default_days, default_years, retention_mode, retention_until, author_kind, author_name, cause_number, cause_text, removal_at, removal_cause, removal_by, noncurrent_days, noncurrent_newer, meta_row, caller_row, bucket_row, rule_row, entry_row, content_row, setting_row, note_row}
+use Rattle.vault_audit_model.specs.declared.rows.TenureRow.{TenureRow}
+use Rattle.vault_audit_model.specs.Rows.{bit, rights_number, mode_number, days_of, years_of, default_mode, default_days, default_years, retention_mode, retention_until, author_kind, author_name, cause_number, cause_text, removal_at, removal_cause, removal_by, noncurrent_days, noncurrent_newer, meta_row, caller_row, bucket_row, rule_row, entry_row, content_row, setting_row, note_row, tenure_row}
 use Rattle.vault_audit_model.specs.Values.{number, number_or_null, text_or_null, bytes_or_null, flag, flag_or_null}
 
 -- ---- values
@@ -220,18 +221,18 @@ removal_same (Some r) (Some s) p q e =
 
 -- ---- rows
 
-abbrev meta_with : ℕ → ℕ → ℕ → MetaRow
-meta_with a b c = record { schema = a; last = b; next = c }
+abbrev meta_with : ℕ → ℕ → ℕ → ℕ → MetaRow
+meta_with a b c d = record { schema = a; last = b; next = c; moves = d }
 
-alike_metas : (a0 a1 : ℕ) (b0 b1 : ℕ) (c0 c1 : ℕ) → a0 ≡ a1 → b0 ≡ b1 → c0 ≡ c1
-    → meta_with a0 b0 c0 ≡ meta_with a1 b1 c1
-alike_metas a0 a1 b0 b1 c0 c1 same0 same1 same2 = rw (same0, same1, same2) refl
+alike_metas : (a0 a1 : ℕ) (b0 b1 : ℕ) (c0 c1 : ℕ) (d0 d1 : ℕ) → a0 ≡ a1 → b0 ≡ b1 → c0 ≡ c1 → d0 ≡ d1
+    → meta_with a0 b0 c0 d0 ≡ meta_with a1 b1 c1 d1
+alike_metas a0 a1 b0 b1 c0 c1 d0 d1 same0 same1 same2 same3 = rw (same0, same1, same2, same3) refl
 
 pub same_meta : (x y : MetaRow) → meta_row x ≡ meta_row y → x ≡ y
 same_meta x y e =
     let one = cell (meta_row x) (meta_row y) in
-    alike_metas x.schema y.schema x.last y.last x.next y.next
-    (number_same _ _ (one 1 e)) (number_same _ _ (one 2 e)) (number_same _ _ (one 3 e))
+    alike_metas x.schema y.schema x.last y.last x.next y.next x.moves y.moves
+    (number_same _ _ (one 1 e)) (number_same _ _ (one 2 e)) (number_same _ _ (one 3 e)) (number_same _ _ (one 4 e))
 
 abbrev caller_with : List ℕ → Option (List ℕ) → Rights → Bool → Caller
 caller_with a b c d = record { name = a; dept = b; rights = c; closed = d }
@@ -324,3 +325,16 @@ same_note x y e =
     let one = cell (note_row x) (note_row y) in
     alike_notes x.bucket y.bucket x.batch y.batch x.line y.line x.key y.key x.size y.size x.digest y.digest x.retention y.retention x.hold y.hold x.id y.id
     (text_same _ _ (one 0 e)) (text_same _ _ (one 1 e)) (number_same _ _ (one 2 e)) (text_same _ _ (one 3 e)) (number_same _ _ (one 4 e)) (blob_same _ _ (one 5 e)) (retention_same _ _ (one 6 e) (one 7 e)) (flag_or_null_same _ _ (one 8 e)) (number_same _ _ (one 9 e))
+
+abbrev tenure_with : ℕ → List ℕ → ℕ → ℕ → TenureRow
+tenure_with a b c d = record { id = a; tenure = record { dept = b; from = c; number = d } }
+
+alike_tenures : (a0 a1 : ℕ) (b0 b1 : List ℕ) (c0 c1 : ℕ) (d0 d1 : ℕ) → a0 ≡ a1 → b0 ≡ b1 → c0 ≡ c1 → d0 ≡ d1
+    → tenure_with a0 b0 c0 d0 ≡ tenure_with a1 b1 c1 d1
+alike_tenures a0 a1 b0 b1 c0 c1 d0 d1 same0 same1 same2 same3 = rw (same0, same1, same2, same3) refl
+
+pub same_tenure : (x y : TenureRow) → tenure_row x ≡ tenure_row y → x ≡ y
+same_tenure x y e =
+    let one = cell (tenure_row x) (tenure_row y) in
+    alike_tenures x.id y.id x.tenure.dept y.tenure.dept x.tenure.from y.tenure.from x.tenure.number y.tenure.number
+    (number_same _ _ (one 0 e)) (text_same _ _ (one 2 e)) (number_same _ _ (one 3 e)) (number_same _ _ (one 1 e))

@@ -6,7 +6,7 @@ use Rattle.sqlite_tied.specs.Compute.{everything}
 use Rattle.sqlite_catalog.specs.Change.{created}
 use Rattle.sqlite.specs.Schema.{Schema}
 use Rattle.vault_audit_model.specs.Texts.{creation_of}
-use Rattle.vault_audit_model.specs.Tables.{no_schema, vault_schema, meta, departments, callers, buckets, rules, entries, contents, settings, intake, heads}
+use Rattle.vault_audit_model.specs.Tables.{no_schema, vault_schema, meta, departments, callers, buckets, rules, entries, contents, settings, intake, heads, tenures}
 
 pub meta_is : table_defined_by (creation_of table.Meta) ≡ Ok (record meta { tree = 0 })
 unfolding everything
@@ -48,6 +48,10 @@ pub heads_is : table_defined_by (creation_of table.Heads) ≡ Ok (record heads {
 unfolding everything
 heads_is = refl
 
+pub tenures_is : table_defined_by (creation_of table.Tenures) ≡ Ok (record tenures { tree = 0 })
+unfolding everything
+tenures_is = refl
+
 -- the tables, made one after another in a store without tables
 abbrev pub schema_1 : Schema
 schema_1 = created no_schema meta
@@ -76,5 +80,8 @@ schema_8 = created schema_7 settings
 abbrev pub schema_9 : Schema
 schema_9 = created schema_8 intake
 
-pub all_created : created schema_9 heads ≡ vault_schema
+abbrev pub schema_10 : Schema
+schema_10 = created schema_9 heads
+
+pub all_created : created schema_10 tenures ≡ vault_schema
 all_created = refl

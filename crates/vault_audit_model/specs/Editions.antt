@@ -1,13 +1,14 @@
 -- The editions of the schema.
 use Rattle.std.specs.Prelude.{ℕ}
 use Rattle.vault_audit_model.specs.declared.schema.Edition.{Edition}
-use Rattle.vault_audit_model.specs.declared.schema.Edition.TheVariants.{First, Second}
+use Rattle.vault_audit_model.specs.declared.schema.Edition.TheVariants.{First, Second, Third}
 
 -- the number that meta has
 abbrev pub number_of : Edition → ℕ
 number_of First = 1
 number_of Second = 2
+number_of Third = 3
 
 -- new vaults have it, and it alone is opened
 abbrev pub newest : Edition
-newest = Second
+newest = Third

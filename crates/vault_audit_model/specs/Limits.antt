@@ -19,7 +19,8 @@ use Rattle.vault_core_model.specs.declared.records.Entry.{Entry}
 use Rattle.vault_core_model.specs.declared.records.History.{History}
 use Rattle.vault_core_model.specs.declared.records.Note.{Note}
 use Rattle.vault_core_model.specs.declared.records.Setting.{Setting}
-use Rattle.vault_core_model.specs.Checks.{most_content, most_settings}
+use Rattle.vault_core_model.specs.declared.records.Tenure.{Tenure}
+use Rattle.vault_core_model.specs.Checks.{most_content, most_settings, most_moves}
 use Rattle.vault_core_model.specs.Vault.{Vault}
 use Rattle.vault_audit_model.specs.declared.rows.MetaRow.{MetaRow}
 use Rattle.vault_audit_model.specs.declared.rows.DepartmentRow.{DepartmentRow}
@@ -28,6 +29,7 @@ use Rattle.vault_audit_model.specs.declared.rows.RuleRow.{RuleRow}
 use Rattle.vault_audit_model.specs.declared.rows.ContentRow.{ContentRow}
 use Rattle.vault_audit_model.specs.declared.rows.SettingRow.{SettingRow}
 use Rattle.vault_audit_model.specs.declared.rows.HeadRow.{HeadRow}
+use Rattle.vault_audit_model.specs.declared.rows.TenureRow.{TenureRow}
 
 -- a text of that kind
 abbrev pub IsText : (List ℕ → Bool) → List ℕ → Type 0
@@ -108,6 +110,11 @@ pub record IsSetting (s : Setting) : Type 0 where
   pub by : IsPlainName s.by
   pub retention : IfSome s.lock.retention IsRetention
 
+pub record IsTenure (t : Tenure) : Type 0 where
+  pub dept : IsPlainName t.dept
+  pub from : t.from ≤ last_moment
+  pub number : t.number ≤ most_moves
+
 pub record IsNote (n : Note) : Type 0 where
   pub bucket : IsBucketName n.bucket
   pub batch : IsPlainName n.batch
@@ -122,7 +129,7 @@ pub record IsHistory (h : History) : Type 0 where
   pub entry : IsEntry h.entry
   pub settings : AllByRecursion IsSetting h.settings
 
--- every value of a vault
+-- every value of a vault but those of its tenures and its number of moves, whose limits follow where it is sound
 pub record IsInLimits (v : Vault) : Type 0 where
   pub last : v.last ≤ last_moment
   pub departments : AllByRecursion IsPlainName v.departments
@@ -133,8 +140,9 @@ pub record IsInLimits (v : Vault) : Type 0 where
 
 -- ---- the records that only rows have
 
-abbrev pub IsMetaRow : MetaRow → Type 0
-IsMetaRow m = m.last ≤ last_moment
+pub record IsMetaRow (m : MetaRow) : Type 0 where
+  pub last : m.last ≤ last_moment
+  pub moves : m.moves ≤ most_moves
 
 abbrev pub IsDepartmentRow : DepartmentRow → Type 0
 IsDepartmentRow d = IsPlainName d.name
@@ -161,3 +169,7 @@ pub record IsHeadRow (h : HeadRow) : Type 0 where
   pub bucket : IsBucketName h.bucket
   pub key : IsObjectKey h.key
   pub newest : IsTrue (is_version_id h.head.newest)
+
+pub record IsTenureRow (t : TenureRow) : Type 0 where
+  pub id : IsTrue (is_version_id t.id)
+  pub tenure : IsTenure t.tenure

@@ -10,14 +10,15 @@ use Rattle.vault_core_model.specs.declared.records.History.{History}
 use Rattle.vault_core_model.specs.declared.records.Note.{Note}
 use Rattle.vault_core_model.specs.Checks.{most_settings}
 use Rattle.vault_core_model.specs.Order.{IsAscending, name_cmp, bucket_cmp, note_cmp}
-use Rattle.vault_core_model.specs.Sound.{HasItsBytes, IsNoted, LiesBetween}
+use Rattle.vault_core_model.specs.Sound.{AreTenures, HasItsBytes, IsNoted, IsWithBucket, LiesBetween}
+use Rattle.vault_core_model.specs.Totals.{items_in}
 use Rattle.vault_core_model.specs.Vault.{Vault}
 use Rattle.vault_audit_model.specs.declared.rows.DepartmentRow.{DepartmentRow}
 use Rattle.vault_audit_model.specs.declared.schema.Edition.{Edition}
-use Rattle.vault_audit_model.specs.Limits.{IsBucket, IsEntry, IsNote, IsPlainName, IsSetting}
-use Rattle.vault_audit_model.specs.Rows.{bucket_row, rule_row, entry_row, content_row, setting_row, note_row, department_row, head_row, bucket_columns, rule_columns_as, entry_columns, content_columns, setting_columns, note_columns, department_columns, head_columns}
-use Rattle.vault_audit_model.specs.Spells.{bucket_of, rules_in, contents_in, settings_in, sums_over, heads_in}
-use Rattle.vault_audit_model.specs.Tenures.{items_with}
+use Rattle.vault_audit_model.specs.Limits.{IsBucket, IsEntry, IsNote, IsPlainName, IsSetting, IsTenure}
+use Rattle.vault_audit_model.specs.Rows.{bucket_row, rule_row, entry_row, content_row, setting_row, note_row, department_row, head_row, bucket_columns, rule_columns_as, entry_columns, content_columns, setting_columns, note_columns, department_columns_as, head_columns}
+use Rattle.vault_audit_model.specs.Spells.{bucket_of, rules_in, contents_in, settings_in, entries_in, tenure_rows_of, tenure_rows_in, sums_over, heads_in}
+use Rattle.vault_audit_model.specs.Tenures.{IsUnmovedIn}
 use Rattle.vault_audit_model.specs.Tables.{departments_tree, buckets_tree, rules_tree, entries_tree, contents_tree, settings_tree, intake_tree, heads_tree}
 
 -- ---- names
@@ -98,6 +99,35 @@ abbrev pub TellNotes : Database → List Entry → Bool → Type 0
 TellNotes db es true = (ns : List Note) × AreNotes db es ns
 TellNotes db es false = (ns : List Note) → ¬ AreNotes db es ns
 
+-- ---- tenures
+
+-- as in a sound vault, but for the departments being there: a version has tenures from its admission to its end, the last its bucket's while it is held; a marker has none
+abbrev pub IsTenuredAs : Bool → Vault → History → Type 0
+IsTenuredAs true v h = h.tenures ≡ []
+IsTenuredAs false v h = AreTenures v h.entry h.tenures × IsWithBucket v h.entry.removal h
+
+abbrev pub IsTenured : Vault → History → Type 0
+IsTenured v h = IsTenuredAs h.entry.marker v h
+
+abbrev pub AreTenuresInLimits : History → Type 0
+AreTenuresInLimits h = AllByRecursion IsTenure h.tenures
+
+-- The rows of tenures are those of the vault's versions. Of the vault this reads its last moment, its number of moves, its buckets and its histories.
+pub record AreTenuresOf (n : Edition) (db : Database) (v : Vault) : Type 0 where
+  pub rows : IsPermutation (tenure_rows_of n v) (tenure_rows_in n db)
+  pub unmoved : IsUnmovedIn n v
+  pub limits : AllByRecursion AreTenuresInLimits v.histories
+  pub tenured : AllByRecursion (IsTenured v) v.histories
+
+-- the same for a vault with these histories of the same entries
+abbrev pub AreTenuresWith : Edition → Database → Vault → List History → Type 0
+AreTenuresWith n db v hs = (entries_in hs ≡ entries_in v.histories) × AreTenuresOf n db (record v { histories = hs })
+
+-- whether there are such histories
+abbrev pub TellTenures : Edition → Database → Vault → Bool → Type 0
+TellTenures n db v true = (hs : List History) × AreTenuresWith n db v hs
+TellTenures n db v false = (hs : List History) → ¬ AreTenuresWith n db v hs
+
 -- ---- buckets and rules
 
 -- the rows of buckets and of rules are these buckets, each with no rules or with a set that it may have
@@ -118,22 +148,22 @@ abbrev pub IsPast : ℕ → Entry → Type 0
 IsPast last e = (e.admitted ≤ last) × LiesBetween e.admitted last e.removal
 
 -- a department with the sums over the tenures that it has among these, ended ones included
-abbrev pub department_with : List Bucket → List History → List ℕ → DepartmentRow
-department_with bs hs name = record { name = name; sums = sums_over (items_with bs name hs) }
+abbrev pub department_with : List History → List ℕ → DepartmentRow
+department_with hs name = record { name = name; sums = sums_over (items_in name hs) }
 
 -- it didn't admit and receive more than it may
-abbrev pub IsWithin : List Bucket → List History → List ℕ → Type 0
-IsWithin bs hs name = sum_by admitted_size (items_with bs name hs) + sum_by received_size (items_with bs name hs) ≤ quota
+abbrev pub IsWithin : List History → List ℕ → Type 0
+IsWithin hs name = sum_by admitted_size (items_in name hs) + sum_by received_size (items_in name hs) ≤ quota
 
 -- the rows of departments are these departments with their sums
-abbrev pub AreSums : Database → List Bucket → List History → List (List ℕ) → Type 0
-AreSums db bs hs ds =
-    IsPermutation (map (λ d. department_row (department_with bs hs d)) ds) (map department_columns (db.trees departments_tree))
-    × AllByRecursion IsPlainName ds × AllByRecursion (IsWithin bs hs) ds
+abbrev pub AreSums : Edition → Database → List History → List (List ℕ) → Type 0
+AreSums n db hs ds =
+    IsPermutation (map (λ d. department_row (department_with hs d)) ds) (map (department_columns_as n) (db.trees departments_tree))
+    × AllByRecursion IsPlainName ds × AllByRecursion (IsWithin hs) ds
 
-abbrev pub TellSums : Database → List Bucket → List History → Bool → Type 0
-TellSums db bs hs true = (ds : List (List ℕ)) × AreSums db bs hs ds
-TellSums db bs hs false = (ds : List (List ℕ)) → ¬ AreSums db bs hs ds
+abbrev pub TellSums : Edition → Database → List History → Bool → Type 0
+TellSums n db hs true = (ds : List (List ℕ)) × AreSums n db hs ds
+TellSums n db hs false = (ds : List (List ℕ)) → ¬ AreSums n db hs ds
 
 -- the rows of heads are those of the vault's keys
 abbrev pub AreHeads : Database → Vault → Type 0

@@ -26,8 +26,9 @@ use Rattle.vault_audit_model.specs.declared.rows.RuleRow.{RuleRow}
 use Rattle.vault_audit_model.specs.declared.rows.ContentRow.{ContentRow}
 use Rattle.vault_audit_model.specs.declared.rows.SettingRow.{SettingRow}
 use Rattle.vault_audit_model.specs.declared.rows.HeadRow.{HeadRow}
+use Rattle.vault_audit_model.specs.declared.rows.TenureRow.{TenureRow}
 use Rattle.vault_audit_model.specs.declared.schema.Edition.{Edition}
-use Rattle.vault_audit_model.specs.declared.schema.Edition.TheVariants.{First, Second}
+use Rattle.vault_audit_model.specs.declared.schema.Edition.TheVariants.{First, Second, Third}
 use Rattle.vault_audit_model.specs.Editions.{newest}
 use Rattle.vault_audit_model.specs.Values.{number, number_or_null, text_or_null, bytes_or_null, flag, flag_or_null}
 
@@ -116,12 +117,12 @@ noncurrent_newer noncurrent = number_or_null (option_and_then (λ n. n.newer) no
 
 -- the first number tells the one row apart, the second is that of the schema
 abbrev pub meta_row : MetaRow → Row
-meta_row m = number 1 ∷ number m.schema ∷ number m.last ∷ number m.next ∷ []
+meta_row m = number 1 ∷ number m.schema ∷ number m.last ∷ number m.next ∷ number m.moves ∷ []
 
 abbrev pub department_row : DepartmentRow → Row
 department_row d =
     Text d.name ∷ number d.sums.admitted ∷ number d.sums.held ∷ number d.sums.removed ∷ number d.sums.weighted
-    ∷ number d.sums.closed ∷ []
+    ∷ number d.sums.closed ∷ number d.sums.received ∷ number d.sums.handed ∷ []
 
 abbrev pub caller_row : Caller → Row
 caller_row c = Text c.name ∷ text_or_null c.dept ∷ number (rights_number c.rights) ∷ flag c.closed ∷ []
@@ -160,13 +161,35 @@ note_row n =
 abbrev pub head_row : HeadRow → Row
 head_row h = Text h.bucket ∷ Text h.key ∷ number h.head.newest ∷ number h.head.count ∷ []
 
+abbrev pub tenure_row : TenureRow → Row
+tenure_row t = number t.id ∷ number t.tenure.number ∷ Text t.tenure.dept ∷ number t.tenure.from ∷ []
+
 -- ---- the columns of a row as it is stored: its number in the file and then each column, where the number stands for a key by numbers
 
+-- in an edition without a column for it, no bucket was moved
+abbrev pub moves_in : Edition → Row → Row
+moves_in First r = number 0 ∷ []
+moves_in Second r = number 0 ∷ []
+moves_in Third r = column r 5 ∷ []
+
+abbrev pub meta_columns_as : Edition → Row → Row
+meta_columns_as n r = column r 0 ∷ column r 2 ∷ column r 3 ∷ column r 4 ∷ moves_in n r
+
 abbrev pub meta_columns : Row → Row
-meta_columns r = column r 0 ∷ column r 2 ∷ column r 3 ∷ column r 4 ∷ []
+meta_columns = meta_columns_as newest
+
+-- in an edition without columns for them, no bytes came or went with a bucket
+abbrev pub exchanged_in : Edition → Row → Row
+exchanged_in First r = number 0 ∷ number 0 ∷ []
+exchanged_in Second r = number 0 ∷ number 0 ∷ []
+exchanged_in Third r = column r 7 ∷ column r 8 ∷ []
+
+abbrev pub department_columns_as : Edition → Row → Row
+department_columns_as n r =
+    column r 1 ∷ column r 2 ∷ column r 3 ∷ column r 4 ∷ column r 5 ∷ column r 6 ∷ exchanged_in n r
 
 abbrev pub department_columns : Row → Row
-department_columns r = column r 1 ∷ column r 2 ∷ column r 3 ∷ column r 4 ∷ column r 5 ∷ column r 6 ∷ []
+department_columns = department_columns_as newest
 
 abbrev pub caller_columns : Row → Row
 caller_columns r = column r 1 ∷ column r 2 ∷ column r 3 ∷ column r 4 ∷ []
@@ -178,6 +201,7 @@ bucket_columns r = column r 1 ∷ column r 2 ∷ column r 3 ∷ column r 4 ∷ c
 abbrev pub bounds_in : Edition → Row → Row
 bounds_in First r = Null ∷ Null ∷ []
 bounds_in Second r = column r 10 ∷ column r 11 ∷ []
+bounds_in Third r = column r 10 ∷ column r 11 ∷ []
 
 abbrev pub rule_columns_as : Edition → Row → Row
 rule_columns_as n r =
@@ -206,3 +230,6 @@ note_columns r =
 
 abbrev pub head_columns : Row → Row
 head_columns r = column r 1 ∷ column r 2 ∷ column r 3 ∷ column r 4 ∷ []
+
+abbrev pub tenure_columns : Row → Row
+tenure_columns r = column r 1 ∷ column r 2 ∷ column r 3 ∷ column r 4 ∷ []

@@ -2,7 +2,7 @@
 use Rattle.std.specs.Prelude.{◌≡◌, ℕ, ◌+◌, false, List, [], ◌∷◌, length, map, filter, flat_map, sum_by, Option, Some, None, IsPermutation}
 use Rattle.std.specs.List.{AllByRecursion}
 use Rattle.sqlite_value.specs.declared.value.Value.TheVariants.{Text}
-use Rattle.sqlite_value.specs.Order.{column}
+use Rattle.sqlite_value.specs.Order.{Row, column}
 use Rattle.sqlite.specs.Effect.{Database}
 use Rattle.vault_tally.specs.Row.{Item, admitted_size, received_size, held_size, removed_size, handed_size, weight, closed_byte_days}
 use Rattle.vault_tally.specs.declared.row.Row.{Row as Sums}
@@ -12,6 +12,7 @@ use Rattle.vault_core_model.specs.declared.records.Entry.{Entry}
 use Rattle.vault_core_model.specs.declared.records.History.{History}
 use Rattle.vault_core_model.specs.declared.records.Note.{Note}
 use Rattle.vault_core_model.specs.declared.records.Setting.{Setting}
+use Rattle.vault_core_model.specs.declared.records.Tenure.{Tenure}
 use Rattle.vault_core_model.specs.Places.{held_at, is_current}
 use Rattle.vault_core_model.specs.Reads.{entry_of}
 use Rattle.vault_core_model.specs.Sound.{Sound}
@@ -24,20 +25,22 @@ use Rattle.vault_audit_model.specs.declared.rows.RuleRow.{RuleRow}
 use Rattle.vault_audit_model.specs.declared.rows.ContentRow.{ContentRow}
 use Rattle.vault_audit_model.specs.declared.rows.SettingRow.{SettingRow}
 use Rattle.vault_audit_model.specs.declared.rows.HeadRow.{HeadRow}
+use Rattle.vault_audit_model.specs.declared.rows.TenureRow.{TenureRow}
 use Rattle.vault_audit_model.specs.declared.schema.Edition.{Edition}
+use Rattle.vault_audit_model.specs.declared.schema.Edition.TheVariants.{First, Second, Third}
 use Rattle.vault_audit_model.specs.Editions.{number_of, newest}
-use Rattle.vault_audit_model.specs.Tables.{schema_of, meta_tree, departments_tree, callers_tree, buckets_tree, rules_tree, entries_tree, contents_tree, settings_tree, intake_tree, heads_tree}
-use Rattle.vault_audit_model.specs.Rows.{meta_row, department_row, caller_row, bucket_row, rule_row, entry_row, content_row, setting_row, note_row, head_row, meta_columns, department_columns, caller_columns, bucket_columns, rule_columns_as, entry_columns, content_columns, setting_columns, note_columns, head_columns}
+use Rattle.vault_audit_model.specs.Tables.{schema_of, meta_tree, departments_tree, callers_tree, buckets_tree, rules_tree, entries_tree, contents_tree, settings_tree, intake_tree, heads_tree, tenures_tree}
+use Rattle.vault_audit_model.specs.Rows.{meta_row, department_row, caller_row, bucket_row, rule_row, entry_row, content_row, setting_row, note_row, head_row, tenure_row, meta_columns_as, department_columns_as, caller_columns, bucket_columns, rule_columns_as, entry_columns, content_columns, setting_columns, note_columns, head_columns, tenure_columns}
 use Rattle.vault_audit_model.specs.Limits.{IsInLimits}
-use Rattle.vault_audit_model.specs.Tenures.{IsUnmoved}
+use Rattle.vault_audit_model.specs.Tenures.{IsUnmovedIn}
 
 -- ---- the rows of a vault
 
-abbrev pub meta_as : Edition → Vault → MetaRow
-meta_as n v = record { schema = number_of n; last = v.last; next = next_id v }
+abbrev pub meta_told : Edition → Vault → MetaRow
+meta_told n v = record { schema = number_of n; last = v.last; next = next_id v; moves = v.moves }
 
 abbrev pub meta_of : Vault → MetaRow
-meta_of = meta_as newest
+meta_of = meta_told newest
 
 -- a bucket without its rules
 abbrev pub bucket_of : Bucket → BucketRow
@@ -71,10 +74,28 @@ settings_from id place (s ∷ ss) = record { id = id; place = place; setting = s
 abbrev pub settings_in : History → List SettingRow
 settings_in h = settings_from h.entry.id 1 h.settings
 
+abbrev pub tenure_at : ℕ → Tenure → TenureRow
+tenure_at id t = record { id = id; tenure = t }
+
+-- the tenures of a version, in their order
+abbrev pub tenures_in : History → List TenureRow
+tenures_in h = map (tenure_at h.entry.id) h.tenures
+
+-- the rows of tenures, of a vault and of a database; an edition without that table has none
+abbrev pub tenure_rows_of : Edition → Vault → List Row
+tenure_rows_of First v = []
+tenure_rows_of Second v = []
+tenure_rows_of Third v = map tenure_row (flat_map tenures_in v.histories)
+
+abbrev pub tenure_rows_in : Edition → Database → List Row
+tenure_rows_in First db = []
+tenure_rows_in Second db = []
+tenure_rows_in Third db = map tenure_columns (db.trees tenures_tree)
+
 abbrev pub entries_in : List History → List Entry
 entries_in hs = map (λ h. h.entry) hs
 
--- ---- the running numbers of a vault, taken over its entries
+-- ---- the running numbers of a vault over its tenures, and its heads over its entries
 
 -- the seven sums over these tenures
 abbrev pub sums_over : List Item → Sums
@@ -106,18 +127,21 @@ heads_in v = map (head_in v) (filter (is_current v) v.histories)
 
 -- ---- what holds beyond the limits of values
 
--- a vault as it may be kept: in its limits, sound, and with no tenures but those that the tables tell
-pub record IsKept (v : Vault) : Type 0 where
+-- a vault as tables of that edition may keep it: in its limits, sound, and with no tenures but those that they can tell
+pub record IsKeptAs (n : Edition) (v : Vault) : Type 0 where
   pub limits : IsInLimits v
   pub sound : Sound v
-  pub unmoved : IsUnmoved v
+  pub unmoved : IsUnmovedIn n v
+
+abbrev pub IsKept : Vault → Type 0
+IsKept = IsKeptAs newest
 
 -- ---- the vault that the rows spell
 
 -- The rows of each table of that edition are those of the vault, in any order. The running numbers and the heads tell nothing of a vault.
 pub record SpellsAs (n : Edition) (db : Database) (v : Vault) : Type 0 where
   pub schema : db.schema ≡ schema_of n
-  pub meta : IsPermutation (meta_row (meta_as n v) ∷ []) (map meta_columns (db.trees meta_tree))
+  pub meta : IsPermutation (meta_row (meta_told n v) ∷ []) (map (meta_columns_as n) (db.trees meta_tree))
   pub departments : IsPermutation (map (λ d. Text d) v.departments) (map (λ r. column r 1) (db.trees departments_tree))
   pub callers : IsPermutation (map caller_row v.callers) (map caller_columns (db.trees callers_tree))
   pub buckets : IsPermutation (map (λ b. bucket_row (bucket_of b)) v.buckets) (map bucket_columns (db.trees buckets_tree))
@@ -126,15 +150,16 @@ pub record SpellsAs (n : Edition) (db : Database) (v : Vault) : Type 0 where
   pub contents : IsPermutation (map content_row (flat_map contents_in v.histories)) (map content_columns (db.trees contents_tree))
   pub settings : IsPermutation (map setting_row (flat_map settings_in v.histories)) (map setting_columns (db.trees settings_tree))
   pub intake : IsPermutation (map note_row v.notes) (map note_columns (db.trees intake_tree))
-  pub kept : IsKept v
+  pub tenures : IsPermutation (tenure_rows_of n v) (tenure_rows_in n db)
+  pub kept : IsKeptAs n v
 
 abbrev pub Spells : Database → Vault → Type 0
 Spells = SpellsAs newest
 
--- The tables of that edition are sound: they spell this vault, and their running numbers and heads are those taken over its entries.
+-- The tables of that edition are sound: they spell this vault, with the running numbers over its tenures and the heads over its entries.
 pub record AreSoundAs (n : Edition) (db : Database) (v : Vault) : Type 0 where
   pub spells : SpellsAs n db v
-  pub numbers : IsPermutation (map (λ d. department_row (department_in v d)) v.departments) (map department_columns (db.trees departments_tree))
+  pub numbers : IsPermutation (map (λ d. department_row (department_in v d)) v.departments) (map (department_columns_as n) (db.trees departments_tree))
   pub heads : IsPermutation (map head_row (heads_in v)) (map head_columns (db.trees heads_tree))
 
 -- the same of the newest

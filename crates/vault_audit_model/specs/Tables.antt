@@ -1,4 +1,4 @@
--- The ten tables, as a database knows them once they are made. An edition differs from the one before it by columns at the end of a table.
+-- The tables, as a database knows them once they are made. An edition has columns more at the end of a table than the one before it, or a table more behind the others.
 use Rattle.std.specs.Prelude.{ℕ, Bool, true, false, List, [], ◌∷◌, None, Some, Option, codes}
 use Rattle.sqlite_value.specs.Keys.{plain}
 use Rattle.sqlite_value.specs.declared.keys.Order.{Order}
@@ -6,6 +6,7 @@ use Rattle.sqlite.specs.Collation.TheVariants.{Binary}
 use Rattle.sqlite.specs.declared.types.Value.TheVariants.{Null}
 use Rattle.sqlite.specs.Table.{Table}
 use Rattle.sqlite.specs.Schema.{Schema}
+use Rattle.sqlite_schema.specs.declared.schema.Index.{Index}
 use Rattle.sqlite_schema.specs.declared.schema.Column.{Column}
 use Rattle.sqlite_schema.specs.declared.schema.Kind.{Kind}
 use Rattle.sqlite_schema.specs.declared.schema.Reference.{Reference}
@@ -13,7 +14,7 @@ use Rattle.sqlite_schema.specs.declared.schema.Action.TheVariants.{NoAction}
 use Rattle.sqlite.specs.Kind.TheVariants.{Integer, Text, Blob}
 use Rattle.sqlite_catalog.specs.Listing.{automatic}
 use Rattle.vault_audit_model.specs.declared.schema.Edition.{Edition}
-use Rattle.vault_audit_model.specs.declared.schema.Edition.TheVariants.{First, Second}
+use Rattle.vault_audit_model.specs.declared.schema.Edition.TheVariants.{First, Second, Third}
 use Rattle.vault_audit_model.specs.Editions.{newest}
 
 -- a column of a STRICT table, with no default
@@ -94,20 +95,42 @@ intake_tree = 14
 abbrev pub heads_tree : ℕ
 heads_tree = 16
 
+abbrev pub tenures_tree : ℕ
+tenures_tree = 18
+
 -- ---- the tables
 
-abbrev pub meta : Table
-meta =
+-- how often a bucket was moved
+abbrev pub moves_column : Edition → List Column
+moves_column First = []
+moves_column Second = []
+moves_column Third = has (codes "moves") Integer ∷ []
+
+abbrev pub meta_as : Edition → Table
+meta_as n =
     table_by_number (codes "meta") meta_tree
-    (may_have (codes "one") Integer ∷ has (codes "schema") Integer ∷ has (codes "last") Integer ∷ has (codes "next") Integer ∷ [])
+    (may_have (codes "one") Integer ∷ has (codes "schema") Integer ∷ has (codes "last") Integer ∷ has (codes "next") Integer
+    ∷ moves_column n)
+    []
+
+abbrev pub meta : Table
+meta = meta_as newest
+
+-- the bytes that came and went with buckets
+abbrev pub exchange_columns : Edition → List Column
+exchange_columns First = []
+exchange_columns Second = []
+exchange_columns Third = has (codes "received") Integer ∷ has (codes "handed") Integer ∷ []
+
+abbrev pub departments_as : Edition → Table
+departments_as n =
+    table_by (1 ∷ []) (codes "departments") departments_tree
+    (has (codes "name") Text ∷ has (codes "admitted") Integer ∷ has (codes "held") Integer ∷ has (codes "removed") Integer
+    ∷ has (codes "weighted") Integer ∷ has (codes "closed") Integer ∷ exchange_columns n)
     []
 
 abbrev pub departments : Table
-departments =
-    table_by (1 ∷ []) (codes "departments") departments_tree
-    (has (codes "name") Text ∷ has (codes "admitted") Integer ∷ has (codes "held") Integer ∷ has (codes "removed") Integer
-    ∷ has (codes "weighted") Integer ∷ has (codes "closed") Integer ∷ [])
-    []
+departments = departments_as newest
 
 abbrev pub callers : Table
 callers =
@@ -126,6 +149,7 @@ buckets =
 abbrev pub bound_columns : Edition → List Column
 bound_columns First = []
 bound_columns Second = may_have (codes "larger") Integer ∷ may_have (codes "smaller") Integer ∷ []
+bound_columns Third = may_have (codes "larger") Integer ∷ may_have (codes "smaller") Integer ∷ []
 
 abbrev pub rules_as : Edition → Table
 rules_as n =
@@ -175,6 +199,23 @@ heads =
     (has (codes "bucket") Text ∷ has (codes "key") Text ∷ has (codes "newest") Integer ∷ has (codes "count") Integer ∷ [])
     (refers 1 (codes "buckets") (codes "name") ∷ refers 3 (codes "entries") (codes "id") ∷ [])
 
+abbrev pub tenures : Table
+tenures =
+    table_by (1 ∷ 2 ∷ []) (codes "tenures") tenures_tree
+    (has (codes "id") Integer ∷ has (codes "n") Integer ∷ has (codes "dept") Text ∷ has (codes "moment") Integer ∷ [])
+    (refers 1 (codes "entries") (codes "id") ∷ refers 3 (codes "departments") (codes "name") ∷ [])
+
+-- the tables and the indexes that an edition has besides those of the first
+abbrev pub later_tables : Edition → List Table
+later_tables First = []
+later_tables Second = []
+later_tables Third = tenures ∷ []
+
+abbrev pub later_indexes : Edition → List Index
+later_indexes First = []
+later_indexes Second = []
+later_indexes Third = automatic tenures 0 (1 ∷ 2 ∷ []) 19 ∷ []
+
 -- a store without tables
 abbrev pub no_schema : Schema
 no_schema = record { tables = []; indexes = []; views = [] }
@@ -182,10 +223,10 @@ no_schema = record { tables = []; indexes = []; views = [] }
 -- the schema of a vault's file, and no table, index or view beside it
 abbrev pub schema_of : Edition → Schema
 schema_of n = record {
-  tables = meta ∷ departments ∷ callers ∷ buckets ∷ rules_as n ∷ entries ∷ contents ∷ settings ∷ intake ∷ heads ∷ [];
-  indexes = automatic departments 0 (1 ∷ []) 2 ∷ automatic callers 0 (1 ∷ []) 4 ∷ automatic buckets 0 (1 ∷ []) 6
+  tables = meta_as n ∷ departments_as n ∷ callers ∷ buckets ∷ rules_as n ∷ entries ∷ contents ∷ settings ∷ intake ∷ heads ∷ later_tables n;
+  indexes = automatic (departments_as n) 0 (1 ∷ []) 2 ∷ automatic callers 0 (1 ∷ []) 4 ∷ automatic buckets 0 (1 ∷ []) 6
       ∷ automatic (rules_as n) 0 (1 ∷ 2 ∷ []) 8 ∷ automatic entries 0 (2 ∷ 3 ∷ 0 ∷ []) 10 ∷ automatic settings 0 (1 ∷ 2 ∷ []) 13
-      ∷ automatic intake 0 (1 ∷ 2 ∷ 3 ∷ []) 15 ∷ automatic heads 0 (1 ∷ 2 ∷ []) 17 ∷ [];
+      ∷ automatic intake 0 (1 ∷ 2 ∷ 3 ∷ []) 15 ∷ automatic heads 0 (1 ∷ 2 ∷ []) 17 ∷ later_indexes n;
   views = [];
 }
 

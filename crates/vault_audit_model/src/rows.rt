@@ -3,7 +3,7 @@
 use vault_base::content::Content;
 use vault_base::moment::Moment;
 use vault_base::name::{BucketName, DeptName, ObjectKey, VersionId};
-use vault_core_model::records::{BucketConfig, Head, Setting};
+use vault_core_model::records::{BucketConfig, Head, Setting, Tenure};
 use vault_rules::rule::Rule;
 use vault_tally::row::Row;
 
@@ -16,6 +16,8 @@ pub struct MetaRow {
     pub last: Moment,
     /// The id that the next entry gets.
     pub next: u64,
+    /// How often a bucket was moved to another department.
+    pub moves: u64,
 }
 
 /// A department and its running row.
@@ -61,4 +63,11 @@ pub struct HeadRow {
     pub bucket: BucketName,
     pub key: ObjectKey,
     pub head: Head,
+}
+
+/// A tenure of a version.
+#[derive(Drop)]
+pub struct TenureRow {
+    pub id: VersionId,
+    pub tenure: Tenure,
 }

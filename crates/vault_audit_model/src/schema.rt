@@ -11,10 +11,12 @@ pub enum Edition {
     First,
     /// Rules have bounds of sizes.
     Second,
+    /// Versions have tenures, and the moves of buckets are counted.
+    Third,
 }
 
 /// The newest edition.
-pub const NEWEST: Edition = Edition::Second;
+pub const NEWEST: Edition = Edition::Third;
 
 impl Edition {
     /// The number of the schema, as `meta` has it.
@@ -24,6 +26,7 @@ impl Edition {
         match self {
             Edition::First => 1,
             Edition::Second => 2,
+            Edition::Third => 3,
         }
     }
 }
@@ -34,10 +37,10 @@ pub fn creation(table: Table) -> &'static str
 {
     match table {
         Table::Meta => {
-            "CREATE TABLE meta (one INTEGER PRIMARY KEY, schema INTEGER NOT NULL, last INTEGER NOT NULL, next INTEGER NOT NULL) STRICT"
+            "CREATE TABLE meta (one INTEGER PRIMARY KEY, schema INTEGER NOT NULL, last INTEGER NOT NULL, next INTEGER NOT NULL, moves INTEGER NOT NULL) STRICT"
         }
         Table::Departments => {
-            "CREATE TABLE departments (name TEXT NOT NULL, admitted INTEGER NOT NULL, held INTEGER NOT NULL, removed INTEGER NOT NULL, weighted INTEGER NOT NULL, closed INTEGER NOT NULL, PRIMARY KEY (name)) STRICT"
+            "CREATE TABLE departments (name TEXT NOT NULL, admitted INTEGER NOT NULL, held INTEGER NOT NULL, removed INTEGER NOT NULL, weighted INTEGER NOT NULL, closed INTEGER NOT NULL, received INTEGER NOT NULL, handed INTEGER NOT NULL, PRIMARY KEY (name)) STRICT"
         }
         Table::Callers => {
             "CREATE TABLE callers (name TEXT NOT NULL, dept TEXT REFERENCES departments (name), rights INTEGER NOT NULL, closed INTEGER NOT NULL, PRIMARY KEY (name)) STRICT"
@@ -62,6 +65,9 @@ pub fn creation(table: Table) -> &'static str
         }
         Table::Heads => {
             "CREATE TABLE heads (bucket TEXT NOT NULL REFERENCES buckets (name), key TEXT NOT NULL, newest INTEGER NOT NULL REFERENCES entries (id), count INTEGER NOT NULL, PRIMARY KEY (bucket, key)) STRICT"
+        }
+        Table::Tenures => {
+            "CREATE TABLE tenures (id INTEGER NOT NULL REFERENCES entries (id), n INTEGER NOT NULL, dept TEXT NOT NULL REFERENCES departments (name), moment INTEGER NOT NULL, PRIMARY KEY (id, n)) STRICT"
         }
     }
 }

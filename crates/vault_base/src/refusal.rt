@@ -72,6 +72,7 @@ pub enum Table {
     Settings,
     Intake,
     Heads,
+    Tenures,
 }
 
 impl Table {
@@ -93,6 +94,7 @@ impl Table {
             Table::Settings => "settings",
             Table::Intake => "intake",
             Table::Heads => "heads",
+            Table::Tenures => "tenures",
         }
     }
 }
