@@ -1,5 +1,5 @@
 -- The vault that the passes find.
-use Rattle.std.proofs.Common.{◌≡◌, ℕ, List, [], ◌∷◌, length, map, Some, refl, sym, subst, ◌∙◌, arith}
+use Rattle.std.proofs.Common.{◌≡◌, ℕ, List, [], ◌∷◌, length, map, IsSome, Some, refl, sym, subst, ◌∙◌, arith}
 use Rattle.std.specs.List.{AllByRecursion}
 use Rattle.std.proofs.lemmas.List.{length-map}
 use Rattle.std.proofs.lemmas.List.Sorted.{IsPermutation-sym, IsPermutation-trans, length_permutation}
@@ -8,17 +8,19 @@ use Rattle.sqlite_value.specs.Order.{Row}
 use Rattle.sqlite.specs.Effect.{Database}
 use Rattle.vault_core_model.specs.declared.records.Entry.{Entry}
 use Rattle.vault_core_model.specs.declared.records.History.{History}
-use Rattle.vault_core_model.specs.Vault.{Vault}
+use Rattle.vault_core_model.specs.Vault.{Vault, config_in}
 use Rattle.vault_audit_model.specs.declared.schema.Edition.{Edition}
 use Rattle.vault_audit_model.specs.declared.rows.MetaRow.{MetaRow}
 use Rattle.vault_audit_model.specs.Relations.{AreEntries, IsPast}
 use Rattle.vault_audit_model.specs.Rows.{entry_row, entry_columns}
-use Rattle.vault_audit_model.specs.Spells.{AreSoundAs}
+use Rattle.vault_audit_model.specs.Spells.{AreSoundAs, entries_in}
 use Rattle.vault_audit_model.specs.Tables.{schema_of, entries_tree}
 use Rattle.vault_audit_model.proofs.SameRows.{same_entry}
 use Rattle.vault_audit_tables.specs.Entries.{IsEntryBy}
 use Rattle.vault_audit_tables.specs.Meta.{IsMetaOf}
 use Rattle.vault_audit_laws.specs.Ties.{AreTied}
+use Rattle.vault_audit_laws.proofs.RecordTies.{entries_placed}
+use Rattle.vault_audit_parts.specs.Parts.{versions_at}
 use Rattle.vault_audit_parts.proofs.JoinLemmas.{joined_entries}
 use Rattle.vault_audit_found.specs.Found.{AreFound, found_vault}
 use Rattle.vault_audit_found.proofs.FoundLemmas.{found_spelled, found_sums}
@@ -41,7 +43,7 @@ past_too db last es past are =
     let rows = all-permutation (TellsPast last) _ _ (IsPermutation-trans _ _ _ past.1 (IsPermutation-sym _ _ are.0)) told in
     each (λ e. TellsPast last (entry_row e)) (IsPast last) (λ e its. subst (IsPast last) (sym (same_entry e its.0 its.1)) its.2) es (all_from_map (TellsPast last) entry_row es rows)
 
-module _ (n : Edition) (db : Database) (m : MetaRow) (schema : db.schema ≡ schema_of n) (tied : AreTied db) (meta : IsMetaOf n db (Some m)) (past : ArePast db m.last) (found : AllFound n db m) where
+module _ (n : Edition) (db : Database) (m : MetaRow) (schema : db.schema ≡ schema_of n) (tied : AreTied n db) (meta : IsMetaOf n db (Some m)) (past : ArePast db m.last) (found : AllFound n db m) where
   -- they are sound for the vault that was found
   pub sound_vault : (v : Vault) × AreSoundAs n db v
   sound_vault =
@@ -61,8 +63,13 @@ module _ (n : Edition) (db : Database) (m : MetaRow) (schema : db.schema ≡ sch
       let a : length (map entry_row es) ≡ length es = simp length-map in
       let b : length (map entry_columns (db.trees entries_tree)) ≡ length (db.trees entries_tree) = simp length-map in
       let next = found.departments.next in
-      let summed = found.departments.sums buckets.0 contents m.last buckets.1 (subst (AreEntries db) (sym contents_are.0) are) (subst (AllByRecursion (IsPast m.last)) (sym contents_are.0) since) in
-      let all : AreFound n db m departments.0 callers.0 buckets.0 notes.0 es contents settings summed.0 = record {
+      let Lies : Entry → Type 0 = λ e. IsSome (config_in buckets.0 e.bucket) in
+      let places = subst (AllByRecursion Lies) (sym contents_are.0) (entries_placed n db tied buckets.0 es buckets.1.0 are.0) in
+      let tenured = found.tenures meta (versions_at m buckets.0 contents) refl refl buckets.1 (subst (AreEntries db) (sym contents_are.0) are) (subst (AllByRecursion (IsPast m.last)) (sym contents_are.0) since) (all_from_map Lies (λ (h : History). h.entry) contents places) in
+      let tenures = tenured.0 in
+      let tenured_entries : entries_in tenures ≡ es = tenured.1.0 ∙ contents_are.0 in
+      let summed = found.departments.sums (versions_at m buckets.0 tenures) buckets.1 (subst (AreEntries db) (sym tenured_entries) are) (subst (AllByRecursion (IsPast m.last)) (sym tenured_entries) since) tenured.1.1 in
+      let all : AreFound n db m departments.0 callers.0 buckets.0 notes.0 es contents settings tenures summed.0 = record {
         schema = schema;
         tied = tied;
         meta = (meta.0, meta.1.0, meta.1.1);
@@ -75,13 +82,14 @@ module _ (n : Edition) (db : Database) (m : MetaRow) (schema : db.schema ≡ sch
         contents_are = contents_are;
         settings_are = settings_are;
         notes_are = notes.1;
+        tenures_are = (tenured_entries, tenured.1.1);
         sums_are = summed.1;
       } in
-      let v = found_vault m departments.0 callers.0 buckets.0 notes.0 contents settings in
-      let same : map (λ (h : History). h.entry) v.histories ≡ es = joined_entries buckets.0 contents settings (contents_are.0 ∙ sym settings_are.0) ∙ contents_are.0 in
+      let v = found_vault m departments.0 callers.0 buckets.0 notes.0 contents settings tenures in
+      let same : entries_in v.histories ≡ es = joined_entries contents settings tenures (contents_are.0 ∙ sym settings_are.0) (sym tenured.1.0) ∙ contents_are.0 in
       let sound : AreSoundAs n db v = record {
-        spells = found_spelled n db m departments.0 callers.0 buckets.0 notes.0 es contents settings summed.0 all;
-        numbers = found_sums n db m departments.0 callers.0 buckets.0 notes.0 es contents settings summed.0 all;
+        spells = found_spelled n db m departments.0 callers.0 buckets.0 notes.0 es contents settings tenures summed.0 all;
+        numbers = found_sums n db m departments.0 callers.0 buckets.0 notes.0 es contents settings tenures summed.0 all;
         heads = found.held.heads v (subst (AreEntries db) (sym same) are);
       } in
       (v, sound)

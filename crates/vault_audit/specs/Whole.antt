@@ -11,7 +11,7 @@ use Rattle.vault_audit_model.specs.declared.rows.MetaRow.{MetaRow}
 use Rattle.vault_audit_model.specs.Relations.{AreEntries, AreHeads}
 use Rattle.vault_audit_model.specs.Spells.{AreSoundAs}
 use Rattle.vault_audit_keys.specs.Keys.{entries_of}
-use Rattle.vault_audit_looks.specs.Looks.{DepartmentsFound, NamesFound, VersionsFound}
+use Rattle.vault_audit_looks.specs.Looks.{DepartmentsFound, NamesFound, TenuresFound, VersionsFound}
 
 -- the entries, what stands beside them, and the heads of their keys
 pub record VersionsAndHeads (db : Database) : Type 0 where
@@ -24,6 +24,7 @@ pub record AllFound (n : Edition) (db : Database) (m : MetaRow) : Type 0 where
   pub departments : DepartmentsFound n db m
   pub names : NamesFound n db
   pub held : VersionsAndHeads db
+  pub tenures : TenuresFound n db m
 
 -- the tables are sound for a vault; or one is damaged, and they are sound for none
 abbrev pub IsAudited : Edition → Database → Option Table → Type 0

@@ -12,6 +12,7 @@ use std::alloc::Global;
 use vault_audit_keys::check_heads;
 use vault_audit_looks::departments::look_at_departments;
 use vault_audit_looks::names::look_at_names;
+use vault_audit_looks::tenures::look_at_tenures;
 use vault_audit_looks::versions::look_at_versions;
 use vault_audit_model::rows::MetaRow;
 use vault_audit_model::schema::Edition;
@@ -55,13 +56,16 @@ pub(crate) fn look_again<S: Alter>(
     ensures err { IsHealthy (state S.Store conn.new) → IfErr result IsMemory }
     ensures crash { Survives (state S.Store conn.old) (state S.Store conn.new) (λ _. ⊥) }
 {
-    if let Some(table) = look_at_departments(alloc, conn, edition, meta)? {
+    if let Some(table) = look_at_departments(alloc, conn, edition, &meta)? {
         return Ok(Some(table));
     }
     if let Some(table) = look_at_names(alloc, conn, edition)? {
         return Ok(Some(table));
     }
     if let Some(table) = look_at_entries(conn, edition)? {
+        return Ok(Some(table));
+    }
+    if let Some(table) = look_at_tenures(conn, edition, meta)? {
         return Ok(Some(table));
     }
     Ok(None)

@@ -19,11 +19,11 @@ ghost use Rattle.vault_audit_found.specs.Found.{AreFound, found_vault, HaveSums}
 /// its tenures.
 pub fn looks_find_a_vault()
     ensures spelled { (ed : Edition) (db : Database) (m : MetaRow) (departments : List DepartmentRow) (callers : List Caller) (buckets : List Bucket)
-        (notes : List Note) (entries : List Entry) (contents settings : List History) (summed : List (List ℕ)) →
-        AreFound ed db m departments callers buckets notes entries contents settings summed →
-        SpellsAs ed db (found_vault m departments callers buckets notes contents settings) }
+        (notes : List Note) (entries : List Entry) (contents settings tenures : List History) (summed : List (List ℕ)) →
+        AreFound ed db m departments callers buckets notes entries contents settings tenures summed →
+        SpellsAs ed db (found_vault m departments callers buckets notes contents settings tenures) }
     ensures sums { (ed : Edition) (db : Database) (m : MetaRow) (departments : List DepartmentRow) (callers : List Caller) (buckets : List Bucket)
-        (notes : List Note) (entries : List Entry) (contents settings : List History) (summed : List (List ℕ)) →
-        AreFound ed db m departments callers buckets notes entries contents settings summed →
-        HaveSums db (found_vault m departments callers buckets notes contents settings) }
+        (notes : List Note) (entries : List Entry) (contents settings tenures : List History) (summed : List (List ℕ)) →
+        AreFound ed db m departments callers buckets notes entries contents settings tenures summed →
+        HaveSums ed db (found_vault m departments callers buckets notes contents settings tenures) }
 {}

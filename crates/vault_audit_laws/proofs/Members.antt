@@ -22,7 +22,7 @@ permuted_within xs ys same x = all_has (Has xs) ys x (all-permutation (Has xs) x
 -- ---- lists that are made of others
 
 module _ {A B : Type 0} where
-  part_has : (f : A → List B) (z : B) (x : A) (xs : List A) → Has xs x → Has (f x) z → Has (flat_map f xs) z
+  pub part_has : (f : A → List B) (z : B) (x : A) (xs : List A) → Has xs x → Has (f x) z → Has (flat_map f xs) z
   part_has f z x [] h part = elim h [ ]
   part_has f z x (y ∷ ys) (inl e) part = has_left (f y) (flat_map f ys) z (subst (λ w. Has (f w) z) e part)
   part_has f z x (y ∷ ys) (inr h) part = has_right (f y) (flat_map f ys) z (part_has f z x ys h part)
@@ -81,14 +81,14 @@ module _ {A : Type 0} (cmp : A → A → Ordering) (total : IsTotalOrder cmp) wh
 
 -- ---- lists that are numbered
 
+pub less : (a b : ℕ) → a < b → nat_cmp a b ≡ Less
+less a b h = grind (arith, nat_tests)
+
 module _ {A : Type 0} (number_of : A → ℕ) where
   -- the numbers are n, n + 1, n + 2 and so on
   abbrev pub AreNumberedFrom : ℕ → List A → Type 0
   AreNumberedFrom n [] = Unit {0}
   AreNumberedFrom n (x ∷ xs) = (number_of x ≡ n) × AreNumberedFrom (n + 1) xs
-
-  less : (a b : ℕ) → a < b → nat_cmp a b ≡ Less
-  less a b h = grind (arith, nat_tests)
 
   all_above : (a n : ℕ) (xs : List A) → a < n → AreNumberedFrom n xs → AllByRecursion (λ x. nat_cmp a (number_of x) ≡ Less) xs
   all_above a n [] low all = tt

@@ -1,5 +1,5 @@
 -- What the references between rows say of the records that the rows tell.
-use Rattle.std.proofs.Common.{◌≡◌, ◌⊎◌, inl, inr, ℕ, true, false, cond, List, [], ◌∷◌, map, find, Option, Some, None, option_map, IsSome, IsTrue, IsPermutation, refl, sym, ap, subst, ◌∙◌}
+use Rattle.std.proofs.Common.{◌≡◌, ◌⊎◌, inl, inr, ℕ, Bool, true, false, cond, List, [], ◌∷◌, map, flat_map, find, Option, Some, None, option_map, IsSome, IfSome, IsTrue, IsPermutation, refl, sym, ap, subst, ◌∙◌}
 use Rattle.std.specs.List.{AllByRecursion}
 use Rattle.std.specs.Str.{bytes_eq}
 use Rattle.std.proofs.lemmas.List.Sorted.{IsPermutation-sym}
@@ -13,16 +13,23 @@ use Rattle.sqlite_rules.proofs.ProbeLemmas.{has_mapped, mapped_has}
 use Rattle.sqlite.specs.Effect.{Database}
 use Rattle.vault_rules.specs.Rules.{passes_if_given}
 use Rattle.vault_core_model.specs.declared.records.Bucket.{Bucket}
+use Rattle.vault_core_model.specs.declared.records.BucketConfig.{BucketConfig}
 use Rattle.vault_core_model.specs.declared.records.Caller.{Caller}
 use Rattle.vault_core_model.specs.declared.records.Entry.{Entry}
-use Rattle.vault_core_model.specs.Vault.{config_in}
-use Rattle.vault_audit_model.specs.Rows.{caller_row, bucket_row, entry_row, caller_columns, bucket_columns, entry_columns}
-use Rattle.vault_audit_model.specs.Spells.{bucket_of}
+use Rattle.vault_core_model.specs.declared.records.History.{History}
+use Rattle.vault_core_model.specs.declared.records.Tenure.{Tenure}
+use Rattle.vault_core_model.specs.Vault.{Vault, config_in}
+use Rattle.vault_audit_model.specs.declared.schema.Edition.{Edition}
+use Rattle.vault_audit_model.specs.declared.schema.Edition.TheVariants.{First, Second, Third}
+use Rattle.vault_audit_model.specs.Rows.{caller_row, bucket_row, entry_row, tenure_row, caller_columns, bucket_columns, entry_columns}
+use Rattle.vault_audit_model.specs.Spells.{bucket_of, tenure_at, tenures_in, tenure_rows_of, tenure_rows_in}
 use Rattle.vault_audit_model.specs.Tables.{departments_tree, callers_tree, buckets_tree, entries_tree}
+use Rattle.vault_audit_model.specs.Tenures.{first_tenures, HasFirstTenures, IsUnmoved, IsUnmovedIn}
 use Rattle.vault_audit_model.specs.Values.{text_or_null}
+use Rattle.vault_audit_model.proofs.ListLemmas.{all_as}
 use Rattle.vault_audit_model.proofs.SameRows.{text_same}
 use Rattle.vault_audit_laws.specs.Ties.{AreTied, is_among}
-use Rattle.vault_audit_laws.proofs.Members.{permuted_within}
+use Rattle.vault_audit_laws.proofs.Members.{part_has, permuted_within}
 
 -- the value that a record's row has in a column stands in that column of its table
 module _ {A : Type 0} (row_of : A → Row) (columns : Row → Row) (at : ℕ) (xs : List A) (rows : List Row) (are : IsPermutation (map row_of xs) (map columns rows)) where
@@ -62,7 +69,32 @@ placed_by : (buckets : List Bucket) (name : List ℕ) (row : Row) (b : Bucket) �
 placed_by buckets name row b there is same =
     found_in buckets name b there ((bytes_eq-Decides b.name name).1 (sym (text_same name b.name (is ∙ ap (λ r. column r 0) same))))
 
-module _ (db : Database) (tied : AreTied db) where
+-- ---- tenures that tables without them tell
+
+owned_config : (departments : List (List ℕ)) (buckets : List Bucket) (name : List ℕ) → AllByRecursion (λ (b : Bucket). IsTrue (is_among departments b.config.dept)) buckets
+    → IfSome (config_in buckets name) (λ (c : BucketConfig). IsTrue (is_among departments c.dept))
+owned_config departments [] name all = tt
+owned_config departments (b ∷ bs) name all =
+    elim (bytes_eq b.name name) as (λ t. IfSome (option_map (λ (x : Bucket). x.config) (cond t (Some b) (find (λ (x : Bucket). bytes_eq x.name name) bs))) (λ (c : BucketConfig). IsTrue (is_among departments c.dept)))
+    [ true ↦ all.0 | false ↦ owned_config departments bs name all.1 ]
+
+first_owned : (departments : List (List ℕ)) (marker : Bool) (admitted : ℕ) (config : Option BucketConfig) → IfSome config (λ (c : BucketConfig). IsTrue (is_among departments c.dept))
+    → AllByRecursion (λ (t : Tenure). IsTrue (is_among departments t.dept)) (first_tenures marker admitted config)
+first_owned departments true admitted config owned = tt
+first_owned departments false admitted None owned = tt
+first_owned departments false admitted (Some c) owned = (owned, tt)
+
+unmoved_owned : (departments : List (List ℕ)) (v : Vault) → IsUnmoved v → AllByRecursion (λ (b : Bucket). IsTrue (is_among departments b.config.dept)) v.buckets
+    → AllByRecursion (λ (h : History). AllByRecursion (λ (t : Tenure). IsTrue (is_among departments t.dept)) h.tenures) v.histories
+unmoved_owned departments v unmoved owned =
+    all_as (λ (h : History) (first : HasFirstTenures v.buckets h).
+    subst (AllByRecursion (λ (t : Tenure). IsTrue (is_among departments t.dept))) (sym first)
+    (first_owned departments h.entry.marker h.entry.admitted (config_in v.buckets h.entry.bucket) (owned_config departments v.buckets h.entry.bucket owned)))
+    v.histories unmoved.tenures
+
+-- ---- all records
+
+module _ (n : Edition) (db : Database) (tied : AreTied n db) where
   pub callers_employed : (departments : List (List ℕ)) (callers : List Caller) → IsPermutation (map (λ d. Text d) departments) (map (λ r. column r 1) (db.trees departments_tree))
       → IsPermutation (map caller_row callers) (map caller_columns (db.trees callers_tree)) → AllByRecursion (λ (c : Caller). IsTrue (passes_if_given (is_among departments) c.dept)) callers
   callers_employed departments callers told are =
@@ -89,3 +121,23 @@ module _ (db : Database) (tied : AreTied db) where
       let row = has_mapped (λ r. column r 1) (db.trees buckets_tree) (Text e.bucket) (given_text names e.bucket tie) in
       let found = has_mapped (λ b. bucket_row (bucket_of b)) buckets (bucket_columns row.0) (permuted_within (map (λ b. bucket_row (bucket_of b)) buckets) (map bucket_columns (db.trees buckets_tree)) held (bucket_columns row.0) (mapped_has bucket_columns (db.trees buckets_tree) row.0 row.1)) in
       placed_by buckets e.bucket row.0 found.0 found.1 row.2 found.2)
+
+-- the rows of tenures tell their departments
+told_owned : (db : Database) → AreTied Third db → (departments : List (List ℕ)) (v : Vault) → IsPermutation (map (λ d. Text d) departments) (map (λ r. column r 1) (db.trees departments_tree))
+    → IsPermutation (tenure_rows_of Third v) (tenure_rows_in Third db) → AllByRecursion (λ (h : History). AllByRecursion (λ (t : Tenure). IsTrue (is_among departments t.dept)) h.tenures) v.histories
+told_owned db tied departments v told are =
+    all_from (λ (h : History). AllByRecursion (λ (t : Tenure). IsTrue (is_among departments t.dept)) h.tenures) v.histories (λ h there.
+    all_from (λ (t : Tenure). IsTrue (is_among departments t.dept)) h.tenures (λ t its.
+    let names = map (λ r. column r 1) (db.trees departments_tree) in
+    let row = tenure_row (tenure_at h.entry.id t) in
+    let one = mapped_has tenure_row (flat_map tenures_in v.histories) (tenure_at h.entry.id t) (part_has tenures_in (tenure_at h.entry.id t) h v.histories there (mapped_has (tenure_at h.entry.id) h.tenures t its)) in
+    let stored = permuted_within (tenure_rows_in Third db) (tenure_rows_of Third v) (IsPermutation-sym (tenure_rows_of Third v) (tenure_rows_in Third db) are) row one in
+    among departments names t.dept told
+    (all_has (λ x. (x ≡ Null) ⊎ Has names x) (map (λ r. column r 2) (tenure_rows_in Third db)) (Text t.dept) tied.departments_of_tenures (mapped_has (λ r. column r 2) (tenure_rows_in Third db) row stored))))
+
+pub tenures_owned : (n : Edition) (db : Database) → AreTied n db → (departments : List (List ℕ)) (v : Vault) → IsPermutation (map (λ d. Text d) departments) (map (λ r. column r 1) (db.trees departments_tree))
+    → IsPermutation (tenure_rows_of n v) (tenure_rows_in n db) → IsUnmovedIn n v → AllByRecursion (λ (b : Bucket). IsTrue (is_among departments b.config.dept)) v.buckets
+    → AllByRecursion (λ (h : History). AllByRecursion (λ (t : Tenure). IsTrue (is_among departments t.dept)) h.tenures) v.histories
+tenures_owned First db tied departments v told are unmoved owned = unmoved_owned departments v unmoved owned
+tenures_owned Second db tied departments v told are unmoved owned = unmoved_owned departments v unmoved owned
+tenures_owned Third db tied departments v told are unmoved owned = told_owned db tied departments v told are

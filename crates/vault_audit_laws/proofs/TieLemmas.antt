@@ -11,6 +11,7 @@ use Rattle.sqlite_value.specs.Keys.{plain, first_key, joined}
 use Rattle.sqlite_value.specs.Order.{Row, column, value_cmp}
 use Rattle.sqlite_value.proofs.OrderLemmas.{value_cmp-Text}
 use Rattle.sqlite_trees.specs.Tree.{Trees}
+use Rattle.sqlite_trees.proofs.ListLemmas.{map-map}
 use Rattle.sqlite_sql.specs.Ops.{binary, is_null, is_true, from_truth}
 use Rattle.sqlite_schema.specs.declared.schema.Column.{Column}
 use Rattle.sqlite_schema.specs.declared.schema.Constraint.TheVariants.{Datatype, ForeignKey}
@@ -24,7 +25,10 @@ use Rattle.sqlite_rules.proofs.ListLemmas.{all_has, some_has}
 use Rattle.sqlite_rules.proofs.ProbeLemmas.{mapped_has}
 use Rattle.sqlite.specs.Effect.{Database, IsDatabase}
 use Rattle.vault_audit_model.specs.declared.schema.Edition.{Edition}
-use Rattle.vault_audit_model.specs.Tables.{schema_of, rules_as, refers, departments, callers, buckets, entries, intake, heads, has, departments_tree, callers_tree, buckets_tree, rules_tree, entries_tree, contents_tree, settings_tree, intake_tree, heads_tree}
+use Rattle.vault_audit_model.specs.declared.schema.Edition.TheVariants.{First, Second, Third}
+use Rattle.vault_audit_model.specs.Rows.{tenure_columns}
+use Rattle.vault_audit_model.specs.Spells.{tenure_rows_in}
+use Rattle.vault_audit_model.specs.Tables.{schema_of, rules_as, refers, departments_as, callers, buckets, entries, intake, heads, tenures, has, departments_tree, callers_tree, buckets_tree, rules_tree, entries_tree, contents_tree, settings_tree, intake_tree, heads_tree, tenures_tree}
 use Rattle.vault_audit_laws.specs.Ties.{HaveParents, HaveTiedParents, AreTied}
 
 -- ---- values that SQL holds equal
@@ -75,6 +79,15 @@ text_second key b c cs [] texts free typed = inl refl
 text_second key b c cs (r ∷ []) texts free typed = inl refl
 text_second key b c cs (r ∷ v ∷ []) texts free typed = inl refl
 text_second key b c cs (r ∷ v ∷ w ∷ vs) texts free typed = texts w (subst (λ b. (if b then is_null w else suits c w) ≡ true) free (and_parts _ _ (and_parts _ _ typed).1).0)
+
+-- the third
+text_third : (key : Option ℕ) (a b c : Column) (cs : List Column) (row : Row) → ((v : Value) → suits c v ≡ true → IsTextOrNull v) → is_key key 2 ≡ false
+    → are_typed key 0 (a ∷ b ∷ c ∷ cs) (drop 1 row) ≡ true → IsTextOrNull (column row 3)
+text_third key a b c cs [] texts free typed = inl refl
+text_third key a b c cs (r ∷ []) texts free typed = inl refl
+text_third key a b c cs (r ∷ v ∷ []) texts free typed = inl refl
+text_third key a b c cs (r ∷ v ∷ w ∷ []) texts free typed = inl refl
+text_third key a b c cs (r ∷ v ∷ w ∷ x ∷ vs) texts free typed = texts x (subst (λ b. (if b then is_null x else suits c x) ≡ true) free (and_parts _ _ (and_parts _ _ (and_parts _ _ typed).1).1).0)
 
 -- ---- a row that a foreign key points to
 
@@ -151,6 +164,11 @@ second_texts : (key : Option ℕ) (b c : Column) (cs : List Column) → ((v : Va
 second_texts key b c cs texts free [] all = tt
 second_texts key b c cs texts free (r ∷ rs) all = (text_second key b c cs r texts free (and_parts _ _ all.0).0, second_texts key b c cs texts free rs all.1)
 
+third_texts : (key : Option ℕ) (a b c : Column) (cs : List Column) → ((v : Value) → suits c v ≡ true → IsTextOrNull v) → is_key key 2 ≡ false
+    → (rows : List Row) → AllByRecursion (λ row. (are_typed key 0 (a ∷ b ∷ c ∷ cs) (drop 1 row) && true) ≡ true) rows → AllByRecursion (λ r. IsTextOrNull (column r 3)) rows
+third_texts key a b c cs texts free [] all = tt
+third_texts key a b c cs texts free (r ∷ rs) all = (text_third key a b c cs r texts free (and_parts _ _ all.0).0, third_texts key a b c cs texts free rs all.1)
+
 module _ (tables : List Table) (trees : Trees) (at place tree : ℕ) (ref : Reference) (columns : ref.columns ≡ at ∷ []) (key : parent_key tables ref ≡ Some (tree, place ∷ [], plain)) where
   first_points : (refs : List Reference) (rows : List Row) → AllByRecursion (λ row. list_all (has_parent tables trees row) (ref ∷ refs) ≡ true) rows → AllByRecursion (PointsTo at place (trees tree)) rows
   first_points refs [] all = tt
@@ -177,6 +195,18 @@ entries_key : (n : Edition) (at : ℕ) → parent_key (schema_of n).tables (refe
 unfolding same_name joined
 entries_key n at = refl
 
+-- tenures, in the edition that has them
+tenure_departments : (n : Edition) (db : Database) → Keeps Datatype (schema_of n) db.trees → Keeps ForeignKey (schema_of n) db.trees → AllByRecursion (λ r. IsTextOrNull (column r 1)) (db.trees departments_tree)
+    → HaveParents (map (λ r. column r 2) (tenure_rows_in n db)) (map (λ r. column r 1) (db.trees departments_tree))
+tenure_departments First db typed refer names = tt
+tenure_departments Second db typed refer names = tt
+tenure_departments Third db typed refer names =
+    let rows = db.trees tenures_tree in
+    let texts = third_texts tenures.key (head_of tenures.columns) (head_of (drop 1 tenures.columns)) (head_of (drop 2 tenures.columns)) (drop 3 tenures.columns) text_or_null refl rows typed.1.1.1.1.1.1.1.1.1.1.0 in
+    let named = second_points (schema_of Third).tables db.trees 3 1 departments_tree (refers 3 (codes "departments") (codes "name")) refl (departments_key Third 3) (refers 1 (codes "entries") (codes "id")) [] rows refer.1.1.1.1.1.1.1.1.1.1.0 in
+    subst (λ vs. HaveParents vs (map (λ r. column r 1) (db.trees departments_tree))) (sym (map-map (λ r. column r 2) tenure_columns rows))
+    (text_parents 3 1 (db.trees departments_tree) rows names texts named)
+
 module _ (n : Edition) (db : Database) (is : IsDatabase db) (ours : db.schema ≡ schema_of n) where
   refer : Keeps ForeignKey (schema_of n) db.trees
   refer = subst (λ s. Keeps ForeignKey s db.trees) ours (is.obeys.rules ForeignKey)
@@ -191,7 +221,7 @@ module _ (n : Edition) (db : Database) (is : IsDatabase db) (ours : db.schema �
   AreTexts at rows = AllByRecursion (λ r. IsTextOrNull (column r at)) rows
 
   department_names : AreTexts 1 (rows_of departments_tree)
-  department_names = first_texts departments.key (head_of departments.columns) (drop 1 departments.columns) text_or_null refl (rows_of departments_tree) typed.1.0
+  department_names = first_texts (departments_as n).key (head_of (departments_as n).columns) (drop 1 (departments_as n).columns) text_or_null refl (rows_of departments_tree) typed.1.0
 
   caller_departments : AreTexts 2 (rows_of callers_tree)
   caller_departments = second_texts callers.key (head_of callers.columns) (head_of (drop 1 callers.columns)) (drop 2 callers.columns) text_or_null refl (rows_of callers_tree) typed.1.1.0
@@ -230,7 +260,7 @@ module _ (n : Edition) (db : Database) (is : IsDatabase db) (ours : db.schema �
       → AllByRecursion (λ row. list_all (has_parent (schema_of n).tables db.trees row) (before ∷ refers at (codes "entries") (codes "id") ∷ refs) ≡ true) rows → AllByRecursion (PointsTo at 0 (rows_of entries_tree)) rows
   then_to_entries at = second_points (schema_of n).tables db.trees at 0 entries_tree (refers at (codes "entries") (codes "id")) refl (entries_key n at)
 
-  pub are_tied : AreTied db
+  pub are_tied : AreTied n db
   are_tied = record {
     departments_of_callers = text_parents 2 1 (rows_of departments_tree) (rows_of callers_tree) department_names caller_departments (to_departments 2 [] (rows_of callers_tree) refer.1.1.0);
     departments_of_buckets = text_parents 2 1 (rows_of departments_tree) (rows_of buckets_tree) department_names bucket_departments (to_departments 2 [] (rows_of buckets_tree) refer.1.1.1.0);
@@ -242,4 +272,5 @@ module _ (n : Edition) (db : Database) (is : IsDatabase db) (ours : db.schema �
     entries_of_settings = tied_parents 1 0 (rows_of entries_tree) (rows_of settings_tree) (to_entries 1 [] (rows_of settings_tree) refer.1.1.1.1.1.1.1.0);
     entries_of_notes = tied_parents 10 0 (rows_of entries_tree) (rows_of intake_tree) (then_to_entries 10 (refers 1 (codes "buckets") (codes "name")) [] (rows_of intake_tree) refer.1.1.1.1.1.1.1.1.0);
     entries_of_heads = tied_parents 3 0 (rows_of entries_tree) (rows_of heads_tree) (then_to_entries 3 (refers 1 (codes "buckets") (codes "name")) [] (rows_of heads_tree) refer.1.1.1.1.1.1.1.1.1.0);
+    departments_of_tenures = tenure_departments n db typed refer department_names;
   }

@@ -1,5 +1,6 @@
 -- Two vaults that the rows of one database spell are one vault.
-use Rattle.std.proofs.Common.{◌≡◌, inl, inr, ℕ, ◌+◌, List, [], ◌∷◌, map, flat_map, Option, Some, None, IsTrue, Equal, nat_cmp, refl, sym, ap, subst, ◌∙◌}
+use Rattle.std.proofs.Common.{◌≡◌, inl, inr, ℕ, ◌+◌, ◌≤◌, Bool, true, false, List, [], ◌∷◌, map, flat_map, Option, Some, None, IsTrue, Ordering, Less, Equal, nat_cmp, refl, sym, ap, subst, ◌∙◌, arith}
+use Rattle.std.specs.List.{AllByRecursion}
 use Rattle.std.specs.Ordering.{on}
 use Rattle.std.proofs.lemmas.Cmp.{nat_list_cmp_total, nat_cmp_total, tied_itself}
 use Rattle.sqlite_value.specs.declared.value.Value.TheVariants.{Text}
@@ -7,6 +8,7 @@ use Rattle.sqlite_value.specs.Order.{column}
 use Rattle.sqlite.specs.Effect.{Database}
 use Rattle.sqlite_rules.specs.Lists.{Has}
 use Rattle.sqlite_rules.proofs.ListLemmas.{all_has}
+use Rattle.sqlite_rules.proofs.ProbeLemmas.{has_mapped, mapped_has}
 use Rattle.vault_rules.specs.Rules.{is_rule_set, passes_if_given}
 use Rattle.vault_rules.specs.declared.rule.Rule.{Rule}
 use Rattle.vault_core_model.specs.declared.records.Bucket.{Bucket}
@@ -18,20 +20,23 @@ use Rattle.vault_core_model.specs.declared.records.Note.{Note}
 use Rattle.vault_core_model.specs.declared.records.Setting.{Setting}
 use Rattle.vault_core_model.specs.declared.records.Tenure.{Tenure}
 use Rattle.vault_core_model.specs.Order.{IsAscending, name_cmp, caller_cmp, bucket_cmp, note_cmp}
-use Rattle.vault_core_model.specs.Sound.{AreIdsFrom, HasRuleSet}
+use Rattle.vault_core_model.specs.Sound.{AreIdsFrom, HasRuleSet, FollowOn, end_of, AreTenures, HasTenuresAs, HasTenures}
 use Rattle.vault_core_model.specs.Vault.{Vault}
 use Rattle.vault_audit_model.specs.declared.rows.ContentRow.{ContentRow}
+use Rattle.vault_audit_model.specs.declared.rows.MetaRow.{MetaRow}
 use Rattle.vault_audit_model.specs.declared.rows.RuleRow.{RuleRow}
 use Rattle.vault_audit_model.specs.declared.rows.SettingRow.{SettingRow}
+use Rattle.vault_audit_model.specs.declared.rows.TenureRow.{TenureRow}
 use Rattle.vault_audit_model.specs.declared.schema.Edition.{Edition}
+use Rattle.vault_audit_model.specs.declared.schema.Edition.TheVariants.{First, Second, Third}
 use Rattle.vault_audit_model.specs.Editions.{newest}
-use Rattle.vault_audit_model.specs.Rows.{meta_row, caller_row, bucket_row, rule_row, entry_row, content_row, setting_row, note_row, meta_columns, caller_columns, bucket_columns, rule_columns_as, entry_columns, content_columns, setting_columns, note_columns}
-use Rattle.vault_audit_model.specs.Spells.{SpellsAs, meta_as, bucket_of, rules_from, rules_if_given, rules_in, content_if_given, contents_in, settings_from, settings_in}
-use Rattle.vault_audit_model.specs.Tables.{meta_tree, departments_tree, callers_tree, buckets_tree, rules_tree, entries_tree, contents_tree, settings_tree, intake_tree}
-use Rattle.vault_audit_model.specs.Tenures.{HasFirstTenures, tenures_in}
-use Rattle.vault_audit_model.proofs.SameRows.{text_same, same_meta, same_caller, same_bucket, same_rule, same_entry, same_content, same_setting, same_note}
+use Rattle.vault_audit_model.specs.Rows.{meta_row, caller_row, bucket_row, rule_row, entry_row, content_row, setting_row, note_row, tenure_row, meta_columns_as, caller_columns, bucket_columns, rule_columns_as, entry_columns, content_columns, setting_columns, note_columns, tenure_columns}
+use Rattle.vault_audit_model.specs.Spells.{SpellsAs, meta_told, bucket_of, rules_from, rules_if_given, rules_in, content_if_given, contents_in, settings_from, settings_in, tenure_at, tenures_in}
+use Rattle.vault_audit_model.specs.Tables.{meta_tree, departments_tree, callers_tree, buckets_tree, rules_tree, entries_tree, contents_tree, settings_tree, intake_tree, tenures_tree}
+use Rattle.vault_audit_model.specs.Tenures.{HasFirstTenures, IsUnmoved, first_tenures_in}
+use Rattle.vault_audit_model.proofs.SameRows.{text_same, same_meta, same_caller, same_bucket, same_rule, same_entry, same_content, same_setting, same_note, same_tenure}
 use Rattle.vault_core_laws.proofs.NameOrder.{callers_total, buckets_total, notes_total}
-use Rattle.vault_audit_laws.proofs.Members.{IsWithin, matched, within_by_rows, tied_same, same_ascending, AreNumberedFrom, ascending_numbered, by_number_total, same_parts}
+use Rattle.vault_audit_laws.proofs.Members.{IsWithin, less, matched, within_by_rows, tied_same, same_ascending, AreNumberedFrom, ascending_numbered, by_number_total, same_parts}
 
 -- ---- parts at their places
 
@@ -87,6 +92,33 @@ same_settings id place rs ss there back =
     (ascending_numbered by place (settings_from id place rs) (settings_numbered id place rs)) (ascending_numbered by place (settings_from id place ss) (settings_numbered id place ss)) there back in
     sym (settings_back id place rs) ∙ ap (map (λ (s : SettingRow). s.setting)) same ∙ settings_back id place ss
 
+-- ---- tenures by their numbers
+
+abbrev by_number : Tenure → Tenure → Ordering
+by_number = on (λ (t : Tenure). t.number) nat_cmp
+
+later_tenures : (low moves end : ℕ) (t : Tenure) (ts : List Tenure) → low ≤ t.number → FollowOn moves end t ts → AllByRecursion (λ u. nat_cmp low u.number ≡ Less) ts
+later_tenures low moves end t [] high on = tt
+later_tenures low moves end t (u ∷ us) high on =
+    let above = on.0 in (less low u.number (omega (arith, high, above)), later_tenures low moves end u us (omega (arith, high, above)) on.4)
+
+rising_tenures : (moves end : ℕ) (t : Tenure) (ts : List Tenure) → FollowOn moves end t ts → IsAscending by_number (t ∷ ts)
+rising_tenures moves end t [] on = (tt, tt)
+rising_tenures moves end t (u ∷ us) on = (later_tenures t.number moves end t (u ∷ us) (omega arith) on, rising_tenures moves end u us on.4)
+
+rising_from : (v : Vault) (e : Entry) (ts : List Tenure) → AreTenures v e ts → IsAscending by_number ts
+rising_from v e [] are = tt
+rising_from v e (t ∷ ts) are = rising_tenures v.moves (end_of v.last e.removal) t ts are.2
+
+rising_as : (marker : Bool) (v : Vault) (h : History) → HasTenuresAs marker v h → IsAscending by_number h.tenures
+rising_as true v h has = subst (IsAscending by_number) (sym has) tt
+rising_as false v h has = rising_from v h.entry h.tenures has.0
+
+tenures_there : (id : ℕ) (ts us : List Tenure) → IsWithin (map (tenure_at id) ts) (map (tenure_at id) us) → IsWithin ts us
+tenures_there id ts us within t there =
+    let found = has_mapped (tenure_at id) us (tenure_at id t) (within (tenure_at id t) (mapped_has (tenure_at id) ts t there)) in
+    subst (Has us) (sym (ap (λ (r : TenureRow). r.tenure) found.2)) found.1
+
 -- ---- parts name what they are of
 
 rules_of_name : (name : List ℕ) (place : ℕ) (rules : List Rule) (r : RuleRow) → Has (rules_from name place rules) r → r.bucket ≡ name
@@ -107,6 +139,11 @@ settings_of_id : (id place : ℕ) (settings : List Setting) (s : SettingRow) →
 settings_of_id id place [] s h = elim h [ ]
 settings_of_id id place (t ∷ ts) s (inl e) = ap (λ (x : SettingRow). x.id) e
 settings_of_id id place (t ∷ ts) s (inr h) = settings_of_id id (place + 1) ts s h
+
+tenure_of_id : (id : ℕ) (ts : List Tenure) (t : TenureRow) → Has (map (tenure_at id) ts) t → t.id ≡ id
+tenure_of_id id [] t h = elim h [ ]
+tenure_of_id id (u ∷ us) t (inl e) = ap (λ (x : TenureRow). x.id) e
+tenure_of_id id (u ∷ us) t (inr h) = tenure_of_id id us t h
 
 -- ---- histories by their ids
 
@@ -203,32 +240,54 @@ module _ (n : Edition) (db : Database) where
   same_buckets v w it is =
       same_ascending bucket_cmp buckets_total v.buckets w.buckets it.kept.sound.ordered.buckets is.kept.sound.ordered.buckets (buckets_within v w it is) (buckets_within w v is it)
 
-  -- the tenures follow from the entry and the buckets
-  same_tenures : (v w : Vault) → SpellsAs n db v → SpellsAs n db w → (g h : History) → Has v.histories g → Has w.histories h → g.entry ≡ h.entry → g.tenures ≡ h.tenures
-  same_tenures v w it is g h in_v in_w same =
-      all_has (HasFirstTenures v.buckets) v.histories g it.kept.unmoved.tenures in_v ∙ ap (λ (bs : List Bucket). tenures_in bs g.entry) (same_buckets v w it is)
-      ∙ ap (tenures_in w.buckets) same ∙ sym (all_has (HasFirstTenures w.buckets) w.histories h is.kept.unmoved.tenures in_w)
+  -- without rows of their own, tenures follow from the entry and the buckets
+  same_first_tenures : (v w : Vault) → SpellsAs n db v → SpellsAs n db w → IsUnmoved v → IsUnmoved w → (g h : History) → Has v.histories g → Has w.histories h → g.entry ≡ h.entry → g.tenures ≡ h.tenures
+  same_first_tenures v w it is still calm g h in_v in_w same =
+      all_has (HasFirstTenures v.buckets) v.histories g still.tenures in_v ∙ ap (λ (bs : List Bucket). first_tenures_in bs g.entry) (same_buckets v w it is)
+      ∙ ap (first_tenures_in w.buckets) same ∙ sym (all_has (HasFirstTenures w.buckets) w.histories h calm.tenures in_w)
 
+  -- else they are those of the rows, which rise
+  same_told_tenures : (v w : Vault) → SpellsAs n db v → SpellsAs n db w → IsWithin (flat_map tenures_in v.histories) (flat_map tenures_in w.histories) → IsWithin (flat_map tenures_in w.histories) (flat_map tenures_in v.histories)
+      → (g h : History) → Has v.histories g → Has w.histories h → g.entry ≡ h.entry → g.tenures ≡ h.tenures
+  same_told_tenures v w it is within without g h in_v in_w same =
+      let id : g.entry.id ≡ h.entry.id = ap (λ e. e.id) same in
+      let own = λ (x : History) (t : TenureRow) (there : Has (tenures_in x) t). tenure_of_id x.entry.id x.tenures t there in
+      let there = same_parts id_of (λ (t : TenureRow). t.id) tenures_in own v.histories w.histories (one_history w.histories (ordered_ids w is)) within g h in_v in_w id in
+      let back = same_parts id_of (λ (t : TenureRow). t.id) tenures_in own w.histories v.histories (one_history v.histories (ordered_ids v it)) without h g in_w in_v (sym id) in
+      same_ascending by_number (by_number_total (λ (t : Tenure). t.number)) g.tenures h.tenures
+      (rising_as g.entry.marker v g (all_has (HasTenures v) v.histories g it.kept.sound.tenured in_v)) (rising_as h.entry.marker w h (all_has (HasTenures w) w.histories h is.kept.sound.tenured in_w))
+      (tenures_there g.entry.id g.tenures h.tenures (subst (λ i. IsWithin (tenures_in g) (map (tenure_at i) h.tenures)) (sym id) there))
+      (tenures_there g.entry.id h.tenures g.tenures (subst (λ i. IsWithin (map (tenure_at i) h.tenures) (tenures_in g)) (sym id) back))
+
+tenures_within : (db : Database) (v w : Vault) → SpellsAs Third db v → SpellsAs Third db w → IsWithin (flat_map tenures_in v.histories) (flat_map tenures_in w.histories)
+tenures_within db v w it is = within_by_rows tenure_row same_tenure (flat_map tenures_in v.histories) (flat_map tenures_in w.histories) (map tenure_columns (db.trees tenures_tree)) it.tenures is.tenures
+
+same_tenures : (n : Edition) (db : Database) (v w : Vault) → SpellsAs n db v → SpellsAs n db w → (g h : History) → Has v.histories g → Has w.histories h → g.entry ≡ h.entry → g.tenures ≡ h.tenures
+same_tenures First db v w it is = same_first_tenures First db v w it is it.kept.unmoved is.kept.unmoved
+same_tenures Second db v w it is = same_first_tenures Second db v w it is it.kept.unmoved is.kept.unmoved
+same_tenures Third db v w it is = same_told_tenures Third db v w it is (tenures_within db v w it is) (tenures_within db w v is it)
+
+module _ (n : Edition) (db : Database) where
   same_history_there : (v w : Vault) → SpellsAs n db v → SpellsAs n db w → (g h : History) → Has v.histories g → Has w.histories h → g.entry ≡ h.entry → g ≡ h
   same_history_there v w it is g h in_v in_w same =
       let id : g.entry.id ≡ h.entry.id = ap (λ e. e.id) same in
       let content : g.content ≡ h.content =
-      same_contents_given g.entry.id g.content h.content (subst (λ i. IsWithin (contents_in g) (content_if_given i h.content)) (sym id) (history_content v w it is g h in_v in_w id))
-      (subst (λ i. IsWithin (content_if_given i h.content) (contents_in g)) (sym id) (history_content w v is it h g in_w in_v (sym id))) in
+      same_contents_given g.entry.id g.content h.content (subst (λ i. IsWithin (contents_in g) (content_if_given i h.content)) (sym id) (history_content n db v w it is g h in_v in_w id))
+      (subst (λ i. IsWithin (content_if_given i h.content) (contents_in g)) (sym id) (history_content n db w v is it h g in_w in_v (sym id))) in
       let settings : g.settings ≡ h.settings =
-      same_settings g.entry.id 1 g.settings h.settings (subst (λ i. IsWithin (settings_in g) (settings_from i 1 h.settings)) (sym id) (history_settings v w it is g h in_v in_w id))
-      (subst (λ i. IsWithin (settings_from i 1 h.settings) (settings_in g)) (sym id) (history_settings w v is it h g in_w in_v (sym id))) in
-      alike_histories g.entry h.entry g.content h.content g.settings h.settings g.tenures h.tenures same content settings (same_tenures v w it is g h in_v in_w same)
+      same_settings g.entry.id 1 g.settings h.settings (subst (λ i. IsWithin (settings_in g) (settings_from i 1 h.settings)) (sym id) (history_settings n db v w it is g h in_v in_w id))
+      (subst (λ i. IsWithin (settings_from i 1 h.settings) (settings_in g)) (sym id) (history_settings n db w v is it h g in_w in_v (sym id))) in
+      alike_histories g.entry h.entry g.content h.content g.settings h.settings g.tenures h.tenures same content settings (same_tenures n db v w it is g h in_v in_w same)
 
   histories_within : (v w : Vault) → SpellsAs n db v → SpellsAs n db w → IsWithin v.histories w.histories
   histories_within v w it is g in_v =
       let found = matched (λ h. entry_row h.entry) v.histories w.histories (map entry_columns (db.trees entries_tree)) it.entries is.entries g in_v in
       subst (λ h. Has w.histories h) (sym (same_history_there v w it is g found.0 in_v found.1 (same_entry g.entry found.0.entry found.2))) found.1
 
-  same_last : (v w : Vault) → SpellsAs n db v → SpellsAs n db w → v.last ≡ w.last
-  same_last v w it is =
-      elim (within_by_rows meta_row same_meta (meta_as n v ∷ []) (meta_as n w ∷ []) (map meta_columns (db.trees meta_tree)) it.meta is.meta (meta_as n v) (inl refl)) [
-        | inl e ↦ ap (λ m. m.last) e
+  same_told : (v w : Vault) → SpellsAs n db v → SpellsAs n db w → meta_told n v ≡ meta_told n w
+  same_told v w it is =
+      elim (within_by_rows meta_row same_meta (meta_told n v ∷ []) (meta_told n w ∷ []) (map (meta_columns_as n) (db.trees meta_tree)) it.meta is.meta (meta_told n v) (inl refl)) [
+        | inl e ↦ e
         | inr none ↦ absurd none
       ]
 
@@ -238,14 +297,15 @@ pub same_vault_as : (n : Edition) (db : Database) (v w : Vault) → SpellsAs n d
 same_vault_as n db v w it is =
     let first = it.kept.sound.ordered in
     let second = is.kept.sound.ordered in
+    let told = same_told n db v w it is in
     alike_vaults v.last w.last v.departments w.departments v.callers w.callers v.buckets w.buckets v.notes w.notes v.histories w.histories v.moves w.moves
-    (same_last n db v w it is)
+    (ap (λ (m : MetaRow). m.last) told)
     (same_ascending name_cmp nat_list_cmp_total v.departments w.departments first.departments second.departments (departments_within n db v w it is) (departments_within n db w v is it))
     (same_ascending caller_cmp callers_total v.callers w.callers first.callers second.callers (callers_within n db v w it is) (callers_within n db w v is it))
     (same_buckets n db v w it is)
     (same_ascending note_cmp notes_total v.notes w.notes first.notes second.notes (notes_within n db v w it is) (notes_within n db w v is it))
     (same_ascending (on id_of nat_cmp) (by_number_total id_of) v.histories w.histories (ordered_ids n db v it) (ordered_ids n db w is) (histories_within n db v w it is) (histories_within n db w v is it))
-    (it.kept.unmoved.moves ∙ sym is.kept.unmoved.moves)
+    (ap (λ (m : MetaRow). m.moves) told)
 
 pub same_vault : (db : Database) (v w : Vault) → SpellsAs newest db v → SpellsAs newest db w → v ≡ w
 same_vault db v w it is = same_vault_as newest db v w it is

@@ -8,13 +8,14 @@ use Rattle.vault_core_model.specs.declared.records.Caller.{Caller}
 use Rattle.vault_core_model.specs.declared.records.Entry.{Entry}
 use Rattle.vault_core_model.specs.declared.records.History.{History}
 use Rattle.vault_core_model.specs.declared.records.Note.{Note}
+use Rattle.vault_core_model.specs.Sound.{IsPlaced}
 use Rattle.vault_core_model.specs.Vault.{Vault}
 use Rattle.vault_audit_model.specs.declared.schema.Edition.{Edition}
 use Rattle.vault_audit_model.specs.declared.rows.DepartmentRow.{DepartmentRow}
 use Rattle.vault_audit_model.specs.declared.rows.MetaRow.{MetaRow}
-use Rattle.vault_audit_model.specs.Relations.{AreBuckets, AreContents, AreEntries, AreNotes, AreSettings, AreSums, IsPast}
+use Rattle.vault_audit_model.specs.Relations.{AreBuckets, AreContents, AreEntries, AreNotes, AreSettings, AreSums, AreTenuresOf, AreTenuresWith, IsPast}
 use Rattle.vault_audit_model.specs.Rows.{entry_row, entry_columns}
-use Rattle.vault_audit_model.specs.Spells.{AreSoundAs}
+use Rattle.vault_audit_model.specs.Spells.{AreSoundAs, entries_in}
 use Rattle.vault_audit_model.specs.Tables.{entries_tree}
 use Rattle.vault_audit_walk.specs.Records.{AreRecords}
 use Rattle.vault_audit_tables.specs.Entries.{IsEntryBy}
@@ -38,9 +39,9 @@ ArePast db last = AreRecords entry_row (IsEntryBy last) (map entry_columns (db.t
 -- the next id, and the departments with their sums
 pub record DepartmentsFound (n : Edition) (db : Database) (m : MetaRow) : Type 0 where
   pub next : m.next ≡ length (db.trees entries_tree) + 1
-  pub departments : (ds : List DepartmentRow) × AreDepartmentsByName db ds
-  pub sums : (bs : List Bucket) (hs : List History) (last : ℕ) → AreBuckets n db bs → AreEntries db (map (λ (h : History). h.entry) hs) → AllByRecursion (IsPast last) (map (λ (h : History). h.entry) hs)
-      → (summed : List (List ℕ)) × AreSums db bs hs summed
+  pub departments : (ds : List DepartmentRow) × AreDepartmentsByName n db ds
+  pub sums : (v : Vault) → AreBuckets n db v.buckets → AreEntries db (entries_in v.histories) → AllByRecursion (IsPast v.last) (entries_in v.histories) → AreTenuresOf n db v
+      → (summed : List (List ℕ)) × AreSums n db v.histories summed
 
 -- callers, and buckets with their rules
 pub record NamesFound (n : Edition) (db : Database) : Type 0 where
@@ -52,3 +53,10 @@ pub record VersionsFound (db : Database) (es : List Entry) : Type 0 where
   pub contents : (hs : List History) × AreContents db es hs
   pub settings : (hs : List History) × AreSettings db es hs
   pub notes : (ns : List Note) × AreNotes db es ns
+
+-- the tenures of the versions in these buckets, where this is the row of meta
+abbrev pub TenuresFound : Edition → Database → MetaRow → Type 0
+TenuresFound n db m =
+    IsMetaOf n db (Some m) → (v : Vault) → v.last ≡ m.last → v.moves ≡ m.moves → AreBuckets n db v.buckets → AreEntries db (entries_in v.histories)
+    → AllByRecursion (IsPast v.last) (entries_in v.histories) → AllByRecursion (IsPlaced v) v.histories
+    → (hs : List History) × AreTenuresWith n db v hs

@@ -16,15 +16,15 @@ use vault_audit_sums::sums::check_sums;
 use vault_base::refusal::Table;
 
 /// The first of meta and departments that is damaged: the next id isn't one above the entries, a
-/// department's name stands there twice, or one lacks the sums over its versions.
+/// department's name stands there twice, or one lacks the sums over its tenures.
 pub fn look_at_departments<S: Alter>(
     alloc: Global,
     conn: &mut Connection<S>,
     edition: Edition,
-    meta: MetaRow,
+    meta: &MetaRow,
 ) -> Result<Option<Table>, Error>
     requires { HasCleanDisk (state S.Store conn.old) → (state S.Store conn.old).now.schema ≡ schema_of edition }
-    ensures told { HasCleanDisk (state S.Store conn.new) → IfOk result (ToldOf edition (state S.Store conn.new).now meta (DepartmentsFound edition (state S.Store conn.new).now meta)) }
+    ensures told { HasCleanDisk (state S.Store conn.new) → IfOk result (ToldOf edition (state S.Store conn.new).now meta.now (DepartmentsFound edition (state S.Store conn.new).now meta.now)) }
     ensures same { HasCleanDisk (state S.Store conn.new) → OnOk result (IsUnchanged (state S.Store conn.old) (state S.Store conn.new)) }
     ensures err { IsHealthy (state S.Store conn.new) → IfErr result IsMemory }
     ensures crash { Survives (state S.Store conn.old) (state S.Store conn.new) (λ _. ⊥) }

@@ -5,4 +5,5 @@
 
 pub mod departments;
 pub mod names;
+pub mod tenures;
 pub mod versions;

@@ -13,7 +13,7 @@ use Rattle.vault_core_model.specs.Order.{IsAscending, name_cmp}
 use Rattle.vault_core_model.specs.Vault.{Vault}
 use Rattle.vault_audit_model.specs.declared.rows.DepartmentRow.{DepartmentRow}
 use Rattle.vault_audit_model.specs.Limits.{IsPlainName, IsCaller, IsDepartmentRow}
-use Rattle.vault_audit_model.specs.Rows.{caller_row, caller_columns, department_row, department_columns}
+use Rattle.vault_audit_model.specs.Rows.{caller_row, caller_columns, department_row, department_columns_as}
 use Rattle.vault_audit_model.specs.Spells.{AreSoundAs, department_in}
 use Rattle.vault_audit_model.specs.Tables.{schema_of, callers_tree, departments_tree}
 use Rattle.vault_audit_model.proofs.SameRows.{same_caller}
@@ -24,8 +24,10 @@ use Rattle.vault_audit_walk.proofs.PassLemmas.{walk_yes, walk_no, rows_yes, rows
 use Rattle.vault_audit_names.specs.Names.{IsNextCaller, with_caller, TellCallers, department_cmp, IsNextDepartment, with_department, TellDepartments}
 use Rattle.vault_audit_names.proofs.RiseLemmas.{ascending, in_limits, rise, fitting}
 use Rattle.vault_audit_names.proofs.RowLemmas.{same_name}
-use Rattle.vault_audit_names.proofs.TextLemmas.{callers_walk, callers_walk_is, callers_walk_plain, departments_walk, departments_walk_is, departments_walk_plain}
+use Rattle.vault_audit_names.proofs.TextLemmas.{callers_walk, callers_walk_is, callers_walk_plain, departments_walk_is, departments_walk_plain, moved_shown}
+use Rattle.vault_audit_names.specs.DepartmentsWalk.{departments_walk}
 use Rattle.vault_audit_model.specs.declared.schema.Edition.{Edition}
+use Rattle.vault_audit_model.specs.declared.schema.Edition.TheVariants.{First, Second, Third}
 
 -- ---- callers
 
@@ -41,15 +43,19 @@ callers_answer n a b schema rows shown =
 
 -- ---- departments
 
-abbrev departments_in : Database → List Row
-departments_in db = map department_columns (db.trees departments_tree)
+abbrev departments_in : Edition → Database → List Row
+departments_in n db = map (department_columns_as n) (db.trees departments_tree)
 
 departments_first : (x y : DepartmentRow) → first_cmp (department_row x) (department_row y) ≡ name_cmp x.name y.name
 departments_first x y = value_cmp-Text x.name y.name
 
-departments_answer : (n : Edition) → (a b : State) → a.now.schema ≡ schema_of n → (rows : List Row) → Shown departments_walk [] a b rows → IsPermutation (departments_in a.now) rows × IsSorted first_cmp rows
-departments_answer n a b schema rows shown =
-    walked departments_walk a b (schema_of n) schema (departments_walk_plain n) (departments_walk_is n).1 1 1 (col 1 2 ∷ col 1 3 ∷ col 1 4 ∷ col 1 5 ∷ col 1 6 ∷ []) _ (departments_walk_is n).0 refl rows shown
+departments_answer : (n : Edition) (a b : State) → a.now.schema ≡ schema_of n → (rows : List Row) → Shown (departments_walk n) [] a b rows → IsPermutation (departments_in n a.now) rows × IsSorted first_cmp rows
+departments_answer First a b schema rows shown =
+    walked (departments_walk First) a b (schema_of First) schema (departments_walk_plain First) (departments_walk_is First).1 1 1 (col 1 2 ∷ col 1 3 ∷ col 1 4 ∷ col 1 5 ∷ col 1 6 ∷ moved_shown First) _ (departments_walk_is First).0 refl rows shown
+departments_answer Second a b schema rows shown =
+    walked (departments_walk Second) a b (schema_of Second) schema (departments_walk_plain Second) (departments_walk_is Second).1 1 1 (col 1 2 ∷ col 1 3 ∷ col 1 4 ∷ col 1 5 ∷ col 1 6 ∷ moved_shown Second) _ (departments_walk_is Second).0 refl rows shown
+departments_answer Third a b schema rows shown =
+    walked (departments_walk Third) a b (schema_of Third) schema (departments_walk_plain Third) (departments_walk_is Third).1 1 1 (col 1 2 ∷ col 1 3 ∷ col 1 4 ∷ col 1 5 ∷ col 1 6 ∷ moved_shown Third) _ (departments_walk_is Third).0 refl rows shown
 
 alike : (before : Option (List ℕ)) (x y : DepartmentRow) → department_row x ≡ department_row y → with_department before x ≡ with_department before y
 alike before x y e = ap Some (same_name x y e)
@@ -65,12 +71,12 @@ module _ (n : Edition) (old new : State) (has : old.now.schema ≡ schema_of n) 
       walk_no caller_row IsNextCaller with_caller same_caller (schema_of n) callers_walk _ _ (callers_walk_is n).0 callers_in (callers_answer n) old new has same None r
       (rise caller_row (λ (c : Caller). c.name) IsCaller callers_first None) h cs are.0 (fitting caller_row (λ (c : Caller). c.name) IsCaller callers_first cs are.1 are.2)
 
-  departments_told : (told : Bool) → IsUnchanged old new → Walked (Takes department_row IsNextDepartment with_department) (Refuses department_row IsNextDepartment with_department) departments_walk old new None r told → TellDepartments new.now told
+  departments_told : (told : Bool) → IsUnchanged old new → Walked (Takes department_row IsNextDepartment with_department) (Refuses department_row IsNextDepartment with_department) (departments_walk n) old new None r told → TellDepartments n new.now told
   departments_told true same h =
-      let it = rows_yes department_row IsNextDepartment with_department alike first_cmp first_cmp_total (schema_of n) departments_walk _ _ (departments_walk_is n).0 departments_in (departments_answer n) old new has same None r h in
+      let it = rows_yes department_row IsNextDepartment with_department alike first_cmp first_cmp_total (schema_of n) (departments_walk n) _ _ (departments_walk_is n).0 (departments_in n) (departments_answer n) old new has same None r h in
       (it.0, (it.1, ascending department_row (λ (d : DepartmentRow). d.name) IsDepartmentRow departments_first None it.0 it.2, in_limits department_row (λ (d : DepartmentRow). d.name) IsDepartmentRow departments_first None it.0 it.2))
   departments_told false same h = λ ds are.
-      rows_no department_row IsNextDepartment with_department alike first_cmp first_cmp_total (schema_of n) departments_walk _ _ (departments_walk_is n).0 departments_in (departments_answer n) old new has same None r
+      rows_no department_row IsNextDepartment with_department alike first_cmp first_cmp_total (schema_of n) (departments_walk n) _ _ (departments_walk_is n).0 (departments_in n) (departments_answer n) old new has same None r
       (rise department_row (λ (d : DepartmentRow). d.name) IsDepartmentRow departments_first None) h ds are.0 (fitting department_row (λ (d : DepartmentRow). d.name) IsDepartmentRow departments_first ds are.1 are.2)
 
   -- the same of the answers of such walks
@@ -78,7 +84,7 @@ module _ (n : Edition) (old new : State) (has : old.now.schema ≡ schema_of n) 
   callers_if_ok (Ok told) same h = callers_told told same h
   callers_if_ok (Err e) same h = tt
 
-  pub departments_if_ok : (answer : Result Bool Error) → OnOk answer (IsUnchanged old new) → IfOk answer (Walked (Takes department_row IsNextDepartment with_department) (Refuses department_row IsNextDepartment with_department) departments_walk old new None r) → IfOk answer (TellDepartments new.now)
+  pub departments_if_ok : (answer : Result Bool Error) → OnOk answer (IsUnchanged old new) → IfOk answer (Walked (Takes department_row IsNextDepartment with_department) (Refuses department_row IsNextDepartment with_department) (departments_walk n) old new None r) → IfOk answer (TellDepartments n new.now)
   departments_if_ok (Ok told) same h = departments_told told same h
   departments_if_ok (Err e) same h = tt
 
@@ -100,10 +106,10 @@ module _ (n : Edition) (db : Database) (v : Vault) where
   in_order [] order = tt
   in_order (d ∷ ds) order = (later_names d ds order.0, in_order ds order.1)
 
-  pub no_departments : TellDepartments db false → ¬ AreSoundAs n db v
+  pub no_departments : TellDepartments n db false → ¬ AreSoundAs n db v
   no_departments none it =
       none (map (department_in v) v.departments) (
-        subst (λ rows. IsPermutation rows (departments_in db)) (sym (map-map department_row (department_in v) v.departments)) it.numbers,
+        subst (λ rows. IsPermutation rows (departments_in n db)) (sym (map-map department_row (department_in v) v.departments)) it.numbers,
         in_order v.departments it.spells.kept.sound.ordered.departments,
         named v.departments it.spells.kept.limits.departments,
       )

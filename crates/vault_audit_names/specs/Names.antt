@@ -6,8 +6,9 @@ use Rattle.sqlite.specs.Effect.{Database}
 use Rattle.vault_core_model.specs.declared.records.Caller.{Caller}
 use Rattle.vault_core_model.specs.Order.{IsAscending, name_cmp, caller_cmp}
 use Rattle.vault_audit_model.specs.declared.rows.DepartmentRow.{DepartmentRow}
+use Rattle.vault_audit_model.specs.declared.schema.Edition.{Edition}
 use Rattle.vault_audit_model.specs.Limits.{IsCaller, IsDepartmentRow}
-use Rattle.vault_audit_model.specs.Rows.{caller_row, department_row, caller_columns, department_columns}
+use Rattle.vault_audit_model.specs.Rows.{caller_row, department_row, caller_columns, department_columns_as}
 use Rattle.vault_audit_model.specs.Tables.{callers_tree, departments_tree}
 use Rattle.vault_audit_model.specs.Relations.{IsAfter}
 
@@ -42,11 +43,11 @@ abbrev pub with_department : Option (List ℕ) → DepartmentRow → Option (Lis
 with_department before d = Some d.name
 
 -- the rows of departments are these, in their limits and by rising name
-abbrev pub AreDepartmentsByName : Database → List DepartmentRow → Type 0
-AreDepartmentsByName db ds =
-    IsPermutation (map department_row ds) (map department_columns (db.trees departments_tree)) × IsAscending department_cmp ds
+abbrev pub AreDepartmentsByName : Edition → Database → List DepartmentRow → Type 0
+AreDepartmentsByName n db ds =
+    IsPermutation (map department_row ds) (map (department_columns_as n) (db.trees departments_tree)) × IsAscending department_cmp ds
     × AllByRecursion IsDepartmentRow ds
 
-abbrev pub TellDepartments : Database → Bool → Type 0
-TellDepartments db true = (ds : List DepartmentRow) × AreDepartmentsByName db ds
-TellDepartments db false = (ds : List DepartmentRow) → ¬ AreDepartmentsByName db ds
+abbrev pub TellDepartments : Edition → Database → Bool → Type 0
+TellDepartments n db true = (ds : List DepartmentRow) × AreDepartmentsByName n db ds
+TellDepartments n db false = (ds : List DepartmentRow) → ¬ AreDepartmentsByName n db ds

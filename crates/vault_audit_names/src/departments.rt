@@ -6,6 +6,7 @@ ghost use Rattle.vault_core_model.specs.Vault.{Vault};
 ghost use Rattle.vault_audit_model.specs.Spells.{AreSoundAs};
 ghost use Rattle.vault_audit_model.specs.Tables.{schema_of};
 ghost use Rattle.vault_audit_model.specs.Relations.{IsAfter};
+ghost use Rattle.vault_audit_names.specs.DepartmentsWalk.{departments_walk};
 ghost use Rattle.vault_audit_names.specs.Names.{TellDepartments};
 ghost use Rattle.vault_audit_walk.specs.Health.{IsHealthy, IsMemory};
 
@@ -65,22 +66,32 @@ impl Pass for DepartmentPass {
     }
 }
 
+/// The query for the departments by name. What an edition has no column for is 0.
+fn departments_walk(edition: Edition) -> &'static str
+    ensures { result.now ≡ departments_walk edition }
+{
+    match edition {
+        Edition::First | Edition::Second => {
+            "SELECT name, admitted, held, removed, weighted, closed, 0, 0 FROM departments ORDER BY name"
+        }
+        Edition::Third => {
+            "SELECT name, admitted, held, removed, weighted, closed, received, handed FROM departments ORDER BY name"
+        }
+    }
+}
+
 /// Whether the rows of `departments` tell departments with values in their limits, of which no two have one name.
 pub fn check_departments_by_name<S: Alter>(
     conn: &mut Connection<S>,
     edition: Edition,
 ) -> Result<bool, Error>
     requires { HasCleanDisk (state S.Store conn.old) → (state S.Store conn.old).now.schema ≡ schema_of edition }
-    ensures told { HasCleanDisk (state S.Store conn.new) → IfOk result (TellDepartments (state S.Store conn.new).now) }
+    ensures told { HasCleanDisk (state S.Store conn.new) → IfOk result (TellDepartments edition (state S.Store conn.new).now) }
     ensures damaged { HasCleanDisk (state S.Store conn.new) → IfOk result (λ told. told ≡ false → (v : Vault) → ¬ AreSoundAs edition (state S.Store conn.new).now v) }
     ensures same { HasCleanDisk (state S.Store conn.new) → OnOk result (IsUnchanged (state S.Store conn.old) (state S.Store conn.new)) }
     ensures err { IsHealthy (state S.Store conn.new) → IfErr result IsMemory }
     ensures crash { Survives (state S.Store conn.old) (state S.Store conn.new) (λ _. ⊥) }
 {
     let mut pass = DepartmentPass { last: None };
-    walk(
-        conn,
-        "SELECT name, admitted, held, removed, weighted, closed FROM departments ORDER BY name",
-        &mut pass,
-    )
+    walk(conn, departments_walk(edition), &mut pass)
 }

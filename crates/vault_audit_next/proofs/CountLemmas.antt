@@ -14,7 +14,7 @@ use Rattle.vault_core_model.specs.declared.records.History.{History}
 use Rattle.vault_core_model.specs.Vault.{Vault}
 use Rattle.vault_audit_model.specs.declared.rows.MetaRow.{MetaRow}
 use Rattle.vault_audit_model.specs.Rows.{meta_row, entry_row, entry_columns}
-use Rattle.vault_audit_model.specs.Spells.{AreSoundAs, meta_as}
+use Rattle.vault_audit_model.specs.Spells.{AreSoundAs, meta_told}
 use Rattle.vault_audit_model.specs.Tables.{schema_of, entries_tree}
 use Rattle.vault_audit_model.proofs.SameRows.{same_meta}
 use Rattle.vault_audit_walk.specs.Walk.{Goes, Walked}
@@ -59,8 +59,8 @@ all_counted n old new has same p q false (rows, row, m, begins, goes, never) = a
 pub next_of : (n : Edition) → (db : Database) (v : Vault) (m : MetaRow) → IsMetaOf n db (Some m) → AreSoundAs n db v → m.next ≡ length (db.trees entries_tree) + 1
 next_of n db v m is it =
     let rows = one_permutation (meta_row m) _ (IsPermutation-trans _ _ _ is.0 (IsPermutation-sym _ _ it.spells.meta)) in
-    let first : meta_row (meta_as n v) ≡ meta_row m = cc in
-    let same : meta_as n v ≡ m = same_meta (meta_as n v) m first in
+    let first : meta_row (meta_told n v) ≡ meta_row m = cc in
+    let same : meta_told n v ≡ m = same_meta (meta_told n v) m first in
     let next = ap (λ (x : MetaRow). x.next) same in
     let a = length_permutation _ _ it.spells.entries in
     let b : length (map (λ (h : History). entry_row h.entry) v.histories) ≡ length v.histories = simp length-map in

@@ -1,4 +1,4 @@
+pub mod EditionLemmas
 pub mod MetaLemmas
 pub mod OrderLemmas
-pub mod RulesLemmas
 pub mod TextLemmas

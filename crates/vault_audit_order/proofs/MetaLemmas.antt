@@ -12,7 +12,8 @@ use Rattle.vault_base.specs.declared.refusal.Table.TheVariants as table
 use Rattle.vault_audit_model.specs.declared.rows.MetaRow.{MetaRow}
 use Rattle.vault_audit_tables.specs.declared.meta.MetaPass.{MetaPass}
 use Rattle.vault_audit_model.specs.declared.schema.Edition.{Edition}
-use Rattle.vault_audit_model.specs.Rows.{meta_row, meta_columns}
+use Rattle.vault_audit_model.specs.declared.schema.Edition.TheVariants.{First, Second, Third}
+use Rattle.vault_audit_model.specs.Rows.{meta_row, meta_columns_as}
 use Rattle.vault_audit_model.proofs.SameRows.{same_meta}
 use Rattle.vault_audit_tables.specs.Meta.{IsFirstMeta, with_meta, IsMetaOf}
 use Rattle.vault_audit_schema.specs.Places.{BeginTo}
@@ -20,13 +21,16 @@ use Rattle.vault_audit_walk.specs.Pass.{Takes, Refuses, AllFit, after}
 use Rattle.vault_audit_walk.specs.Walk.{Walked}
 use Rattle.vault_audit_walk.proofs.ScanLemmas.{walked, first_cmp}
 use Rattle.vault_audit_walk.proofs.PassLemmas.{walk_yes, walk_no}
-use Rattle.vault_audit_order.proofs.TextLemmas.{meta_walk, meta_walks}
+use Rattle.vault_audit_order.specs.MetaQuery.{meta_query}
+use Rattle.vault_audit_order.proofs.TextLemmas.{moves_shown, meta_walks}
 
-abbrev source : Database → List Row
-source db = map meta_columns (db.trees 0)
+abbrev source : Edition → Database → List Row
+source n db = map (meta_columns_as n) (db.trees 0)
 
-answers : (n : Edition) (s : Schema) → BeginTo n s.tables table.Meta → (a b : State) → a.now.schema ≡ s → (rows : List Row) → Shown meta_walk [] a b rows → IsPermutation (source a.now) rows × IsSorted first_cmp rows
-answers n s begin a b has rows shown = let it = meta_walks n s begin in walked meta_walk a b s has it.plain it.unlisted 0 0 (col 1 2 ∷ col 1 3 ∷ col 1 4 ∷ []) _ it.command refl rows shown
+answers : (n : Edition) (s : Schema) → BeginTo n s.tables table.Meta → (a b : State) → a.now.schema ≡ s → (rows : List Row) → Shown (meta_query n) [] a b rows → IsPermutation (source n a.now) rows × IsSorted first_cmp rows
+answers First s begin a b has rows shown = let it = meta_walks First s begin in walked (meta_query First) a b s has it.plain it.unlisted 0 0 (col 1 2 ∷ col 1 3 ∷ col 1 4 ∷ moves_shown First) _ it.command refl rows shown
+answers Second s begin a b has rows shown = let it = meta_walks Second s begin in walked (meta_query Second) a b s has it.plain it.unlisted 0 0 (col 1 2 ∷ col 1 3 ∷ col 1 4 ∷ moves_shown Second) _ it.command refl rows shown
+answers Third s begin a b has rows shown = let it = meta_walks Third s begin in walked (meta_query Third) a b s has it.plain it.unlisted 0 0 (col 1 2 ∷ col 1 3 ∷ col 1 4 ∷ moves_shown Third) _ it.command refl rows shown
 
 abbrev start : Edition → MetaPass
 start n = record { edition = n; found = None }
@@ -37,10 +41,10 @@ rise n (x ∷ []) fit = (tt, tt)
 rise n (x ∷ y ∷ xs) fit = absurd (let never = fit.1.0.0 in cc)
 
 module _ (n : Edition) (old new : State) (begin : BeginTo n old.now.schema.tables table.Meta) (same : IsUnchanged old new) (r : MetaPass) where
-  pub meta_yes : Walked (Takes meta_row IsFirstMeta with_meta) (Refuses meta_row IsFirstMeta with_meta) meta_walk old new (start n) r true → (x : MetaRow) → r.found ≡ Some x → IsMetaOf n new.now (Some x)
-  meta_yes h = one (walk_yes meta_row IsFirstMeta with_meta same_meta old.now.schema meta_walk _ _ (meta_walks n old.now.schema begin).command source (answers n old.now.schema begin) old new refl same (start n) r h)
+  pub meta_yes : Walked (Takes meta_row IsFirstMeta with_meta) (Refuses meta_row IsFirstMeta with_meta) (meta_query n) old new (start n) r true → (x : MetaRow) → r.found ≡ Some x → IsMetaOf n new.now (Some x)
+  meta_yes h = one (walk_yes meta_row IsFirstMeta with_meta same_meta old.now.schema (meta_query n) _ _ (meta_walks n old.now.schema begin).command (source n) (answers n old.now.schema begin) old new refl same (start n) r h)
     where
-      one : (xs : List MetaRow) × IsPermutation (map meta_row xs) (source new.now) × AllFit meta_row IsFirstMeta with_meta (start n) xs × (r ≡ after meta_row IsFirstMeta with_meta (start n) xs) → (x : MetaRow) → r.found ≡ Some x → IsMetaOf n new.now (Some x)
+      one : (xs : List MetaRow) × IsPermutation (map meta_row xs) (source n new.now) × AllFit meta_row IsFirstMeta with_meta (start n) xs × (r ≡ after meta_row IsFirstMeta with_meta (start n) xs) → (x : MetaRow) → r.found ≡ Some x → IsMetaOf n new.now (Some x)
       one ([], are, fit, is) x found = absurd (let e = ap (λ (p : MetaPass). p.found) is in cc)
       one (y ∷ [], are, fit, is) x found =
           let same : y ≡ x = (let e = ap (λ (p : MetaPass). p.found) is in cc) in
@@ -48,18 +52,18 @@ module _ (n : Edition) (old new : State) (begin : BeginTo n old.now.schema.table
       one (y ∷ z ∷ more, are, fit, is) x found = absurd (let never = fit.1.0.0 in cc)
 
   -- no row at all
-  pub meta_none : Walked (Takes meta_row IsFirstMeta with_meta) (Refuses meta_row IsFirstMeta with_meta) meta_walk old new (start n) r true → r.found ≡ None → IsMetaOf n new.now None
-  meta_none h = one (walk_yes meta_row IsFirstMeta with_meta same_meta old.now.schema meta_walk _ _ (meta_walks n old.now.schema begin).command source (answers n old.now.schema begin) old new refl same (start n) r h)
+  pub meta_none : Walked (Takes meta_row IsFirstMeta with_meta) (Refuses meta_row IsFirstMeta with_meta) (meta_query n) old new (start n) r true → r.found ≡ None → IsMetaOf n new.now None
+  meta_none h = one (walk_yes meta_row IsFirstMeta with_meta same_meta old.now.schema (meta_query n) _ _ (meta_walks n old.now.schema begin).command (source n) (answers n old.now.schema begin) old new refl same (start n) r h)
     where
-      one : (xs : List MetaRow) × IsPermutation (map meta_row xs) (source new.now) × AllFit meta_row IsFirstMeta with_meta (start n) xs × (r ≡ after meta_row IsFirstMeta with_meta (start n) xs) → r.found ≡ None → IsMetaOf n new.now None
+      one : (xs : List MetaRow) × IsPermutation (map meta_row xs) (source n new.now) × AllFit meta_row IsFirstMeta with_meta (start n) xs × (r ≡ after meta_row IsFirstMeta with_meta (start n) xs) → r.found ≡ None → IsMetaOf n new.now None
       one ([], are, fit, is) none x one_row head = absurd (let a = length_permutation _ _ are in let b = length_permutation _ _ one_row in omega arith)
       one (y ∷ [], are, fit, is) none x one_row head = absurd (let e = ap (λ (p : MetaPass). p.found) is in cc)
       one (y ∷ z ∷ more, are, fit, is) none x one_row head = absurd (let never = fit.1.0.0 in cc)
 
-  pub meta_no : Walked (Takes meta_row IsFirstMeta with_meta) (Refuses meta_row IsFirstMeta with_meta) meta_walk old new (start n) r false → IsMetaOf n new.now None
-  meta_no h x are head = walk_no meta_row IsFirstMeta with_meta same_meta old.now.schema meta_walk _ _ (meta_walks n old.now.schema begin).command source (answers n old.now.schema begin) old new refl same (start n) r (rise n) h (x ∷ []) are ((refl, head), tt)
+  pub meta_no : Walked (Takes meta_row IsFirstMeta with_meta) (Refuses meta_row IsFirstMeta with_meta) (meta_query n) old new (start n) r false → IsMetaOf n new.now None
+  meta_no h x are head = walk_no meta_row IsFirstMeta with_meta same_meta old.now.schema (meta_query n) _ _ (meta_walks n old.now.schema begin).command (source n) (answers n old.now.schema begin) old new refl same (start n) r (rise n) h (x ∷ []) are ((refl, head), tt)
 
-  pub meta_all : Walked (Takes meta_row IsFirstMeta with_meta) (Refuses meta_row IsFirstMeta with_meta) meta_walk old new (start n) r true → IsMetaOf n new.now r.found
+  pub meta_all : Walked (Takes meta_row IsFirstMeta with_meta) (Refuses meta_row IsFirstMeta with_meta) (meta_query n) old new (start n) r true → IsMetaOf n new.now r.found
   meta_all h = of r.found refl
     where
       of : (o : Option MetaRow) → r.found ≡ o → IsMetaOf n new.now o

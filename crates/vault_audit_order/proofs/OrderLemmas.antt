@@ -9,12 +9,12 @@ use Rattle.sqlite.specs.State.{State, Survives, IsUnchanged}
 use Rattle.sqlite.proofs.Callers.{one_permutation}
 use Rattle.sqlite.proofs.StateLemmas.{survives_then}
 use Rattle.vault_base.specs.declared.refusal.Table.{Table}
-use Rattle.vault_base.specs.declared.refusal.Table.TheVariants.{Meta, Departments, Callers, Buckets, Rules, Entries, Contents, Settings, Intake, Heads}
+use Rattle.vault_base.specs.declared.refusal.Table.TheVariants.{Meta, Departments, Callers, Buckets, Rules, Entries, Contents, Settings, Intake, Heads, Tenures}
 use Rattle.vault_core_model.specs.Vault.{Vault}
 use Rattle.vault_audit_model.specs.declared.schema.Edition.{Edition}
 use Rattle.vault_audit_model.specs.declared.rows.MetaRow.{MetaRow}
 use Rattle.vault_audit_model.specs.Rows.{meta_row, entry_row, entry_columns}
-use Rattle.vault_audit_model.specs.Spells.{AreSoundAs, meta_as}
+use Rattle.vault_audit_model.specs.Spells.{AreSoundAs, meta_told}
 use Rattle.vault_audit_model.specs.Tables.{schema_of, entries_tree}
 use Rattle.vault_audit_model.proofs.SameRows.{same_meta}
 use Rattle.vault_audit_schema.specs.Places.{place_of, BeginTo, IsToldIn}
@@ -36,7 +36,8 @@ at (suc (suc (suc (suc (suc zero))))) = Entries
 at (suc (suc (suc (suc (suc (suc zero)))))) = Contents
 at (suc (suc (suc (suc (suc (suc (suc zero))))))) = Settings
 at (suc (suc (suc (suc (suc (suc (suc (suc zero)))))))) = Intake
-at (suc (suc (suc (suc (suc (suc (suc (suc (suc n))))))))) = Heads
+at (suc (suc (suc (suc (suc (suc (suc (suc (suc zero))))))))) = Heads
+at (suc (suc (suc (suc (suc (suc (suc (suc (suc (suc n)))))))))) = Tenures
 
 at_place : (t : Table) → at (place_of t) ≡ t
 at_place Meta = refl
@@ -49,15 +50,16 @@ at_place Contents = refl
 at_place Settings = refl
 at_place Intake = refl
 at_place Heads = refl
+at_place Tenures = refl
 
 same_table : (t u : Table) → place_of t ≡ place_of u → t ≡ u
 same_table t u e = sym (at_place t) ∙ ap at e ∙ at_place u
 
 -- the tables behind meta
 abbrev pub behind_meta : List Table
-behind_meta = Departments ∷ Callers ∷ Buckets ∷ Rules ∷ Entries ∷ Contents ∷ Settings ∷ Intake ∷ Heads ∷ []
+behind_meta = Departments ∷ Callers ∷ Buckets ∷ Rules ∷ Entries ∷ Contents ∷ Settings ∷ Intake ∷ Heads ∷ Tenures ∷ []
 
-pub place_behind : (i : ℕ) → i < 9 → place_of (get_or behind_meta i Meta) ≡ i + 1
+pub place_behind : (i : ℕ) → i < 10 → place_of (get_or behind_meta i Meta) ≡ i + 1
 place_behind zero h = refl
 place_behind (suc zero) h = refl
 place_behind (suc (suc zero)) h = refl
@@ -67,7 +69,8 @@ place_behind (suc (suc (suc (suc (suc zero))))) h = refl
 place_behind (suc (suc (suc (suc (suc (suc zero)))))) h = refl
 place_behind (suc (suc (suc (suc (suc (suc (suc zero))))))) h = refl
 place_behind (suc (suc (suc (suc (suc (suc (suc (suc zero)))))))) h = refl
-place_behind (suc (suc (suc (suc (suc (suc (suc (suc (suc n))))))))) h = absurd (omega (arith, h))
+place_behind (suc (suc (suc (suc (suc (suc (suc (suc (suc zero))))))))) h = refl
+place_behind (suc (suc (suc (suc (suc (suc (suc (suc (suc (suc n)))))))))) h = absurd (omega (arith, h))
 
 -- what a test tells
 pub is_not : {P : Type 0} (b : Bool) → b ≡ false → (IsTrue b ↔ P) → ¬ P
@@ -91,6 +94,7 @@ from_behind (Some Contents) other = omega arith
 from_behind (Some Settings) other = omega arith
 from_behind (Some Intake) other = omega arith
 from_behind (Some Heads) other = omega arith
+from_behind (Some Tenures) other = omega arith
 
 pub from_next : (difference : Option Table) (t : Table) (place : ℕ) → place_of t ≡ place → IsFrom place difference → difference ≢ Some t → IsFrom (place + 1) difference
 from_next None t place here from other = tt
@@ -108,7 +112,7 @@ module _ (n : Edition) (s : Schema) where
   begin_at None t place here is from = ap (λ (x : Schema). take (place_of t + 1) x.tables) is
   begin_at (Some d) t place here it from = it.begin t (omega (arith, here, from))
 
-  pub no_difference : (difference : Option Table) → Differs difference → IsFrom 10 difference → s ≡ schema_of n
+  pub no_difference : (difference : Option Table) → Differs difference → IsFrom 11 difference → s ≡ schema_of n
   no_difference None is from = is
   no_difference (Some d) it from = let below = place_below d in absurd (omega (arith, below, from))
 
@@ -144,7 +148,7 @@ module _ (n : Edition) (db : Database) where
   pub right_row : (t : Table) → BeginTo n db.schema.tables t → AreRowsRight n db t true → IsRight n db t
   right_row t begin right = (in_place n db.schema.tables t begin, right)
 
-  pub all_right : AreRightTo 10 → db.schema ≡ schema_of n → ToldInOrder n db None
+  pub all_right : AreRightTo 11 → db.schema ≡ schema_of n → ToldInOrder n db None
   all_right right is = (is, λ t. right t (place_below t))
 
   pub told_by_form : (t : Table) → ((u : Table) → place_of u < place_of t → IsRight n db u) → IsToldIn n db.schema t → ToldInOrder n db (Some t)
@@ -181,8 +185,8 @@ module _ (n : Edition) (db : Database) where
   last_of : (v : Vault) (m : MetaRow) → IsMetaOf n db (Some m) → AreSoundAs n db v → v.last ≡ m.last
   last_of v m is it =
       let rows = one_permutation (meta_row m) _ (IsPermutation-trans _ _ _ is.0 (IsPermutation-sym _ _ it.spells.meta)) in
-      let first : meta_row (meta_as n v) ≡ meta_row m = cc in
-      let same : meta_as n v ≡ m = same_meta (meta_as n v) m first in
+      let first : meta_row (meta_told n v) ≡ meta_row m = cc in
+      let same : meta_told n v ≡ m = same_meta (meta_told n v) m first in
       ap (λ (x : MetaRow). x.last) same
 
   -- no vault of that moment, and so none

@@ -1,20 +1,22 @@
 -- What the first look at each table reads, where the tables up to that one are known and others may stand behind them.
-use Rattle.std.proofs.Common.{◌≡◌, List, ℕ, ◌+◌, [], ◌∷◌, ◌++◌, take, drop, codes, false, refl, sym, ap, subst, ◌∙◌, arith, take-append-drop}
+use Rattle.std.proofs.Common.{◌≡◌, List, ℕ, pos, ◌+◌, [], ◌∷◌, ◌++◌, take, drop, codes, false, refl, sym, ap, subst, ◌∙◌, arith, take-append-drop}
 use Rattle.sqlite_tied.specs.Compute.{everything}
 use Rattle.sqlite.specs.Command.TheVariants.{Select}
 use Rattle.sqlite.specs.Schema.{Schema}
 use Rattle.sqlite.specs.Table.{Table as Made}
 use Rattle.sqlite.specs.Listing.{understood, reads_listing}
 use Rattle.sqlite.proofs.Callers.{IsPlain, command_of}
-use Rattle.sqlite_value.specs.declared.value.Value.TheVariants.{Null}
+use Rattle.sqlite_value.specs.declared.value.Value.TheVariants.{Null, Int}
 use Rattle.sqlite_sql.specs.Term.{Term, col, lit}
 use Rattle.vault_base.specs.declared.refusal.Table.{Table}
 use Rattle.vault_base.specs.declared.refusal.Table.TheVariants as table
 use Rattle.vault_audit_model.specs.declared.schema.Edition.{Edition}
-use Rattle.vault_audit_model.specs.declared.schema.Edition.TheVariants.{First, Second}
+use Rattle.vault_audit_model.specs.declared.schema.Edition.TheVariants.{First, Second, Third}
+use Rattle.vault_audit_order.specs.MetaQuery.{meta_query}
 use Rattle.vault_audit_order.specs.RulesText.{rules_text}
-use Rattle.vault_audit_model.specs.Tables.{schema_of, contents_tree, heads_tree, intake_tree, settings_tree}
+use Rattle.vault_audit_model.specs.Tables.{schema_of, contents_tree, heads_tree, intake_tree, settings_tree, tenures_tree}
 use Rattle.vault_audit_schema.specs.Places.{place_of, BeginTo}
+use Rattle.vault_audit_tables.specs.Queries.{departments_query}
 use Rattle.vault_audit_walk.proofs.RecordLemmas.{Scans}
 use Rattle.vault_audit_walk.proofs.ScanLemmas.{walk_of}
 use Rattle.vault_audit_walk.specs.Health.{Asks}
@@ -28,19 +30,31 @@ as_begun : (P : Schema → Type 0) (n : Edition) (s : Schema) (t : Table) → Be
 as_begun P n s t begin =
     subst (λ (tables : List Made). P (with_tables s tables)) (sym (ap (λ (first : List Made). first ++ drop (place_of t + 1) s.tables) begin) ∙ take-append-drop (place_of t + 1) s.tables)
 
-abbrev pub departments_text : List ℕ
-departments_text = codes "SELECT name, admitted, held, removed, weighted, closed FROM departments"
+-- what is shown of the bytes that came and went with buckets
+abbrev pub moved_shown : Edition → List Term
+moved_shown First = lit (Int (pos 0)) ∷ lit (Int (pos 0)) ∷ []
+moved_shown Second = lit (Int (pos 0)) ∷ lit (Int (pos 0)) ∷ []
+moved_shown Third = col 1 7 ∷ col 1 8 ∷ []
 
-abbrev pub DepartmentsScan : Schema → Type 0
-DepartmentsScan s = Scans s departments_text 1 (col 1 1 ∷ col 1 2 ∷ col 1 3 ∷ col 1 4 ∷ col 1 5 ∷ col 1 6 ∷ []) (codes "name" ∷ codes "admitted" ∷ codes "held" ∷ codes "removed" ∷ codes "weighted" ∷ codes "closed" ∷ [])
+abbrev pub moved_names : Edition → List (List ℕ)
+moved_names First = codes "0" ∷ codes "0" ∷ []
+moved_names Second = codes "0" ∷ codes "0" ∷ []
+moved_names Third = codes "received" ∷ codes "handed" ∷ []
 
-pub departments_scan : (n : Edition) (s : Schema) → BeginTo n s.tables table.Departments → DepartmentsScan s
+abbrev pub DepartmentsScan : Edition → Schema → Type 0
+DepartmentsScan n s = Scans s (departments_query n) 1 (col 1 1 ∷ col 1 2 ∷ col 1 3 ∷ col 1 4 ∷ col 1 5 ∷ col 1 6 ∷ moved_shown n) (codes "name" ∷ codes "admitted" ∷ codes "held" ∷ codes "removed" ∷ codes "weighted" ∷ codes "closed" ∷ moved_names n)
+
+pub departments_scan : (n : Edition) (s : Schema) → BeginTo n s.tables table.Departments → DepartmentsScan n s
 unfolding understood everything
-departments_scan n s begin = as_begun DepartmentsScan n s table.Departments begin (record { command = refl; unlisted = refl; plain = (refl, refl) })
+departments_scan First s begin = as_begun (DepartmentsScan First) First s table.Departments begin (record { command = refl; unlisted = refl; plain = (refl, refl) })
+departments_scan Second s begin = as_begun (DepartmentsScan Second) Second s table.Departments begin (record { command = refl; unlisted = refl; plain = (refl, refl) })
+departments_scan Third s begin = as_begun (DepartmentsScan Third) Third s table.Departments begin (record { command = refl; unlisted = refl; plain = (refl, refl) })
 
-pub departments_asks : (n : Edition) (s : Schema) → BeginTo n s.tables table.Departments → Asks s departments_text
+pub departments_asks : (n : Edition) (s : Schema) → BeginTo n s.tables table.Departments → Asks s (departments_query n)
 unfolding understood everything
-departments_asks n s begin = as_begun (λ x. Asks x departments_text) n s table.Departments begin (record { is = (omega (arith), refl, (refl, refl, refl, refl)); unlisted = refl })
+departments_asks First s begin = as_begun (λ x. Asks x (departments_query First)) First s table.Departments begin (record { is = (omega (arith), refl, (refl, refl, refl, refl)); unlisted = refl })
+departments_asks Second s begin = as_begun (λ x. Asks x (departments_query Second)) Second s table.Departments begin (record { is = (omega (arith), refl, (refl, refl, refl, refl)); unlisted = refl })
+departments_asks Third s begin = as_begun (λ x. Asks x (departments_query Third)) Third s table.Departments begin (record { is = (omega (arith), refl, (refl, refl, refl, refl)); unlisted = refl })
 
 abbrev pub callers_text : List ℕ
 callers_text = codes "SELECT name, dept, rights, closed FROM callers"
@@ -74,10 +88,12 @@ buckets_asks n s begin = as_begun (λ x. Asks x buckets_text) n s table.Buckets 
 abbrev pub bounds_shown : Edition → List Term
 bounds_shown First = lit Null ∷ lit Null ∷ []
 bounds_shown Second = col 1 10 ∷ col 1 11 ∷ []
+bounds_shown Third = col 1 10 ∷ col 1 11 ∷ []
 
 abbrev pub bound_names : Edition → List (List ℕ)
 bound_names First = codes "NULL" ∷ codes "NULL" ∷ []
 bound_names Second = codes "larger" ∷ codes "smaller" ∷ []
+bound_names Third = codes "larger" ∷ codes "smaller" ∷ []
 
 abbrev pub RulesScan : Edition → Schema → Type 0
 RulesScan n s = Scans s (rules_text n) 7 (col 1 1 ∷ col 1 2 ∷ col 1 3 ∷ col 1 4 ∷ col 1 5 ∷ col 1 6 ∷ col 1 7 ∷ col 1 8 ∷ col 1 9 ∷ bounds_shown n) (codes "bucket" ∷ codes "n" ∷ codes "id" ∷ codes "prefix" ∷ codes "enabled" ∷ codes "days" ∷ codes "lone" ∷ codes "nc_days" ∷ codes "nc_keep" ∷ bound_names n)
@@ -86,11 +102,13 @@ pub rules_scan : (n : Edition) (s : Schema) → BeginTo n s.tables table.Rules �
 unfolding understood everything
 rules_scan First s begin = as_begun (RulesScan First) First s table.Rules begin (record { command = refl; unlisted = refl; plain = (refl, refl) })
 rules_scan Second s begin = as_begun (RulesScan Second) Second s table.Rules begin (record { command = refl; unlisted = refl; plain = (refl, refl) })
+rules_scan Third s begin = as_begun (RulesScan Third) Third s table.Rules begin (record { command = refl; unlisted = refl; plain = (refl, refl) })
 
 pub rules_asks : (n : Edition) (s : Schema) → BeginTo n s.tables table.Rules → Asks s (rules_text n)
 unfolding understood everything
 rules_asks First s begin = as_begun (λ x. Asks x (rules_text First)) First s table.Rules begin (record { is = (omega (arith), refl, (refl, refl, refl, refl)); unlisted = refl })
 rules_asks Second s begin = as_begun (λ x. Asks x (rules_text Second)) Second s table.Rules begin (record { is = (omega (arith), refl, (refl, refl, refl, refl)); unlisted = refl })
+rules_asks Third s begin = as_begun (λ x. Asks x (rules_text Third)) Third s table.Rules begin (record { is = (omega (arith), refl, (refl, refl, refl, refl)); unlisted = refl })
 
 abbrev pub contents_text : List ℕ
 contents_text = codes "SELECT id, bytes FROM contents"
@@ -162,21 +180,47 @@ pub entries_asks : (n : Edition) (s : Schema) → BeginTo n s.tables table.Entri
 unfolding understood everything
 entries_asks n s begin = as_begun (λ x. Asks x entries_text) n s table.Entries begin (record { is = (omega (arith), refl, (refl, refl, refl, refl)); unlisted = refl })
 
+abbrev pub tenures_text : List ℕ
+tenures_text = codes "SELECT id, n, dept, moment FROM tenures"
+
+abbrev pub TenuresScan : Schema → Type 0
+TenuresScan s = Scans s tenures_text tenures_tree (col 1 1 ∷ col 1 2 ∷ col 1 3 ∷ col 1 4 ∷ []) (codes "id" ∷ codes "n" ∷ codes "dept" ∷ codes "moment" ∷ [])
+
+pub tenures_scan : (s : Schema) → BeginTo Third s.tables table.Tenures → TenuresScan s
+unfolding understood everything
+tenures_scan s begin = as_begun TenuresScan Third s table.Tenures begin (record { command = refl; unlisted = refl; plain = (refl, refl) })
+
+pub tenures_asks : (s : Schema) → BeginTo Third s.tables table.Tenures → Asks s tenures_text
+unfolding understood everything
+tenures_asks s begin = as_begun (λ x. Asks x tenures_text) Third s table.Tenures begin (record { is = (omega (arith), refl, (refl, refl, refl, refl)); unlisted = refl })
+
 -- ---- the walk over meta
 
-abbrev pub meta_walk : List ℕ
-meta_walk = codes "SELECT one, schema, last, next FROM meta ORDER BY one"
+-- what is shown of the number of moves
+abbrev pub moves_shown : Edition → List Term
+moves_shown First = lit (Int (pos 0)) ∷ []
+moves_shown Second = lit (Int (pos 0)) ∷ []
+moves_shown Third = col 1 5 ∷ []
+
+abbrev pub moves_names : Edition → List (List ℕ)
+moves_names First = codes "0" ∷ []
+moves_names Second = codes "0" ∷ []
+moves_names Third = codes "moves" ∷ []
 
 -- what it is in such a schema
-pub record WalksMeta (s : Schema) : Type 0 where
-  pub command : command_of (understood s meta_walk) ≡ Select (record { lets = []; body = walk_of 0 0 (col 1 2 ∷ col 1 3 ∷ col 1 4 ∷ []) }) (codes "one" ∷ codes "schema" ∷ codes "last" ∷ codes "next" ∷ [])
-  pub unlisted : reads_listing s meta_walk ≡ false
-  pub plain : IsPlain (understood s meta_walk)
+pub record WalksMeta (n : Edition) (s : Schema) : Type 0 where
+  pub command : command_of (understood s (meta_query n)) ≡ Select (record { lets = []; body = walk_of 0 0 (col 1 2 ∷ col 1 3 ∷ col 1 4 ∷ moves_shown n) }) (codes "one" ∷ codes "schema" ∷ codes "last" ∷ codes "next" ∷ moves_names n)
+  pub unlisted : reads_listing s (meta_query n) ≡ false
+  pub plain : IsPlain (understood s (meta_query n))
 
-pub meta_walks : (n : Edition) (s : Schema) → BeginTo n s.tables table.Meta → WalksMeta s
+pub meta_walks : (n : Edition) (s : Schema) → BeginTo n s.tables table.Meta → WalksMeta n s
 unfolding understood everything
-meta_walks n s begin = as_begun WalksMeta n s table.Meta begin (record { command = refl; unlisted = refl; plain = (refl, refl) })
+meta_walks First s begin = as_begun (WalksMeta First) First s table.Meta begin (record { command = refl; unlisted = refl; plain = (refl, refl) })
+meta_walks Second s begin = as_begun (WalksMeta Second) Second s table.Meta begin (record { command = refl; unlisted = refl; plain = (refl, refl) })
+meta_walks Third s begin = as_begun (WalksMeta Third) Third s table.Meta begin (record { command = refl; unlisted = refl; plain = (refl, refl) })
 
-pub meta_asks : (n : Edition) (s : Schema) → BeginTo n s.tables table.Meta → Asks s meta_walk
+pub meta_asks : (n : Edition) (s : Schema) → BeginTo n s.tables table.Meta → Asks s (meta_query n)
 unfolding understood everything
-meta_asks n s begin = as_begun (λ x. Asks x meta_walk) n s table.Meta begin (record { is = (omega (arith), refl, (refl, refl, refl, refl)); unlisted = refl })
+meta_asks First s begin = as_begun (λ x. Asks x (meta_query First)) First s table.Meta begin (record { is = (omega (arith), refl, (refl, refl, refl, refl)); unlisted = refl })
+meta_asks Second s begin = as_begun (λ x. Asks x (meta_query Second)) Second s table.Meta begin (record { is = (omega (arith), refl, (refl, refl, refl, refl)); unlisted = refl })
+meta_asks Third s begin = as_begun (λ x. Asks x (meta_query Third)) Third s table.Meta begin (record { is = (omega (arith), refl, (refl, refl, refl, refl)); unlisted = refl })

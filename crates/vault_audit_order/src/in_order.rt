@@ -15,7 +15,7 @@ use crate::entries::check_entries;
 use crate::meta::check_meta;
 use crate::table_rows::{
     check_buckets, check_callers, check_contents, check_departments, check_heads, check_intake,
-    check_rules, check_settings,
+    check_rules, check_settings, check_tenures,
 };
 use sqlite::{Alter, Connection, Error};
 use vault_audit_model::rows::MetaRow;
@@ -23,7 +23,7 @@ use vault_audit_model::schema::Edition;
 use vault_base::refusal::Table;
 
 /// The tables behind `meta`, in their order.
-static BEHIND_META: [Table; 9] = [
+static BEHIND_META: [Table; 10] = [
     Table::Departments,
     Table::Callers,
     Table::Buckets,
@@ -33,6 +33,7 @@ static BEHIND_META: [Table; 9] = [
     Table::Settings,
     Table::Intake,
     Table::Heads,
+    Table::Tenures,
 ];
 
 /// Whether the schema differs first at this table, where that is where it does.
@@ -51,6 +52,7 @@ fn check_rows_of<S: Alter>(
 ) -> Result<bool, Error>
     requires begin { HasCleanDisk (state S.Store conn.old) → BeginTo edition (state S.Store conn.old).now.schema.tables table }
     requires meta { HasCleanDisk (state S.Store conn.old) → IsMetaOf edition (state S.Store conn.old).now (Some meta.now) }
+    requires open { HasCleanDisk (state S.Store conn.old) → IsTrue (state S.Store conn.old).is_open }
     ensures told { HasCleanDisk (state S.Store conn.new) → IfOk result (AreRowsRight edition (state S.Store conn.new).now table) }
     ensures damaged { HasCleanDisk (state S.Store conn.new) → IfOk result (λ right. right ≡ false → (v : Vault) → ¬ AreSoundAs edition (state S.Store conn.new).now v) }
     ensures same { HasCleanDisk (state S.Store conn.new) → OnOk result (IsUnchanged (state S.Store conn.old) (state S.Store conn.new)) }
@@ -71,6 +73,7 @@ fn check_rows_of<S: Alter>(
         Table::Settings => check_settings(conn, edition),
         Table::Intake => check_intake(conn, edition),
         Table::Heads => check_heads(conn, edition),
+        Table::Tenures => check_tenures(conn, edition),
     }
 }
 

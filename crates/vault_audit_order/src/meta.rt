@@ -7,6 +7,7 @@ ghost use Rattle.vault_audit_model.specs.Spells.{AreSoundAs};
 ghost use Rattle.vault_audit_tables.specs.Meta.{IsMetaOf};
 ghost use Rattle.vault_base.specs.declared.refusal.Table.TheVariants as table;
 ghost use Rattle.vault_audit_schema.specs.Places.{BeginTo};
+ghost use Rattle.vault_audit_order.specs.MetaQuery.{meta_query};
 ghost use Rattle.vault_audit_walk.specs.Health.{IsHealthy, IsMemory};
 
 use sqlite::{Alter, Connection, Error};
@@ -15,7 +16,19 @@ use vault_audit_model::schema::Edition;
 use vault_audit_tables::meta::MetaPass;
 use vault_audit_walk::walk::walk;
 
-/// The one row of `meta`, or none where it isn't one row that tells a moment and an id.
+/// The query for the rows of `meta`. What an edition has no column for is 0.
+fn meta_query(edition: Edition) -> &'static str
+    ensures { result.now ≡ meta_query edition }
+{
+    match edition {
+        Edition::First | Edition::Second => {
+            "SELECT one, schema, last, next, 0 FROM meta ORDER BY one"
+        }
+        Edition::Third => "SELECT one, schema, last, next, moves FROM meta ORDER BY one",
+    }
+}
+
+/// The one row of `meta`, or none where it isn't one row that tells a moment, an id and a number of moves.
 pub fn check_meta<S: Alter>(
     conn: &mut Connection<S>,
     edition: Edition,
@@ -31,11 +44,7 @@ pub fn check_meta<S: Alter>(
         edition,
         found: None,
     };
-    let one = walk(
-        conn,
-        "SELECT one, schema, last, next FROM meta ORDER BY one",
-        &mut pass,
-    )?;
+    let one = walk(conn, meta_query(edition), &mut pass)?;
     if !one {
         return Ok(None);
     }

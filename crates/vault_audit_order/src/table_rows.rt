@@ -1,13 +1,13 @@
 //! The first look at each table: its rows tell records, with values in their limits.
-ghost use Rattle.std.specs.Prelude.{◌≡◌, false, map, IfOk, IfErr, OnOk};
+ghost use Rattle.std.specs.Prelude.{◌≡◌, false, map, IsTrue, IfOk, IfErr, OnOk};
 ghost use Rattle.sqlite.specs.State.{HasCleanDisk, IsUnchanged, Survives};
 ghost use Rattle.sqlite.specs.Held.{state};
 ghost use Rattle.vault_core_model.specs.Vault.{Vault};
-ghost use Rattle.vault_audit_model.specs.Spells.{AreSoundAs};
+ghost use Rattle.vault_audit_model.specs.Spells.{AreSoundAs, tenure_rows_in};
 ghost use Rattle.vault_audit_walk.specs.Records.{AreRecords};
 ghost use Rattle.vault_audit_model.specs.Tables.{departments_tree, callers_tree, buckets_tree, rules_tree, contents_tree, settings_tree, intake_tree, heads_tree};
-ghost use Rattle.vault_audit_model.specs.Rows.{department_row, caller_row, bucket_row, rule_row, content_row, setting_row, note_row, head_row, department_columns, caller_columns, bucket_columns, rule_columns_as, content_columns, setting_columns, note_columns, head_columns};
-ghost use Rattle.vault_audit_model.specs.Limits.{IsDepartmentRow, IsCaller, IsBucketRow, IsRuleRow, IsContentRow, IsSettingRow, IsNote, IsHeadRow};
+ghost use Rattle.vault_audit_model.specs.Rows.{department_row, caller_row, bucket_row, rule_row, content_row, setting_row, note_row, head_row, tenure_row, department_columns_as, caller_columns, bucket_columns, rule_columns_as, content_columns, setting_columns, note_columns, head_columns};
+ghost use Rattle.vault_audit_model.specs.Limits.{IsDepartmentRow, IsCaller, IsBucketRow, IsRuleRow, IsContentRow, IsSettingRow, IsNote, IsHeadRow, IsTenureRow};
 ghost use Rattle.vault_base.specs.declared.refusal.Table.TheVariants as table;
 ghost use Rattle.vault_audit_schema.specs.Places.{BeginTo};
 ghost use Rattle.vault_audit_walk.specs.Health.{IsHealthy, IsMemory};
@@ -15,9 +15,10 @@ ghost use Rattle.vault_audit_order.specs.RulesText.{rules_text};
 
 use sqlite::{Alter, Connection, Error};
 use vault_audit_model::schema::Edition;
+use vault_audit_tables::departments::departments_query;
 use vault_audit_tables::row_check::{
     BucketCheck, CallerCheck, ContentCheck, DepartmentCheck, HeadCheck, NoteCheck, RuleCheck,
-    SettingCheck,
+    SettingCheck, TenureCheck,
 };
 use vault_audit_walk::check::check_rows;
 
@@ -27,17 +28,13 @@ pub fn check_departments<S: Alter>(
     edition: Edition,
 ) -> Result<bool, Error>
     requires { HasCleanDisk (state S.Store conn.old) → BeginTo edition (state S.Store conn.old).now.schema.tables table.Departments }
-    ensures told { HasCleanDisk (state S.Store conn.new) → IfOk result (AreRecords department_row IsDepartmentRow (map department_columns ((state S.Store conn.new).now.trees departments_tree))) }
+    ensures told { HasCleanDisk (state S.Store conn.new) → IfOk result (AreRecords department_row IsDepartmentRow (map (department_columns_as edition) ((state S.Store conn.new).now.trees departments_tree))) }
     ensures damaged { HasCleanDisk (state S.Store conn.new) → IfOk result (λ told. told ≡ false → (v : Vault) → ¬ AreSoundAs edition (state S.Store conn.new).now v) }
     ensures same { HasCleanDisk (state S.Store conn.new) → OnOk result (IsUnchanged (state S.Store conn.old) (state S.Store conn.new)) }
     ensures err { IsHealthy (state S.Store conn.new) → IfErr result IsMemory }
     ensures crash { Survives (state S.Store conn.old) (state S.Store conn.new) (λ _. ⊥) }
 {
-    check_rows(
-        conn,
-        "SELECT name, admitted, held, removed, weighted, closed FROM departments",
-        &DepartmentCheck {},
-    )
+    check_rows(conn, departments_query(edition), &DepartmentCheck {})
 }
 
 /// Whether each row of `callers` tells a record in its limits.
@@ -80,7 +77,7 @@ fn rules_text(edition: Edition) -> &'static str
         Edition::First => {
             "SELECT bucket, n, id, prefix, enabled, days, lone, nc_days, nc_keep, NULL, NULL FROM rules"
         }
-        Edition::Second => {
+        Edition::Second | Edition::Third => {
             "SELECT bucket, n, id, prefix, enabled, days, lone, nc_days, nc_keep, larger, smaller FROM rules"
         }
     }
@@ -156,4 +153,24 @@ pub fn check_heads<S: Alter>(conn: &mut Connection<S>, edition: Edition) -> Resu
         "SELECT bucket, key, newest, count FROM heads",
         &HeadCheck {},
     )
+}
+
+/// Whether each row of `tenures` tells a record in its limits. An edition without that table has none.
+pub fn check_tenures<S: Alter>(conn: &mut Connection<S>, edition: Edition) -> Result<bool, Error>
+    requires begin { HasCleanDisk (state S.Store conn.old) → BeginTo edition (state S.Store conn.old).now.schema.tables table.Tenures }
+    requires open { HasCleanDisk (state S.Store conn.old) → IsTrue (state S.Store conn.old).is_open }
+    ensures told { HasCleanDisk (state S.Store conn.new) → IfOk result (AreRecords tenure_row IsTenureRow (tenure_rows_in edition (state S.Store conn.new).now)) }
+    ensures damaged { HasCleanDisk (state S.Store conn.new) → IfOk result (λ told. told ≡ false → (v : Vault) → ¬ AreSoundAs edition (state S.Store conn.new).now v) }
+    ensures same { HasCleanDisk (state S.Store conn.new) → OnOk result (IsUnchanged (state S.Store conn.old) (state S.Store conn.new)) }
+    ensures err { IsHealthy (state S.Store conn.new) → IfErr result IsMemory }
+    ensures crash { Survives (state S.Store conn.old) (state S.Store conn.new) (λ _. ⊥) }
+{
+    match edition {
+        Edition::First | Edition::Second => Ok(true),
+        Edition::Third => check_rows(
+            conn,
+            "SELECT id, n, dept, moment FROM tenures",
+            &TenureCheck {},
+        ),
+    }
 }

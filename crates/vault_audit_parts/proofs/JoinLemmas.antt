@@ -1,16 +1,12 @@
--- Histories put together of their contents and their settings.
+-- Histories put together of their contents, their settings and their tenures.
 use Rattle.std.proofs.Common.{◌≡◌, ℕ, List, [], ◌∷◌, ◌++◌, flat_map, find, option_map, cond, Bool, true, false, ◌==◌, Some, Option, refl, sym, ap, subst, ◌∙◌}
 use Rattle.std.specs.List.{AllByRecursion}
-use Rattle.vault_tally.specs.Row.{Item}
-use Rattle.vault_core_model.specs.declared.records.Bucket.{Bucket}
 use Rattle.vault_core_model.specs.declared.records.Entry.{Entry}
 use Rattle.vault_core_model.specs.declared.records.History.{History}
-use Rattle.vault_core_model.specs.declared.records.Tenure.{Tenure}
-use Rattle.vault_core_model.specs.Totals.{items_by, items_in, shares_from}
+use Rattle.vault_core_model.specs.Totals.{items_by, items_in, shares_of}
 use Rattle.vault_audit_model.specs.Relations.{HasContent, HasContentAs, HasSettings, HasSettingsAs}
-use Rattle.vault_audit_model.specs.Spells.{contents_in, settings_in, entries_in}
-use Rattle.vault_audit_model.specs.Tenures.{HasFirstTenures, items_with, tenures_in}
-use Rattle.vault_audit_parts.specs.Parts.{joined}
+use Rattle.vault_audit_model.specs.Spells.{contents_in, settings_in, tenures_in, entries_in}
+use Rattle.vault_audit_parts.specs.Parts.{joined, put_together}
 
 pub heads_same : {A : Type 0} (x y : A) (xs ys : List A) → (x ∷ xs) ≡ (y ∷ ys) → x ≡ y
 heads_same x y xs ys e = cc
@@ -20,66 +16,106 @@ tails_same x y xs ys e = cc
 
 -- ---- what a history is put together of
 
-content_as : (marker : Bool) (c s : History) (ts : List Tenure) → HasContentAs marker c → HasContentAs marker (record { entry = c.entry; content = c.content; settings = s.settings; tenures = ts })
-content_as true c s ts is = is
-content_as false c s ts is = is
+-- the same history, of an equal entry
+abbrev of_entry : Entry → History → History → History → History
+of_entry e c s t = record { entry = e; content = c.content; settings = s.settings; tenures = t.tenures }
 
-settings_as : (marker : Bool) (c s : History) (ts : List Tenure) → HasSettingsAs marker s → HasSettingsAs marker (record { entry = s.entry; content = c.content; settings = s.settings; tenures = ts })
-settings_as true c s ts is = is
-settings_as false c s ts is = is
+content_as : (marker : Bool) (c s t : History) → HasContentAs marker c → HasContentAs marker (put_together c s t)
+content_as true c s t is = is
+content_as false c s t is = is
 
-settings_same : (c s : History) (ts : List Tenure) → c.entry ≡ s.entry → settings_in (record { entry = c.entry; content = c.content; settings = s.settings; tenures = ts }) ≡ settings_in s
-settings_same c s ts e = ap (λ (x : Entry). settings_in (record { entry = x; content = c.content; settings = s.settings; tenures = ts })) e
+settings_as : (marker : Bool) (c s t : History) → HasSettingsAs marker s → HasSettingsAs marker (of_entry s.entry c s t)
+settings_as true c s t is = is
+settings_as false c s t is = is
 
--- what a department has of an entry in one of these buckets
-abbrev items_from : List Bucket → List ℕ → Entry → List Item
-items_from bs dept e = items_by dept (shares_from e.size e.removal true (tenures_in bs e))
+has_content : (c s t : History) → c.entry ≡ s.entry → c.entry ≡ t.entry → HasContent c → HasContent (put_together c s t)
+has_content c s t same also is = content_as c.entry.marker c s t is
 
-module _ (bs : List Bucket) where
-  pub joined_entries : (cs ss : List History) → entries_in cs ≡ entries_in ss → entries_in (joined bs cs ss) ≡ entries_in cs
-  joined_entries [] ss e = refl
-  joined_entries (c ∷ cs) [] e = absurd cc
-  joined_entries (c ∷ cs) (s ∷ ss) e = ap (λ es. c.entry ∷ es) (joined_entries cs ss (tails_same c.entry s.entry (entries_in cs) (entries_in ss) e))
+has_settings : (c s t : History) → c.entry ≡ s.entry → c.entry ≡ t.entry → HasSettings s → HasSettings (put_together c s t)
+has_settings c s t same also is = subst (λ (e : Entry). HasSettings (of_entry e c s t)) (sym same) (settings_as s.entry.marker c s t is.0, is.1)
 
-  pub joined_contents : (cs ss : List History) → entries_in cs ≡ entries_in ss → flat_map contents_in (joined bs cs ss) ≡ flat_map contents_in cs
-  joined_contents [] ss e = refl
-  joined_contents (c ∷ cs) [] e = absurd cc
-  joined_contents (c ∷ cs) (s ∷ ss) e = ap (λ rows. contents_in c ++ rows) (joined_contents cs ss (tails_same c.entry s.entry (entries_in cs) (entries_in ss) e))
+settings_same : (c s t : History) → c.entry ≡ s.entry → c.entry ≡ t.entry → settings_in (put_together c s t) ≡ settings_in s
+settings_same c s t same also = ap (λ (e : Entry). settings_in (of_entry e c s t)) same
 
-  pub joined_settings : (cs ss : List History) → entries_in cs ≡ entries_in ss → flat_map settings_in (joined bs cs ss) ≡ flat_map settings_in ss
-  joined_settings [] [] e = refl
-  joined_settings [] (s ∷ ss) e = absurd cc
-  joined_settings (c ∷ cs) [] e = absurd cc
-  joined_settings (c ∷ cs) (s ∷ ss) e =
-      let here = settings_same c s (tenures_in bs c.entry) (heads_same c.entry s.entry (entries_in cs) (entries_in ss) e) in
-      let there = joined_settings cs ss (tails_same c.entry s.entry (entries_in cs) (entries_in ss) e) in
-      ap (λ rows. rows ++ flat_map settings_in (joined bs cs ss)) here ∙ ap (λ rows. settings_in s ++ rows) there
+tenures_same : (c s t : History) → c.entry ≡ s.entry → c.entry ≡ t.entry → tenures_in (put_together c s t) ≡ tenures_in t
+tenures_same c s t same also = ap (λ (e : Entry). tenures_in (of_entry e c s t)) also
 
-  pub joined_tenures : (cs ss : List History) → AllByRecursion (HasFirstTenures bs) (joined bs cs ss)
-  joined_tenures [] ss = tt
-  joined_tenures (c ∷ cs) [] = tt
-  joined_tenures (c ∷ cs) (s ∷ ss) = (refl, joined_tenures cs ss)
+items_same : (dept : List ℕ) (c s t : History) → c.entry ≡ s.entry → c.entry ≡ t.entry → items_by dept (shares_of (put_together c s t)) ≡ items_by dept (shares_of t)
+items_same dept c s t same also = ap (λ (e : Entry). items_by dept (shares_of (of_entry e c s t))) also
 
-  -- what a department has is told by the entries and the buckets
-  pub joined_items : (dept : List ℕ) (cs ss : List History) → entries_in cs ≡ entries_in ss → items_in dept (joined bs cs ss) ≡ items_with bs dept cs
-  joined_items dept [] ss e = refl
-  joined_items dept (c ∷ cs) [] e = absurd cc
-  joined_items dept (c ∷ cs) (s ∷ ss) e = ap (λ is. items_from bs dept c.entry ++ is) (joined_items dept cs ss (tails_same c.entry s.entry (entries_in cs) (entries_in ss) e))
+-- ---- lists of them
 
-  -- both hold of each history that is put together
-  pub joined_contents_are : (cs ss : List History) → entries_in cs ≡ entries_in ss → AllByRecursion HasContent cs → AllByRecursion HasContent (joined bs cs ss)
-  joined_contents_are [] ss e all = tt
-  joined_contents_are (c ∷ cs) [] e all = absurd cc
-  joined_contents_are (c ∷ cs) (s ∷ ss) e all = (content_as c.entry.marker c s (tenures_in bs c.entry) all.0, joined_contents_are cs ss (tails_same c.entry s.entry (entries_in cs) (entries_in ss) e) all.1)
+-- a fact of each history of one list is one of each that is put together
+module _ (P Q : History → Type 0) where
+  all_first : ((c s t : History) → c.entry ≡ s.entry → c.entry ≡ t.entry → P c → Q (put_together c s t)) → (cs ss ts : List History) → entries_in cs ≡ entries_in ss → entries_in cs ≡ entries_in ts → AllByRecursion P cs → AllByRecursion Q (joined cs ss ts)
+  all_first has [] ss ts e f all = tt
+  all_first has (c ∷ cs) [] ts e f all = absurd cc
+  all_first has (c ∷ cs) (s ∷ ss) [] e f all = absurd cc
+  all_first has (c ∷ cs) (s ∷ ss) (t ∷ ts) e f all =
+      (has c s t (heads_same _ _ _ _ e) (heads_same _ _ _ _ f) all.0, all_first has cs ss ts (tails_same _ _ _ _ e) (tails_same _ _ _ _ f) all.1)
 
-  pub joined_settings_are : (cs ss : List History) → entries_in cs ≡ entries_in ss → AllByRecursion HasSettings ss → AllByRecursion HasSettings (joined bs cs ss)
-  joined_settings_are [] ss e all = tt
-  joined_settings_are (c ∷ cs) [] e all = absurd cc
-  joined_settings_are (c ∷ cs) (s ∷ ss) e all =
-      let here : c.entry ≡ s.entry = heads_same c.entry s.entry (entries_in cs) (entries_in ss) e in (
-        subst (λ (x : Entry). HasSettings (record { entry = x; content = c.content; settings = s.settings; tenures = tenures_in bs c.entry })) (sym here) (settings_as s.entry.marker c s (tenures_in bs c.entry) all.0.0, all.0.1),
-        joined_settings_are cs ss (tails_same c.entry s.entry (entries_in cs) (entries_in ss) e) all.1,
-      )
+  all_second : ((c s t : History) → c.entry ≡ s.entry → c.entry ≡ t.entry → P s → Q (put_together c s t)) → (cs ss ts : List History) → entries_in cs ≡ entries_in ss → entries_in cs ≡ entries_in ts → AllByRecursion P ss → AllByRecursion Q (joined cs ss ts)
+  all_second has [] ss ts e f all = tt
+  all_second has (c ∷ cs) [] ts e f all = absurd cc
+  all_second has (c ∷ cs) (s ∷ ss) [] e f all = absurd cc
+  all_second has (c ∷ cs) (s ∷ ss) (t ∷ ts) e f all =
+      (has c s t (heads_same _ _ _ _ e) (heads_same _ _ _ _ f) all.0, all_second has cs ss ts (tails_same _ _ _ _ e) (tails_same _ _ _ _ f) all.1)
+
+  pub all_third : ((c s t : History) → c.entry ≡ s.entry → c.entry ≡ t.entry → P t → Q (put_together c s t)) → (cs ss ts : List History) → entries_in cs ≡ entries_in ss → entries_in cs ≡ entries_in ts → AllByRecursion P ts → AllByRecursion Q (joined cs ss ts)
+  all_third has [] ss ts e f all = tt
+  all_third has (c ∷ cs) [] ts e f all = absurd cc
+  all_third has (c ∷ cs) (s ∷ ss) [] e f all = absurd cc
+  all_third has (c ∷ cs) (s ∷ ss) (t ∷ ts) e f all =
+      (has c s t (heads_same _ _ _ _ e) (heads_same _ _ _ _ f) all.0, all_third has cs ss ts (tails_same _ _ _ _ e) (tails_same _ _ _ _ f) all.1)
+
+-- what one list tells of each history, the whole tells
+module _ {A : Type 0} (of : History → List A) where
+  rows_second : ((c s t : History) → c.entry ≡ s.entry → c.entry ≡ t.entry → of (put_together c s t) ≡ of s) → (cs ss ts : List History) → entries_in cs ≡ entries_in ss → entries_in cs ≡ entries_in ts → flat_map of (joined cs ss ts) ≡ flat_map of ss
+  rows_second same [] [] ts e f = refl
+  rows_second same [] (s ∷ ss) ts e f = absurd cc
+  rows_second same (c ∷ cs) [] ts e f = absurd cc
+  rows_second same (c ∷ cs) (s ∷ ss) [] e f = absurd cc
+  rows_second same (c ∷ cs) (s ∷ ss) (t ∷ ts) e f =
+      ap (λ rows. rows ++ flat_map of (joined cs ss ts)) (same c s t (heads_same _ _ _ _ e) (heads_same _ _ _ _ f))
+      ∙ ap (λ rows. of s ++ rows) (rows_second same cs ss ts (tails_same _ _ _ _ e) (tails_same _ _ _ _ f))
+
+  rows_third : ((c s t : History) → c.entry ≡ s.entry → c.entry ≡ t.entry → of (put_together c s t) ≡ of t) → (cs ss ts : List History) → entries_in cs ≡ entries_in ss → entries_in cs ≡ entries_in ts → flat_map of (joined cs ss ts) ≡ flat_map of ts
+  rows_third same [] ss [] e f = refl
+  rows_third same [] ss (t ∷ ts) e f = absurd cc
+  rows_third same (c ∷ cs) [] ts e f = absurd cc
+  rows_third same (c ∷ cs) (s ∷ ss) [] e f = absurd cc
+  rows_third same (c ∷ cs) (s ∷ ss) (t ∷ ts) e f =
+      ap (λ rows. rows ++ flat_map of (joined cs ss ts)) (same c s t (heads_same _ _ _ _ e) (heads_same _ _ _ _ f))
+      ∙ ap (λ rows. of t ++ rows) (rows_third same cs ss ts (tails_same _ _ _ _ e) (tails_same _ _ _ _ f))
+
+module _ (cs ss ts : List History) (e : entries_in cs ≡ entries_in ss) (f : entries_in cs ≡ entries_in ts) where
+  pub joined_settings : flat_map settings_in (joined cs ss ts) ≡ flat_map settings_in ss
+  joined_settings = rows_second settings_in settings_same cs ss ts e f
+
+  pub joined_tenures : flat_map tenures_in (joined cs ss ts) ≡ flat_map tenures_in ts
+  joined_tenures = rows_third tenures_in tenures_same cs ss ts e f
+
+  -- what a department has is told by the tenures
+  pub joined_items : (dept : List ℕ) → items_in dept (joined cs ss ts) ≡ items_in dept ts
+  joined_items dept = rows_third (λ (h : History). items_by dept (shares_of h)) (items_same dept) cs ss ts e f
+
+  pub joined_contents_are : AllByRecursion HasContent cs → AllByRecursion HasContent (joined cs ss ts)
+  joined_contents_are = all_first HasContent HasContent has_content cs ss ts e f
+
+  pub joined_settings_are : AllByRecursion HasSettings ss → AllByRecursion HasSettings (joined cs ss ts)
+  joined_settings_are = all_second HasSettings HasSettings has_settings cs ss ts e f
+
+pub joined_entries : (cs ss ts : List History) → entries_in cs ≡ entries_in ss → entries_in cs ≡ entries_in ts → entries_in (joined cs ss ts) ≡ entries_in cs
+joined_entries [] ss ts e f = refl
+joined_entries (c ∷ cs) [] ts e f = absurd cc
+joined_entries (c ∷ cs) (s ∷ ss) [] e f = absurd cc
+joined_entries (c ∷ cs) (s ∷ ss) (t ∷ ts) e f = ap (λ es. c.entry ∷ es) (joined_entries cs ss ts (tails_same _ _ _ _ e) (tails_same _ _ _ _ f))
+
+pub joined_contents : (cs ss ts : List History) → entries_in cs ≡ entries_in ss → entries_in cs ≡ entries_in ts → flat_map contents_in (joined cs ss ts) ≡ flat_map contents_in cs
+joined_contents [] ss ts e f = refl
+joined_contents (c ∷ cs) [] ts e f = absurd cc
+joined_contents (c ∷ cs) (s ∷ ss) [] e f = absurd cc
+joined_contents (c ∷ cs) (s ∷ ss) (t ∷ ts) e f = ap (λ rows. contents_in c ++ rows) (joined_contents cs ss ts (tails_same _ _ _ _ e) (tails_same _ _ _ _ f))
 
 -- the entry of an id stands among the entries
 found_where : (b : Bool) (h : History) (x : Option History) (y : Option Entry) → option_map (λ (g : History). g.entry) x ≡ y → option_map (λ (g : History). g.entry) (cond b (Some h) x) ≡ cond b (Some h.entry) y

@@ -19,21 +19,20 @@ use Rattle.vault_core_model.specs.declared.records.Setting.{Setting}
 use Rattle.vault_core_model.specs.declared.records.Tenure.{Tenure}
 use Rattle.vault_core_model.specs.Checks.{most_content, most_ids, has_period}
 use Rattle.vault_core_model.specs.IntakeOutcome.{is_line}
-use Rattle.vault_core_model.specs.Sound.{Sound, AreIdsFrom, AreInOrder, IsInTime, IsWhole, IsWholeAs, HasTenures, IsPlaced, IsNoted, NamesItsVersion, IsInNameOrder, LiesBetween}
+use Rattle.vault_core_model.specs.Sound.{Sound, AreIdsFrom, AreInOrder, IsInTime, IsWhole, IsWholeAs, IsPlaced, IsNoted, NamesItsVersion, IsInNameOrder, LiesBetween}
 use Rattle.vault_core_model.specs.Totals.{items_in}
 use Rattle.vault_core_model.specs.Vault.{next_id, Vault, config_in}
 use Rattle.vault_audit_model.specs.declared.schema.Edition.{Edition}
 use Rattle.vault_audit_model.specs.declared.rows.MetaRow.{MetaRow}
 use Rattle.vault_audit_model.specs.Limits.{IsInLimits, IsHistory, IsEntry, IsSizedAs, IsBucket, AreRules, IsNote}
 use Rattle.vault_audit_model.specs.Relations.{AreNumbered, IsPast, HasContent, HasContentAs, HasSettings, HasSettingsAs, NamesOneOf}
-use Rattle.vault_audit_model.specs.Rows.{meta_row, meta_columns, entry_row, entry_columns, content_row, content_columns, setting_row, setting_columns}
-use Rattle.vault_audit_model.specs.Spells.{SpellsAs, meta_as, entries_in}
+use Rattle.vault_audit_model.specs.Rows.{meta_row, meta_columns_as, entry_row, entry_columns, content_row, content_columns, setting_row, setting_columns}
+use Rattle.vault_audit_model.specs.Spells.{SpellsAs, meta_told, entries_in, tenure_rows_in}
 use Rattle.vault_audit_model.specs.Tables.{meta_tree, entries_tree, contents_tree, settings_tree}
-use Rattle.vault_audit_model.specs.Tenures.{HasFirstTenures}
 use Rattle.vault_audit_model.proofs.ListLemmas.{all_as, all_both}
 use Rattle.vault_audit_parts.specs.Parts.{AreParts, joined, vault_of}
-use Rattle.vault_audit_parts.proofs.JoinLemmas.{joined_entries, joined_contents, joined_settings, joined_tenures, joined_items, entry_found, joined_contents_are, joined_settings_are}
-use Rattle.vault_audit_parts.proofs.TenureLemmas.{first_tenured}
+use Rattle.vault_audit_parts.proofs.JoinLemmas.{joined_entries, joined_contents, joined_settings, joined_items, entry_found, joined_contents_are, joined_settings_are}
+use Rattle.vault_audit_parts.proofs.TenureLemmas.{joined_tenured, joined_unmoved, joined_rows}
 
 -- ---- lists
 
@@ -95,18 +94,21 @@ line n (low, high) = grind (arith, low, high)
 
 -- ---- the vault
 
-module _ (ed : Edition) (db : Database) (m : MetaRow) (departments : List (List ℕ)) (callers : List Caller) (buckets : List Bucket) (notes : List Note) (entries : List Entry) (contents settings : List History) (are : AreParts ed db m departments callers buckets notes entries contents settings) where
+module _ (ed : Edition) (db : Database) (m : MetaRow) (departments : List (List ℕ)) (callers : List Caller) (buckets : List Bucket) (notes : List Note) (entries : List Entry) (contents settings tenures : List History) (are : AreParts ed db m departments callers buckets notes entries contents settings tenures) where
   abbrev hs : List History
-  hs = joined buckets contents settings
+  hs = joined contents settings tenures
 
   abbrev v : Vault
-  v = vault_of m departments callers buckets notes contents settings
+  v = vault_of m departments callers buckets notes contents settings tenures
 
   same_entries : entries_in contents ≡ entries_in settings
   same_entries = are.contents_are.0 ∙ sym are.settings_are.0
 
+  tenured_entries : entries_in contents ≡ entries_in tenures
+  tenured_entries = are.contents_are.0 ∙ sym are.tenures_are.0
+
   hs_entries : entries_in hs ≡ entries
-  hs_entries = joined_entries buckets contents settings same_entries ∙ are.contents_are.0
+  hs_entries = joined_entries contents settings tenures same_entries tenured_entries ∙ are.contents_are.0
 
   numbered : AreNumbered 1 0 (entries_in hs)
   numbered = subst (AreNumbered 1 0) (sym hs_entries) are.entries_are.1
@@ -117,12 +119,12 @@ module _ (ed : Edition) (db : Database) (m : MetaRow) (departments : List (List 
   each : AllByRecursion (λ (h : History). (IsEntry h.entry × HasContent h) × HasSettings h) hs
   each =
       all_both (λ (h : History). IsEntry h.entry × HasContent h) HasSettings hs
-      (all_both (λ (h : History). IsEntry h.entry) HasContent hs (all_of_entries IsEntry hs (entries_are_in_limits 1 0 (entries_in hs) numbered)) (joined_contents_are buckets contents settings same_entries are.contents_are.2))
-      (joined_settings_are buckets contents settings same_entries are.settings_are.2)
+      (all_both (λ (h : History). IsEntry h.entry) HasContent hs (all_of_entries IsEntry hs (entries_are_in_limits 1 0 (entries_in hs) numbered)) (joined_contents_are contents settings tenures same_entries tenured_entries are.contents_are.2))
+      (joined_settings_are contents settings tenures same_entries tenured_entries are.settings_are.2)
 
   within : (dept : List ℕ) → sum_by admitted_size (items_in dept hs) + sum_by received_size (items_in dept hs) ≤ quota
   within dept =
-      subst (λ (is : List Item). sum_by admitted_size is + sum_by received_size is ≤ quota) (sym (joined_items buckets dept contents settings same_entries)) (are.within dept)
+      subst (λ (is : List Item). sum_by admitted_size is + sum_by received_size is ≤ quota) (sym (joined_items contents settings tenures same_entries tenured_entries dept)) (are.within dept)
 
   many : length hs ≡ length entries
   many =
@@ -139,15 +141,6 @@ module _ (ed : Edition) (db : Database) (m : MetaRow) (departments : List (List 
 
   places : AllByRecursion (IsPlaced v) hs
   places = all_of_entries (λ e. IsSome (config_in buckets e.bucket)) hs (subst (AllByRecursion (λ (e : Entry). IsSome (config_in buckets e.bucket))) (sym hs_entries) are.placed)
-
-  firsts : AllByRecursion (HasFirstTenures buckets) hs
-  firsts = joined_tenures buckets contents settings
-
-  tenured : AllByRecursion (HasTenures v) hs
-  tenured =
-      all_as (λ (h : History) (it : (HasFirstTenures buckets h × IsPlaced v h) × IsPast m.last h.entry). first_tenured v are.owned h it.0.0 it.0.1 it.1) hs
-      (all_both (λ (h : History). HasFirstTenures buckets h × IsPlaced v h) (λ (h : History). IsPast m.last h.entry) hs
-      (all_both (HasFirstTenures buckets) (IsPlaced v) hs firsts places) (all_of_entries (IsPast m.last) hs past))
 
   named : (n : Note) → NamesOneOf entries n → NamesItsVersion v n
   named n is =
@@ -166,8 +159,8 @@ module _ (ed : Edition) (db : Database) (m : MetaRow) (departments : List (List 
     whole = all_as whole hs each;
     placed = places;
     within = within;
-    tenured = tenured;
-    enough_moves = omega arith;
+    tenured = joined_tenured m v contents settings tenures same_entries tenured_entries are.tenures_are.1.tenured are.tenured_departments;
+    enough_moves = are.meta.1.moves;
     ordered = names;
     employed = are.employed;
     owned = are.owned;
@@ -179,7 +172,7 @@ module _ (ed : Edition) (db : Database) (m : MetaRow) (departments : List (List 
 
   limits : IsInLimits v
   limits = record {
-    last = are.meta.1;
+    last = are.meta.1.last;
     departments = are.departments_are.2;
     callers = are.callers_are.2;
     buckets = are.buckets_are.3;
@@ -187,10 +180,10 @@ module _ (ed : Edition) (db : Database) (m : MetaRow) (departments : List (List 
     histories = all_as limited hs each;
   }
 
-  meta_same : meta_row m ≡ meta_row (meta_as ed v)
+  meta_same : meta_row m ≡ meta_row (meta_told ed v)
   meta_same =
-      ap (λ n. meta_row (record { schema = m.schema; last = m.last; next = n })) (are.meta.2 ∙ ap (λ n. n + 1) (sym many))
-      ∙ ap (λ n. meta_row (record { schema = n; last = m.last; next = next_id v })) are.meta.3
+      ap (λ n. meta_row (record { schema = m.schema; last = m.last; next = n; moves = m.moves })) (are.meta.2 ∙ ap (λ n. n + 1) (sym many))
+      ∙ ap (λ n. meta_row (record { schema = n; last = m.last; next = next_id v; moves = m.moves })) are.meta.3
 
   entry_rows : IsPermutation (map (λ (h : History). entry_row h.entry) hs) (map entry_columns (db.trees entries_tree))
   entry_rows =
@@ -199,14 +192,15 @@ module _ (ed : Edition) (db : Database) (m : MetaRow) (departments : List (List 
   pub spelled : SpellsAs ed db v
   spelled = record {
     schema = are.schema;
-    meta = subst (λ r. IsPermutation (r ∷ []) (map meta_columns (db.trees meta_tree))) meta_same are.meta.0;
+    meta = subst (λ r. IsPermutation (r ∷ []) (map (meta_columns_as ed) (db.trees meta_tree))) meta_same are.meta.0;
     departments = are.departments_are.0;
     callers = are.callers_are.0;
     buckets = are.buckets_are.0;
     rules = are.buckets_are.1;
     entries = entry_rows;
-    contents = subst (λ rows. IsPermutation (map content_row rows) (map content_columns (db.trees contents_tree))) (sym (joined_contents buckets contents settings same_entries)) are.contents_are.1;
-    settings = subst (λ rows. IsPermutation (map setting_row rows) (map setting_columns (db.trees settings_tree))) (sym (joined_settings buckets contents settings same_entries)) are.settings_are.1;
+    contents = subst (λ rows. IsPermutation (map content_row rows) (map content_columns (db.trees contents_tree))) (sym (joined_contents contents settings tenures same_entries tenured_entries)) are.contents_are.1;
+    settings = subst (λ rows. IsPermutation (map setting_row rows) (map setting_columns (db.trees settings_tree))) (sym (joined_settings contents settings tenures same_entries tenured_entries)) are.settings_are.1;
     intake = are.notes_are.0;
-    kept = record { limits = limits; sound = sound; unmoved = record { moves = refl; tenures = firsts } };
+    tenures = subst (λ rows. IsPermutation rows (tenure_rows_in ed db)) (joined_rows m v contents settings tenures same_entries tenured_entries ed) are.tenures_are.1.rows;
+    kept = record { limits = limits; sound = sound; unmoved = joined_unmoved m v contents settings tenures same_entries tenured_entries ed are.tenures_are.1.unmoved };
   }

@@ -1,51 +1,60 @@
--- The tenures that the buckets tell are those of a sound vault.
-use Rattle.std.proofs.Common.{◌≡◌, ◌≤◌, ℕ, Bool, true, false, List, [], ◌∷◌, find, cond, Option, Some, None, option_map, IfSome, IsSome, IsTrue, refl, sym, ap, subst}
+-- The tenures of the histories that are put together.
+use Rattle.std.proofs.Common.{◌≡◌, Bool, true, false, List, map, Option, Some, None, refl, sym, ap, subst}
 use Rattle.std.specs.List.{AllByRecursion}
-use Rattle.std.specs.Str.{bytes_eq}
-use Rattle.vault_core_model.specs.declared.records.Bucket.{Bucket}
-use Rattle.vault_core_model.specs.declared.records.BucketConfig.{BucketConfig}
+use Rattle.vault_core_model.specs.declared.records.Entry.{Entry}
 use Rattle.vault_core_model.specs.declared.records.History.{History}
 use Rattle.vault_core_model.specs.declared.records.Removal.{Removal}
-use Rattle.vault_core_model.specs.declared.records.Tenure.{Tenure}
-use Rattle.vault_core_model.specs.Sound.{HasTenures, HasTenuresAs, IsOwned, IsPlaced, IsWithBucket, LiesBetween, end_of}
-use Rattle.vault_core_model.specs.Vault.{Vault, config_in, config_of, has_department}
-use Rattle.vault_audit_model.specs.Relations.{IsPast}
-use Rattle.vault_audit_model.specs.Tenures.{HasFirstTenures, first_tenures}
+use Rattle.vault_core_model.specs.Sound.{HasTenures, HasTenuresAs, IsWithBucket}
+use Rattle.vault_core_model.specs.Vault.{Vault}
+use Rattle.vault_audit_model.specs.declared.rows.MetaRow.{MetaRow}
+use Rattle.vault_audit_model.specs.declared.schema.Edition.{Edition}
+use Rattle.vault_audit_model.specs.declared.schema.Edition.TheVariants.{First, Second, Third}
+use Rattle.vault_audit_model.specs.Relations.{IsTenured, IsTenuredAs}
+use Rattle.vault_audit_model.specs.Rows.{tenure_row}
+use Rattle.vault_audit_model.specs.Spells.{entries_in, tenure_rows_of}
+use Rattle.vault_audit_model.specs.Tenures.{HasFirstTenures, IsUnmoved, IsUnmovedIn}
+use Rattle.vault_audit_model.proofs.ListLemmas.{all_both}
+use Rattle.vault_audit_parts.specs.Parts.{IsTenuredAmong, joined, put_together, versions_at}
+use Rattle.vault_audit_parts.proofs.JoinLemmas.{all_third, joined_tenures}
 
--- a department that each of the buckets has is that of one found among them
-abbrev pub IsOf : (List ℕ → Bool) → Option BucketConfig → Type 0
-IsOf test config = IfSome config (λ (c : BucketConfig). IsTrue (test c.dept))
+-- the vault `v` has these buckets and departments, and the last moment and the moves that meta tells
+module _ (m : MetaRow) (v : Vault) (cs ss ts : List History) (e : entries_in cs ≡ entries_in ss) (f : entries_in cs ≡ entries_in ts) where
+  abbrev whole : Vault
+  whole = record v { last = m.last; histories = joined cs ss ts; moves = m.moves }
 
-of_first : (test : List ℕ → Bool) (here : Bool) (b : Bucket) (found : Option Bucket) → IsTrue (test b.config.dept) → IsOf test (option_map (λ (x : Bucket). x.config) found)
-    → IsOf test (option_map (λ (x : Bucket). x.config) (cond here (Some b) found))
-of_first test true b found is rest = is
-of_first test false b found is rest = rest
+  abbrev told : Vault
+  told = versions_at m v.buckets ts
 
-pub of_found : (test : List ℕ → Bool) (bs : List Bucket) (name : List ℕ) → AllByRecursion (λ (b : Bucket). IsTrue (test b.config.dept)) bs → IsOf test (config_in bs name)
-of_found test [] name all = tt
-of_found test (b ∷ bs) name all = of_first test (bytes_eq b.name name) b (find (λ c. bytes_eq c.name name) bs) all.0 (of_found test bs name all.1)
+  with_bucket : (removal : Option Removal) (c s t : History) → IsWithBucket told removal t → IsWithBucket whole removal (record { entry = t.entry; content = c.content; settings = s.settings; tenures = t.tenures })
+  with_bucket None c s t is = is
+  with_bucket (Some r) c s t is = tt
 
--- none ends before it begins
-by_end : (admitted last : ℕ) (removal : Option Removal) → admitted ≤ last → LiesBetween admitted last removal → admitted ≤ end_of last removal
-by_end admitted last None past lies = past
-by_end admitted last (Some r) past lies = lies.0
+  has_as : (marker : Bool) (c s t : History) → IsTenuredAs marker told t → IsTenuredAmong v.departments t → HasTenuresAs marker whole (record { entry = t.entry; content = c.content; settings = s.settings; tenures = t.tenures })
+  has_as true c s t is among = is
+  has_as false c s t is among = (is.0, among, with_bucket t.entry.removal c s t is.1)
 
-module _ (v : Vault) where
-  abbrev tenured_as : History → List Tenure → History
-  tenured_as h ts = record h { tenures = ts }
+  has_tenures : (c s t : History) → c.entry ≡ s.entry → c.entry ≡ t.entry → IsTenured told t × IsTenuredAmong v.departments t → HasTenures whole (put_together c s t)
+  has_tenures c s t same also is =
+      subst (λ (x : Entry). HasTenures whole (record { entry = x; content = c.content; settings = s.settings; tenures = t.tenures })) (sym also) (has_as t.entry.marker c s t is.0 is.1)
 
-  with_bucket : (removal : Option Removal) (h : History) (c : BucketConfig) → config_of v h.entry.bucket ≡ Some c → IsWithBucket v removal (tenured_as h (first_tenures false h.entry.admitted (Some c)))
-  with_bucket None h c is = sym (ap (option_map (λ (x : BucketConfig). x.dept)) is)
-  with_bucket (Some r) h c is = tt
+  pub joined_tenured : AllByRecursion (IsTenured told) ts → AllByRecursion (IsTenuredAmong v.departments) ts → AllByRecursion (HasTenures whole) (joined cs ss ts)
+  joined_tenured tenured among =
+      all_third (λ (t : History). IsTenured told t × IsTenuredAmong v.departments t) (HasTenures whole) has_tenures cs ss ts e f
+      (all_both (IsTenured told) (IsTenuredAmong v.departments) ts tenured among)
 
-  first_has : (marker : Bool) (config : Option BucketConfig) (h : History) → config_of v h.entry.bucket ≡ config → IsSome config → IsOf (has_department v) config → IsPast v.last h.entry
-      → HasTenuresAs marker v (tenured_as h (first_tenures marker h.entry.admitted config))
-  first_has true config h is there owned past = refl
-  first_has false None h is there owned past = absurd (cc there)
-  first_has false (Some c) h is there owned past =
-      ((refl, refl, by_end h.entry.admitted v.last h.entry.removal past.0 past.1), (owned, tt), with_bucket h.entry.removal h c is)
+  first_too : (c s t : History) → c.entry ≡ s.entry → c.entry ≡ t.entry → HasFirstTenures v.buckets t → HasFirstTenures v.buckets (put_together c s t)
+  first_too c s t same also is =
+      subst (λ (x : Entry). HasFirstTenures v.buckets (record { entry = x; content = c.content; settings = s.settings; tenures = t.tenures })) (sym also) is
 
-  pub first_tenured : AllByRecursion (IsOwned v) v.buckets → (h : History) → HasFirstTenures v.buckets h → IsPlaced v h → IsPast v.last h.entry → HasTenures v h
-  first_tenured owned h first placed past =
-      subst (λ (ts : List Tenure). HasTenures v (tenured_as h ts)) (sym first)
-      (first_has h.entry.marker (config_of v h.entry.bucket) h refl placed (of_found (has_department v) v.buckets h.entry.bucket owned) past)
+  unmoved : IsUnmoved told → IsUnmoved whole
+  unmoved is = record { moves = is.moves; tenures = all_third (HasFirstTenures v.buckets) (HasFirstTenures v.buckets) first_too cs ss ts e f is.tenures }
+
+  pub joined_unmoved : (n : Edition) → IsUnmovedIn n told → IsUnmovedIn n whole
+  joined_unmoved First is = unmoved is
+  joined_unmoved Second is = unmoved is
+  joined_unmoved Third is = tt
+
+  pub joined_rows : (n : Edition) → tenure_rows_of n told ≡ tenure_rows_of n whole
+  joined_rows First = refl
+  joined_rows Second = refl
+  joined_rows Third = ap (map tenure_row) (sym (joined_tenures cs ss ts e f))

@@ -17,10 +17,10 @@ use Rattle.vault_audit_model.specs.declared.schema.Edition.{Edition}
 use Rattle.vault_audit_model.specs.Editions.{number_of}
 use Rattle.vault_audit_model.specs.declared.rows.MetaRow.{MetaRow}
 use Rattle.vault_audit_model.specs.Limits.{IsMetaRow, IsPlainName, IsCaller}
-use Rattle.vault_audit_model.specs.Relations.{AreEntries, AreContents, AreSettings, AreNotes, AreBuckets, IsPast, IsWithin}
-use Rattle.vault_audit_model.specs.Rows.{meta_row, caller_row, meta_columns, caller_columns}
+use Rattle.vault_audit_model.specs.Relations.{AreEntries, AreContents, AreSettings, AreNotes, AreTenuresOf, AreBuckets, IsPast, IsWithin}
+use Rattle.vault_audit_model.specs.Rows.{meta_row, caller_row, meta_columns_as, caller_columns}
+use Rattle.vault_audit_model.specs.Spells.{entries_in}
 use Rattle.vault_audit_model.specs.Tables.{schema_of, meta_tree, departments_tree, callers_tree}
-use Rattle.vault_audit_model.specs.Tenures.{tenures_in}
 
 -- the rows of departments have these names
 abbrev pub AreDepartments : Database → List (List ℕ) → Type 0
@@ -37,7 +37,7 @@ AreCallers db cs =
 -- the row of meta is this one, of that edition, whose next id is behind all entries
 abbrev pub IsMeta : Edition → Database → List Entry → MetaRow → Type 0
 IsMeta ed db es m =
-    IsPermutation (meta_row m ∷ []) (map meta_columns (db.trees meta_tree)) × IsMetaRow m × (m.next ≡ length es + 1) × (m.schema ≡ number_of ed)
+    IsPermutation (meta_row m ∷ []) (map (meta_columns_as ed) (db.trees meta_tree)) × IsMetaRow m × (m.next ≡ length es + 1) × (m.schema ≡ number_of ed)
 
 -- the department of that name is one of these
 abbrev pub IsAmong : List (List ℕ) → List ℕ → Type 0
@@ -47,26 +47,40 @@ IsAmong ds name = IsTrue (list_any (λ d. bytes_eq d name) ds)
 abbrev pub WorksFor : List (List ℕ) → Caller → Type 0
 WorksFor ds c = IsTrue (passes_if_given (λ name. list_any (λ d. bytes_eq d name) ds) c.dept)
 
--- the contents are those of the first, the settings those of the second; both are of the same entries, and the tenures are those that the buckets tell
-abbrev pub joined : List Bucket → List History → List History → List History
-joined bs [] ss = []
-joined bs (c ∷ cs) [] = []
-joined bs (c ∷ cs) (s ∷ ss) = record { entry = c.entry; content = c.content; settings = s.settings; tenures = tenures_in bs c.entry } ∷ joined bs cs ss
+-- the contents, the settings and the tenures of these three
+abbrev pub put_together : History → History → History → History
+put_together c s t = record { entry = c.entry; content = c.content; settings = s.settings; tenures = t.tenures }
+
+-- the contents are those of the first, the settings those of the second, the tenures those of the third; all are of the same entries
+abbrev pub joined : List History → List History → List History → List History
+joined [] ss ts = []
+joined (c ∷ cs) [] ts = []
+joined (c ∷ cs) (s ∷ ss) [] = []
+joined (c ∷ cs) (s ∷ ss) (t ∷ ts) = put_together c s t ∷ joined cs ss ts
+
+-- these histories in these buckets, at the moment and with the moves that meta tells
+abbrev pub versions_at : MetaRow → List Bucket → List History → Vault
+versions_at m buckets hs =
+    record { last = m.last; departments = []; callers = []; buckets = buckets; notes = []; histories = hs; moves = m.moves }
 
 -- the vault of these parts
-abbrev pub vault_of : MetaRow → List (List ℕ) → List Caller → List Bucket → List Note → List History → List History → Vault
-vault_of m departments callers buckets notes contents settings = record {
+abbrev pub vault_of : MetaRow → List (List ℕ) → List Caller → List Bucket → List Note → List History → List History → List History → Vault
+vault_of m departments callers buckets notes contents settings tenures = record {
   last = m.last;
   departments = departments;
   callers = callers;
   buckets = buckets;
   notes = notes;
-  histories = joined buckets contents settings;
-  moves = 0;
+  histories = joined contents settings tenures;
+  moves = m.moves;
 }
 
+-- the departments of the history's tenures are among these
+abbrev pub IsTenuredAmong : List (List ℕ) → History → Type 0
+IsTenuredAmong ds h = AllByRecursion (λ t. IsAmong ds t.dept) h.tenures
+
 -- what each table tells by itself, and what ties them to each other
-pub record AreParts (ed : Edition) (db : Database) (m : MetaRow) (departments : List (List ℕ)) (callers : List Caller) (buckets : List Bucket) (notes : List Note) (entries : List Entry) (contents settings : List History) : Type 0 where
+pub record AreParts (ed : Edition) (db : Database) (m : MetaRow) (departments : List (List ℕ)) (callers : List Caller) (buckets : List Bucket) (notes : List Note) (entries : List Entry) (contents settings tenures : List History) : Type 0 where
   pub schema : db.schema ≡ schema_of ed
   pub meta : IsMeta ed db entries m
   pub departments_are : AreDepartments db departments
@@ -76,8 +90,10 @@ pub record AreParts (ed : Edition) (db : Database) (m : MetaRow) (departments : 
   pub contents_are : AreContents db entries contents
   pub settings_are : AreSettings db entries settings
   pub notes_are : AreNotes db entries notes
+  pub tenures_are : (entries_in tenures ≡ entries) × AreTenuresOf ed db (versions_at m buckets tenures)
   pub past : AllByRecursion (IsPast m.last) entries
   pub employed : AllByRecursion (WorksFor departments) callers
   pub owned : AllByRecursion (λ (b : Bucket). IsAmong departments b.config.dept) buckets
   pub placed : AllByRecursion (λ (e : Entry). IsSome (config_in buckets e.bucket)) entries
-  pub within : (dept : List ℕ) → IsWithin buckets contents dept
+  pub tenured_departments : AllByRecursion (IsTenuredAmong departments) tenures
+  pub within : (dept : List ℕ) → IsWithin tenures dept

@@ -17,7 +17,7 @@ ghost use Rattle.vault_audit_parts.specs.Parts.{AreParts, vault_of};
 /// The rows spell the vault that their parts make.
 pub fn parts_make_the_vault()
     ensures { (ed : Edition) (db : Database) (m : MetaRow) (departments : List (List ℕ)) (callers : List Caller) (buckets : List Bucket)
-        (notes : List Note) (entries : List Entry) (contents settings : List History) →
-        AreParts ed db m departments callers buckets notes entries contents settings →
-        SpellsAs ed db (vault_of m departments callers buckets notes contents settings) }
+        (notes : List Note) (entries : List Entry) (contents settings tenures : List History) →
+        AreParts ed db m departments callers buckets notes entries contents settings tenures →
+        SpellsAs ed db (vault_of m departments callers buckets notes contents settings tenures) }
 {}

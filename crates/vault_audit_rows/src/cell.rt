@@ -17,6 +17,9 @@ use vault_base::name::VersionId;
 /// The bytes of the greatest content.
 pub const MOST_CONTENT: usize = 1_048_576;
 
+/// The most moves of buckets that a vault counts.
+pub const MOST_MOVES: u32 = 1_000_000_000;
+
 /// The memory that a row's values are copied into: any column reads as it.
 #[derive(Drop)]
 struct Memory {

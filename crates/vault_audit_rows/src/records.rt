@@ -13,11 +13,13 @@ ghost use Rattle.vault_audit_model.specs.declared.rows.RuleRow.{RuleRow};
 ghost use Rattle.vault_audit_model.specs.declared.rows.ContentRow.{ContentRow};
 ghost use Rattle.vault_audit_model.specs.declared.rows.SettingRow.{SettingRow};
 ghost use Rattle.vault_audit_model.specs.declared.rows.HeadRow.{HeadRow};
-ghost use Rattle.vault_audit_model.specs.Limits.{IsMetaRow, IsDepartmentRow, IsCaller, IsBucketRow, IsRuleRow, IsEntry, IsContentRow, IsSettingRow, IsNote, IsHeadRow};
-ghost use Rattle.vault_audit_model.specs.Rows.{meta_row, department_row, caller_row, bucket_row, rule_row, entry_row, content_row, setting_row, note_row, head_row};
+ghost use Rattle.vault_audit_model.specs.declared.rows.TenureRow.{TenureRow};
+ghost use Rattle.vault_audit_model.specs.Limits.{IsMetaRow, IsDepartmentRow, IsCaller, IsBucketRow, IsRuleRow, IsEntry, IsContentRow, IsSettingRow, IsNote, IsHeadRow, IsTenureRow};
+ghost use Rattle.vault_audit_model.specs.Rows.{meta_row, department_row, caller_row, bucket_row, rule_row, entry_row, content_row, setting_row, note_row, head_row, tenure_row};
 
 use crate::cell::{
-    MOST_CONTENT, content, digest, flag, flag_or_null, moment, number, number_within, version_id,
+    MOST_CONTENT, MOST_MOVES, content, digest, flag, flag_or_null, moment, number, number_within,
+    version_id,
 };
 use crate::misread::Misread;
 use crate::name::{
@@ -30,9 +32,9 @@ use crate::part::{
 };
 use sqlite::Row;
 use vault_audit_model::rows::{
-    BucketRow, ContentRow, DepartmentRow, HeadRow, MetaRow, RuleRow, SettingRow,
+    BucketRow, ContentRow, DepartmentRow, HeadRow, MetaRow, RuleRow, SettingRow, TenureRow,
 };
-use vault_core_model::records::{BucketConfig, Caller, Entry, Head, Note, Setting};
+use vault_core_model::records::{BucketConfig, Caller, Entry, Head, Note, Setting, Tenure};
 use vault_lock::lock::Lock;
 use vault_rules::rule::Rule;
 use vault_tally::row::Row as Sums;
@@ -42,49 +44,56 @@ pub fn read_meta(row: &Row) -> Result<MetaRow, Misread>
     ensures ok { IfOk result (λ x. (row.now ≡ meta_row x) × IsMetaRow x) }
     ensures wrong { IfErr result (λ e. e ≡ Misread.Wrong → (x : MetaRow) → IsMetaRow x → row.now ≢ meta_row x) }
 {
-    if row.column_count() != 4 {
+    if row.column_count() != 5 {
         return Err(Misread::Wrong);
     }
     let one = number(row, 0).ok_or(Misread::Wrong)?;
     let schema = number(row, 1).ok_or(Misread::Wrong)?;
     let last = moment(row, 2).ok_or(Misread::Wrong)?;
     let next = number(row, 3).ok_or(Misread::Wrong)?;
+    let moves = number_within(row, 4, 0, MOST_MOVES).ok_or(Misread::Wrong)?;
     if one != 1 {
         return Err(Misread::Wrong);
     }
-    Ok(MetaRow { schema, last, next })
+    Ok(MetaRow {
+        schema,
+        last,
+        next,
+        moves: u64::from(moves),
+    })
 }
 
-/// The five numbers of a department.
+/// The seven numbers of a department.
 fn sums(row: &Row) -> Option<Sums>
     ensures { MatchOption result
-        ((s : SumsOf) → column row.now 1 ≡ value s.admitted → column row.now 2 ≡ value s.held → column row.now 3 ≡ value s.removed → column row.now 4 ≡ value s.weighted → column row.now 5 ≢ value s.closed)
-        (λ s. (column row.now 1 ≡ value s.admitted) × (column row.now 2 ≡ value s.held) × (column row.now 3 ≡ value s.removed) × (column row.now 4 ≡ value s.weighted) × (column row.now 5 ≡ value s.closed) × (s.received ≡ 0) × (s.handed ≡ 0)) }
+        ((s : SumsOf) → column row.now 1 ≡ value s.admitted → column row.now 2 ≡ value s.held → column row.now 3 ≡ value s.removed → column row.now 4 ≡ value s.weighted → column row.now 5 ≡ value s.closed → column row.now 6 ≡ value s.received → column row.now 7 ≢ value s.handed)
+        (λ s. (column row.now 1 ≡ value s.admitted) × (column row.now 2 ≡ value s.held) × (column row.now 3 ≡ value s.removed) × (column row.now 4 ≡ value s.weighted) × (column row.now 5 ≡ value s.closed) × (column row.now 6 ≡ value s.received) × (column row.now 7 ≡ value s.handed)) }
 {
     let admitted = number(row, 1)?;
     let held = number(row, 2)?;
     let removed = number(row, 3)?;
     let weighted = number(row, 4)?;
     let closed = number(row, 5)?;
+    let received = number(row, 6)?;
+    let handed = number(row, 7)?;
     Some(Sums {
         admitted,
-        received: 0,
+        received,
         held,
         removed,
-        handed: 0,
+        handed,
         weighted,
         closed,
     })
 }
 
-/// A row of `departments`. It tells five of the sums: no bucket was moved to the department or away from it.
-#[tactic(auto, using(crate::proofs::RowLemmas::row_of_6))]
+/// A row of `departments`.
+#[tactic(auto, using(crate::proofs::RowLemmas::row_of_8))]
 pub fn read_department(row: &Row) -> Result<DepartmentRow, Misread>
     ensures ok { IfOk result (λ x. (row.now ≡ department_row x) × IsDepartmentRow x) }
-    ensures unmoved { IfOk result (λ x. (x.sums.received ≡ 0) × (x.sums.handed ≡ 0)) }
     ensures wrong { IfErr result (λ e. e ≡ Misread.Wrong → (x : DepartmentRow) → IsDepartmentRow x → row.now ≢ department_row x) }
 {
-    if row.column_count() != 6 {
+    if row.column_count() != 8 {
         return Err(Misread::Wrong);
     }
     let name = dept_name(row, 0)?;
@@ -289,5 +298,23 @@ pub fn read_head(row: &Row) -> Result<HeadRow, Misread>
         bucket,
         key,
         head: Head { newest, count },
+    })
+}
+
+/// A row of `tenures`.
+pub fn read_tenure(row: &Row) -> Result<TenureRow, Misread>
+    ensures ok { IfOk result (λ x. (row.now ≡ tenure_row x) × IsTenureRow x) }
+    ensures wrong { IfErr result (λ e. e ≡ Misread.Wrong → (x : TenureRow) → IsTenureRow x → row.now ≢ tenure_row x) }
+{
+    if row.column_count() != 4 {
+        return Err(Misread::Wrong);
+    }
+    let id = version_id(row, 0).ok_or(Misread::Wrong)?;
+    let number = number_within(row, 1, 0, MOST_MOVES).ok_or(Misread::Wrong)?;
+    let from = moment(row, 3).ok_or(Misread::Wrong)?;
+    let dept = dept_name(row, 2)?;
+    Ok(TenureRow {
+        id,
+        tenure: Tenure { dept, from, number },
     })
 }

@@ -35,7 +35,7 @@ use Rattle.vault_audit_rules.proofs.OnlyLemmas.{pass_only}
 use Rattle.vault_audit_rules.proofs.GroupLemmas.{start, make, ascend, rows_fit, after_none, rules_fit, rules_owned}
 use Rattle.vault_audit_rules.proofs.TextLemmas.{buckets_walk, buckets_walk_is, buckets_walk_plain, rules_walk_is, rules_walk_plain, buckets_beside, buckets_beside_is}
 use Rattle.vault_audit_model.specs.declared.schema.Edition.{Edition}
-use Rattle.vault_audit_model.specs.declared.schema.Edition.TheVariants.{First, Second}
+use Rattle.vault_audit_model.specs.declared.schema.Edition.TheVariants.{First, Second, Third}
 use Rattle.vault_audit_rules.specs.RulesWalk.{rules_walk}
 use Rattle.vault_audit_rules.proofs.TextLemmas.{bounds_shown}
 
@@ -55,6 +55,8 @@ rule_answers First a b schema rows shown =
     pair_walked (rules_walk First) a b (schema_of First) schema (rules_walk_plain First) (rules_walk_is First).1 7 1 2 (col 1 3 ∷ col 1 4 ∷ col 1 5 ∷ col 1 6 ∷ col 1 7 ∷ col 1 8 ∷ col 1 9 ∷ bounds_shown First) _ (rules_walk_is First).0 refl rows shown
 rule_answers Second a b schema rows shown =
     pair_walked (rules_walk Second) a b (schema_of Second) schema (rules_walk_plain Second) (rules_walk_is Second).1 7 1 2 (col 1 3 ∷ col 1 4 ∷ col 1 5 ∷ col 1 6 ∷ col 1 7 ∷ col 1 8 ∷ col 1 9 ∷ bounds_shown Second) _ (rules_walk_is Second).0 refl rows shown
+rule_answers Third a b schema rows shown =
+    pair_walked (rules_walk Third) a b (schema_of Third) schema (rules_walk_plain Third) (rules_walk_is Third).1 7 1 2 (col 1 3 ∷ col 1 4 ∷ col 1 5 ∷ col 1 6 ∷ col 1 7 ∷ col 1 8 ∷ col 1 9 ∷ bounds_shown Third) _ (rules_walk_is Third).0 refl rows shown
 
 module _ (n : Edition) (old new : State) (has : old.now.schema ≡ schema_of n) (same : IsUnchanged old new) where
   pub buckets_told : (r : Option (List ℕ)) (b : Bool) → Walked (Takes bucket_row IsNextBucket with_bucket) (Refuses bucket_row IsNextBucket with_bucket) buckets_walk old new None r b → TellBucketRows new.now b

@@ -108,7 +108,7 @@ fn rules_walk(edition: Edition) -> &'static str
         Edition::First => {
             "SELECT bucket, n, id, prefix, enabled, days, lone, nc_days, nc_keep, NULL, NULL FROM rules ORDER BY bucket, n"
         }
-        Edition::Second => {
+        Edition::Second | Edition::Third => {
             "SELECT bucket, n, id, prefix, enabled, days, lone, nc_days, nc_keep, larger, smaller FROM rules ORDER BY bucket, n"
         }
     }

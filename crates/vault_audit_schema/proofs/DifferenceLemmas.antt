@@ -1,18 +1,21 @@
 -- Which table is told.
-use Rattle.std.proofs.Common.{◌≡◌, ◌⊎◌, ℕ, zero, suc, ◌+◌, ◌<◌, ◌≤◌, List, [], ◌∷◌, take, refl, ap, subst, sym, ◌∙◌, inl, inr, arith, take-take}
+use Rattle.std.proofs.Common.{◌≡◌, ◌⊎◌, ℕ, zero, suc, ◌+◌, ◌<◌, ◌≤◌, List, [], ◌∷◌, length, map, Some, take, refl, ap, subst, sym, ◌∙◌, inl, inr, arith, take-take}
 use Rattle.std.specs.List.{slice_get}
+use Rattle.std.specs.Option.{option_map}
 use Rattle.std.proofs.lemmas.Bool.{cases_order}
+use Rattle.std.proofs.lemmas.Option.{slice_get-map, same_Some}
 use Rattle.vault_base.specs.declared.refusal.Table.{Table}
-use Rattle.vault_base.specs.declared.refusal.Table.TheVariants.{Meta, Departments, Callers, Buckets, Rules, Entries, Contents, Settings, Intake, Heads}
+use Rattle.vault_base.specs.declared.refusal.Table.TheVariants.{Meta, Departments, Callers, Buckets, Rules, Entries, Contents, Settings, Intake, Heads, Tenures}
 use Rattle.sqlite.specs.Schema.{Schema}
 use Rattle.sqlite.specs.Table.{Table as Made}
 use Rattle.vault_audit_model.specs.declared.schema.Edition.{Edition}
+use Rattle.vault_audit_model.specs.declared.schema.Edition.TheVariants.{First, Second, Third}
 use Rattle.vault_audit_model.specs.Tables.{schema_of}
 use Rattle.vault_audit_schema.specs.Compare.{IsFirstUnlike}
-use Rattle.vault_audit_schema.specs.Places.{place_of, IsInPlace, AreInPlace, BeginTo, IsToldOf, IsToldIn}
+use Rattle.vault_audit_schema.specs.Places.{place_of, made_in, HasTable, IsInPlace, AreInPlace, BeginTo, IsToldOf, IsToldIn}
 use Rattle.vault_audit_schema.proofs.CompareLemmas.{unlike_not}
 
-pub place_below : (t : Table) → place_of t < 10
+pub place_below : (t : Table) → place_of t < 11
 place_below Meta = omega arith
 place_below Departments = omega arith
 place_below Callers = omega arith
@@ -23,9 +26,10 @@ place_below Contents = omega arith
 place_below Settings = omega arith
 place_below Intake = omega arith
 place_below Heads = omega arith
+place_below Tenures = omega arith
 
 -- each place is that of a table
-placed : (at : ℕ) → at < 10 → (t : Table) × (place_of t ≡ at)
+placed : (at : ℕ) → at < 11 → (t : Table) × (place_of t ≡ at)
 placed zero h = (Meta, refl)
 placed (suc zero) h = (Departments, refl)
 placed (suc (suc zero)) h = (Callers, refl)
@@ -36,7 +40,42 @@ placed (suc (suc (suc (suc (suc (suc zero)))))) h = (Contents, refl)
 placed (suc (suc (suc (suc (suc (suc (suc zero))))))) h = (Settings, refl)
 placed (suc (suc (suc (suc (suc (suc (suc (suc zero)))))))) h = (Intake, refl)
 placed (suc (suc (suc (suc (suc (suc (suc (suc (suc zero))))))))) h = (Heads, refl)
-placed (suc (suc (suc (suc (suc (suc (suc (suc (suc (suc n)))))))))) h = absurd (omega arith)
+placed (suc (suc (suc (suc (suc (suc (suc (suc (suc (suc zero)))))))))) h = (Tenures, refl)
+placed (suc (suc (suc (suc (suc (suc (suc (suc (suc (suc (suc n))))))))))) h = absurd (omega arith)
+
+-- how many an edition has
+abbrev count : Edition → ℕ
+count n = length (schema_of n).tables
+
+few : (n : Edition) → count n < 12
+few First = omega arith
+few Second = omega arith
+few Third = omega arith
+
+-- a table stands in the edition's list at its place
+made_at : (n : Edition) (t : Table) → HasTable n t → slice_get (made_in n) (place_of t) ≡ Some t
+made_at n Meta has = refl
+made_at n Departments has = refl
+made_at n Callers has = refl
+made_at n Buckets has = refl
+made_at n Rules has = refl
+made_at n Entries has = refl
+made_at n Contents has = refl
+made_at n Settings has = refl
+made_at n Intake has = refl
+made_at n Heads has = refl
+made_at First Tenures has = absurd (omega (arith, has))
+made_at Second Tenures has = absurd (omega (arith, has))
+made_at Third Tenures has = refl
+
+-- so where its forms have these names, the form at this place has the table's
+pub named_at : {F : Type 0} (n : Edition) (name_of : F → Table) (forms : List F) → map name_of forms ≡ made_in n → (form : F) (at : ℕ) → slice_get forms at ≡ Some form
+    → (t : Table) → HasTable n t → place_of t ≡ at → name_of form ≡ t
+named_at n name_of forms are form at is t has here =
+    same_Some (name_of form) t (
+    ap (option_map name_of) (sym is) ∙ sym (slice_get-map name_of forms at) ∙ ap (λ (l : List Table). slice_get l at) are
+    ∙ ap (slice_get (made_in n)) (sym here) ∙ made_at n t has
+    )
 
 get_in_take : {X : Type 0} (n : ℕ) (xs : List X) (k : ℕ) → k < n → slice_get (take n xs) k ≡ slice_get xs k
 get_in_take zero xs k h = absurd (omega arith)
@@ -49,18 +88,28 @@ agree_before xs ys n k e h = sym (get_in_take n xs k h) ∙ ap (λ (l : List _).
 
 -- a table that the tables begin with stands in its place
 pub in_place : (n : Edition) (tables : List Made) (t : Table) → BeginTo n tables t → IsInPlace n tables t
-in_place n tables t begin = agree_before tables (schema_of n).tables (place_of t + 1) (place_of t) begin (omega arith)
+in_place n tables t begin has = agree_before tables (schema_of n).tables (place_of t + 1) (place_of t) begin (omega arith)
+
+-- one that doesn't stand in its place is one of the edition's
+has_out : (n : Edition) (tables : List Made) (t : Table) → ¬ IsInPlace n tables t → HasTable n t
+has_out n tables t here = elim (cases_order (place_of t) (count n)) [
+  | inl e ↦ absurd (here (λ has. absurd (omega (arith, has, e))))
+  | inr (inl less) ↦ less
+  | inr (inr more) ↦ absurd (here (λ has. absurd (omega (arith, has, more))))
+]
 
 same_place : (n : Edition) (tables : List Made) (at : ℕ) (t : Table) → IsFirstUnlike tables (schema_of n).tables at
     → ((u : Table) → place_of u < place_of t → IsInPlace n tables u) → ¬ IsInPlace n tables t → place_of t ≡ at
 same_place n tables at t unlike before here = elim (cases_order (place_of t) at) [
   | inl e ↦ e
-  | inr (inl less) ↦ absurd (here (agree_before tables (schema_of n).tables at (place_of t) unlike.before less))
+  | inr (inl less) ↦ absurd (here (λ has. agree_before tables (schema_of n).tables at (place_of t) unlike.before less))
   | inr (inr more) ↦
-      let below : place_of t < 10 = place_below t in
-      let found : (u : Table) × (place_of u ≡ at) = placed at (omega arith) in
+      let below : place_of t < 11 = place_below t in
+      let has : place_of t < count n = has_out n tables t here in
+      let found : (u : Table) × (place_of u ≡ at) = placed at (omega (arith, below, more)) in
       let lower : place_of found.0 < place_of t = rw found.1 more in
-      absurd (unlike.differs (subst (λ (k : ℕ). slice_get tables k ≡ slice_get (schema_of n).tables k) found.1 (before found.0 lower)))
+      let there : place_of found.0 < count n = omega (arith, lower, has) in
+      absurd (unlike.differs (subst (λ (k : ℕ). slice_get tables k ≡ slice_get (schema_of n).tables k) found.1 (before found.0 lower there)))
 ]
 
 begin_before : (n : Edition) (tables : List Made) (at : ℕ) → take at tables ≡ take at (schema_of n).tables → (t : Table) → place_of t < at → BeginTo n tables t
@@ -73,33 +122,38 @@ module _ (n : Edition) (tables : List Made) (at : ℕ) (told : Table) (unlike : 
   Told = ((t : Table) → place_of t < place_of told → BeginTo n tables t) × (¬ IsInPlace n tables told ⊎ AreInPlace n tables)
 
   -- it differs at this table
-  at_table : (u : Table) → place_of u ≡ at → told ≡ u → Told
-  at_table u placed_at is =
-      let told_at : place_of told ≡ at = ap place_of is ∙ placed_at in (
+  at_table : (u : Table) → place_of u ≡ at → at < count n → told ≡ u → Told
+  at_table u placed_at within is =
+      let told_at : place_of told ≡ at = ap place_of is ∙ placed_at in
+      let has : place_of told < count n = rw told_at within in (
         λ t less. begin_before n tables at unlike.before t (omega (arith, told_at, less)),
-        inl (λ here. unlike.differs (subst (λ (k : ℕ). slice_get tables k ≡ slice_get (schema_of n).tables k) told_at here)),
+        inl (λ here. unlike.differs (subst (λ (k : ℕ). slice_get tables k ≡ slice_get (schema_of n).tables k) told_at (here has))),
       )
 
   -- or past all of them
-  past_all : 10 ≤ at → told ≡ Meta → Told
+  past_all : count n ≤ at → told ≡ Meta → Told
   past_all far is =
       let first : place_of told ≡ 0 = ap place_of is in (
         λ t less. absurd (omega (arith, first, less)),
-        inr (λ t. let below : place_of t < 10 = place_below t in agree_before tables (schema_of n).tables at (place_of t) unlike.before (omega (arith, below, far))),
+        inr (λ t has. agree_before tables (schema_of n).tables at (place_of t) unlike.before (omega (arith, has, far))),
       )
 
-  pub told_of : ((t : Table) → place_of t ≡ at → told ≡ t) → (10 ≤ at → told ≡ Meta) → IsToldOf n tables told
+  pub told_of : ((t : Table) → HasTable n t → place_of t ≡ at → told ≡ t) → (count n ≤ at → told ≡ Meta) → IsToldOf n tables told
   told_of named past =
-      let it : Told = elim (cases_order at 10) [
-        | inl e ↦ past_all (omega (arith, e)) (past (omega (arith, e)))
-        | inr (inl less) ↦ (let found = placed at less in at_table found.0 found.1 (named found.0 found.1))
-        | inr (inr more) ↦ past_all (omega (arith, more)) (past (omega (arith, more)))
+      let it : Told = elim (cases_order at (count n)) [
+        | inl e ↦ (let far : count n ≤ at = omega (arith, e) in past_all far (past far))
+        | inr (inl less) ↦
+            let most = few n in
+            let found = placed at (omega (arith, less, most)) in
+            let has : HasTable n found.0 = rw found.1 less in
+            at_table found.0 found.1 less (named found.0 has found.1)
+        | inr (inr more) ↦ (let far : count n ≤ at = omega (arith, more) in past_all far (past far))
       ] in
       record {
         differs = λ e. unlike_not unlike e;
         begin = it.0;
         here = it.1;
-        first = λ t before here. named t (same_place n tables at t unlike before here);
+        first = λ t before here. named t (has_out n tables t here) (same_place n tables at t unlike before here);
       }
 
 -- the tables are told of the schema
@@ -111,5 +165,5 @@ pub told_beside : (n : Edition) (s : Schema) (told : Table) → s.tables ≡ (sc
 told_beside n s told are other = record {
   differs = other;
   begin = λ t less. ap (take (place_of t + 1)) are;
-  here = inr (λ t. ap (λ (l : List Made). slice_get l (place_of t)) are);
+  here = inr (λ t has. ap (λ (l : List Made). slice_get l (place_of t)) are);
 }

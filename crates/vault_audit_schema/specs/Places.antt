@@ -1,10 +1,11 @@
 -- The tables in their places.
-use Rattle.std.specs.Prelude.{ℕ, ◌+◌, ◌<◌, ◌⊎◌, List, slice_get, take, ◌≡◌}
+use Rattle.std.specs.Prelude.{ℕ, ◌+◌, ◌<◌, ◌⊎◌, List, [], ◌∷◌, length, slice_get, take, ◌≡◌}
 use Rattle.vault_base.specs.declared.refusal.Table.{Table}
-use Rattle.vault_base.specs.declared.refusal.Table.TheVariants.{Meta, Departments, Callers, Buckets, Rules, Entries, Contents, Settings, Intake, Heads}
+use Rattle.vault_base.specs.declared.refusal.Table.TheVariants.{Meta, Departments, Callers, Buckets, Rules, Entries, Contents, Settings, Intake, Heads, Tenures}
 use Rattle.sqlite.specs.Schema.{Schema}
 use Rattle.sqlite.specs.Table.{Table as Made}
 use Rattle.vault_audit_model.specs.declared.schema.Edition.{Edition}
+use Rattle.vault_audit_model.specs.declared.schema.Edition.TheVariants.{First, Second, Third}
 use Rattle.vault_audit_model.specs.Tables.{schema_of}
 
 -- the place of a table in the order in which they are made
@@ -19,12 +20,27 @@ place_of Contents = 6
 place_of Settings = 7
 place_of Intake = 8
 place_of Heads = 9
+place_of Tenures = 10
 
--- the table stands in its place, in the vault's form
+-- the tables that an edition has besides those of the first
+abbrev pub made_later : Edition → List Table
+made_later First = []
+made_later Second = []
+made_later Third = Tenures ∷ []
+
+-- the tables of an edition, in their order
+abbrev pub made_in : Edition → List Table
+made_in n = Meta ∷ Departments ∷ Callers ∷ Buckets ∷ Rules ∷ Entries ∷ Contents ∷ Settings ∷ Intake ∷ Heads ∷ made_later n
+
+-- the edition has the table
+abbrev pub HasTable : Edition → Table → Type 0
+HasTable n t = place_of t < length (schema_of n).tables
+
+-- the table stands in its place, in the vault's form, where the edition has it
 abbrev pub IsInPlace : Edition → List Made → Table → Type 0
-IsInPlace n tables t = slice_get tables (place_of t) ≡ slice_get (schema_of n).tables (place_of t)
+IsInPlace n tables t = HasTable n t → slice_get tables (place_of t) ≡ slice_get (schema_of n).tables (place_of t)
 
--- each of the vault's tables does, whatever stands behind them
+-- each of the edition's tables does, whatever stands behind them
 abbrev pub AreInPlace : Edition → List Made → Type 0
 AreInPlace n tables = (t : Table) → IsInPlace n tables t
 

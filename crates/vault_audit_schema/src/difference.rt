@@ -1,25 +1,25 @@
 //! At which table a schema differs from the vault's.
 
-ghost use Rattle.std.specs.Prelude.{◌≡◌, ◌↔◌, ◌<◌, ◌≤◌, ℕ, None, Some, MatchOption, IfSome};
+ghost use Rattle.std.specs.Prelude.{◌≡◌, ◌↔◌, ◌<◌, ◌≤◌, ℕ, length, None, Some, MatchOption, IfSome};
 ghost use Rattle.sqlite.specs.Held.{state};
 ghost use Rattle.vault_base.specs.declared.refusal.Table.{Table};
-ghost use Rattle.vault_audit_model.specs.Tables.{schema_of, vault_schema};
-ghost use Rattle.vault_audit_schema.specs.Places.{place_of, IsInPlace, IsToldOf, IsToldIn};
+ghost use Rattle.vault_audit_model.specs.Tables.{schema_of};
+ghost use Rattle.vault_audit_schema.specs.Places.{place_of, HasTable, IsInPlace, IsToldOf, IsToldIn};
 
 use crate::compare::first_unlike;
-use crate::index::INDEXES;
-use crate::table::{TABLES, tables_of};
+use crate::index::indexes_of;
+use crate::table::tables_of;
 use sqlite::{Alter, Connection};
 use sqlite_schema::schema::{self, Index, Schema};
 use vault_audit_model::schema::Edition;
 use vault_base::refusal::Table;
 
-/// The table at this place, or `meta` past the last.
-fn table_at(at: usize) -> Table
-    ensures at { (t : Table) → place_of t ≡ at → result ≡ t }
-    ensures past { 10 ≤ at → result ≡ Table.Meta }
+/// The edition's table at this place, or `meta` past the last.
+fn table_at(edition: Edition, at: usize) -> Table
+    ensures at { (t : Table) → HasTable edition t → place_of t ≡ at → result ≡ t }
+    ensures past { length (schema_of edition).tables ≤ at → result ≡ Table.Meta }
 {
-    match TABLES.get(at) {
+    match tables_of(edition).get(at) {
         Some(form) => form.table,
         None => Table::Meta,
     }
@@ -30,12 +30,12 @@ fn table_difference(edition: Edition, tables: &[schema::Table]) -> Option<Table>
     ensures { MatchOption result (tables.now ≡ (schema_of edition).tables) (IsToldOf edition tables.now) }
 {
     let at = first_unlike(tables, tables_of(edition))?;
-    Some(table_at(at))
+    Some(table_at(edition, at))
 }
 
-/// The table that an index is on, or `meta` where that is none of the vault's.
-fn owner(index: &Index) -> Table {
-    for form in &TABLES {
+/// The table that an index is on, or `meta` where that is none of the edition's.
+fn owner(edition: Edition, index: &Index) -> Table {
+    for form in tables_of(edition) {
         if form.tree == index.table {
             return form.table;
         }
@@ -44,24 +44,27 @@ fn owner(index: &Index) -> Table {
 }
 
 /// The table whose index is to stand at this place, or past the last that of the index that stands there.
-fn index_table(indexes: &[Index], at: usize) -> Table {
-    match INDEXES.get(at) {
-        Some(form) => form.table,
-        None => indexes.get(at).map_or(Table::Meta, owner),
+fn index_table(edition: Edition, indexes: &[Index], at: usize) -> Table {
+    if let Some(form) = indexes_of(edition).get(at) {
+        return form.table;
+    }
+    match indexes.get(at) {
+        Some(index) => owner(edition, index),
+        None => Table::Meta,
     }
 }
 
 /// A table whose index is missing or of another form, or that has one index more.
-fn index_difference(indexes: &[Index]) -> Option<Table>
-    ensures { (result ≡ None) ↔ (indexes.now ≡ vault_schema.indexes) }
+fn index_difference(edition: Edition, indexes: &[Index]) -> Option<Table>
+    ensures { (result ≡ None) ↔ (indexes.now ≡ (schema_of edition).indexes) }
 {
-    let at = first_unlike(indexes, &INDEXES)?;
-    Some(index_table(indexes, at))
+    let at = first_unlike(indexes, indexes_of(edition))?;
+    Some(index_table(edition, indexes, at))
 }
 
 /// The first table at which a schema differs from that of an edition, or none where it is that.
 ///
-/// A table that is none of the vault's is told as `meta`, and so are an index of such a table and a view.
+/// A table that is none of the edition's is told as `meta`, and so are an index of such a table and a view.
 pub fn first_difference(edition: Edition, schema: &Schema) -> Option<Table>
     ensures found { (result ≡ None) ↔ (schema.now ≡ schema_of edition) }
 
@@ -74,7 +77,7 @@ pub fn first_difference(edition: Edition, schema: &Schema) -> Option<Table>
     if let Some(table) = table_difference(edition, schema.tables.as_slice()) {
         return Some(table);
     }
-    if let Some(table) = index_difference(schema.indexes.as_slice()) {
+    if let Some(table) = index_difference(edition, schema.indexes.as_slice()) {
         return Some(table);
     }
     if schema.views.is_empty() {

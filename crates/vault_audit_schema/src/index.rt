@@ -1,10 +1,13 @@
 //! The indexes that the tables bring.
 
+ghost use Rattle.std.specs.Prelude.{◌≡◌, map};
+ghost use Rattle.vault_audit_model.specs.Tables.{schema_of};
 ghost use Rattle.vault_audit_schema.specs.Forms.{index_of};
 
 use crate::compare::Form;
 use sqlite_schema::schema::Index;
 use sqlite_value::keys::Order;
+use vault_audit_model::schema::Edition;
 use vault_base::refusal::Table;
 
 /// The index of the places by which a table's rows are found.
@@ -18,8 +21,8 @@ pub(crate) struct IndexForm {
     pub(crate) places: &'static [usize],
 }
 
-/// The indexes in the order in which they are made.
-pub(crate) static INDEXES: [IndexForm; 8] = [
+/// The indexes in the order in which they are made, the last of the third edition alone.
+static INDEXES: [IndexForm; 9] = [
     IndexForm {
         table: Table::Departments,
         name: "sqlite_autoindex_departments_1",
@@ -76,7 +79,24 @@ pub(crate) static INDEXES: [IndexForm; 8] = [
         table_tree: 16,
         places: &[1, 2],
     },
+    IndexForm {
+        table: Table::Tenures,
+        name: "sqlite_autoindex_tenures_1",
+        tree: 19,
+        table_tree: 18,
+        places: &[1, 2],
+    },
 ];
+
+/// The indexes of an edition, in the order in which they are made.
+pub(crate) fn indexes_of(edition: Edition) -> &'static [IndexForm]
+    ensures { map index_of result.now ≡ (schema_of edition).indexes }
+{
+    match edition {
+        Edition::First | Edition::Second => &INDEXES[..8],
+        Edition::Third => &INDEXES,
+    }
+}
 
 impl Form<Index> for IndexForm {
     ghost shape = { index_of };

@@ -1,10 +1,11 @@
-//! The ten tables, and the parts of a table that are no column.
+//! The tables of each edition, and the parts of a table that are no column.
 
 ghost use Rattle.std.specs.Prelude.{◌≡◌, ◌↔◌, [], ◌∷◌, Some, None, IsTrue, map};
 ghost use Rattle.vault_audit_model.specs.Tables.{schema_of};
 ghost use Rattle.sqlite_value.specs.Keys.{plain};
 ghost use Rattle.vault_audit_schema.specs.Forms.{table_of, key_of, primary_of, uniques_of, orders_of};
 ghost use Rattle.vault_audit_schema.specs.Parts.{HasKey, IsBare};
+ghost use Rattle.vault_audit_schema.specs.Places.{made_in};
 
 use crate::column::ColumnForm::{Has, MayHave};
 use crate::column::{ColumnForm, ReferenceForm};
@@ -36,6 +37,7 @@ pub(crate) struct TableForm {
     pub(crate) references: &'static [ReferenceForm],
 }
 
+/// `meta` of the first two editions.
 const META: TableForm = TableForm {
     table: Table::Meta,
     tree: 0,
@@ -49,6 +51,21 @@ const META: TableForm = TableForm {
     references: &[],
 };
 
+const THIRD_META: TableForm = TableForm {
+    table: Table::Meta,
+    tree: 0,
+    key: KeyForm::Number,
+    columns: &[
+        MayHave("one", Kind::Integer),
+        Has("schema", Kind::Integer),
+        Has("last", Kind::Integer),
+        Has("next", Kind::Integer),
+        Has("moves", Kind::Integer),
+    ],
+    references: &[],
+};
+
+/// The departments of the first two editions.
 const DEPARTMENTS: TableForm = TableForm {
     table: Table::Departments,
     tree: 1,
@@ -60,6 +77,23 @@ const DEPARTMENTS: TableForm = TableForm {
         Has("removed", Kind::Integer),
         Has("weighted", Kind::Integer),
         Has("closed", Kind::Integer),
+    ],
+    references: &[],
+};
+
+const THIRD_DEPARTMENTS: TableForm = TableForm {
+    table: Table::Departments,
+    tree: 1,
+    key: KeyForm::Places(&[1]),
+    columns: &[
+        Has("name", Kind::Text),
+        Has("admitted", Kind::Integer),
+        Has("held", Kind::Integer),
+        Has("removed", Kind::Integer),
+        Has("weighted", Kind::Integer),
+        Has("closed", Kind::Integer),
+        Has("received", Kind::Integer),
+        Has("handed", Kind::Integer),
     ],
     references: &[],
 };
@@ -258,8 +292,32 @@ const HEADS: TableForm = TableForm {
     ],
 };
 
+const TENURES: TableForm = TableForm {
+    table: Table::Tenures,
+    tree: 18,
+    key: KeyForm::Places(&[1, 2]),
+    columns: &[
+        Has("id", Kind::Integer),
+        Has("n", Kind::Integer),
+        Has("dept", Kind::Text),
+        Has("moment", Kind::Integer),
+    ],
+    references: &[
+        ReferenceForm {
+            at: 1,
+            parent: Table::Entries,
+            column: "id",
+        },
+        ReferenceForm {
+            at: 3,
+            parent: Table::Departments,
+            column: "name",
+        },
+    ],
+};
+
 /// The tables of the first edition, in the order in which they are made.
-pub(crate) static FIRST_TABLES: [TableForm; 10] = [
+static FIRST_TABLES: [TableForm; 10] = [
     META,
     DEPARTMENTS,
     CALLERS,
@@ -272,8 +330,8 @@ pub(crate) static FIRST_TABLES: [TableForm; 10] = [
     HEADS,
 ];
 
-/// The tables of the newest edition, in the order in which they are made.
-pub(crate) static TABLES: [TableForm; 10] = [
+/// Those of the second.
+static SECOND_TABLES: [TableForm; 10] = [
     META,
     DEPARTMENTS,
     CALLERS,
@@ -286,13 +344,30 @@ pub(crate) static TABLES: [TableForm; 10] = [
     HEADS,
 ];
 
+/// Those of the third.
+static THIRD_TABLES: [TableForm; 11] = [
+    THIRD_META,
+    THIRD_DEPARTMENTS,
+    CALLERS,
+    BUCKETS,
+    RULES,
+    ENTRIES,
+    CONTENTS,
+    SETTINGS,
+    INTAKE,
+    HEADS,
+    TENURES,
+];
+
 /// The tables of an edition, in the order in which they are made.
 pub(crate) fn tables_of(edition: Edition) -> &'static [TableForm]
-    ensures { map table_of result.now ≡ (schema_of edition).tables }
+    ensures forms { map table_of result.now ≡ (schema_of edition).tables }
+    ensures names { map (λ form. form.table) result.now ≡ made_in edition }
 {
     match edition {
         Edition::First => &FIRST_TABLES,
-        Edition::Second => &TABLES,
+        Edition::Second => &SECOND_TABLES,
+        Edition::Third => &THIRD_TABLES,
     }
 }
 

@@ -4,4 +4,7 @@ pub mod RowLemmas
 pub mod TextLemmas
 pub mod OwnedLemmas
 pub mod WalkLemmas
+pub mod ShareLemmas
+pub mod ToldLemmas
+pub mod TenureLemmas
 pub mod TableLemmas

@@ -1,4 +1,4 @@
--- Versions that are counted one by one.
+-- Tenures that are counted one by one.
 use Rattle.std.proofs.Common.{◌≡◌, ℕ, ◌+◌, ◌≤◌, List, [], ◌∷◌, ◌++◌, Bool, true, false, cond, is_eq, Option, Some, unwrap_or, sum_by, IsTrue, refl, sym, ap, subst, ◌∙◌, arith}
 use Rattle.std.specs.BTreeMap.{get}
 use Rattle.std.specs.Str.{bytes_eq}
@@ -14,24 +14,41 @@ use Rattle.vault_audit_model.specs.Spells.{sums_over}
 use Rattle.vault_audit_sums.specs.declared.totals.Totals.{Totals}
 use Rattle.vault_audit_sums.specs.Totals.{empty_sums, total_of, IsTotal, IsCounted}
 
+-- ---- no tenure
+
+none_bounded : AreBounded []
+none_bounded = record { dated = refl; within = omega arith }
+
+pub no_item : IsTotal (Some empty_sums) []
+no_item = (
+  record { admitted = refl; received = refl; held = refl; removed = refl; handed = refl; weighted = refl; closed = refl },
+  none_bounded,
+)
+
+-- ---- one more
+
 -- what a department admitted and received are the sizes of its tenures
 sizes_are : (sums : Row) (items : List Item) → IsRowOf sums items → sums.admitted + sums.received ≡ sum_by size_of items
 sizes_are sums items is = omega (arith, is.admitted, is.received, got items)
 
--- a list that is bounded is so with one version more that is dated and within the quota
+-- a list that is bounded is so with one tenure more that is dated and within the quota
 pub bounded_with : (sums : Row) (items : List Item) (x : Item) → IsRowOf sums items → AreBounded items → IsTrue (is_dated x) → sums.admitted + sums.received + x.size ≤ quota → AreBounded (items ++ x ∷ [])
 bounded_with sums items x is are dates within = record {
   dated = list_all_push is_dated items x are.dated dates;
   within = let more = sum_by_push size_of items x in omega (arith, more, sizes_are sums items is, within);
 }
 
--- versions above the quota are so with one more
+-- tenures above the quota are so with one more
 pub above_before : (items : List Item) (x : Item) → (¬ (sum_by size_of items ≤ quota)) → ¬ (sum_by size_of (items ++ x ∷ []) ≤ quota)
 above_before items x above within = let more = sum_by_push size_of items x in above (omega (arith, more, within))
 
 -- and so are those that one more takes there
 pub above_now : (sums : Row) (items : List Item) (x : Item) → IsRowOf sums items → (¬ (sums.admitted + sums.received + x.size ≤ quota)) → ¬ (sum_by size_of (items ++ x ∷ []) ≤ quota)
 above_now sums items x is above within = let more = sum_by_push size_of items x in above (omega (arith, more, sizes_are sums items is, within))
+
+-- what is told of one tenure is told of the same in other words
+pub counted_in : (sums : Row) (items : List Item) (x y : Item) → x ≡ y → (AreBounded (items ++ x ∷ []) → IsRowOf sums (items ++ x ∷ [])) → AreBounded (items ++ y ∷ []) → IsRowOf sums (items ++ y ∷ [])
+counted_in sums items x y same counts = subst (λ i. AreBounded (items ++ i ∷ []) → IsRowOf sums (items ++ i ∷ [])) same counts
 
 abbrev row_with : ℕ → ℕ → ℕ → ℕ → ℕ → ℕ → ℕ → Row
 row_with a b c d e f g = record { admitted = a; received = b; held = c; removed = d; handed = e; weighted = f; closed = g }

@@ -1,8 +1,7 @@
 -- The walk over the entries that counts each in for its department.
-use Rattle.std.proofs.Common.{◌≡◌, ℕ, ◌+◌, ◌≤◌, List, [], ◌∷◌, ◌++◌, map, cond, not, ◌&&◌, if◌then◌else◌, option_map, sum_by, Bool, true, false, Option, Some, None, IfSome, IsTrue, IsPermutation, refl, sym, ap, ap₂, subst, ◌∙◌, arith, append_assoc, append-nil}
+use Rattle.std.proofs.Common.{◌≡◌, ℕ, ◌+◌, ◌≤◌, List, [], ◌∷◌, ◌++◌, map, cond, not, ◌&&◌, option_map, Bool, true, false, Option, Some, None, IfSome, IsTrue, IsPermutation, refl, sym, ap, ap₂, subst, ◌∙◌, arith, append_assoc, append-nil}
 use Rattle.std.specs.List.{AllByRecursion}
 use Rattle.std.specs.Str.{bytes_eq}
-use Rattle.std.proofs.lemmas.List.Sums.{sum_by-cons}
 use Rattle.std.proofs.lemmas.List.Sorted.{IsPermutation-trans}
 use Rattle.sqlite_value.specs.Order.{Row as Values}
 use Rattle.sqlite_trees.proofs.ListLemmas.{all-permutation}
@@ -10,22 +9,24 @@ use Rattle.sqlite_keyed.proofs.SortLemmas.{sorted_unique}
 use Rattle.sqlite.specs.Effect.{Database}
 use Rattle.sqlite.specs.State.{State, IsUnchanged}
 use Rattle.vault_base.specs.Days.{day, last_moment}
-use Rattle.vault_tally.specs.Row.{Item, AreBounded, is_dated, if_held, received_size, handed_size}
+use Rattle.vault_tally.specs.Row.{Item, is_dated}
 use Rattle.vault_tally.specs.declared.row.Row.{Row}
 use Rattle.vault_core_model.specs.declared.records.Bucket.{Bucket}
 use Rattle.vault_core_model.specs.declared.records.BucketConfig.{BucketConfig}
 use Rattle.vault_core_model.specs.declared.records.Entry.{Entry}
 use Rattle.vault_core_model.specs.declared.records.History.{History}
 use Rattle.vault_core_model.specs.declared.records.Removal.{Removal}
+use Rattle.vault_core_model.specs.declared.records.Tenure.{Tenure}
 use Rattle.vault_core_model.specs.Sound.{LiesBetween, end_of}
-use Rattle.vault_core_model.specs.Totals.{Share, share, removal_day, shares_from, items_by}
-use Rattle.vault_core_model.specs.Vault.{config_in}
+use Rattle.vault_core_model.specs.Totals.{Share, share, removal_day, shares_from, shares_of, items_by, items_in}
+use Rattle.vault_core_model.specs.Vault.{Vault, config_in}
 use Rattle.vault_core_laws.proofs.Bounds.{dated}
 use Rattle.vault_audit_model.specs.declared.schema.Edition.{Edition}
 use Rattle.vault_audit_model.specs.Limits.{IsEntry, IsRemoval}
 use Rattle.vault_audit_model.specs.Relations.{AreBuckets, AreEntries, AreNumbered, IsPast}
+use Rattle.vault_audit_model.specs.Spells.{entries_in}
 use Rattle.vault_audit_model.specs.Tables.{schema_of}
-use Rattle.vault_audit_model.specs.Tenures.{first_tenures, items_with}
+use Rattle.vault_audit_model.specs.Tenures.{HasFirstTenures, IsUnmoved, first_tenures}
 use Rattle.vault_audit_walk.specs.Records.{TellsOne}
 use Rattle.vault_audit_walk.specs.Walk.{Goes, Walked}
 use Rattle.vault_audit_walk.proofs.RecordLemmas.{between, front}
@@ -33,11 +34,12 @@ use Rattle.vault_audit_walk.proofs.ScanLemmas.{first_cmp, first_cmp_total, goes_
 use Rattle.vault_audit_sums.specs.declared.owned.OwnedEntry.{OwnedEntry}
 use Rattle.vault_audit_sums.specs.declared.versions.SumPass.{SumPass}
 use Rattle.vault_audit_sums.specs.Owned.{owned_row, owned_in, IsOwned}
-use Rattle.vault_audit_sums.specs.Totals.{total_of, empty_sums, IsTotal, IsCounted}
-use Rattle.vault_audit_sums.specs.Versions.{item_told, is_named, counts_for, items_where, items_told, GoesIn, TellsNone, AreTotals}
+use Rattle.vault_audit_sums.specs.Totals.{total_of, empty_sums, IsTotal, IsCounted, AreTotals}
+use Rattle.vault_audit_sums.specs.Versions.{item_told, is_named, counts_for, items_where, items_told, GoesIn, TellsNone}
 use Rattle.vault_audit_sums.proofs.RowLemmas.{same_owned}
 use Rattle.vault_audit_sums.proofs.TextLemmas.{owned_text, owned_is}
 use Rattle.vault_audit_sums.proofs.OwnedLemmas.{source, shown_are, owned_rise, answers, each_tells}
+use Rattle.vault_audit_sums.proofs.TotalLemmas.{no_item}
 
 -- ---- versions and their days
 
@@ -67,7 +69,7 @@ are_dated : (next low last : ℕ) (bs : List Bucket) (es : List Entry) → AreNu
 are_dated next low last bs [] are past = tt
 are_dated next low last bs (e ∷ es) are past = (is_dated_by last bs e are.0.0 past.0, are_dated (next + 1) e.admitted last bs es are.1 past.1)
 
--- ---- the versions that are counted for a department are the tenures that buckets tell
+-- ---- the versions that are counted for a department are its tenures, where each version has its first one alone
 
 -- of an entry of these buckets
 one_counted : (name : List ℕ) (bs : List Bucket) (e : Entry) (marker : Bool) (o : Option BucketConfig)
@@ -80,30 +82,13 @@ one_counted name bs e false (Some c) = of (bytes_eq c.dept name)
     of true = ap (λ (i : Item). i ∷ []) (told_is bs e)
     of false = refl
 
-items_are : (bs : List Bucket) (name : List ℕ) (hs : List History) → items_told name (map (owned_in bs) (map (λ (h : History). h.entry) hs)) ≡ items_with bs name hs
-items_are bs name [] = refl
-items_are bs name (h ∷ hs) =
-    ap₂ (λ (xs ys : List Item). xs ++ ys) (one_counted name bs h.entry h.entry.marker (config_in bs h.entry.bucket)) (items_are bs name hs)
+of_history : (name : List ℕ) (bs : List Bucket) (h : History) → HasFirstTenures bs h → items_where (counts_for name (owned_in bs h.entry)) (owned_in bs h.entry) ≡ items_by name (shares_of h)
+of_history name bs h has =
+    one_counted name bs h.entry h.entry.marker (config_in bs h.entry.bucket) ∙ ap (λ (ts : List Tenure). items_by name (shares_from h.entry.size h.entry.removal true ts)) (sym has)
 
--- none of their bytes was received or handed over
-none_told : (f : Item → ℕ) → ((e : OwnedEntry) → f (item_told e) ≡ 0) → (name : List ℕ) (es : List OwnedEntry) → sum_by f (items_told name es) ≡ 0
-none_told f none name [] = refl
-none_told f none name (e ∷ es) = of (counts_for name e) (none_told f none name es)
-  where
-    of : (b : Bool) → sum_by f (items_told name es) ≡ 0 → sum_by f (items_where b e ++ items_told name es) ≡ 0
-    of true more = omega (arith, sum_by-cons f (item_told e) (items_told name es), none e, more)
-    of false more = more
-
-last_stays : (ended : Option ℕ) (size : ℕ) → if_held ended 0 (if true then 0 else size) ≡ 0
-last_stays None size = refl
-last_stays (Some d) size = refl
-
-pub none_received : (bs : List Bucket) (name : List ℕ) (hs : List History) → sum_by received_size (items_with bs name hs) ≡ 0
-none_received bs name hs = subst (λ is. sum_by received_size is ≡ 0) (items_are bs name hs) (none_told received_size (λ e. refl) name (map (owned_in bs) (map (λ (h : History). h.entry) hs)))
-
-pub none_handed : (bs : List Bucket) (name : List ℕ) (hs : List History) → sum_by handed_size (items_with bs name hs) ≡ 0
-none_handed bs name hs =
-    subst (λ is. sum_by handed_size is ≡ 0) (items_are bs name hs) (none_told handed_size (λ e. last_stays (option_map day e.removed) e.size) name (map (owned_in bs) (map (λ (h : History). h.entry) hs)))
+items_are : (bs : List Bucket) (name : List ℕ) (hs : List History) → AllByRecursion (HasFirstTenures bs) hs → items_told name (map (owned_in bs) (entries_in hs)) ≡ items_in name hs
+items_are bs name [] all = refl
+items_are bs name (h ∷ hs) all = ap₂ (λ (xs ys : List Item). xs ++ ys) (of_history name bs h all.0) (items_are bs name hs all.1)
 
 -- ---- the entries that went in are counted
 
@@ -129,38 +114,29 @@ module _ (name : List ℕ) where
 
 -- ---- the walk
 
-none_bounded : AreBounded []
-none_bounded = record { dated = refl; within = omega arith }
-
-no_version : IsTotal (Some empty_sums) []
-no_version = (
-  record { admitted = refl; received = refl; held = refl; removed = refl; handed = refl; weighted = refl; closed = refl },
-  none_bounded,
-)
-
-module _ (n : Edition) (old new : State) (has : old.now.schema ≡ schema_of n) (same : IsUnchanged old new) (p r : SumPass) (bs : List Bucket) (hs : List History) (last : ℕ)
-    (buckets : AreBuckets n new.now bs) (entries : AreEntries new.now (map (λ (h : History). h.entry) hs)) (past : AllByRecursion (IsPast last) (map (λ (h : History). h.entry) hs)) where
+module _ (n : Edition) (old new : State) (has : old.now.schema ≡ schema_of n) (same : IsUnchanged old new) (p r : SumPass) (v : Vault)
+    (buckets : AreBuckets n new.now v.buckets) (entries : AreEntries new.now (entries_in v.histories)) (past : AllByRecursion (IsPast v.last) (entries_in v.histories)) (unmoved : IsUnmoved v) where
   abbrev es : List Entry
-  es = map (λ (h : History). h.entry) hs
+  es = entries_in v.histories
 
   abbrev told : List OwnedEntry
-  told = map (owned_in bs) es
+  told = map (owned_in v.buckets) es
 
   known : new.now.schema ≡ schema_of n
   known = ap (λ (d : Database). d.schema) same.0.now_is ∙ has
 
-  pub totals_yes : ((name : List ℕ) → total_of p.totals name ≡ Some empty_sums) → Walked GoesIn TellsNone owned_text old new p r true → AreTotals bs hs r.totals
+  pub totals_yes : ((name : List ℕ) → total_of p.totals name ≡ Some empty_sums) → Walked GoesIn TellsNone owned_text old new p r true → AreTotals v.histories r.totals
   totals_yes none (rows, shown, goes) name =
       let whole = answers n old new has rows shown in
-      let are = subst (λ (d : Database). IsPermutation (map owned_row told) (source d)) same.0.now_is (shown_are n new.now bs es buckets entries) in
-      let order = sorted_unique first_cmp first_cmp_total (map owned_row told) rows (owned_rise bs es entries.1) (IsPermutation-trans _ _ _ are whole.0) whole.1 in
-      let begun = subst (λ o. IsTotal o []) (sym (none name)) no_version in
-      subst (IsTotal (total_of r.totals name)) (items_are bs name hs) (went name p r rows told [] order (are_dated 1 0 last bs es entries.1 past) goes begun)
+      let are = subst (λ (d : Database). IsPermutation (map owned_row told) (source d)) same.0.now_is (shown_are n new.now v.buckets es buckets entries) in
+      let order = sorted_unique first_cmp first_cmp_total (map owned_row told) rows (owned_rise v.buckets es entries.1) (IsPermutation-trans _ _ _ are whole.0) whole.1 in
+      let begun = subst (λ o. IsTotal o []) (sym (none name)) no_item in
+      subst (IsTotal (total_of r.totals name)) (items_are v.buckets name v.histories unmoved.tenures) (went name p r rows told [] order (are_dated 1 0 v.last v.buckets es entries.1 past) goes begun)
 
   pub totals_no : ¬ Walked GoesIn TellsNone owned_text old new p r false
   totals_no (rows, row, m, begins, goes, never) =
       let on = goes_on_to owned_text new (schema_of n) known _ _ (owned_is n).0 same.0.is_open (rows ++ row ∷ []) begins in
       let whole = answers n new new known ((rows ++ row ∷ []) ++ on.0) on.1 in
-      let every = all-permutation (TellsOne owned_row IsOwned) _ _ (IsPermutation-trans _ _ _ (shown_are n new.now bs es buckets entries) whole.0) (each_tells 1 0 bs es buckets.3 entries.1) in
+      let every = all-permutation (TellsOne owned_row IsOwned) _ _ (IsPermutation-trans _ _ _ (shown_are n new.now v.buckets es buckets entries) whole.0) (each_tells 1 0 v.buckets es buckets.3 entries.1) in
       let it = between (TellsOne owned_row IsOwned) rows row [] (front (TellsOne owned_row IsOwned) (rows ++ row ∷ []) on.0 every) in
       never it.0 it.2 it.1

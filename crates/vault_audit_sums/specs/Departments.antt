@@ -5,6 +5,6 @@ use Rattle.vault_audit_model.specs.Limits.{IsDepartmentRow}
 use Rattle.vault_audit_sums.specs.declared.totals.Totals.{Totals}
 use Rattle.vault_audit_sums.specs.Totals.{total_of}
 
--- the department is in its limits and has these sums, and no bucket was moved to it or away from it
+-- the department is in its limits and has these sums
 abbrev pub HasTotal : Totals → DepartmentRow → Type 0
-HasTotal t d = IsDepartmentRow d × (total_of t d.name ≡ Some d.sums) × (d.sums.received ≡ 0) × (d.sums.handed ≡ 0)
+HasTotal t d = IsDepartmentRow d × (total_of t d.name ≡ Some d.sums)

@@ -1,4 +1,5 @@
 pub mod Owned
 pub mod Totals
 pub mod Versions
+pub mod Tenures
 pub mod Departments

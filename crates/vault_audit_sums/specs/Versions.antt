@@ -3,18 +3,20 @@ use Rattle.std.specs.Prelude.{◌≡◌, ◌≢◌, ℕ, Bool, true, false, not,
 use Rattle.std.specs.Str.{bytes_eq}
 use Rattle.sqlite_value.specs.Order.{Row as Values}
 use Rattle.vault_tally.specs.Row.{Item}
-use Rattle.vault_core_model.specs.declared.records.Bucket.{Bucket}
-use Rattle.vault_core_model.specs.declared.records.History.{History}
-use Rattle.vault_audit_model.specs.Tenures.{items_with}
 use Rattle.vault_audit_sums.specs.declared.owned.OwnedEntry.{OwnedEntry}
+use Rattle.vault_audit_sums.specs.declared.totals.Span.{Span}
 use Rattle.vault_audit_sums.specs.declared.totals.Totals.{Totals}
 use Rattle.vault_audit_sums.specs.declared.versions.SumPass.{SumPass}
 use Rattle.vault_audit_sums.specs.Owned.{owned_row, IsOwned}
-use Rattle.vault_audit_sums.specs.Totals.{item_of, total_of, IsTotal, IsCounted}
+use Rattle.vault_audit_sums.specs.Totals.{item_of, total_of, IsCounted}
+
+-- no bucket was moved, so a version has one tenure, from its admission to its removal
+abbrev pub span_told : OwnedEntry → Span
+span_told e = record { size = e.size; first = true; from = e.admitted; ended = e.removed; last = true }
 
 -- what counts of a version: its size and days
 abbrev pub item_told : OwnedEntry → Item
-item_told e = item_of e.size e.admitted e.removed
+item_told e = item_of (span_told e)
 
 abbrev pub is_named : List ℕ → Option (List ℕ) → Bool
 is_named name None = false
@@ -44,7 +46,3 @@ GoesIn p row q = (e : OwnedEntry) × (row ≡ owned_row e) × CountsEntry p.tota
 -- the row tells no entry in its limits
 abbrev pub TellsNone : SumPass → Values → Type 0
 TellsNone p row = (e : OwnedEntry) → IsOwned e → row ≢ owned_row e
-
--- the totals are those over the versions of each department
-abbrev pub AreTotals : List Bucket → List History → Totals → Type 0
-AreTotals bs hs t = (name : List ℕ) → IsTotal (total_of t name) (items_with bs name hs)

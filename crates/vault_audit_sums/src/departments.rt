@@ -2,7 +2,7 @@
 ghost use Rattle.std.specs.Prelude.{◌≡◌, ◌↔◌, map, Some, IsTrue, IfOk, IfErr, OnOk};
 ghost use Rattle.sqlite.specs.State.{HasCleanDisk, IsUnchanged, Survives};
 ghost use Rattle.sqlite.specs.Held.{state};
-ghost use Rattle.vault_audit_model.specs.Rows.{department_row, department_columns};
+ghost use Rattle.vault_audit_model.specs.Rows.{department_row, department_columns_as};
 ghost use Rattle.vault_audit_model.specs.Tables.{schema_of, departments_tree};
 ghost use Rattle.vault_audit_sums.specs.Departments.{HasTotal};
 ghost use Rattle.vault_audit_sums.specs.Totals.{total_of};
@@ -14,6 +14,7 @@ use sqlite::{Alter, Connection, Error, Row};
 use vault_audit_model::rows::DepartmentRow;
 use vault_audit_model::schema::Edition;
 use vault_audit_rows::records::read_department;
+use vault_audit_tables::departments::departments_query;
 use vault_audit_tables::row_check::refused;
 use vault_audit_walk::check::{Check, check_rows};
 
@@ -56,14 +57,10 @@ pub fn check_totals<S: Alter>(
     check: &SumsCheck,
 ) -> Result<bool, Error>
     requires { HasCleanDisk (state S.Store conn.old) → (state S.Store conn.old).now.schema ≡ schema_of edition }
-    ensures told { HasCleanDisk (state S.Store conn.new) → IfOk result (AreRecords department_row (HasTotal check.now.totals) (map department_columns ((state S.Store conn.new).now.trees departments_tree))) }
+    ensures told { HasCleanDisk (state S.Store conn.new) → IfOk result (AreRecords department_row (HasTotal check.now.totals) (map (department_columns_as edition) ((state S.Store conn.new).now.trees departments_tree))) }
     ensures same { HasCleanDisk (state S.Store conn.new) → OnOk result (IsUnchanged (state S.Store conn.old) (state S.Store conn.new)) }
     ensures err { IsHealthy (state S.Store conn.new) → IfErr result IsMemory }
     ensures crash { Survives (state S.Store conn.old) (state S.Store conn.new) (λ _. ⊥) }
 {
-    check_rows(
-        conn,
-        "SELECT name, admitted, held, removed, weighted, closed FROM departments",
-        check,
-    )
+    check_rows(conn, departments_query(edition), check)
 }

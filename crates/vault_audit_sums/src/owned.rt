@@ -28,7 +28,7 @@ pub struct OwnedEntry {
 }
 
 /// The moment in a column, or NULL.
-fn moment_or_null(row: &Row, at: usize) -> Option<Option<Moment>>
+pub fn moment_or_null(row: &Row, at: usize) -> Option<Option<Moment>>
     ensures { MatchOption result ((o : Option ℕ) → IfSome o (λ t. t ≤ last_moment) → column row.now at ≢ number_or_null o) (λ o. (column row.now at ≡ number_or_null o) × IfSome o (λ t. t ≤ last_moment)) }
 {
     if is_null(row, at) {

@@ -1,6 +1,7 @@
-//! The sums over the versions of each department, as these are counted in one by one.
-ghost use Rattle.std.specs.Prelude.{◌≡◌, ◌++◌, ◌∷◌, [], ℕ, List, Some, IfErr, OnOk, IsTrue};
-ghost use Rattle.vault_tally.specs.Row.{Item, IsRowOf, AreBounded, is_dated};
+//! The sums over the tenures of each department, as these are counted in one by one.
+ghost use Rattle.std.specs.Prelude.{◌≡◌, ◌++◌, ◌∷◌, [], ℕ, List, Some, option_map, IfErr, OnOk, IsTrue};
+ghost use Rattle.vault_base.specs.Days.{day as day_of};
+ghost use Rattle.vault_tally.specs.Row.{Item, is_dated};
 ghost use Rattle.vault_audit_sums.specs.Totals.{item_of, empty_sums, total_of, IsTotal, CountsFor};
 ghost use Rattle.vault_audit_walk.specs.Health.{IsMemory};
 
@@ -11,43 +12,59 @@ use vault_base::moment::Moment;
 use vault_base::name::DeptName;
 use vault_tally::row::Row as Sums;
 
+/// What counts of a tenure of a version.
+#[derive(Clone, Copy)]
+pub struct Span {
+    /// The size of the version.
+    pub size: u64,
+    /// Whether it is the version's first tenure.
+    pub first: bool,
+    pub from: Moment,
+    /// The moment of its end, if it ended.
+    pub ended: Option<Moment>,
+    /// Whether it is the version's last tenure.
+    pub last: bool,
+}
+
 /// The sums of each department, found by its name.
 #[derive(Drop)]
 pub struct Totals {
-    /// Those of the departments for which a version was counted; none where they are above what a department may admit.
+    /// Those of the departments for which a tenure was counted; none where they are above what a department may admit
+    /// and receive.
     sums: BTreeMap<DeptName, Option<Sums>>,
 }
 
-/// Counts a version in, and its removal where it was removed.
-fn count_in(sums: &mut Sums, size: u64, admitted: Moment, removed: Option<Moment>)
-    ensures { (items : List Item) → IsRowOf sums.old items → AreBounded (items ++ item_of size admitted removed ∷ []) → IsRowOf sums.new (items ++ item_of size admitted removed ∷ []) }
+/// The day of a moment, if there is one.
+fn day_if(moment: Option<Moment>) -> Option<u64>
+    ensures { result ≡ option_map day_of moment }
 {
-    sums.admit(size, admitted.day());
-    if let Some(removed) = removed {
-        sums.remove(size, admitted.day(), removed.day());
+    match moment {
+        None => None,
+        Some(moment) => Some(moment.day()),
     }
 }
 
-/// The total with one version more; none where it is above what a department may admit.
+/// The total with one tenure more; none where it is above what a department may admit and receive.
 #[tactic(auto, using(crate::proofs::TotalLemmas::above_before))]
-fn with_version(
-    total: Option<Sums>,
-    size: u64,
-    admitted: Moment,
-    removed: Option<Moment>,
-) -> Option<Sums>
-    ensures { (items : List Item) → IsTotal total items → IsTrue (is_dated (item_of size admitted removed)) → IsTotal result (items ++ item_of size admitted removed ∷ []) }
+fn with_tenure(total: Option<Sums>, span: Span) -> Option<Sums>
+    ensures { (items : List Item) → IsTotal total items → IsTrue (is_dated (item_of span)) → IsTotal result (items ++ item_of span ∷ []) }
 {
     let mut sums = total?;
-    if !sums.fits(size) {
+    if !sums.fits(span.size) {
         return None;
     }
-    count_in(&mut sums, size, admitted, removed);
+    sums.count(
+        span.size,
+        span.first,
+        span.from.day(),
+        day_if(span.ended),
+        span.last,
+    );
     Some(sums)
 }
 
 impl Totals {
-    /// The totals over no version.
+    /// The totals over no tenure.
     pub fn new(alloc: Global) -> Totals
         ensures { (name : List ℕ) → total_of result name ≡ Some empty_sums }
     {
@@ -56,7 +73,7 @@ impl Totals {
         }
     }
 
-    /// The sums of a department; none where they are above what a department may admit.
+    /// The sums of a department; none where they are above what a department may admit and receive.
     #[tactic(auto, using(crate::proofs::TotalLemmas::sums_are))]
     pub fn total(&self, dept: &DeptName) -> Option<Sums>
         ensures { result ≡ total_of self.now dept.now }
@@ -67,18 +84,12 @@ impl Totals {
         }
     }
 
-    /// Counts a version of that department in. The error is want of memory.
-    pub fn count(
-        &mut self,
-        dept: DeptName,
-        size: u64,
-        admitted: Moment,
-        removed: Option<Moment>,
-    ) -> Result<(), Error>
-        ensures ok { OnOk result (CountsFor self.old dept (item_of size admitted removed) self.new) }
+    /// Counts a tenure of that department in. The error is want of memory.
+    pub fn count(&mut self, dept: DeptName, span: Span) -> Result<(), Error>
+        ensures ok { OnOk result (CountsFor self.old dept (item_of span) self.new) }
         ensures err { IfErr result IsMemory }
     {
-        let counted = with_version(self.total(&dept), size, admitted, removed);
+        let counted = with_tenure(self.total(&dept), span);
         self.sums.insert(dept, counted)?;
         Ok(())
     }

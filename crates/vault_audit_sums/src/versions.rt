@@ -1,17 +1,19 @@
-//! The sums over the versions of all departments, taken in one pass over the entries.
-ghost use Rattle.std.specs.Prelude.{◌≡◌, ℕ, List, map, IfOk, IfErr, IsSomeAnd, OnOk};
+//! The sums over the versions of all departments, taken in one pass over the entries, where no bucket was moved.
+ghost use Rattle.std.specs.Prelude.{◌≡◌, IfOk, IfErr, IsSomeAnd, OnOk};
 ghost use Rattle.std.specs.List.{AllByRecursion};
 ghost use Rattle.sqlite.specs.State.{HasCleanDisk, IsUnchanged, Survives};
 ghost use Rattle.sqlite.specs.Held.{state};
-ghost use Rattle.vault_core_model.specs.declared.records.Bucket.{Bucket};
-ghost use Rattle.vault_core_model.specs.declared.records.History.{History};
+ghost use Rattle.vault_core_model.specs.Vault.{Vault};
 ghost use Rattle.vault_audit_model.specs.Relations.{AreBuckets, AreEntries, IsPast};
+ghost use Rattle.vault_audit_model.specs.Spells.{entries_in};
 ghost use Rattle.vault_audit_model.specs.Tables.{schema_of};
-ghost use Rattle.vault_audit_sums.specs.Versions.{CountsEntry, AreTotals};
+ghost use Rattle.vault_audit_model.specs.Tenures.{IsUnmoved};
+ghost use Rattle.vault_audit_sums.specs.Totals.{AreTotals};
+ghost use Rattle.vault_audit_sums.specs.Versions.{CountsEntry};
 ghost use Rattle.vault_audit_walk.specs.Health.{IsHealthy, IsMemory};
 
 use crate::owned::{OwnedEntry, read_owned};
-use crate::totals::Totals;
+use crate::totals::{Span, Totals};
 use sqlite::{Alter, Connection, Error, Row};
 use std::alloc::Global;
 use vault_audit_model::schema::Edition;
@@ -44,7 +46,14 @@ fn count_entry(totals: &mut Totals, entry: OwnedEntry) -> Result<(), Error>
         drop(dept);
         return Ok(());
     }
-    totals.count(dept, size, admitted, removed)
+    let span = Span {
+        size,
+        first: true,
+        from: admitted,
+        ended: removed,
+        last: true,
+    };
+    totals.count(dept, span)
 }
 
 impl Pass for SumPass {
@@ -65,17 +74,17 @@ impl Pass for SumPass {
     }
 }
 
-/// The sums over the content versions of each department, removed ones included; none where a row
-/// of the entries beside their buckets tells nothing. It keeps a row of sums for each department.
+/// The sums over the content versions of each department, removed ones included, where no bucket was moved; none where a
+/// row of the entries beside their buckets tells nothing. It keeps a row of sums for each department.
 pub fn sum_versions<S: Alter>(
     alloc: Global,
     conn: &mut Connection<S>,
     edition: Edition,
 ) -> Result<Option<Totals>, Error>
     requires { HasCleanDisk (state S.Store conn.old) → (state S.Store conn.old).now.schema ≡ schema_of edition }
-    ensures told { HasCleanDisk (state S.Store conn.new) → IfOk result (λ found. (bs : List Bucket) (hs : List History) (last : ℕ) →
-        AreBuckets edition (state S.Store conn.new).now bs → AreEntries (state S.Store conn.new).now (map (λ (h : History). h.entry) hs) →
-        AllByRecursion (IsPast last) (map (λ (h : History). h.entry) hs) → IsSomeAnd found (AreTotals bs hs)) }
+    ensures told { HasCleanDisk (state S.Store conn.new) → IfOk result (λ found. (v : Vault) →
+        AreBuckets edition (state S.Store conn.new).now v.buckets → AreEntries (state S.Store conn.new).now (entries_in v.histories) →
+        AllByRecursion (IsPast v.last) (entries_in v.histories) → IsUnmoved v → IsSomeAnd found (AreTotals v.histories)) }
     ensures same { HasCleanDisk (state S.Store conn.new) → OnOk result (IsUnchanged (state S.Store conn.old) (state S.Store conn.new)) }
     ensures err { IsHealthy (state S.Store conn.new) → IfErr result IsMemory }
     ensures crash { Survives (state S.Store conn.old) (state S.Store conn.new) (λ _. ⊥) }

@@ -17,18 +17,21 @@ use Rattle.vault_core_model.specs.declared.records.Entry.{Entry}
 use Rattle.vault_core_model.specs.declared.records.History.{History}
 use Rattle.vault_core_model.specs.declared.records.Removal.{Removal}
 use Rattle.vault_core_model.specs.declared.records.Setting.{Setting}
-use Rattle.vault_audit_model.specs.Limits.{IsBucketName, IsCaller, IsBucket, IsRule, AreRules, IsHistory, IsSetting, IsNote, IsDepartmentRow, IsBucketRow, IsRuleRow, IsContentRow, IsSettingRow, IsHeadRow}
+use Rattle.vault_audit_model.specs.Limits.{IsBucketName, IsCaller, IsBucket, IsRule, AreRules, IsHistory, IsSetting, IsNote, IsDepartmentRow, IsBucketRow, IsRuleRow, IsContentRow, IsSettingRow, IsHeadRow, IsTenureRow}
+use Rattle.vault_audit_model.specs.declared.rows.TenureRow.{TenureRow}
 use Rattle.vault_audit_model.specs.declared.schema.Edition.{Edition}
-use Rattle.vault_audit_model.specs.Rows.{department_row, caller_row, bucket_row, rule_row, entry_row, content_row, setting_row, note_row, head_row, department_columns, caller_columns, bucket_columns, rule_columns_as, entry_columns, content_columns, setting_columns, note_columns, head_columns}
-use Rattle.vault_audit_model.specs.Spells.{AreSoundAs, meta_as, bucket_of, rules_from, rules_if_given, rules_in, content_if_given, contents_in, settings_from, settings_in, department_in, head_in, heads_in}
+use Rattle.vault_audit_model.specs.declared.schema.Edition.TheVariants.{First, Second, Third}
+use Rattle.vault_audit_model.specs.Rows.{department_row, caller_row, bucket_row, rule_row, entry_row, content_row, setting_row, note_row, head_row, tenure_row, department_columns_as, caller_columns, bucket_columns, rule_columns_as, entry_columns, content_columns, setting_columns, note_columns, head_columns}
+use Rattle.vault_audit_model.specs.Spells.{AreSoundAs, meta_told, bucket_of, rules_from, rules_if_given, rules_in, content_if_given, contents_in, settings_from, settings_in, IsKeptAs, tenures_in, tenure_at, tenure_rows_of, tenure_rows_in, department_in, head_in, heads_in}
 use Rattle.vault_audit_model.specs.Tables.{departments_tree, callers_tree, buckets_tree, rules_tree, entries_tree, contents_tree, settings_tree, intake_tree, heads_tree}
 use Rattle.vault_audit_walk.specs.Records.{AreRecords}
 use Rattle.vault_audit_rows.proofs.PartLemmas.{few}
 use Rattle.vault_audit_tables.specs.Entries.{IsEntryBy}
 use Rattle.vault_audit_tables.specs.Meta.{IsMetaOf}
-use Rattle.vault_audit_model.specs.Relations.{AreNumbered}
+use Rattle.vault_audit_model.specs.Relations.{AreNumbered, AreTenuresInLimits}
 use Rattle.vault_audit_model.proofs.ListLemmas.{all_as, all_both}
 use Rattle.vault_audit_tables.specs.Numbers.{AreEntriesUpTo}
+use Rattle.vault_audit_tables.proofs.TenureLemmas.{kept_tenures}
 
 -- ---- the answer of a look
 
@@ -102,6 +105,17 @@ setting_rows h (is, whole) =
     let count = most h.entry.marker h.entry h.content h.settings whole in
     placed_settings h.entry.id 1 h.settings is.entry.id (omega arith) (omega (arith, count)) is.settings
 
+tenure_rows : (h : History) → IsHistory h × AreTenuresInLimits h → AllByRecursion IsTenureRow (tenures_in h)
+tenure_rows h (is, are) = all_mapped IsTenureRow (tenure_at h.entry.id) h.tenures (all_as (λ t its. record { id = is.entry.id; tenure = its }) h.tenures are)
+
+-- the rows of tenures tell tenures in their limits, and where an edition has no such rows, none
+told_tenures : (n : Edition) (v : Vault) → IsKeptAs n v → (xs : List TenureRow) × (map tenure_row xs ≡ tenure_rows_of n v) × AllByRecursion IsTenureRow xs
+told_tenures First v kept = ([], refl, tt)
+told_tenures Second v kept = ([], refl, tt)
+told_tenures Third v kept =
+    let all = all_both IsHistory AreTenuresInLimits v.histories kept.limits.histories (kept_tenures Third v kept) in
+    (flat_map tenures_in v.histories, refl, all_flat IsTenureRow tenures_in v.histories (all_as tenure_rows v.histories all))
+
 by_last : (from last : ℕ) (hs : List History) → AreInOrder from last hs → (from ≤ last) × AllByRecursion (λ h. h.entry.admitted ≤ last) hs
 by_last from last [] order = (order, tt)
 by_last from last (h ∷ hs) order =
@@ -125,11 +139,11 @@ module _ (n : Edition) (db : Database) (v : Vault) where
   wholes it = all_both IsHistory IsWhole v.histories it.spells.kept.limits.histories it.spells.kept.sound.whole
 
   pub no_meta : IsMetaOf n db None → ¬ AreSoundAs n db v
-  no_meta none it = none (meta_as n v) it.spells.meta (it.spells.kept.limits.last, refl)
+  no_meta none it = none (meta_told n v) it.spells.meta (record { last = it.spells.kept.limits.last; moves = it.spells.kept.sound.enough_moves }, refl)
 
-  pub no_departments : AreRecords department_row IsDepartmentRow (map department_columns (db.trees departments_tree)) false → ¬ AreSoundAs n db v
+  pub no_departments : AreRecords department_row IsDepartmentRow (map (department_columns_as n) (db.trees departments_tree)) false → ¬ AreSoundAs n db v
   no_departments none it =
-      none (map (department_in v) v.departments) (subst (λ rows. IsPermutation rows (map department_columns (db.trees departments_tree))) (sym (map-map department_row (department_in v) v.departments)) it.numbers)
+      none (map (department_in v) v.departments) (subst (λ rows. IsPermutation rows (map (department_columns_as n) (db.trees departments_tree))) (sym (map-map department_row (department_in v) v.departments)) it.numbers)
       (all_mapped IsDepartmentRow (department_in v) v.departments it.spells.kept.limits.departments)
 
   pub no_callers : AreRecords caller_row IsCaller (map caller_columns (db.trees callers_tree)) false → ¬ AreSoundAs n db v
@@ -166,6 +180,11 @@ module _ (n : Edition) (db : Database) (v : Vault) where
       let held = all_filtered IsHistory (is_current v) v.histories it.spells.kept.limits.histories in
       let each : AllByRecursion (λ (h : History). IsHeadRow (head_in v h)) (filter (is_current v) v.histories) = all_as (λ (h : History) (is : IsHistory h). record { bucket = is.entry.bucket; key = is.entry.key; newest = is.entry.id }) (filter (is_current v) v.histories) held in
       none (heads_in v) it.heads (all_mapped IsHeadRow (head_in v) (filter (is_current v) v.histories) each)
+
+  pub no_tenures : AreRecords tenure_row IsTenureRow (tenure_rows_in n db) false → ¬ AreSoundAs n db v
+  no_tenures none it =
+      let told = told_tenures n v it.spells.kept in
+      none told.0 (subst (λ rows. IsPermutation rows (tenure_rows_in n db)) (sym told.1) it.spells.tenures) told.2
 
   numbers_are : AreSoundAs n db v → AreNumbered 1 0 entries_are
   numbers_are it = numbers_of 1 0 v.last v.histories it.spells.kept.sound.ids it.spells.kept.sound.order it.spells.kept.limits.histories

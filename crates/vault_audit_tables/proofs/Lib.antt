@@ -1,4 +1,5 @@
 pub mod DamageLemmas
 pub mod EntryLemmas
 pub mod NumberLemmas
+pub mod TenureLemmas
 pub mod TextLemmas

@@ -1,3 +1,4 @@
 pub mod Entries
 pub mod Meta
 pub mod Numbers
+pub mod Queries

@@ -5,7 +5,7 @@ use Rattle.vault_audit_model.specs.declared.rows.MetaRow.{MetaRow}
 use Rattle.vault_audit_model.specs.declared.schema.Edition.{Edition}
 use Rattle.vault_audit_model.specs.Editions.{number_of}
 use Rattle.vault_audit_model.specs.Limits.{IsMetaRow}
-use Rattle.vault_audit_model.specs.Rows.{meta_row, meta_columns}
+use Rattle.vault_audit_model.specs.Rows.{meta_row, meta_columns_as}
 use Rattle.vault_audit_model.specs.Tables.{meta_tree}
 use Rattle.vault_audit_tables.specs.declared.meta.MetaPass.{MetaPass}
 
@@ -22,5 +22,5 @@ with_meta p m = record p { found = Some m }
 
 -- meta is this one row; or it is no one row in its limits
 abbrev pub IsMetaOf : Edition → Database → Option MetaRow → Type 0
-IsMetaOf n db (Some m) = IsPermutation (meta_row m ∷ []) (map meta_columns (db.trees meta_tree)) × IsMetaRowOf n m
-IsMetaOf n db None = (m : MetaRow) → IsPermutation (meta_row m ∷ []) (map meta_columns (db.trees meta_tree)) → ¬ IsMetaRowOf n m
+IsMetaOf n db (Some m) = IsPermutation (meta_row m ∷ []) (map (meta_columns_as n) (db.trees meta_tree)) × IsMetaRowOf n m
+IsMetaOf n db None = (m : MetaRow) → IsPermutation (meta_row m ∷ []) (map (meta_columns_as n) (db.trees meta_tree)) → ¬ IsMetaRowOf n m

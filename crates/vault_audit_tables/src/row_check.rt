@@ -5,7 +5,7 @@ use sqlite::{Error, ErrorCode, Row};
 use vault_audit_rows::misread::Misread;
 use vault_audit_rows::records::{
     read_bucket, read_caller, read_content, read_department, read_head, read_note, read_rule,
-    read_setting,
+    read_setting, read_tenure,
 };
 use vault_audit_walk::check::Check;
 
@@ -158,6 +158,24 @@ impl Check for HeadCheck {
 
     fn is_passed_by(&self, row: &Row) -> Result<bool, Error> {
         match read_head(row) {
+            Ok(_) => Ok(true),
+            Err(misread) => refused(misread),
+        }
+    }
+}
+
+/// Of rows of `tenures`.
+pub struct TenureCheck {}
+
+impl Check for TenureCheck {
+    ghost use Rattle.vault_audit_model.specs.Rows.{tenure_row};
+    ghost use Rattle.vault_audit_model.specs.Limits.{IsTenureRow};
+    ghost use Rattle.vault_audit_walk.specs.Records.{TellsOne};
+
+    ghost takes = { λ _. TellsOne tenure_row IsTenureRow };
+
+    fn is_passed_by(&self, row: &Row) -> Result<bool, Error> {
+        match read_tenure(row) {
             Ok(_) => Ok(true),
             Err(misread) => refused(misread),
         }

@@ -12,7 +12,7 @@ use vault_audit_model::schema::Edition;
 /// Reads no row: a connection keeps the foreign keys of its schema. So in a file with a vault's schema,
 /// what a row names stands in its table.
 pub fn check_ties<S: Alter>(conn: &Connection<S>, edition: Edition)
-    ensures { IsTrue (state S.Store conn.now).is_open → (state S.Store conn.now).now.schema ≡ schema_of edition → AreTied (state S.Store conn.now).now }
+    ensures { IsTrue (state S.Store conn.now).is_open → (state S.Store conn.now).now.schema ≡ schema_of edition → AreTied edition (state S.Store conn.now).now }
 {
     let _schema = conn.schema();
 }

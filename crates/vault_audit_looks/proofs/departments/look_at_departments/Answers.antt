@@ -18,7 +18,7 @@ returns-clause-told g c clean =
     let next = rw counted at (c.in_ok-next.ensures.told early) in
     let departments = rw named at (c.in_ok-departments.ensures.told later) in
     record {
-      next = subst (λ db. c.args.meta.next ≡ length (db.trees entries_tree) + 1) (sym (last ∙ middle)) next;
-      departments = subst (λ db. (ds : List DepartmentRow) × AreDepartmentsByName db ds) (sym last) departments;
-      sums = λ bs hs time buckets entries past. rw summed at (c.in_ok-sums.ensures.told clean bs hs time buckets entries past);
+      next = subst (λ db. c.args.meta.now.next ≡ length (db.trees entries_tree) + 1) (sym (last ∙ middle)) next;
+      departments = subst (λ db. (ds : List DepartmentRow) × AreDepartmentsByName c.args.edition db ds) (sym last) departments;
+      sums = λ v buckets entries past tenures. rw summed at (c.in_ok-sums.ensures.told clean v buckets entries past tenures);
     }

@@ -9,19 +9,19 @@ use Rattle.vault_audit_order.proofs.TextLemmas.{meta_walks, meta_asks}
 use Rattle.vault_audit_order.proofs.meta.check_meta.Goals as goal
 
 pub walk-requires : goal.walk-requires
-walk-requires g c clean = (meta_walks c.args.edition (state g.S.Store c.args.conn.now).now.schema (c.requires clean)).plain
+walk-requires g c clean = rw c.meta_query.ensures (meta_walks c.args.edition (state g.S.Store c.args.conn.now).now.schema (c.requires clean)).plain
 
 pub returns-then-not-one-clause-told : goal.returns-then-not-one-clause-told
 returns-then-not-one-clause-told g c clean =
     let early : HasCleanDisk (state g.S.Store c.args.conn.now) = omega (arith, c.in_ok-one.ensures.crash.clean) in
     let no : c.in_ok-one.one ≡ false = search rules in
-    meta_no c.args.edition (state g.S.Store c.args.conn.now) (state g.S.Store c.walk.new.conn) (c.requires early) (c.in_ok-one.ensures.same clean) c.walk.new.pass (rw no at (c.in_ok-one.ensures.walked clean))
+    meta_no c.args.edition (state g.S.Store c.args.conn.now) (state g.S.Store c.walk.new.conn) (c.requires early) (c.in_ok-one.ensures.same clean) c.walk.new.pass (rw (no, c.meta_query.ensures) at (c.in_ok-one.ensures.walked clean))
 
 pub returns-clause-told : goal.returns-clause-told
 returns-clause-told g c clean =
     let early : HasCleanDisk (state g.S.Store c.args.conn.now) = omega (arith, c.in_ok-one.ensures.crash.clean) in
     let yes : c.in_ok-one.one ≡ true = search rules in
-    meta_all c.args.edition (state g.S.Store c.args.conn.now) (state g.S.Store c.walk.new.conn) (c.requires early) (c.in_ok-one.ensures.same clean) c.walk.new.pass (rw yes at (c.in_ok-one.ensures.walked clean))
+    meta_all c.args.edition (state g.S.Store c.args.conn.now) (state g.S.Store c.walk.new.conn) (c.requires early) (c.in_ok-one.ensures.same clean) c.walk.new.pass (rw (yes, c.meta_query.ensures) at (c.in_ok-one.ensures.walked clean))
 
 pub returns-then-not-one-clause-damaged : goal.returns-then-not-one-clause-damaged
 returns-then-not-one-clause-damaged g c clean same v = no_meta c.args.edition (state g.S.Store c.walk.new.conn).now v (returns-then-not-one-clause-told g c clean)
@@ -30,4 +30,4 @@ pub returns-clause-damaged : goal.returns-clause-damaged
 returns-clause-damaged g c clean same v = no_meta c.args.edition (state g.S.Store c.walk.new.conn).now v (subst (IsMetaOf c.args.edition (state g.S.Store c.walk.new.conn).now) same (returns-clause-told g c clean))
 
 pub returns-in_err-one-clause-err : goal.returns-in_err-one-clause-err
-returns-in_err-one-clause-err g c well = let it : IsMemory c.in_err-one.field-0.0 = c.in_err-one.ensures.err well (λ clean. meta_asks c.args.edition (state g.S.Store c.args.conn.now).now.schema (c.requires clean)) in search rules
+returns-in_err-one-clause-err g c well = let it : IsMemory c.in_err-one.field-0.0 = c.in_err-one.ensures.err well (λ clean. rw c.meta_query.ensures (meta_asks c.args.edition (state g.S.Store c.args.conn.now).now.schema (c.requires clean))) in search rules

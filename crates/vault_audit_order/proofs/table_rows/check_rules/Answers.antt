@@ -8,7 +8,7 @@ use Rattle.vault_audit_model.specs.Spells.{AreSoundAs}
 use Rattle.vault_audit_model.specs.Tables.{rules_tree}
 use Rattle.vault_audit_walk.specs.Records.{AreRecords}
 use Rattle.vault_audit_tables.proofs.DamageLemmas.{refused_if_ok, no_rules}
-use Rattle.vault_audit_order.proofs.RulesLemmas.{rules_if_ok}
+use Rattle.vault_audit_order.proofs.EditionLemmas.{rules_if_ok}
 use Rattle.vault_audit_order.proofs.TextLemmas.{rules_scan, rules_asks}
 use Rattle.vault_audit_order.proofs.table_rows.check_rules.Goals as goal
 

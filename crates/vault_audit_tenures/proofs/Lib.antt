@@ -1,0 +1,11 @@
+pub mod RowLemmas
+pub mod JoinLemmas
+pub mod TextLemmas
+pub mod ChainLemmas
+pub mod HistoryLemmas
+pub mod FitLemmas
+pub mod OwnedLemmas
+pub mod PresenceLemmas
+pub mod TellLemmas
+pub mod UnmovedLemmas
+pub mod SoundLemmas

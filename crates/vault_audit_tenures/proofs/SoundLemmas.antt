@@ -1,0 +1,73 @@
+-- Where the tenures aren't those of a vault, the tables are sound for none.
+use Rattle.std.proofs.Common.{◌≡◌, ◌⊎◌, inl, inr, ◌≤◌, ℕ, Bool, true, false, List, [], ◌∷◌, Some, Result, Ok, Err, IfOk, refl, sym, ap, subst, ◌∙◌, arith}
+use Rattle.std.specs.List.{AllByRecursion}
+use Rattle.sqlite.specs.Effect.{Database}
+use Rattle.sqlite.specs.declared.error.Error.{Error}
+use Rattle.sqlite.proofs.Callers.{one_permutation}
+use Rattle.vault_core_model.specs.declared.records.History.{History}
+use Rattle.vault_core_model.specs.Sound.{AreInOrder, IsInTime, IsPlaced}
+use Rattle.vault_core_model.specs.Vault.{Vault}
+use Rattle.vault_audit_model.specs.declared.rows.MetaRow.{MetaRow}
+use Rattle.vault_audit_model.specs.declared.schema.Edition.{Edition}
+use Rattle.vault_audit_model.specs.declared.schema.Edition.TheVariants.{First, Second, Third}
+use Rattle.vault_audit_model.specs.Relations.{AreBuckets, AreEntries, AreTenuresWith, IsPast, TellTenures}
+use Rattle.vault_audit_model.specs.Rows.{meta_row}
+use Rattle.vault_audit_model.specs.Spells.{AreSoundAs, entries_in, meta_told}
+use Rattle.vault_audit_model.proofs.SameRows.{same_meta}
+use Rattle.vault_audit_tables.specs.Meta.{IsMetaOf}
+use Rattle.vault_audit_tables.proofs.TenureLemmas.{sound_tenures}
+use Rattle.vault_audit_contents.proofs.SoundLemmas.{sound_entries}
+use Rattle.vault_audit_tenures.proofs.TellLemmas.{IsTold}
+use Rattle.vault_audit_tenures.proofs.UnmovedLemmas.{no_moves_of_first, no_moves_of_second, told_of_first, told_of_second}
+
+no_later : (low last : ℕ) (hs : List History) → AreInOrder low last hs → low ≤ last
+no_later low last [] order = order
+no_later low last (h ∷ hs) order = let first = order.0 in let more = no_later h.entry.admitted last hs order.1 in omega (arith, first, more)
+
+are_past : (low last : ℕ) (hs : List History) → AreInOrder low last hs → AllByRecursion (IsInTime last) hs → AllByRecursion (IsPast last) (entries_in hs)
+are_past low last [] order in_time = tt
+are_past low last (h ∷ hs) order in_time = ((no_later h.entry.admitted last hs order.1, in_time.0), are_past h.entry.admitted last hs order.1 in_time.1)
+
+abbrev pub IsToldOf : Edition → Database → MetaRow → Bool → Type 0
+IsToldOf n db m found =
+    IsMetaOf n db (Some m) → (v : Vault) → v.last ≡ m.last → v.moves ≡ m.moves → AreBuckets n db v.buckets → AreEntries db (entries_in v.histories)
+    → AllByRecursion (IsPast v.last) (entries_in v.histories) → AllByRecursion (IsPlaced v) v.histories → TellTenures n db v found
+
+told_in_first : (db : Database) (m : MetaRow) → IsToldOf First db m true
+told_in_first db m meta v at_last many buckets entries past placed = told_of_first v db (many ∙ no_moves_of_first db m meta) buckets.3 entries.1 past placed
+
+told_in_second : (db : Database) (m : MetaRow) → IsToldOf Second db m true
+told_in_second db m meta v at_last many buckets entries past placed = told_of_second v db (many ∙ no_moves_of_second db m meta) buckets.3 entries.1 past placed
+
+told_in_third : (db : Database) (m : MetaRow) (answer : Result Bool Error) → IfOk answer (IsTold m.moves m.last db) → IfOk answer (IsToldOf Third db m)
+told_in_third db m (Err e) told = tt
+told_in_third db m (Ok b) told = λ meta v at_last many buckets entries past placed. told v at_last many buckets entries
+
+module _ (n : Edition) (db : Database) (m : MetaRow) where
+  pub if_older : (n ≡ First) ⊎ (n ≡ Second) → IsToldOf n db m true
+  if_older (inl is) = subst (λ e. IsToldOf e db m true) (sym is) (told_in_first db m)
+  if_older (inr is) = subst (λ e. IsToldOf e db m true) (sym is) (told_in_second db m)
+
+  pub if_third : n ≡ Third → (answer : Result Bool Error) → IfOk answer (IsTold m.moves m.last db) → IfOk answer (IsToldOf n db m)
+  if_third is answer told = subst (λ e. IfOk answer (IsToldOf e db m)) (sym is) (told_in_third db m answer told)
+
+  -- the row of meta is that of the vault
+  same_numbers : IsMetaOf n db (Some m) → (v : Vault) → AreSoundAs n db v → meta_told n v ≡ m
+  same_numbers is v it =
+      let rows = sym (one_permutation (meta_row (meta_told n v)) _ it.spells.meta) ∙ one_permutation (meta_row m) _ is.0 in
+      let same : meta_row (meta_told n v) ≡ meta_row m = cc in
+      same_meta (meta_told n v) m same
+
+  its_tenures : (v : Vault) → AreSoundAs n db v → AreTenuresWith n db v v.histories
+  its_tenures v it = (refl, sound_tenures n db v it)
+
+  unsound : IsToldOf n db m false → IsMetaOf n db (Some m) → (v : Vault) → ¬ AreSoundAs n db v
+  unsound none is v it =
+      let kept = it.spells.kept in
+      let same = same_numbers is v it in
+      none is v (ap (λ (x : MetaRow). x.last) same) (ap (λ (x : MetaRow). x.moves) same) (it.spells.buckets, it.spells.rules, kept.sound.ordered.buckets, kept.limits.buckets) (sound_entries n db v it)
+      (are_past 0 v.last v.histories kept.sound.order kept.sound.in_time) kept.sound.placed v.histories (its_tenures v it)
+
+  pub damaged_if_ok : (answer : Result Bool Error) → IfOk answer (IsToldOf n db m) → IfOk answer (λ found. found ≡ false → IsMetaOf n db (Some m) → (v : Vault) → ¬ AreSoundAs n db v)
+  damaged_if_ok (Err e) told = tt
+  damaged_if_ok (Ok b) told = λ no. unsound (subst (IsToldOf n db m) no told)

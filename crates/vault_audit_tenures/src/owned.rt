@@ -1,0 +1,65 @@
+//! Tenures beside their versions and the departments of their buckets.
+ghost use Rattle.std.specs.Prelude.{◌≡◌, ◌≢◌, ◌≤◌, ℕ, Option, IfSome, IfOk, IfErr, MatchOption};
+ghost use Rattle.sqlite_value.specs.Order.{column};
+ghost use Rattle.vault_base.specs.Days.{last_moment};
+ghost use Rattle.vault_audit_model.specs.Values.{number_or_null};
+ghost use Rattle.vault_audit_tenures.specs.declared.owned.OwnedTenure.{OwnedTenure as Told};
+ghost use Rattle.vault_audit_tenures.specs.Owned.{owned_row, IsOwned};
+
+use sqlite::Row;
+use vault_audit_rows::cell::{MOST_MOVES, is_null, moment, number_within, version_id};
+use vault_audit_rows::misread::Misread;
+use vault_audit_rows::name::{dept_name, dept_name_or_null};
+use vault_base::moment::Moment;
+use vault_base::name::{DeptName, VersionId};
+use vault_core_model::records::Tenure;
+
+/// A tenure of a version, and what it is compared with.
+#[derive(Drop)]
+pub struct OwnedTenure {
+    /// The version's id.
+    pub id: VersionId,
+    pub tenure: Tenure,
+    /// The moment of the version's admission.
+    pub admitted: Moment,
+    /// The moment of its removal, if it was removed.
+    pub removed: Option<Moment>,
+    /// The department of its bucket; none where there is no such bucket.
+    pub owner: Option<DeptName>,
+}
+
+/// The moment in a column, or NULL.
+fn moment_or_null(row: &Row, at: usize) -> Option<Option<Moment>>
+    ensures { MatchOption result ((o : Option ℕ) → IfSome o (λ t. t ≤ last_moment) → column row.now at ≢ number_or_null o) (λ o. (column row.now at ≡ number_or_null o) × IfSome o (λ t. t ≤ last_moment)) }
+{
+    if is_null(row, at) {
+        return Some(None);
+    }
+    let moment = moment(row, at)?;
+    Some(Some(moment))
+}
+
+/// The tenure that a row tells.
+#[tactic(auto, using(crate::proofs::RowLemmas::row_of_7))]
+pub fn read_owned(row: &Row) -> Result<OwnedTenure, Misread>
+    ensures ok { IfOk result (λ t. (row.now ≡ owned_row t) × IsOwned t) }
+    ensures wrong { IfErr result (λ e. e ≡ Misread.Wrong → (x : Told) → IsOwned x → row.now ≢ owned_row x) }
+{
+    if row.column_count() != 7 {
+        return Err(Misread::Wrong);
+    }
+    let id = version_id(row, 0).ok_or(Misread::Wrong)?;
+    let number = number_within(row, 1, 0, MOST_MOVES).ok_or(Misread::Wrong)?;
+    let from = moment(row, 3).ok_or(Misread::Wrong)?;
+    let admitted = moment(row, 4).ok_or(Misread::Wrong)?;
+    let removed = moment_or_null(row, 5).ok_or(Misread::Wrong)?;
+    let dept = dept_name(row, 2)?;
+    let owner = dept_name_or_null(row, 6)?;
+    Ok(OwnedTenure {
+        id,
+        tenure: Tenure { dept, from, number },
+        admitted,
+        removed,
+        owner,
+    })
+}

@@ -1,0 +1,66 @@
+//! The second look at `tenures`.
+ghost use Rattle.std.specs.Prelude.{◌≡◌, false, Some, IsTrue, IfOk, IfErr, OnOk};
+ghost use Rattle.std.specs.List.{AllByRecursion};
+ghost use Rattle.sqlite.specs.State.{HasCleanDisk, IsUnchanged, Survives};
+ghost use Rattle.sqlite.specs.Held.{state};
+ghost use Rattle.vault_core_model.specs.Sound.{IsPlaced};
+ghost use Rattle.vault_core_model.specs.Vault.{Vault};
+ghost use Rattle.vault_audit_model.specs.Spells.{AreSoundAs, entries_in};
+ghost use Rattle.vault_audit_model.specs.Tables.{schema_of};
+ghost use Rattle.vault_audit_model.specs.declared.schema.Edition.TheVariants.{Third};
+ghost use Rattle.vault_audit_model.specs.Relations.{AreBuckets, AreEntries, IsPast, TellTenures};
+ghost use Rattle.vault_audit_tables.specs.Meta.{IsMetaOf};
+ghost use Rattle.vault_audit_walk.specs.Health.{IsHealthy, IsMemory};
+
+use crate::chain::are_chains;
+use crate::present::have_tenures;
+use sqlite::{Alter, Connection, Error};
+use vault_audit_model::rows::MetaRow;
+use vault_audit_model::schema::Edition;
+use vault_base::moment::Moment;
+
+/// Whether each version has tenures from its admission to its end, the last of them of its bucket's
+/// department while it is held, and whether no other tenure is there, where so many moves were made
+/// by the last moment.
+fn check_rows_of_tenures<S: Alter>(
+    conn: &mut Connection<S>,
+    moves: u64,
+    last: Moment,
+) -> Result<bool, Error>
+    requires { HasCleanDisk (state S.Store conn.old) → (state S.Store conn.old).now.schema ≡ schema_of Third }
+    ensures told { HasCleanDisk (state S.Store conn.new) → IfOk result (λ found. (v : Vault) → v.last ≡ last → v.moves ≡ moves →
+        AreBuckets Third (state S.Store conn.new).now v.buckets → AreEntries (state S.Store conn.new).now (entries_in v.histories) → TellTenures Third (state S.Store conn.new).now v found) }
+    ensures same { HasCleanDisk (state S.Store conn.new) → OnOk result (IsUnchanged (state S.Store conn.old) (state S.Store conn.new)) }
+    ensures err { IsHealthy (state S.Store conn.new) → IfErr result IsMemory }
+    ensures crash { Survives (state S.Store conn.old) (state S.Store conn.new) (λ _. ⊥) }
+{
+    let present = have_tenures(conn)?;
+    if !present {
+        return Ok(false);
+    }
+    are_chains(conn, moves, last)
+}
+
+/// Whether the tenures of the versions are those of a vault with this row of `meta`. An edition
+/// without that table tells none, and then no bucket was moved.
+pub fn check_tenures<S: Alter>(
+    conn: &mut Connection<S>,
+    edition: Edition,
+    meta: MetaRow,
+) -> Result<bool, Error>
+    requires schema { HasCleanDisk (state S.Store conn.old) → (state S.Store conn.old).now.schema ≡ schema_of edition }
+    requires open { HasCleanDisk (state S.Store conn.old) → IsTrue (state S.Store conn.old).is_open }
+    ensures told { HasCleanDisk (state S.Store conn.new) → IfOk result (λ found. IsMetaOf edition (state S.Store conn.new).now (Some meta) →
+        (v : Vault) → v.last ≡ meta.last → v.moves ≡ meta.moves →
+        AreBuckets edition (state S.Store conn.new).now v.buckets → AreEntries (state S.Store conn.new).now (entries_in v.histories) →
+        AllByRecursion (IsPast v.last) (entries_in v.histories) → AllByRecursion (IsPlaced v) v.histories → TellTenures edition (state S.Store conn.new).now v found) }
+    ensures damaged { HasCleanDisk (state S.Store conn.new) → IfOk result (λ found. found ≡ false → IsMetaOf edition (state S.Store conn.new).now (Some meta) → (v : Vault) → ¬ AreSoundAs edition (state S.Store conn.new).now v) }
+    ensures same { HasCleanDisk (state S.Store conn.new) → OnOk result (IsUnchanged (state S.Store conn.old) (state S.Store conn.new)) }
+    ensures err { IsHealthy (state S.Store conn.new) → IfErr result IsMemory }
+    ensures crash { Survives (state S.Store conn.old) (state S.Store conn.new) (λ _. ⊥) }
+{
+    match edition {
+        Edition::First | Edition::Second => Ok(true),
+        Edition::Third => check_rows_of_tenures(conn, meta.moves, meta.last),
+    }
+}
