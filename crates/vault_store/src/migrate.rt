@@ -1,4 +1,4 @@
-//! The vault of a file of the first edition, copied into an empty store.
+//! The vault of a file of an earlier edition, copied into an empty store.
 ghost use Rattle.std.specs.Prelude.{◌≡◌, ◌≢◌, false, IsTrue, IfOk, IfErr, IsErrAnd, OnOk, OnErr};
 ghost use Rattle.sqlite.specs.Effect.{IsDatabase};
 ghost use Rattle.sqlite.specs.Held.{state};
@@ -6,7 +6,6 @@ ghost use Rattle.sqlite.specs.State.{HasCleanDisk, IsRolledBack, IsUnchanged, Sh
 ghost use Rattle.vault_base.specs.declared.refusal.Table.{Table};
 ghost use Rattle.vault_core_model.specs.Vault.{Vault};
 ghost use Rattle.vault_audit.specs.Whole.{IsTold};
-ghost use Rattle.vault_audit_model.specs.declared.schema.Edition.TheVariants.{First};
 ghost use Rattle.vault_audit_model.specs.Spells.{AreSound, AreSoundAs};
 ghost use Rattle.vault_audit_model.specs.Tables.{no_schema};
 ghost use Rattle.vault_store_apply.specs.Left.{LeavesAlone};
@@ -35,22 +34,23 @@ fn settle<S: Alter>(conn: &mut Connection<S>)
     note_rest(conn);
 }
 
-/// Copies the vault of a file of the first edition into an empty store, inside a transaction that is left
-/// open. Where it is refused, none is.
+/// Copies the vault of a file of that edition into an empty store, inside a transaction that is left open.
+/// Where it is refused, none is.
 ///
 /// The errors are those of `migrate`.
 fn take_copy<O: Alter, S: Alter>(
     alloc: Global,
     old: &mut Connection<O>,
+    edition: Edition,
     new: &mut Connection<S>,
 ) -> Result<(), Refusal>
     requires old_outside { old.old.in_transaction ≡ false }
     requires outside { new.old.in_transaction ≡ false }
-    ensures spelled { HasCleanDisk (state O.Store old.new) → OnOk result ((v : Vault) × AreSoundAs First (state O.Store old.old).now v) }
+    ensures spelled { HasCleanDisk (state O.Store old.new) → OnOk result ((v : Vault) × AreSoundAs edition (state O.Store old.old).now v) }
     ensures copied { HasCleanDisk (state O.Store old.new) → HasCleanDisk (state S.Store new.new)
-        → OnOk result ((v : Vault) → AreSoundAs First (state O.Store old.old).now v → AreSound (state S.Store new.new).now v × IsDatabase (state S.Store new.new).now) }
+        → OnOk result ((v : Vault) → AreSoundAs edition (state O.Store old.old).now v → AreSound (state S.Store new.new).now v × IsDatabase (state S.Store new.new).now) }
     ensures told { IfErr result (λ r. r ≢ Refusal.NameTaken → IsTold r) }
-    ensures damaged { IfErr result (λ r. HasCleanDisk (state O.Store old.new) → (t : Table) → r ≡ Refusal.Damaged t → (v : Vault) → ¬ AreSoundAs First (state O.Store old.old).now v) }
+    ensures damaged { IfErr result (λ r. HasCleanDisk (state O.Store old.new) → (t : Table) → r ≡ Refusal.Damaged t → (v : Vault) → ¬ AreSoundAs edition (state O.Store old.old).now v) }
     ensures free { OnOk result ((state S.Store new.old).now.schema ≡ no_schema) }
     ensures taken { IfErr result (λ r. r ≡ Refusal.NameTaken → (state S.Store new.old).now.schema ≢ no_schema) }
     ensures outside { OnErr result (HasCleanDisk (state S.Store new.new) → new.new.in_transaction ≡ false) }
@@ -59,11 +59,11 @@ fn take_copy<O: Alter, S: Alter>(
     ensures old_tables { HasCleanDisk (state O.Store old.new) → HasTablesOf (state O.Store old.old) (state O.Store old.new) }
     ensures old_crash { Survives (state O.Store old.old) (state O.Store old.new) (λ _. ⊥) }
 {
-    match look_as(alloc, old, Edition::First) {
+    match look_as(alloc, old, edition) {
         Ok(()) => {}
         Err(refusal) => return Err(refusal),
     }
-    match begin_copy(alloc, old, new, Edition::First) {
+    match begin_copy(alloc, old, new, edition) {
         Ok(()) => Ok(()),
         Err(refusal) => {
             // No clause of the copying says that it leaves none.
@@ -138,36 +138,37 @@ fn commit<S: Alter>(conn: &mut Connection<S>) -> Result<(), Refusal>
     Ok(())
 }
 
-/// Copies the vault of a file of the first edition into an empty store, by one transaction. Neither
-/// connection is inside one.
+/// Copies the vault of a file of that edition into an empty store, by one transaction. Neither connection is
+/// inside one.
 ///
 /// The errors are those of `migrate`.
 fn copy_vault<O: Alter, S: Alter>(
     alloc: Global,
     old: &mut Connection<O>,
+    edition: Edition,
     new: &mut Connection<S>,
 ) -> Result<(), Refusal>
     requires old_outside { old.old.in_transaction ≡ false }
     requires outside { new.old.in_transaction ≡ false }
-    ensures spelled { HasCleanDisk (state O.Store old.new) → OnOk result ((v : Vault) × AreSoundAs First (state O.Store old.old).now v) }
+    ensures spelled { HasCleanDisk (state O.Store old.new) → OnOk result ((v : Vault) × AreSoundAs edition (state O.Store old.old).now v) }
     ensures copied { HasCleanDisk (state O.Store old.new) → HasCleanDisk (state S.Store new.new)
-        → OnOk result ((v : Vault) → AreSoundAs First (state O.Store old.old).now v → AreSound (state S.Store new.new).now v) }
+        → OnOk result ((v : Vault) → AreSoundAs edition (state O.Store old.old).now v → AreSound (state S.Store new.new).now v) }
     ensures sound { HasCleanDisk (state S.Store new.new) → OnOk result (IsSettled (state S.Store new.new)) }
     ensures settled { OnOk result (new.new.in_transaction ≡ false) }
     ensures alone { HasCleanDisk (state S.Store new.new) → OnOk result ((v : Vault) → AreSound (state S.Store new.new).now v → LeavesAlone (state S.Store new.new) v) }
     ensures told { IfErr result (λ r. r ≢ Refusal.NameTaken → IsTold r) }
-    ensures damaged { IfErr result (λ r. HasCleanDisk (state O.Store old.new) → (t : Table) → r ≡ Refusal.Damaged t → (v : Vault) → ¬ AreSoundAs First (state O.Store old.old).now v) }
+    ensures damaged { IfErr result (λ r. HasCleanDisk (state O.Store old.new) → (t : Table) → r ≡ Refusal.Damaged t → (v : Vault) → ¬ AreSoundAs edition (state O.Store old.old).now v) }
     ensures free { OnOk result ((state S.Store new.old).now.schema ≡ no_schema) }
     ensures taken { IfErr result (λ r. r ≡ Refusal.NameTaken → (state S.Store new.old).now.schema ≢ no_schema) }
     ensures outside { OnErr result (HasCleanDisk (state S.Store new.new) → new.new.in_transaction ≡ false) }
     ensures tables { OnErr result (HasCleanDisk (state S.Store new.new) → HasTablesOf (state S.Store new.old) (state S.Store new.new)) }
-    ensures crash { Survives (state S.Store new.old) (state S.Store new.new) (λ trees. HasCleanDisk (state O.Store old.new) → IsMigrated First (state O.Store old.old).now trees) }
+    ensures crash { Survives (state S.Store new.old) (state S.Store new.new) (λ trees. HasCleanDisk (state O.Store old.new) → IsMigrated edition (state O.Store old.old).now trees) }
     ensures old_outside { HasCleanDisk (state O.Store old.new) → old.new.in_transaction ≡ false }
     ensures old_tables { HasCleanDisk (state O.Store old.new) → HasTablesOf (state O.Store old.old) (state O.Store old.new) }
     ensures old_crash { Survives (state O.Store old.old) (state O.Store old.new) (λ _. ⊥) }
 {
     note_rest(new);
-    match take_copy(alloc, old, new) {
+    match take_copy(alloc, old, edition, new) {
         Ok(()) => {}
         Err(refusal) => {
             note_rest(new);
@@ -191,7 +192,7 @@ fn copy_vault<O: Alter, S: Alter>(
 }
 
 impl<S: Alter> SqlKeeper<S> {
-    /// Copies the vault of a file of the first edition into an empty store, by one transaction, and looks at
+    /// Copies the vault of a file of that edition into an empty store, by one transaction, and looks at
     /// the copy before it is committed. No table of the file is changed.
     ///
     /// `Damaged` with the first table of the file that isn't sound. `NameTaken` where the empty store has a
@@ -201,19 +202,20 @@ impl<S: Alter> SqlKeeper<S> {
     pub fn migrate<O: Alter>(
         alloc: Global,
         old: &mut Connection<O>,
+        edition: Edition,
         mut new: Connection<S>,
     ) -> Result<SqlKeeper<S>, (Refusal, Connection<S>)>
         // The old tables spell a vault, and it is the one that the keeper stands for,
-        ensures spelled { IfOk result (λ k. HasCleanDisk (state O.Store old.new) → (v : Vault) × AreSoundAs First (state O.Store old.old).now v) }
+        ensures spelled { IfOk result (λ k. HasCleanDisk (state O.Store old.new) → (v : Vault) × AreSoundAs edition (state O.Store old.old).now v) }
         ensures vault { IfOk result (λ k. HasCleanDisk (state O.Store old.new) → HasCleanDisk (state S.Store k.conn)
-            → (v : Vault) → AreSoundAs First (state O.Store old.old).now v → kept_vault S.Store k.opening.at.items k.opening.known k.made.items ≡ v) }
+            → (v : Vault) → AreSoundAs edition (state O.Store old.old).now v → kept_vault S.Store k.opening.at.items k.opening.known k.made.items ≡ v) }
         // as do the new tables.
         ensures sound { IfOk result (λ k. HasCleanDisk (state S.Store k.conn) → AreSound (state S.Store k.conn).now (kept_vault S.Store k.opening.at.items k.opening.known k.made.items)) }
         // A crash leaves that vault after that, and nothing else.
         ensures alone { IfOk result (λ k. HasCleanDisk (state S.Store k.conn) → LeavesAlone (state S.Store k.conn) (kept_vault S.Store k.opening.at.items k.opening.known k.made.items)) }
         ensures counted { IfOk result (λ k. k.faults ≡ 0) }
         ensures told { IfErr result (λ e. e.0 ≢ Refusal.NameTaken → IsTold e.0) }
-        ensures damaged { IfErr result (λ e. HasCleanDisk (state O.Store old.new) → (t : Table) → e.0 ≡ Refusal.Damaged t → (v : Vault) → ¬ AreSoundAs First (state O.Store old.old).now v) }
+        ensures damaged { IfErr result (λ e. HasCleanDisk (state O.Store old.new) → (t : Table) → e.0 ≡ Refusal.Damaged t → (v : Vault) → ¬ AreSoundAs edition (state O.Store old.old).now v) }
         ensures free { OnOk result ((state S.Store new).now.schema ≡ no_schema) }
         ensures taken { IfErr result (λ e. e.0 ≡ Refusal.NameTaken → (state S.Store new).now.schema ≢ no_schema) }
         // Inside a transaction it is refused, and that is left as it was; else none is open behind it, and no table was changed.
@@ -221,8 +223,8 @@ impl<S: Alter> SqlKeeper<S> {
         ensures outside { new.in_transaction ≡ false → IfErr result (λ e. HasCleanDisk (state S.Store e.1) → e.1.in_transaction ≡ false) }
         ensures tables { new.in_transaction ≡ false → IfErr result (λ e. HasCleanDisk (state S.Store e.1) → HasTablesOf (state S.Store new) (state S.Store e.1)) }
         // A crash leaves what it could leave before, or the vault of the old tables, if these were read as they stand.
-        ensures crash { IfOk result (λ k. Survives (state S.Store new) (state S.Store k.conn) (λ trees. HasCleanDisk (state O.Store old.new) → IsMigrated First (state O.Store old.old).now trees)) }
-        ensures harmless { IfErr result (λ e. Survives (state S.Store new) (state S.Store e.1) (λ trees. HasCleanDisk (state O.Store old.new) → IsMigrated First (state O.Store old.old).now trees)) }
+        ensures crash { IfOk result (λ k. Survives (state S.Store new) (state S.Store k.conn) (λ trees. HasCleanDisk (state O.Store old.new) → IsMigrated edition (state O.Store old.old).now trees)) }
+        ensures harmless { IfErr result (λ e. Survives (state S.Store new) (state S.Store e.1) (λ trees. HasCleanDisk (state O.Store old.new) → IsMigrated edition (state O.Store old.old).now trees)) }
         // The same of the old connection, of which a crash leaves what it could leave before, and no more.
         ensures old_inside { IsTrue old.old.in_transaction → IsErrAnd result (λ e. (e.0 ≡ Refusal.Device) × (old.new ≡ old.old)) }
         ensures old_outside { old.old.in_transaction ≡ false → HasCleanDisk (state O.Store old.new) → old.new.in_transaction ≡ false }
@@ -232,7 +234,7 @@ impl<S: Alter> SqlKeeper<S> {
         if !old.is_autocommit() || !new.is_autocommit() {
             return Err((Refusal::Device, new));
         }
-        match copy_vault(alloc, old, &mut new) {
+        match copy_vault(alloc, old, edition, &mut new) {
             Ok(()) => Ok(SqlKeeper::over(alloc, new)),
             Err(refusal) => Err((refusal, new)),
         }

@@ -26,3 +26,4 @@ edits_rules v t name given rules same xs table.Contents = refl
 edits_rules v t name given rules same xs table.Settings = refl
 edits_rules v t name given rules same xs table.Intake = refl
 edits_rules v t name given rules same xs table.Heads = refl
+edits_rules v t name given rules same xs table.Tenures = refl

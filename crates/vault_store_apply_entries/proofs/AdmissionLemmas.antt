@@ -1,5 +1,5 @@
 -- The part of an admission makes the edit of that change, by what was read of the vault before.
-use Rattle.std.proofs.Common.{◌≡◌, ℕ, ◌+◌, ◌≤◌, List, [], ◌∷◌, map, Bool, true, false, Option, Some, refl, sym, ap, ◌∙◌}
+use Rattle.std.proofs.Common.{◌≡◌, ℕ, ◌+◌, ◌≤◌, List, [], ◌∷◌, map, Bool, true, false, Option, Some, refl, sym, ap, subst, ◌∙◌}
 use Rattle.sqlite_value.specs.Order.{Row}
 use Rattle.vault_base.specs.Days.{day, last_moment}
 use Rattle.vault_base.specs.declared.refusal.Table.TheVariants as table
@@ -8,22 +8,23 @@ use Rattle.vault_tally.specs.declared.row.Row.{Row as Sums}
 use Rattle.vault_core_model.specs.declared.records.BucketConfig.{BucketConfig}
 use Rattle.vault_core_model.specs.declared.records.Head.{Head}
 use Rattle.vault_core_model.specs.declared.records.Setting.{Setting}
+use Rattle.vault_core_model.specs.declared.records.Tenure.{Tenure}
 use Rattle.vault_core_model.specs.declared.change.Admission.{Admission}
 use Rattle.vault_core_model.specs.declared.change.Change.TheVariants as change
-use Rattle.vault_core_model.specs.Allowed.{IsAdmission, HasFirst}
+use Rattle.vault_core_model.specs.Allowed.{IsAdmission, HasFirst, HasFirstTenure}
 use Rattle.vault_core_model.specs.Change.{changed}
 use Rattle.vault_core_model.specs.Reads.{head_of}
 use Rattle.vault_core_model.specs.Sound.{Sound}
 use Rattle.vault_core_model.specs.Totals.{items_of}
 use Rattle.vault_core_model.specs.Vault.{Vault, config_of}
-use Rattle.vault_audit_model.specs.Rows.{setting_row}
-use Rattle.vault_audit_model.specs.Spells.{settings_from, department_in}
+use Rattle.vault_audit_model.specs.Rows.{setting_row, tenure_row}
+use Rattle.vault_audit_model.specs.Spells.{settings_from, tenure_at, department_in}
 use Rattle.vault_store_model.specs.Edits.{changed_if, pushed}
 use Rattle.vault_store_model.specs.Tests.{is_named, every, with_last_and_next, with_sums}
 use Rattle.vault_store_changes.specs.Edits.{summed, headed, head_with}
 use Rattle.vault_store_changes.specs.Sums.{CountsIn}
 use Rattle.vault_store_changes.proofs.SumLemmas.{sums_admitted}
-use Rattle.vault_store_entry_parts.specs.Parts.{entry_added, first_put, summed_as}
+use Rattle.vault_store_entry_parts.specs.Parts.{entry_added, first_put, first_tenure_put, summed_as}
 use Rattle.vault_store_apply.specs.Applies.{IsEditOf}
 
 -- an entry is admitted with one setting at most
@@ -33,6 +34,11 @@ one_setting true t id (s ∷ ss) is rows = absurd (let it : s ∷ ss ≡ [] = is
 one_setting false t id [] is rows = absurd is
 one_setting false t id (s ∷ []) is rows = refl
 one_setting false t id (s ∷ r ∷ rs) is rows = absurd is
+
+-- and with one tenure at most
+one_tenure : (marker : Bool) (t id : ℕ) (dept : List ℕ) (ts : List Tenure) → HasFirstTenure marker t dept ts → (rows : List Row) → first_tenure_put id ts rows ≡ pushed (map tenure_row (map (tenure_at id) ts)) rows
+one_tenure true t id dept ts is rows = subst (λ (ts : List Tenure). first_tenure_put id ts rows ≡ pushed (map tenure_row (map (tenure_at id) ts)) rows) (sym is) refl
+one_tenure false t id dept ts is rows = subst (λ (ts : List Tenure). first_tenure_put id ts rows ≡ pushed (map tenure_row (map (tenure_at id) ts)) rows) (sym is) refl
 
 pub summed_same : (w : Vault) (marker : Bool) (config : BucketConfig) (sums : Sums) → (marker ≡ false → sums ≡ (department_in w config.dept).sums) → (rows : List Row)
     → summed_as marker config.dept sums rows ≡ summed w marker (Some config) rows
@@ -62,3 +68,4 @@ module _ (v : Vault) (t : ℕ) (a : Admission) (config : BucketConfig) (row sums
       let e = a.history.entry in
       ap (λ (n : Head). headed e.bucket e.key head (Some n) (xs table.Heads)) newest_is
       ∙ ap (λ (h : Option Head). headed e.bucket e.key h (Some (head_with e.id h)) (xs table.Heads)) headed_is
+  edits_admission xs table.Tenures = one_tenure a.history.entry.marker t a.history.entry.id is.bucket.dept a.history.tenures is.tenured (xs table.Tenures)

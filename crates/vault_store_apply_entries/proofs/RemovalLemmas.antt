@@ -1,6 +1,6 @@
 -- The part of a removal makes the edit of that change, by what was read of the vault before.
 use Rattle.std.proofs.Common.{◌≡◌, ℕ, ◌+◌, ◌-◌, ◌≤◌, ◌==◌, List, [], ◌∷◌, length, filter, cond, Bool, true, false, Option, Some, None, refl, sym, ap, subst, ◌∙◌, arith, eqb}
-use Rattle.std.specs.Prelude.{find, option_map, if◌then◌else◌}
+use Rattle.std.specs.Prelude.{find, option_map, option_and_then, unwrap_or, if◌then◌else◌}
 use Rattle.sqlite_value.specs.Order.{Row}
 use Rattle.vault_base.specs.Days.{day, last_moment}
 use Rattle.vault_base.specs.declared.refusal.Table.{Table}
@@ -12,28 +12,40 @@ use Rattle.vault_core_model.specs.declared.records.Entry.{Entry}
 use Rattle.vault_core_model.specs.declared.records.Head.{Head}
 use Rattle.vault_core_model.specs.declared.records.History.{History}
 use Rattle.vault_core_model.specs.declared.records.Removal.{Removal}
+use Rattle.vault_core_model.specs.declared.records.Tenure.{Tenure}
 use Rattle.vault_core_model.specs.declared.change.Change.TheVariants as change
 use Rattle.vault_core_model.specs.Allowed.{IsRemoval}
 use Rattle.vault_core_model.specs.Change.{changed}
 use Rattle.vault_core_model.specs.Places.{is_held_at}
 use Rattle.vault_core_model.specs.Reads.{entry_of, head_of, head_over}
-use Rattle.vault_core_model.specs.Sound.{Sound}
+use Rattle.vault_core_model.specs.Sound.{Sound, last_tenure}
 use Rattle.vault_core_model.specs.Totals.{items_of}
 use Rattle.vault_core_model.specs.Vault.{Vault, config_of, history_of}
-use Rattle.vault_audit_model.specs.Spells.{IsKept, department_in}
+use Rattle.vault_audit_model.specs.Spells.{department_in}
 use Rattle.vault_store_model.specs.Rows.{Rows}
 use Rattle.vault_store_model.specs.Edits.{and_then, at_moment}
 use Rattle.vault_store_changes.specs.Edits.{summed, headed, others_at, without_entry}
-use Rattle.vault_store_changes.specs.Sums.{CountsOut}
+use Rattle.vault_store_changes.specs.Sums.{CountsOut, last_tenure_of}
 use Rattle.vault_store_changes.proofs.EntryLemmas.{found_history}
 use Rattle.vault_store_changes.proofs.SumLemmas.{sums_removed}
 use Rattle.vault_store_head_changes.proofs.ChangeLemmas.{is_held_there}
 use Rattle.vault_store_head_changes.proofs.AfterLemmas.{count_removed}
 use Rattle.vault_store_ordered.specs.Shown.{newest_but}
+use Rattle.vault_store_ordered.specs.Tenures as read
 use Rattle.vault_store_entry_parts.specs.Parts.{entry_removed, left_rows}
 use Rattle.vault_store_apply.specs.Applies.{IsEditOf}
 use Rattle.vault_store_apply_entries.specs.Heads.{head_without}
 use Rattle.vault_store_apply_entries.proofs.AdmissionLemmas.{summed_same}
+
+-- ---- the tenure that a removal ends
+
+last_of : (o : Option History) → last_tenure (unwrap_or (option_map (λ (h : History). h.tenures) o) []) ≡ option_and_then (λ (h : History). last_tenure h.tenures) o
+last_of None = refl
+last_of (Some h) = refl
+
+-- the one that is read
+pub same_last : (v : Vault) (id : ℕ) → read.last_tenure_of v id ≡ last_tenure_of v id
+same_last v id = last_of (history_of v id)
 
 -- ---- a held entry's key has a head
 
@@ -83,9 +95,9 @@ entry_same x y e = cc e
 
 -- ---- the edit
 
-module _ (v : Vault) (t id : ℕ) (r : Removal) (e : Entry) (config : BucketConfig) (row sums : Sums) (head left : Option Head) (newest : Option ℕ) (kept : IsKept v) (later : v.last ≤ t) (low : t ≤ last_moment)
+module _ (v : Vault) (t id : ℕ) (r : Removal) (e : Entry) (config : BucketConfig) (row sums : Sums) (head left : Option Head) (newest : Option ℕ) (since : ℕ) (sound : Sound v) (later : v.last ≤ t) (low : t ≤ last_moment)
     (is : IsRemoval v t id r) (there : entry_of v id ≡ Some e) (placed : Some config ≡ config_of v e.bucket) (told : IsRowOf row (items_of v config.dept))
-    (counted : CountsOut row e.size (day e.admitted) (day t) sums) (headed_is : head ≡ head_of v e.bucket e.key) (newest_is : newest ≡ newest_but v e.bucket e.key id)
+    (since_is : since ≡ unwrap_or (option_map (λ (x : Tenure). x.from) (last_tenure_of v id)) e.admitted) (counted : CountsOut row e.size (day since) (day t) sums) (headed_is : head ≡ head_of v e.bucket e.key) (newest_is : newest ≡ newest_but v e.bucket e.key id)
     (left_is : left ≡ head_without newest head) where
   abbrev after : Vault
   after = changed v t (change.Remove id r)
@@ -94,7 +106,7 @@ module _ (v : Vault) (t id : ℕ) (r : Removal) (e : Entry) (config : BucketConf
   held = subst (λ (x : Entry). x.removal ≡ None) (entry_same is.held.0 e (sym is.held.1 ∙ there)) is.held.2
 
   removed_sums : e.marker ≡ false → sums ≡ (department_in after config.dept).sums
-  removed_sums version = sums_removed v t id r e config row sums kept.sound kept.unmoved later low is there version (sym placed) told counted
+  removed_sums version = sums_removed v t id r e config since e.admitted row sums sound later low is there version (sym placed) since_is told counted
 
   heads_left : (rows : List Row) → left_rows e.bucket e.key left rows ≡ headed e.bucket e.key (head_of v e.bucket e.key) (head_over (others_at v id e.bucket e.key)) rows
   heads_left rows =
@@ -102,7 +114,7 @@ module _ (v : Vault) (t id : ℕ) (r : Removal) (e : Entry) (config : BucketConf
       let others = head_over (others_at v id e.bucket e.key) in
       let same : left ≡ others =
       left_is ∙ ap (λ n. head_without n head) newest_is ∙ ap (head_without (newest_but v e.bucket e.key id)) (headed_is ∙ old.1)
-      ∙ left_of others old.0 (λ new after_is. count_removed v id e old.0 kept.sound there held old.1 new after_is) in
+      ∙ left_of others old.0 (λ new after_is. count_removed v id e old.0 sound there held old.1 new after_is) in
       ap (λ (o : Option Head). left_rows e.bucket e.key o rows) same ∙ rows_left e.bucket e.key old.0 others rows
       ∙ ap (λ (o : Option Head). headed e.bucket e.key o others rows) (sym old.1)
 
@@ -118,6 +130,7 @@ module _ (v : Vault) (t id : ℕ) (r : Removal) (e : Entry) (config : BucketConf
   edits_of_entry xs table.Settings = refl
   edits_of_entry xs table.Intake = refl
   edits_of_entry xs table.Heads = heads_left (xs table.Heads)
+  edits_of_entry xs table.Tenures = refl
 
   pub edits_removal : IsEditOf (entry_removed e id r left config.dept sums t) v t (change.Remove id r)
   edits_removal xs u = edits_of_entry xs u ∙ ap (λ (o : Option Entry). and_then (without_entry v after id r o) (at_moment t) xs u) (sym there)

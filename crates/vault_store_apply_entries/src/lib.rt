@@ -4,6 +4,7 @@
 //! column can't take, or a failure of the store.
 #![tactic(auto)]
 
+mod beside;
 pub mod entries;
 pub mod open;
 mod place;

@@ -9,10 +9,10 @@ ghost use Rattle.vault_core_model.specs.Vault.{Vault};
 ghost use Rattle.vault_store_model.specs.Keeping.{Keeps};
 ghost use Rattle.vault_store_changes.specs.Limits.{IsChangeInLimits};
 ghost use Rattle.vault_store_changes.specs.Sums.{CountsOut};
-ghost use Rattle.vault_store_ordered.specs.Shown.{newest_but};
 ghost use Rattle.vault_store_apply.specs.Applies.{Changes, IsChanged};
 ghost use Rattle.vault_store_apply_entries.specs.Heads.{head_without};
 
+use crate::beside::read_beside;
 use crate::open::check_open;
 use crate::place::read_place;
 use sqlite::{Alter, Connection, Error};
@@ -21,7 +21,6 @@ use vault_base::name::VersionId;
 use vault_core_model::records::{Entry, Head, Removal};
 use vault_store_apply::commit::commit_part;
 use vault_store_entry_parts::entry::RemovedEntry;
-use vault_store_ordered::reads::read_newest_but;
 use vault_store_reads::entries::read_entry;
 use vault_tally::row::Row;
 
@@ -39,24 +38,6 @@ fn find_entry<S: Alter>(conn: &mut Connection<S>, id: VersionId) -> Result<Entry
     found.ok_or(Error::QueryReturnedNoRows)
 }
 
-/// The newest held entry of a key besides the one of that id.
-fn find_newest_but<S: Alter>(
-    conn: &mut Connection<S>,
-    entry: &Entry,
-    id: VersionId,
-) -> Result<Option<VersionId>, Error>
-    ensures value { HasCleanDisk (state S.Store conn.new) → IfOk result (λ newest. (v : Vault) → Keeps (state S.Store conn.old) v → newest ≡ newest_but v entry.now.bucket entry.now.key id) }
-    ensures open { HasCleanDisk (state S.Store conn.new) → OnOk result (IsTrue (state S.Store conn.new).is_open) }
-    ensures same { HasCleanDisk (state S.Store conn.new) → (v : Vault) → Keeps (state S.Store conn.old) v → Keeps (state S.Store conn.new) v }
-    ensures honest { HasCleanDisk (state S.Store conn.new) → HasCleanDisk (state S.Store conn.old) }
-    ensures mode { conn.old.in_transaction ≡ false → conn.new.in_transaction ≡ false }
-    ensures crash { (v : Vault) → Keeps (state S.Store conn.old) v → Survives (state S.Store conn.old) (state S.Store conn.new) (λ _. ¬ IsTrue (state S.Store conn.old).is_open) }
-{
-    let newest = read_newest_but(conn, &entry.bucket, &entry.key, id)?;
-    check_open(conn)?;
-    Ok(newest)
-}
-
 /// The head of a key with one entry fewer, the newest of which is that one.
 fn left_head(newest: Option<VersionId>, head: Option<Head>) -> Option<Head>
     ensures { result ≡ head_without newest head }
@@ -69,12 +50,12 @@ fn left_head(newest: Option<VersionId>, head: Option<Head>) -> Option<Head>
     })
 }
 
-/// The sums with a version's removal at a moment counted in.
-fn without_version(sums: Row, entry: &Entry, at: Moment) -> Row
-    ensures { CountsOut sums entry.now.size (day entry.now.admitted) (day at) result }
+/// The sums with a version's removal at a moment counted in, which its department has had since another.
+fn without_version(sums: Row, entry: &Entry, since: Moment, at: Moment) -> Row
+    ensures { CountsOut sums entry.now.size (day since) (day at) result }
 {
     let mut sums = sums;
-    sums.remove(entry.size, entry.admitted.day(), at.day());
+    sums.remove(entry.size, since.day(), at.day());
     sums
 }
 
@@ -94,8 +75,8 @@ pub fn remove<S: Alter>(
     ensures crash { IsChangeInLimits (change.Remove id removal.now) → (v : Vault) → Keeps (state S.Store conn.old) v → Survives (state S.Store conn.old) (state S.Store conn.new) (IsChanged (state S.Store conn.old) v at (change.Remove id removal.now)) }
 {
     let entry = find_entry(conn, id)?;
-    let newest = match find_newest_but(conn, &entry, id) {
-        Ok(newest) => newest,
+    let beside = match read_beside(conn, &entry, id) {
+        Ok(beside) => beside,
         Err(error) => {
             drop(entry);
             return Err(error);
@@ -108,8 +89,8 @@ pub fn remove<S: Alter>(
             return Err(error);
         }
     };
-    let left = left_head(newest, place.head);
-    let sums = without_version(place.sums, &entry, at);
+    let left = left_head(beside.newest, place.head);
+    let sums = without_version(place.sums, &entry, beside.since, at);
     let _in_range = at.secs();
     let part = RemovedEntry {
         at,

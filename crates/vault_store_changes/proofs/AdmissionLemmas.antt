@@ -18,8 +18,8 @@ use Rattle.vault_core_model.specs.Sound.{Sound}
 use Rattle.vault_core_model.specs.Totals.{items_of}
 use Rattle.vault_core_model.specs.Vault.{Vault, config_of}
 use Rattle.vault_audit_model.specs.Editions.{number_of, newest}
-use Rattle.vault_audit_model.specs.Rows.{meta_row, department_row, entry_row, content_row, setting_row, note_row}
-use Rattle.vault_audit_model.specs.Spells.{contents_in, settings_in, department_in, content_if_given}
+use Rattle.vault_audit_model.specs.Rows.{meta_row, department_row, entry_row, content_row, setting_row, note_row, tenure_row}
+use Rattle.vault_audit_model.specs.Spells.{contents_in, settings_in, tenures_in, department_in, content_if_given}
 use Rattle.vault_store_model.specs.Rows.{rows_of}
 use Rattle.vault_store_changes.specs.Edits.{edit_of, added_if_given, summed}
 use Rattle.vault_store_changes.specs.Beside.{AreSameBesideHeads}
@@ -70,17 +70,20 @@ sums_changed v w m o config there marker others =
 
 -- ---- the change
 
-next_after : (t : ℕ) (hs : List History) (h : History) → meta_row (record { schema = number_of newest; last = t; next = length (hs ++ h ∷ []) + 1 }) ≡ meta_row (record { schema = number_of newest; last = t; next = length hs + 1 + 1 })
-next_after t hs h = ap (λ n. meta_row (record { schema = number_of newest; last = t; next = n + 1 })) (length-append hs (h ∷ []))
+next_after : (t moves : ℕ) (hs : List History) (h : History)
+    → meta_row (record { schema = number_of newest; last = t; next = length (hs ++ h ∷ []) + 1; moves = moves }) ≡ meta_row (record { schema = number_of newest; last = t; next = length hs + 1 + 1; moves = moves })
+next_after t moves hs h = ap (λ n. meta_row (record { schema = number_of newest; last = t; next = n + 1; moves = moves })) (length-append hs (h ∷ []))
 
 pub entry_admitted : (v : Vault) (t : ℕ) (a : Admission) → Sound v → IsAdmission v t a → AreSameBesideHeads (rows_of (changed v t (Admit a))) (edit_of v t (Admit a) (rows_of v))
-entry_admitted v t a sound is table.Meta beside = IsPermutation-same _ _ (ap (λ row. row ∷ []) (next_after t v.histories a.history))
+entry_admitted v t a sound is table.Meta beside = IsPermutation-same _ _ (ap (λ row. row ∷ []) (next_after t v.moves v.histories a.history))
 entry_admitted v t a sound is table.Entries beside = IsPermutation-map (λ h. entry_row h.entry) _ _ (IsPermutation-to_front v.histories a.history)
 entry_admitted v t a sound is table.Contents beside =
     IsPermutation-trans _ _ _ (told_in_front content_row contents_in v.histories a.history)
     (IsPermutation-same _ _ (content_added a.history.entry.id a.history.content (map content_row (flat_map contents_in v.histories))))
 entry_admitted v t a sound is table.Settings beside =
     IsPermutation-trans _ _ _ (told_in_front setting_row settings_in v.histories a.history) (pushed_in_front (map setting_row (settings_in a.history)) _)
+entry_admitted v t a sound is table.Tenures beside =
+    IsPermutation-trans _ _ _ (told_in_front tenure_row tenures_in v.histories a.history) (pushed_in_front (map tenure_row (tenures_in a.history)) _)
 entry_admitted v t a sound is table.Intake beside = note_added a.note v.notes
 entry_admitted v t a sound is table.Departments beside =
     IsPermutation-same _ _ (sums_changed v (changed v t (Admit a)) a.history.entry.marker (config_of v a.history.entry.bucket) is.bucket is.placed

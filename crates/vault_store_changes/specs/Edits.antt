@@ -14,8 +14,8 @@ use Rattle.vault_core_model.specs.Change.{changed, new_bucket}
 use Rattle.vault_core_model.specs.Reads.{entry_of, setting_of, count_by, head_of, head_over}
 use Rattle.vault_core_model.specs.Places.{held_at}
 use Rattle.vault_core_model.specs.Vault.{Vault, config_of, next_id}
-use Rattle.vault_audit_model.specs.Rows.{department_row, caller_row, bucket_row, rule_row, entry_row, content_row, setting_row, note_row, head_row}
-use Rattle.vault_audit_model.specs.Spells.{bucket_of, rules_if_given, settings_in, department_in}
+use Rattle.vault_audit_model.specs.Rows.{department_row, caller_row, bucket_row, rule_row, entry_row, content_row, setting_row, note_row, head_row, tenure_row}
+use Rattle.vault_audit_model.specs.Spells.{bucket_of, rules_if_given, settings_in, tenures_in, department_in}
 use Rattle.vault_store_model.specs.Rows.{Rows}
 use Rattle.vault_store_model.specs.Edits.{with_rows, with_row, changed_if, with_changed, without, and_then, with_each, at_moment}
 use Rattle.vault_store_model.specs.Tests.{is_named, is_numbered, is_of_key, every, with_last_and_next, with_sums, closed_row, with_default_columns, removed_row, with_head_columns}
@@ -68,7 +68,8 @@ with_history v h =
     and_then (with_row table.Entries (entry_row h.entry))
     (and_then (with_row_if_given table.Contents (λ bytes. content_row (record { id = h.entry.id; content = bytes })) h.content)
     (and_then (with_each table.Settings (map setting_row (settings_in h)))
-    (with_head h.entry.bucket h.entry.key (head_of v h.entry.bucket h.entry.key) (Some (head_with h.entry.id (head_of v h.entry.bucket h.entry.key))))))
+    (and_then (with_each table.Tenures (map tenure_row (tenures_in h)))
+    (with_head h.entry.bucket h.entry.key (head_of v h.entry.bucket h.entry.key) (Some (head_with h.entry.id (head_of v h.entry.bucket h.entry.key)))))))
 
 -- an entry removed, its bytes, the sums and the head of its key; w is the vault after that
 abbrev pub without_entry : Vault → Vault → ℕ → Removal → Option Entry → Rows → Rows

@@ -1,5 +1,5 @@
 -- Rows that are put into a table one after another, and tables one after another.
-use Rattle.std.proofs.Common.{◌≡◌, ◌⊎◌, inl, inr, ◌==◌, ◌+◌, ◌<◌, ◌≤◌, ℕ, nat_lt, List, [], ◌∷◌, ◌++◌, length, map, get_or, true, false, cond, lit≤, append-nil, refl, sym, ap, subst, ◌∙◌, arith}
+use Rattle.std.proofs.Common.{◌≡◌, ◌⊎◌, inl, inr, ◌==◌, ◌+◌, ◌<◌, ◌≤◌, ℕ, nat_lt, List, [], ◌∷◌, ◌++◌, length, map, true, false, cond, get_or, lit≤, append-nil, refl, sym, ap, subst, ◌∙◌, arith}
 use Rattle.std.specs.Prelude.{IsPermutation}
 use Rattle.std.specs.List.{AllByRecursion}
 use Rattle.std.proofs.lemmas.Bool.{cases_Bool}
@@ -13,7 +13,7 @@ use Rattle.vault_base.specs.declared.refusal.Table.{Table}
 use Rattle.vault_base.specs.declared.refusal.Table.TheVariants as table
 use Rattle.vault_core_model.specs.Vault.{Vault}
 use Rattle.vault_audit_model.specs.declared.schema.Edition.{Edition}
-use Rattle.vault_audit_model.specs.Rows.{department_row, caller_row, bucket_row, rule_row, entry_row, content_row, setting_row, note_row, head_row}
+use Rattle.vault_audit_model.specs.Rows.{department_row, caller_row, bucket_row, rule_row, entry_row, content_row, setting_row, note_row, head_row, tenure_row}
 use Rattle.vault_audit_model.specs.Spells.{AreSoundAs, meta_of, department_in, bucket_of, heads_in}
 use Rattle.vault_audit_model.specs.Tables.{vault_schema}
 use Rattle.vault_audit_walk.specs.Walk.{Goes}
@@ -22,29 +22,6 @@ use Rattle.vault_store_model.specs.Edits.{number_of, with_row}
 use Rattle.vault_store_model.specs.Rows.{Rows, AreSameRows, rows_in, rows_of}
 use Rattle.vault_store_copy.specs.Copied.{PutsRow, HasFirstRows, HasCopied, first_rows}
 use Rattle.vault_store_copy.specs.Told.{IsOf, IsRowOf}
-
--- ---- the tables by their numbers
-
-abbrev table_at : ℕ → Table
-table_at n =
-    get_or
-    (table.Meta ∷ table.Departments ∷ table.Callers ∷ table.Buckets ∷ table.Rules ∷ table.Entries ∷ table.Contents ∷ table.Settings
-    ∷ table.Intake ∷ table.Heads ∷ []) n table.Meta
-
-numbered_back : (t : Table) → table_at (number_of t) ≡ t
-numbered_back table.Meta = refl
-numbered_back table.Departments = refl
-numbered_back table.Callers = refl
-numbered_back table.Buckets = refl
-numbered_back table.Rules = refl
-numbered_back table.Entries = refl
-numbered_back table.Contents = refl
-numbered_back table.Settings = refl
-numbered_back table.Intake = refl
-numbered_back table.Heads = refl
-
-one_table : (t s : Table) → number_of t ≡ number_of s → t ≡ s
-one_table t s same = sym (numbered_back t) ∙ ap table_at same ∙ numbered_back s
 
 -- ---- the rows of a vault tell records
 
@@ -63,10 +40,12 @@ all_told v table.Contents = all_of content_row (λ c. c) _
 all_told v table.Settings = all_of setting_row (λ s. s) _
 all_told v table.Intake = all_of note_row (λ n. n) v.notes
 all_told v table.Heads = all_of head_row (λ h. h) (heads_in v)
+all_told v table.Tenures = all_of tenure_row (λ t. t) _
 
 -- in any order
 rows_told : (v : Vault) (t : Table) (rows : List Row) → IsPermutation (rows_of v t) rows → AllByRecursion (IsRowOf t) rows
-rows_told v t rows same = recursion_from_All (IsRowOf t) rows (All-permutation (IsRowOf t) (rows_of v t) rows same (All-from_recursion (IsRowOf t) (rows_of v t) (all_told v t)))
+rows_told v t rows same =
+    recursion_from_All (IsRowOf t) rows (All-permutation (IsRowOf t) (rows_of v t) rows same (All-from_recursion (IsRowOf t) (rows_of v t) (all_told v t)))
 
 -- ---- one row after the other
 
@@ -108,6 +87,29 @@ module _ (t : Table) where
 
 -- ---- one table after the other
 
+-- the tables by their numbers
+abbrev table_at : ℕ → Table
+table_at n =
+    get_or
+    (table.Meta ∷ table.Departments ∷ table.Callers ∷ table.Buckets ∷ table.Rules ∷ table.Entries ∷ table.Contents ∷ table.Settings
+    ∷ table.Intake ∷ table.Heads ∷ table.Tenures ∷ []) n table.Meta
+
+numbered_back : (t : Table) → table_at (number_of t) ≡ t
+numbered_back table.Meta = refl
+numbered_back table.Departments = refl
+numbered_back table.Callers = refl
+numbered_back table.Buckets = refl
+numbered_back table.Rules = refl
+numbered_back table.Entries = refl
+numbered_back table.Contents = refl
+numbered_back table.Settings = refl
+numbered_back table.Intake = refl
+numbered_back table.Heads = refl
+numbered_back table.Tenures = refl
+
+one_table : (t s : Table) → number_of t ≡ number_of s → t ≡ s
+one_table t s same = sym (numbered_back t) ∙ ap table_at same ∙ numbered_back s
+
 below_if : (a b : ℕ) → nat_lt a b ≡ true → a < b
 below_if a b is = grind (arith, nat_tests, is)
 
@@ -147,6 +149,7 @@ not_alone v table.Contents = inl (lit≤ tt)
 not_alone v table.Settings = inl (lit≤ tt)
 not_alone v table.Intake = inl (lit≤ tt)
 not_alone v table.Heads = inl (lit≤ tt)
+not_alone v table.Tenures = inl (lit≤ tt)
 
 module _ (v : Vault) (t : Table) (rows : List Row) (x y : Database) (was : HasFirstRows v (number_of t) x) (shown : IsPermutation (rows_of v t) rows) (added : Adds t rows x y) where
   here_more : IsPermutation (first_rows v (number_of t + 1) t) (rows_in y t)
@@ -178,8 +181,8 @@ pub copies_table : (n : Edition) (from x y : Database) (t : Table) (rows : List 
     → Goes (λ a row b. PutsRow t row a b) x rows y → HasCopied n from (number_of t) x → HasCopied n from (number_of t + 1) y
 copies_table n from x y t rows shown gone was v is =
     let before = was v is in
-    let same = shown v is in
-    table_more v t rows x y before same (adds t rows x y (rows_told v t rows same) gone before.schema)
+    let told = shown v is in
+    table_more v t rows x y before told (adds t rows x y (rows_told v t rows told) gone before.schema)
 
 -- one part of the copy after the other
 pub copies_on : (n : Edition) (from later : Database) (old mid new : State) (From : Database → Type 0) (b c : ℕ) → later ≡ from → Moves old mid From (HasCopied n from b) → Moves mid new (HasCopied n later b) (HasCopied n later c)

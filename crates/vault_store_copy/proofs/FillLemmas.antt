@@ -1,5 +1,5 @@
 -- The first tables, without a row, and the last ones, with all rows.
-use Rattle.std.proofs.Common.{◌≡◌, ◌≤◌, ℕ, nat_lt, [], map, cond, false, refl, sym, ap, subst, ◌∙◌, arith}
+use Rattle.std.proofs.Common.{◌≡◌, ℕ, nat_lt, [], map, cond, false, ◌≤◌, refl, sym, ap, subst, ◌∙◌, arith}
 use Rattle.std.specs.Prelude.{IsPermutation}
 use Rattle.std.proofs.lemmas.Bool.Decides.{nat_tests}
 use Rattle.sqlite_keyed.proofs.ListLemmas.{IsPermutation-same}
@@ -12,7 +12,7 @@ use Rattle.vault_audit_model.specs.Spells.{AreSound, AreSoundAs}
 use Rattle.vault_store_create.specs.Create.{HasFirst}
 use Rattle.vault_store_model.proofs.RowsLemmas.{sound_is_rows}
 use Rattle.vault_store_model.specs.Edits.{number_of}
-use Rattle.vault_store_model.specs.Rows.{rows_in, rows_of}
+use Rattle.vault_store_model.specs.Rows.{AreSameRows, rows_in, rows_of}
 use Rattle.vault_store_edits.proofs.TableLemmas.{of_each, rows_are}
 use Rattle.vault_store_edits.specs.Trees.{columns_of}
 use Rattle.vault_store_copy.specs.Copied.{HasCopied, first_rows}
@@ -21,7 +21,7 @@ none_below : (n : ℕ) → nat_lt n 0 ≡ false
 none_below n = let low : 0 ≤ n = omega arith in grind (arith, nat_tests, low)
 
 -- tables without a row
-pub none_copied : (n : Edition) (from db : Database) → HasFirst 10 db → HasCopied n from 0 db
+pub none_copied : (n : Edition) (from db : Database) → HasFirst 11 db → HasCopied n from 0 db
 none_copied n from db made v is = record {
   schema = made.schema;
   rows = λ t.
@@ -31,7 +31,7 @@ none_copied n from db made v is = record {
   listed = λ none. absurd (omega (arith, none));
 }
 
-all_first : (v : Vault) (t : Table) → first_rows v 10 t ≡ rows_of v t
+all_first : (v : Vault) (t : Table) → first_rows v 11 t ≡ rows_of v t
 all_first v table.Meta = refl
 all_first v table.Departments = refl
 all_first v table.Callers = refl
@@ -42,9 +42,11 @@ all_first v table.Contents = refl
 all_first v table.Settings = refl
 all_first v table.Intake = refl
 all_first v table.Heads = refl
+all_first v table.Tenures = refl
 
 -- tables with all rows are sound for the same vault
-pub all_copied : (n : Edition) (from db : Database) → HasCopied n from 10 db → (v : Vault) → AreSoundAs n from v → AreSound db v × IsDatabase db
+pub all_copied : (n : Edition) (from db : Database) → HasCopied n from 11 db → (v : Vault) → AreSoundAs n from v → AreSound db v × IsDatabase db
 all_copied n from db copied v is =
     let it = copied v is in
-    ((sound_is_rows db v).1 (record { schema = it.schema; rows = λ t. subst (λ rows. IsPermutation rows (rows_in db t)) (all_first v t) (it.rows t); kept = is.spells.kept }), it.listed (omega arith))
+    let same : AreSameRows (rows_of v) (rows_in db) = λ t. subst (λ rows. IsPermutation rows (rows_in db t)) (all_first v t) (it.rows t) in
+    ((sound_is_rows db v).1 (record { schema = it.schema; rows = same; kept = record { limits = is.spells.kept.limits; sound = is.spells.kept.sound; unmoved = tt } }), it.listed (omega arith))

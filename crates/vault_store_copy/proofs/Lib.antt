@@ -1,5 +1,6 @@
 mod TextLemmas
 mod RowLemmas
+mod TenureLemmas
 mod ShownLemmas
 mod CopyLemmas
 mod FillLemmas

@@ -1,4 +1,4 @@
--- A row that tells a record of its table is put in as it is.
+-- The rows that tell a record of their table are put in as they are.
 use Rattle.std.proofs.Common.{◌≡◌, ℕ, List, [], ◌∷◌, map, Bool, true, false, Option, Some, None, Ok, refl, sym, subst, ◌∙◌}
 use Rattle.sqlite_value.specs.declared.value.Value.TheVariants.{Null, Text, Blob}
 use Rattle.sqlite_value.specs.Order.{Row}
@@ -20,8 +20,9 @@ use Rattle.vault_audit_model.specs.declared.rows.RuleRow.{RuleRow}
 use Rattle.vault_audit_model.specs.declared.rows.ContentRow.{ContentRow}
 use Rattle.vault_audit_model.specs.declared.rows.SettingRow.{SettingRow}
 use Rattle.vault_audit_model.specs.declared.rows.HeadRow.{HeadRow}
-use Rattle.vault_audit_model.specs.Rows.{meta_row, department_row, caller_row, bucket_row, rule_row, entry_row, content_row, setting_row, note_row, head_row, rights_number, default_mode, default_days, default_years, noncurrent_days, noncurrent_newer, author_kind, author_name, removal_at, removal_cause, removal_by, retention_mode, retention_until}
-use Rattle.vault_audit_model.specs.Tables.{vault_schema, meta, departments, callers, buckets, rules, entries, contents, settings, intake, heads}
+use Rattle.vault_audit_model.specs.declared.rows.TenureRow.{TenureRow}
+use Rattle.vault_audit_model.specs.Rows.{meta_row, department_row, caller_row, bucket_row, rule_row, entry_row, content_row, setting_row, note_row, head_row, tenure_row, rights_number, default_mode, default_days, default_years, noncurrent_days, noncurrent_newer, author_kind, author_name, removal_at, removal_cause, removal_by, retention_mode, retention_until}
+use Rattle.vault_audit_model.specs.Tables.{vault_schema, meta, departments, callers, buckets, rules, entries, contents, settings, intake, heads, tenures}
 use Rattle.vault_audit_model.specs.Values.{number, number_or_null, bytes_or_null, flag, flag_or_null}
 use Rattle.vault_audit_model.proofs.ValueLemmas.{cast_null}
 use Rattle.vault_store_model.specs.Edits.{with_row}
@@ -30,7 +31,7 @@ use Rattle.vault_store_edits.proofs.StatementLemmas.{Leaves, inserts}
 use Rattle.vault_store_copy.specs.Copied.{PutsRow}
 use Rattle.vault_store_copy.specs.Listings.{putting_of}
 use Rattle.vault_store_copy.specs.Told.{IsOf, IsRowOf}
-use Rattle.vault_store_copy.proofs.TextLemmas.{meta_terms, puts_meta, departments_terms, puts_departments, callers_terms, puts_callers, buckets_terms, puts_buckets, rules_terms, puts_rules, entries_terms, puts_entries, contents_terms, puts_contents, settings_terms, puts_settings, intake_terms, puts_intake, heads_terms, puts_heads}
+use Rattle.vault_store_copy.proofs.TextLemmas.{meta_terms, puts_meta, departments_terms, puts_departments, callers_terms, puts_callers, buckets_terms, puts_buckets, rules_terms, puts_rules, entries_terms, puts_entries, contents_terms, puts_contents, settings_terms, puts_settings, intake_terms, puts_intake, heads_terms, puts_heads, tenures_terms, puts_tenures}
 
 -- ---- parameters: the values of records aren't NaN, so they are bound as they are
 
@@ -108,22 +109,23 @@ bound_as_told table.Contents = bound_row content_row (λ c. refl)
 bound_as_told table.Settings = bound_row setting_row setting_bound
 bound_as_told table.Intake = bound_row note_row note_bound
 bound_as_told table.Heads = bound_row head_row (λ h. refl)
+bound_as_told table.Tenures = bound_row tenure_row (λ t. refl)
 
 -- ---- columns: each takes the values of records as they are
 
--- the statement that puts this row of the table in does so
+-- the statement that puts this row into the table does so
 abbrev PutsIn : Table → State → State → Row → Type 0
 PutsIn t old new row = (count : ℕ) → old.now.schema ≡ vault_schema → Executes (putting_of t) row old new (Ok count) → Leaves old new (with_row t row)
 
 meta_put : (old new : State) (m : MetaRow) → PutsIn table.Meta old new (meta_row m)
 meta_put old new m =
-    inserts table.Meta 0 meta (putting_of table.Meta) (meta_row m) meta_terms 5 (number 1 ∷ Null ∷ number m.schema ∷ number m.last ∷ number m.next ∷ []) (meta_row m) puts_meta.command puts_meta.plain (λ limit mode text db out h. h) refl refl
-    (λ rows. rw (cast_number 1, cast_number m.schema, cast_number m.last, cast_number m.next) refl) old new
+    inserts table.Meta 0 meta (putting_of table.Meta) (meta_row m) meta_terms 6 (number 1 ∷ Null ∷ number m.schema ∷ number m.last ∷ number m.next ∷ number m.moves ∷ []) (meta_row m) puts_meta.command puts_meta.plain (λ limit mode text db out h. h) refl refl
+    (λ rows. rw (cast_number 1, cast_number m.schema, cast_number m.last, cast_number m.next, cast_number m.moves) refl) old new
 
 department_put : (old new : State) (d : DepartmentRow) → PutsIn table.Departments old new (department_row d)
 department_put old new d =
-    inserts table.Departments 1 departments (putting_of table.Departments) (department_row d) departments_terms 7 (Null ∷ department_row d) (department_row d) puts_departments.command puts_departments.plain (λ limit mode text db out h. h) refl refl
-    (λ rows. rw (cast_null, cast_number d.sums.admitted, cast_number d.sums.held, cast_number d.sums.removed, cast_number d.sums.weighted, cast_number d.sums.closed) refl) old new
+    inserts table.Departments 1 departments (putting_of table.Departments) (department_row d) departments_terms 9 (Null ∷ department_row d) (department_row d) puts_departments.command puts_departments.plain (λ limit mode text db out h. h) refl refl
+    (λ rows. rw (cast_null, cast_number d.sums.admitted, cast_number d.sums.held, cast_number d.sums.removed, cast_number d.sums.weighted, cast_number d.sums.closed, cast_number d.sums.received, cast_number d.sums.handed) refl) old new
 
 caller_put : (old new : State) (c : Caller) → PutsIn table.Callers old new (caller_row c)
 caller_put old new c =
@@ -198,6 +200,11 @@ head_put old new h =
     inserts table.Heads 9 heads (putting_of table.Heads) (head_row h) heads_terms 5 (Null ∷ head_row h) (head_row h) puts_heads.command puts_heads.plain (λ limit mode text db out h. h) refl refl
     (λ rows. rw (cast_null, cast_number h.head.newest, cast_number h.head.count) refl) old new
 
+tenure_put : (old new : State) (t : TenureRow) → PutsIn table.Tenures old new (tenure_row t)
+tenure_put old new t =
+    inserts table.Tenures 10 tenures (putting_of table.Tenures) (tenure_row t) tenures_terms 5 (Null ∷ tenure_row t) (tenure_row t) puts_tenures.command puts_tenures.plain (λ limit mode text db out h. h) refl refl
+    (λ rows. rw (cast_null, cast_number t.id, cast_number t.tenure.number, cast_number t.tenure.from) refl) old new
+
 module _ (old new : State) where
   by_record : {X : Type 0} (row_of : X → Row) (t : Table) → ((x : X) → PutsIn t old new (row_of x)) → (row : Row) → IsOf row_of row → PutsIn t old new row
   by_record row_of t puts row told = subst (PutsIn t old new) (sym told.1) (puts told.0)
@@ -213,6 +220,7 @@ module _ (old new : State) where
   put_as_told table.Settings = by_record setting_row table.Settings (setting_put old new)
   put_as_told table.Intake = by_record note_row table.Intake (note_put old new)
   put_as_told table.Heads = by_record head_row table.Heads (head_put old new)
+  put_as_told table.Tenures = by_record tenure_row table.Tenures (tenure_put old new)
 
   -- the statement, with the values of the row as its parameters
   pub puts_row : (t : Table) (row params : Row) → params ≡ map bound_value row → (count : ℕ) → Executes (putting_of t) params old new (Ok count) → PutsRow t row old.now new.now

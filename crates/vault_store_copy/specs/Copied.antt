@@ -40,6 +40,6 @@ pub record HasFirstRows (v : Vault) (k : ℕ) (db : Database) : Type 0 where
   pub rows : AreSameRows (first_rows v k) (rows_in db)
   pub listed : 1 ≤ k → IsDatabase db
 
--- the same for the vault that the tables of that edition are sound for
+-- the same for each vault that the tables of that edition are sound for
 abbrev pub HasCopied : Edition → Database → ℕ → Database → Type 0
 HasCopied n from k db = (v : Vault) → AreSoundAs n from v → HasFirstRows v k db

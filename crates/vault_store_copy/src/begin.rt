@@ -28,7 +28,7 @@ fn put_copy<O: Alter, S: Alter>(
     requires { HasCleanDisk (state O.Store old.old) → (state O.Store old.old).now.schema ≡ schema_of edition }
     ensures same_reference { tx.new.conn.ghost_name ≡ tx.old.conn.ghost_name }
     ensures copied { HasCleanDisk (state O.Store old.new) → HasCleanDisk (state S.Store tx.new.conn.now) → IsTrue tx.old.conn.now.in_transaction
-        → OnOk result (Moves (state S.Store tx.old.conn.now) (state S.Store tx.new.conn.now) (HasFirst 0) (HasCopied edition (state O.Store old.old).now 10)) }
+        → OnOk result (Moves (state S.Store tx.old.conn.now) (state S.Store tx.new.conn.now) (HasFirst 0) (HasCopied edition (state O.Store old.old).now 11)) }
     ensures survives { Survives (state S.Store tx.old.conn.now) (state S.Store tx.new.conn.now) (λ _. ⊥) }
     ensures same { HasCleanDisk (state O.Store old.new) → OnOk result (IsUnchanged (state O.Store old.old) (state O.Store old.new)) }
     ensures crash { Survives (state O.Store old.old) (state O.Store old.new) (λ _. ⊥) }
@@ -47,7 +47,7 @@ fn write_copy<O: Alter, S: Alter>(
     requires outside { new.old.in_transaction ≡ false }
     requires known { HasCleanDisk (state O.Store old.old) → (state O.Store old.old).now.schema ≡ schema_of edition }
     ensures copied { HasCleanDisk (state O.Store old.new) → HasCleanDisk (state S.Store new.new)
-        → OnOk result (Moves (state S.Store new.old) (state S.Store new.new) (HasFirst 0) (HasCopied edition (state O.Store old.old).now 10)) }
+        → OnOk result (Moves (state S.Store new.old) (state S.Store new.new) (HasFirst 0) (HasCopied edition (state O.Store old.old).now 11)) }
     ensures crash { Survives (state S.Store new.old) (state S.Store new.new) (λ _. ⊥) }
     ensures same { HasCleanDisk (state O.Store old.new) → OnOk result (IsUnchanged (state O.Store old.old) (state O.Store old.new)) }
     ensures old_crash { Survives (state O.Store old.old) (state O.Store old.new) (λ _. ⊥) }

@@ -119,13 +119,14 @@ fn copy_last<O: Alter, S: Alter>(
     ensures same_reference { tx.new.conn.ghost_name ≡ tx.old.conn.ghost_name }
     ensures copied { HasCleanDisk (state O.Store old.new) → HasCleanDisk (state S.Store tx.new.conn.now) → IsTrue tx.old.conn.now.in_transaction → IsTrue (state S.Store tx.old.conn.now).is_open
         → OnOk result (Moves (state S.Store tx.old.conn.now) (state S.Store tx.new.conn.now)
-        (HasCopied edition (state O.Store old.old).now 8) (HasCopied edition (state O.Store old.old).now 10)) }
+        (HasCopied edition (state O.Store old.old).now 8) (HasCopied edition (state O.Store old.old).now 11)) }
     ensures survives { Survives (state S.Store tx.old.conn.now) (state S.Store tx.new.conn.now) (λ _. ⊥) }
     ensures same { HasCleanDisk (state O.Store old.new) → OnOk result (IsUnchanged (state O.Store old.old) (state O.Store old.new)) }
     ensures crash { Survives (state O.Store old.old) (state O.Store old.new) (λ _. ⊥) }
 {
     copy_table(alloc, old, tx, edition, Table::Intake)?;
     copy_table(alloc, old, tx, edition, Table::Heads)?;
+    copy_table(alloc, old, tx, edition, Table::Tenures)?;
     Ok(())
 }
 
@@ -140,7 +141,7 @@ pub(crate) fn copy_tables<O: Alter, S: Alter>(
     ensures same_reference { tx.new.conn.ghost_name ≡ tx.old.conn.ghost_name }
     ensures copied { HasCleanDisk (state O.Store old.new) → HasCleanDisk (state S.Store tx.new.conn.now) → IsTrue tx.old.conn.now.in_transaction → IsTrue (state S.Store tx.old.conn.now).is_open
         → OnOk result (Moves (state S.Store tx.old.conn.now) (state S.Store tx.new.conn.now)
-        (HasCopied edition (state O.Store old.old).now 0) (HasCopied edition (state O.Store old.old).now 10)) }
+        (HasCopied edition (state O.Store old.old).now 0) (HasCopied edition (state O.Store old.old).now 11)) }
     ensures survives { Survives (state S.Store tx.old.conn.now) (state S.Store tx.new.conn.now) (λ _. ⊥) }
     ensures same { HasCleanDisk (state O.Store old.new) → OnOk result (IsUnchanged (state O.Store old.old) (state O.Store old.new)) }
     ensures crash { Survives (state O.Store old.old) (state O.Store old.new) (λ _. ⊥) }

@@ -55,5 +55,5 @@ made_as t table it old new count was h =
       rows = subst (λ (s : Schema). AllByRecursion (λ c. new.now.trees c.tree ≡ []) s.tables) it.next rows;
     }
 
-pub table_made : (t : Table) (old new : State) (count : ℕ) → HasFirst (place_of t) old.now → Executes (creation_of t) [] old new (Ok count) → HasFirst (place_of t + 1) new.now
+pub table_made : (t : Table) → (old new : State) (count : ℕ) → HasFirst (place_of t) old.now → Executes (creation_of t) [] old new (Ok count) → HasFirst (place_of t + 1) new.now
 table_made t = let it = creates t in made_as t it.0 it.1

@@ -61,16 +61,16 @@ others_empty at (t ∷ ts) other old new same empty =
     (same.0 both.0 ∙ empty.0, others_empty at ts both.1 old new same.1 empty.1)
 
 -- meta has its row after its statement
-pub meta_put : (old new : State) (count : ℕ) → HasFirst 10 old.now → Executes meta_row_text [] old new (Ok count) → HasMetaRow new.now
+pub meta_put : (old new : State) (count : ℕ) → HasFirst 11 old.now → Executes meta_row_text [] old new (Ok count) → HasMetaRow new.now
 meta_put old new count was h =
-    let command = Insert (place_of table.Meta) (Values meta_row_terms 5) in
+    let command = Insert (place_of table.Meta) (Values meta_row_terms 6) in
     let w = runs_as meta_row_text [] old new vault_schema was.schema command meta_row_is meta_row_plain count h in
     let text = statement_of meta_row_text (understood vault_schema meta_row_text) in
     let did = subst (λ s. Does old.step_limit (mode_of old) [] (record old.now { schema = s }) text None command (Ok (w.tally, new.now))) was.schema w.changed in
-    let it = added old.step_limit (mode_of old) vault_schema meta [] (place_of table.Meta) (Values meta_row_terms 5) old.now.trees w.tally new.now did in
+    let it = added old.step_limit (mode_of old) vault_schema meta [] (place_of table.Meta) (Values meta_row_terms 6) old.now.trees w.tally new.now did in
     let rows = ap (λ all. edited old.now.trees (edit_of old.now.trees meta [] Chosen 0 all)) it.1.1 in
-    let stored : new.now.trees meta_tree ≡ (Int (pos 1) ∷ Null ∷ Int (pos 2) ∷ Int (pos 0) ∷ Int (pos 1) ∷ []) ∷ [] =
-    it.2.rows ∙ rows ∙ rw (was.rows.0, cast_int (pos 1), cast_int (pos 2), cast_int (pos 0), cast_null) refl in
+    let stored : new.now.trees meta_tree ≡ (Int (pos 1) ∷ Null ∷ Int (pos 3) ∷ Int (pos 0) ∷ Int (pos 1) ∷ Int (pos 0) ∷ []) ∷ [] =
+    it.2.rows ∙ rows ∙ rw (was.rows.0, cast_int (pos 1), cast_int (pos 3), cast_int (pos 0), cast_null) refl in
     record {
       schema = it.3;
       meta = ap (map meta_columns) stored;
@@ -104,6 +104,7 @@ registrar_put old new count was h =
       contents = rw (same.1.1.1.1.1.0 (omega arith) ∙ none.1.1.1.1.1.0) (IsPermutation-refl []);
       settings = rw (same.1.1.1.1.1.1.0 (omega arith) ∙ none.1.1.1.1.1.1.0) (IsPermutation-refl []);
       intake = rw (same.1.1.1.1.1.1.1.0 (omega arith) ∙ none.1.1.1.1.1.1.1.0) (IsPermutation-refl []);
+      tenures = rw (same.1.1.1.1.1.1.1.1.1.0 (omega arith) ∙ none.1.1.1.1.1.1.1.1.1.0) (IsPermutation-refl []);
       kept = is_kept;
     } in
     let sound : AreSound new.now opening = record {

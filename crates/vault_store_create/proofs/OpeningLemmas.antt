@@ -1,4 +1,4 @@
--- A new vault is in its limits, sound, and unmoved.
+-- A new vault is in its limits and sound.
 use Rattle.std.proofs.Common.{◌≡◌, lit≤, refl, sym, subst}
 use Rattle.sqlite_trees.specs.Tree.{Trees}
 use Rattle.sqlite_catalog.specs.Listing.{IsSound}
@@ -41,7 +41,7 @@ is_sound = record {
 }
 
 pub is_kept : IsKept opening
-is_kept = record { limits = is_in_limits; sound = is_sound; unmoved = record { moves = refl; tenures = tt } }
+is_kept = record { limits = is_in_limits; sound = is_sound; unmoved = tt }
 
 -- what stands in the tables of a new vault is read again
 pub left : (db : Database) → IsFilled db → (trees : Trees) → trees ≡ db.trees → AreOpening trees

@@ -14,7 +14,7 @@ use Rattle.sqlite.specs.Does.{lacks_sequence}
 use Rattle.sqlite.proofs.Callers.{IsPlain, command_of, statement_of}
 use Rattle.sqlite_catalog.specs.Change.{created}
 use Rattle.vault_audit_model.specs.Texts.{creation_of}
-use Rattle.vault_audit_model.specs.Tables.{vault_schema, meta, departments, callers, buckets, rules, entries, contents, settings, intake, heads}
+use Rattle.vault_audit_model.specs.Tables.{vault_schema, meta, departments, callers, buckets, rules, entries, contents, settings, intake, heads, tenures}
 use Rattle.vault_store_create.specs.Create.{place_of, schema_of_first}
 
 -- The statement makes this table, after the tables that come before it.
@@ -66,6 +66,10 @@ heads_made : Creates table.Heads (record heads { tree = 0 })
 unfolding understood everything
 heads_made = record { command = refl; whole = refl; defined = refl; plain = (refl, refl); next = refl; uncounted = refl }
 
+tenures_made : Creates table.Tenures (record tenures { tree = 0 })
+unfolding understood everything
+tenures_made = record { command = refl; whole = refl; defined = refl; plain = (refl, refl); next = refl; uncounted = refl }
+
 -- each statement makes its table
 pub creates : (t : Table) → (made : Columns) × Creates t made
 creates table.Meta = (_, meta_made)
@@ -78,22 +82,23 @@ creates table.Contents = (_, contents_made)
 creates table.Settings = (_, settings_made)
 creates table.Intake = (_, intake_made)
 creates table.Heads = (_, heads_made)
+creates table.Tenures = (_, tenures_made)
 
 -- ---- the first rows
 
 abbrev pub meta_row_text : List ℕ
-meta_row_text = codes "INSERT INTO meta (one, schema, last, next) VALUES (1, 2, 0, 1)"
+meta_row_text = codes "INSERT INTO meta (one, schema, last, next, moves) VALUES (1, 3, 0, 1, 0)"
 
 abbrev pub registrar_text : List ℕ
 registrar_text = codes "INSERT INTO callers (name, dept, rights, closed) VALUES ('registrar', NULL, 1, 0)"
 
 abbrev pub meta_row_terms : List Term
-meta_row_terms = lit (Int (pos 1)) ∷ lit Null ∷ lit (Int (pos 2)) ∷ lit (Int (pos 0)) ∷ lit (Int (pos 1)) ∷ []
+meta_row_terms = lit (Int (pos 1)) ∷ lit Null ∷ lit (Int (pos 3)) ∷ lit (Int (pos 0)) ∷ lit (Int (pos 1)) ∷ lit (Int (pos 0)) ∷ []
 
 abbrev pub registrar_terms : List Term
 registrar_terms = lit Null ∷ lit (Text (codes "registrar")) ∷ lit Null ∷ lit (Int (pos 1)) ∷ lit (Int (pos 0)) ∷ []
 
-pub meta_row_is : command_of (understood vault_schema meta_row_text) ≡ Insert (place_of table.Meta) (Values meta_row_terms 5)
+pub meta_row_is : command_of (understood vault_schema meta_row_text) ≡ Insert (place_of table.Meta) (Values meta_row_terms 6)
 unfolding understood everything
 meta_row_is = refl
 

@@ -27,6 +27,7 @@ place_of table.Contents = 6
 place_of table.Settings = 7
 place_of table.Intake = 8
 place_of table.Heads = 9
+place_of table.Tenures = 10
 
 -- the first so many tables of a vault, with their indexes
 abbrev pub schema_of_first : ℕ → Schema

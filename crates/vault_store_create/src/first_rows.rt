@@ -6,17 +6,17 @@ ghost use Rattle.vault_store_create.specs.Create.{Moves, HasFirst, HasMetaRow, I
 
 use sqlite::{Alter, Error, Transaction};
 
-/// Puts the row of `meta` into the empty tables: the schema's number, the moment 0, and 1 for the first entry.
+/// Puts the row of `meta` into the empty tables: the schema's number, the moment 0, 1 for the first entry, and no move.
 pub fn put_meta<S: Alter>(tx: &mut Transaction<'_, S>) -> Result<usize, Error>
     ensures same_reference { tx.new.conn.ghost_name ≡ tx.old.conn.ghost_name }
     ensures made { HasCleanDisk (state S.Store tx.new.conn.now) → IsTrue tx.old.conn.now.in_transaction
-        → OnOk result (Moves (state S.Store tx.old.conn.now) (state S.Store tx.new.conn.now) (HasFirst 10) HasMetaRow) }
+        → OnOk result (Moves (state S.Store tx.old.conn.now) (state S.Store tx.new.conn.now) (HasFirst 11) HasMetaRow) }
     ensures kept { HasCleanDisk (state S.Store tx.new.conn.now) → IsTrue tx.old.conn.now.in_transaction
         → OnErr result (KeepsCommit (state S.Store tx.old.conn.now) (state S.Store tx.new.conn.now)) }
     ensures survives { Survives (state S.Store tx.old.conn.now) (state S.Store tx.new.conn.now) (λ _. ⊥) }
 {
     tx.execute(
-        "INSERT INTO meta (one, schema, last, next) VALUES (1, 2, 0, 1)",
+        "INSERT INTO meta (one, schema, last, next, moves) VALUES (1, 3, 0, 1, 0)",
         &[],
     )
 }

@@ -58,6 +58,7 @@ finds_by_rowid table.Contents = record { names = codes "id" ∷ []; command = re
 finds_by_rowid table.Settings = record { names = codes "rowid" ∷ []; command = refl; unlisted = refl; plain = (refl, refl) }
 finds_by_rowid table.Intake = record { names = codes "rowid" ∷ []; command = refl; unlisted = refl; plain = (refl, refl) }
 finds_by_rowid table.Heads = record { names = codes "rowid" ∷ []; command = refl; unlisted = refl; plain = (refl, refl) }
+finds_by_rowid table.Tenures = record { names = codes "rowid" ∷ []; command = refl; unlisted = refl; plain = (refl, refl) }
 
 pub unchanged_itself : (s : State) → IsTrue s.is_open → IsUnchanged s s
 unchanged_itself s is_open =

@@ -41,7 +41,8 @@ module _ (last : ℕ) where
       let one : cast kind.Integer (column r 0) ≡ column r 0 = subst (λ v. cast kind.Integer v ≡ v) (sym is) (cast_int id) in
       let schema : cast kind.Integer (column r 2) ≡ column r 2 = column_taken meta r refl typed 1 _ refl in
       let next : cast kind.Integer (column r 4) ≡ column r 4 = column_taken meta r refl typed 3 _ refl in
-      rw (one, schema, next, cast_number last) refl)
+      let moves : cast kind.Integer (column r 5) ≡ column r 5 = column_taken meta r refl typed 4 _ refl in
+      rw (one, schema, next, moves, cast_number last) refl)
 
   pub sets_next : (next : ℕ) (old new : State) (count : ℕ) → IsApart (passes [] (number last ∷ number next ∷ [])) (old.now.trees meta_tree) → IsDatabase old.now → old.now.schema ≡ vault_schema
       → Executes next_text (number last ∷ number next ∷ []) old new (Ok count) → Leaves old new (with_changed table.Meta every (with_last_and_next last next))
@@ -50,7 +51,8 @@ module _ (last : ℕ) where
       (λ r typed id is.
       let one : cast kind.Integer (column r 0) ≡ column r 0 = subst (λ v. cast kind.Integer v ≡ v) (sym is) (cast_int id) in
       let schema : cast kind.Integer (column r 2) ≡ column r 2 = column_taken meta r refl typed 1 _ refl in
-      rw (one, schema, cast_number last, cast_number next) refl)
+      let moves : cast kind.Integer (column r 5) ≡ column r 5 = column_taken meta r refl typed 4 _ refl in
+      rw (one, schema, moves, cast_number last, cast_number next) refl)
 
 -- ---- departments
 
@@ -60,20 +62,20 @@ new_department name = department_row (record { name = name; sums = record { admi
 pub puts_department : (name : List ℕ) (old new : State) (count : ℕ) → old.now.schema ≡ vault_schema → Executes department_text (Text name ∷ []) old new (Ok count)
     → Leaves old new (with_row table.Departments (new_department name))
 puts_department name =
-    inserts table.Departments 1 departments department_text (Text name ∷ []) department_terms 7
-    (Null ∷ Text name ∷ number 0 ∷ number 0 ∷ number 0 ∷ number 0 ∷ number 0 ∷ []) (new_department name) department_is department_plain (λ limit mode text db out h. h) refl refl
+    inserts table.Departments 1 departments department_text (Text name ∷ []) department_terms 9
+    (Null ∷ Text name ∷ number 0 ∷ number 0 ∷ number 0 ∷ number 0 ∷ number 0 ∷ number 0 ∷ number 0 ∷ []) (new_department name) department_is department_plain (λ limit mode text db out h. h) refl refl
     (λ rows. rw (cast_null, cast_number 0) refl)
 
 abbrev pub sums_params : List ℕ → Sums → Row
-sums_params name sums = Text name ∷ number sums.admitted ∷ number sums.held ∷ number sums.removed ∷ number sums.weighted ∷ number sums.closed ∷ []
+sums_params name sums = Text name ∷ number sums.admitted ∷ number sums.held ∷ number sums.removed ∷ number sums.weighted ∷ number sums.closed ∷ number sums.received ∷ number sums.handed ∷ []
 
 pub sets_sums : (name : List ℕ) (sums : Sums) (old new : State) (count : ℕ) → IsApart (passes by_name (sums_params name sums)) (old.now.trees departments_tree) → IsDatabase old.now → old.now.schema ≡ vault_schema
     → Executes sums_text (sums_params name sums) old new (Ok count) → Leaves old new (with_changed table.Departments (is_named name) (with_sums sums))
 sets_sums name sums =
-    updates table.Departments 1 departments sums_text (sums_params name sums) by_name (is_named name) refl sums_plain (λ r whole. named name (number sums.admitted ∷ number sums.held ∷ number sums.removed ∷ number sums.weighted ∷ number sums.closed ∷ []) r) sums_project (with_sums sums) sums_is (λ limit mode text db out h. h) (λ db k. k.1.0)
+    updates table.Departments 1 departments sums_text (sums_params name sums) by_name (is_named name) refl sums_plain (λ r whole. named name (number sums.admitted ∷ number sums.held ∷ number sums.removed ∷ number sums.weighted ∷ number sums.closed ∷ number sums.received ∷ number sums.handed ∷ []) r) sums_project (with_sums sums) sums_is (λ limit mode text db out h. h) (λ db k. k.1.0)
     (λ r typed id is.
     let first : cast kind.Text (column r 1) ≡ column r 1 = column_taken departments r refl typed 0 _ refl in
-    rw (first, cast_number sums.admitted, cast_number sums.held, cast_number sums.removed, cast_number sums.weighted, cast_number sums.closed) refl)
+    rw (first, cast_number sums.admitted, cast_number sums.held, cast_number sums.removed, cast_number sums.weighted, cast_number sums.closed, cast_number sums.received, cast_number sums.handed) refl)
 
 -- ---- callers
 

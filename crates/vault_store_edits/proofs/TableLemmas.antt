@@ -19,7 +19,7 @@ abbrev table_at : ℕ → Table
 table_at n =
     get_or
     (table.Meta ∷ table.Departments ∷ table.Callers ∷ table.Buckets ∷ table.Rules ∷ table.Entries ∷ table.Contents ∷ table.Settings
-    ∷ table.Intake ∷ table.Heads ∷ []) n table.Meta
+    ∷ table.Intake ∷ table.Heads ∷ table.Tenures ∷ []) n table.Meta
 
 numbered_back : (t : Table) → table_at (number_of t) ≡ t
 numbered_back table.Meta = refl
@@ -32,13 +32,14 @@ numbered_back table.Contents = refl
 numbered_back table.Settings = refl
 numbered_back table.Intake = refl
 numbered_back table.Heads = refl
+numbered_back table.Tenures = refl
 
 one_table : (t s : Table) → number_of t ≡ number_of s → t ≡ s
 one_table t s same = sym (numbered_back t) ∙ ap table_at same ∙ numbered_back s
 
 -- their numbers by their trees
 abbrev number_at : ℕ → ℕ
-number_at tree = get_or (0 ∷ 1 ∷ 0 ∷ 2 ∷ 0 ∷ 3 ∷ 0 ∷ 4 ∷ 0 ∷ 5 ∷ 0 ∷ 6 ∷ 7 ∷ 0 ∷ 8 ∷ 0 ∷ 9 ∷ []) tree 0
+number_at tree = get_or (0 ∷ 1 ∷ 0 ∷ 2 ∷ 0 ∷ 3 ∷ 0 ∷ 4 ∷ 0 ∷ 5 ∷ 0 ∷ 6 ∷ 7 ∷ 0 ∷ 8 ∷ 0 ∷ 9 ∷ 0 ∷ 10 ∷ []) tree 0
 
 number_by_tree : (t : Table) → number_at (tree_of t) ≡ number_of t
 number_by_tree table.Meta = refl
@@ -51,6 +52,7 @@ number_by_tree table.Contents = refl
 number_by_tree table.Settings = refl
 number_by_tree table.Intake = refl
 number_by_tree table.Heads = refl
+number_by_tree table.Tenures = refl
 
 one_number : (t s : Table) → tree_of s ≡ tree_of t → number_of t ≡ number_of s
 one_number t s same = sym (number_by_tree t) ∙ ap number_at (sym same) ∙ number_by_tree s
@@ -66,6 +68,7 @@ rows_are db table.Contents = refl
 rows_are db table.Settings = refl
 rows_are db table.Intake = refl
 rows_are db table.Heads = refl
+rows_are db table.Tenures = refl
 
 -- what holds of each table of the schema, of this one
 pub of_each : (P : ℕ → Type 0) → AllByRecursion (λ c. P c.tree) vault_schema.tables → (t : Table) → P (tree_of t)
@@ -79,6 +82,7 @@ of_each P all table.Contents = all.1.1.1.1.1.1.0
 of_each P all table.Settings = all.1.1.1.1.1.1.1.0
 of_each P all table.Intake = all.1.1.1.1.1.1.1.1.0
 of_each P all table.Heads = all.1.1.1.1.1.1.1.1.1.0
+of_each P all table.Tenures = all.1.1.1.1.1.1.1.1.1.1.0
 
 -- the trees of all other tables being as they were
 pub edited_alone : (t : Table) (edit : List Row → List Row) (old new : Database) → AllByRecursion (λ c. c.tree ≢ tree_of t → new.trees c.tree ≡ old.trees c.tree) vault_schema.tables

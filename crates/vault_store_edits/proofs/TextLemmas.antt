@@ -12,12 +12,13 @@ use Rattle.vault_store_model.specs.Scans.{scan}
 use Rattle.vault_store_edits.specs.Queries.{equals, Finds}
 
 abbrev pub department_text : List ℕ
-department_text = codes "INSERT INTO departments (name, admitted, held, removed, weighted, closed) VALUES (?1, 0, 0, 0, 0, 0)"
+department_text = codes "INSERT INTO departments (name, admitted, held, removed, weighted, closed, received, handed) VALUES (?1, 0, 0, 0, 0, 0, 0, 0)"
 
 abbrev pub department_terms : List Term
-department_terms = lit Null ∷ col 0 0 ∷ lit (Int (pos 0)) ∷ lit (Int (pos 0)) ∷ lit (Int (pos 0)) ∷ lit (Int (pos 0)) ∷ lit (Int (pos 0)) ∷ []
+department_terms =
+    lit Null ∷ col 0 0 ∷ lit (Int (pos 0)) ∷ lit (Int (pos 0)) ∷ lit (Int (pos 0)) ∷ lit (Int (pos 0)) ∷ lit (Int (pos 0)) ∷ lit (Int (pos 0)) ∷ lit (Int (pos 0)) ∷ []
 
-pub department_is : command_of (understood vault_schema department_text) ≡ Insert 1 (Values department_terms 7)
+pub department_is : command_of (understood vault_schema department_text) ≡ Insert 1 (Values department_terms 9)
 unfolding understood everything
 department_is = refl
 
@@ -28,10 +29,10 @@ department_plain = (refl, refl)
 -- ---- departments
 
 abbrev pub sums_text : List ℕ
-sums_text = codes "UPDATE departments SET admitted = ?2, held = ?3, removed = ?4, weighted = ?5, closed = ?6 WHERE name = ?1"
+sums_text = codes "UPDATE departments SET admitted = ?2, held = ?3, removed = ?4, weighted = ?5, closed = ?6, received = ?7, handed = ?8 WHERE name = ?1"
 
 abbrev pub sums_project : List Term
-sums_project = col 1 0 ∷ col 1 1 ∷ col 0 1 ∷ col 0 2 ∷ col 0 3 ∷ col 0 4 ∷ col 0 5 ∷ []
+sums_project = col 1 0 ∷ col 1 1 ∷ col 0 1 ∷ col 0 2 ∷ col 0 3 ∷ col 0 4 ∷ col 0 5 ∷ col 0 6 ∷ col 0 7 ∷ []
 
 -- the first column is the first parameter
 abbrev pub by_name : List Term
@@ -154,7 +155,7 @@ abbrev pub last_text : List ℕ
 last_text = codes "UPDATE meta SET last = ?1"
 
 abbrev pub last_project : List Term
-last_project = col 1 0 ∷ lit Null ∷ col 1 2 ∷ col 0 0 ∷ col 1 4 ∷ []
+last_project = col 1 0 ∷ lit Null ∷ col 1 2 ∷ col 0 0 ∷ col 1 4 ∷ col 1 5 ∷ []
 
 pub last_is : command_of (understood vault_schema last_text) ≡ Update 0 (record { lets = []; body = scan meta_tree [] (col 1 0 ∷ last_project) })
 unfolding understood everything
@@ -168,7 +169,7 @@ abbrev pub next_text : List ℕ
 next_text = codes "UPDATE meta SET last = ?1, next = ?2"
 
 abbrev pub next_project : List Term
-next_project = col 1 0 ∷ lit Null ∷ col 1 2 ∷ col 0 0 ∷ col 0 1 ∷ []
+next_project = col 1 0 ∷ lit Null ∷ col 1 2 ∷ col 0 0 ∷ col 0 1 ∷ col 1 5 ∷ []
 
 pub next_is : command_of (understood vault_schema next_text) ≡ Update 0 (record { lets = []; body = scan meta_tree [] (col 1 0 ∷ next_project) })
 unfolding understood everything

@@ -3,8 +3,8 @@ use Rattle.std.specs.Prelude.{ℕ}
 use Rattle.sqlite_value.specs.Order.{Row}
 use Rattle.vault_base.specs.declared.refusal.Table.{Table}
 use Rattle.vault_base.specs.declared.refusal.Table.TheVariants as table
-use Rattle.vault_audit_model.specs.Tables.{meta_tree, departments_tree, callers_tree, buckets_tree, rules_tree, entries_tree, contents_tree, settings_tree, intake_tree, heads_tree}
-use Rattle.vault_audit_model.specs.Rows.{meta_columns, department_columns, caller_columns, bucket_columns, rule_columns, entry_columns, content_columns, setting_columns, note_columns, head_columns}
+use Rattle.vault_audit_model.specs.Tables.{meta_tree, departments_tree, callers_tree, buckets_tree, rules_tree, entries_tree, contents_tree, settings_tree, intake_tree, heads_tree, tenures_tree}
+use Rattle.vault_audit_model.specs.Rows.{meta_columns, department_columns, caller_columns, bucket_columns, rule_columns, entry_columns, content_columns, setting_columns, note_columns, head_columns, tenure_columns}
 
 abbrev pub tree_of : Table → ℕ
 tree_of table.Meta = meta_tree
@@ -17,6 +17,7 @@ tree_of table.Contents = contents_tree
 tree_of table.Settings = settings_tree
 tree_of table.Intake = intake_tree
 tree_of table.Heads = heads_tree
+tree_of table.Tenures = tenures_tree
 
 abbrev pub columns_of : Table → Row → Row
 columns_of table.Meta = meta_columns
@@ -29,3 +30,4 @@ columns_of table.Contents = content_columns
 columns_of table.Settings = setting_columns
 columns_of table.Intake = note_columns
 columns_of table.Heads = head_columns
+columns_of table.Tenures = tenure_columns

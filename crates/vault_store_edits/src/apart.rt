@@ -33,6 +33,7 @@ fn by_rowid(table: Table) -> &'static str
         Table::Settings => "SELECT rowid FROM settings WHERE rowid = ?1",
         Table::Intake => "SELECT rowid FROM intake WHERE rowid = ?1",
         Table::Heads => "SELECT rowid FROM heads WHERE rowid = ?1",
+        Table::Tenures => "SELECT rowid FROM tenures WHERE rowid = ?1",
     }
 }
 

@@ -32,7 +32,7 @@ pub fn put_department<S: Alter>(
     ensures survives { Survives (state S.Store tx.old.conn.now) (state S.Store tx.new.conn.now) (λ _. ⊥) }
 {
     tx.execute(
-        "INSERT INTO departments (name, admitted, held, removed, weighted, closed) VALUES (?1, 0, 0, 0, 0, 0)",
+        "INSERT INTO departments (name, admitted, held, removed, weighted, closed, received, handed) VALUES (?1, 0, 0, 0, 0, 0, 0, 0)",
         params![name.as_str()],
     )
 }
@@ -57,6 +57,8 @@ pub fn set_sums<S: Alter>(
     let removed = whole(sums.removed)?;
     let weighted = whole(sums.weighted)?;
     let closed = whole(sums.closed)?;
+    let received = whole(sums.received)?;
+    let handed = whole(sums.handed)?;
     check_apart(
         tx,
         Table::Departments,
@@ -64,7 +66,16 @@ pub fn set_sums<S: Alter>(
         params![name.as_str()],
     )?;
     tx.execute(
-        "UPDATE departments SET admitted = ?2, held = ?3, removed = ?4, weighted = ?5, closed = ?6 WHERE name = ?1",
-        params![name.as_str(), admitted, held, removed, weighted, closed],
+        "UPDATE departments SET admitted = ?2, held = ?3, removed = ?4, weighted = ?5, closed = ?6, received = ?7, handed = ?8 WHERE name = ?1",
+        params![
+            name.as_str(),
+            admitted,
+            held,
+            removed,
+            weighted,
+            closed,
+            received,
+            handed
+        ],
     )
 }

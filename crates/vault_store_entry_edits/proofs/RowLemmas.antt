@@ -1,4 +1,4 @@
--- What each statement on entries, contents, settings, intake and heads does.
+-- What each statement on entries, contents, settings, tenures, intake and heads does.
 use Rattle.std.proofs.Common.{◌≡◌, ℕ, ℤ, List, [], ◌∷◌, true, false, ◌&&◌, Some, Ok, refl, sym, ap₂, subst, ◌∙◌}
 use Rattle.sqlite_value.specs.declared.value.Value.TheVariants.{Null, Int, Text, Blob}
 use Rattle.sqlite_value.specs.Order.{Row, column}
@@ -16,8 +16,9 @@ use Rattle.vault_core_model.specs.declared.records.Removal.{Removal}
 use Rattle.vault_audit_model.specs.declared.rows.ContentRow.{ContentRow}
 use Rattle.vault_audit_model.specs.declared.rows.HeadRow.{HeadRow}
 use Rattle.vault_audit_model.specs.declared.rows.SettingRow.{SettingRow}
-use Rattle.vault_audit_model.specs.Rows.{entry_row, content_row, setting_row, note_row, head_row, author_kind, author_name, removal_at, removal_cause, removal_by, retention_mode, retention_until}
-use Rattle.vault_audit_model.specs.Tables.{vault_schema, entries, contents, settings, intake, heads, entries_tree, contents_tree, heads_tree}
+use Rattle.vault_audit_model.specs.declared.rows.TenureRow.{TenureRow}
+use Rattle.vault_audit_model.specs.Rows.{entry_row, content_row, setting_row, note_row, head_row, tenure_row, author_kind, author_name, removal_at, removal_cause, removal_by, retention_mode, retention_until}
+use Rattle.vault_audit_model.specs.Tables.{vault_schema, entries, contents, settings, intake, heads, tenures, entries_tree, contents_tree, heads_tree}
 use Rattle.vault_audit_model.specs.Values.{number, bytes_or_null, flag}
 use Rattle.vault_store_model.specs.Edits.{with_row, with_changed, without}
 use Rattle.vault_store_edits.specs.Apart.{IsApart}
@@ -29,7 +30,7 @@ use Rattle.vault_store_edits.proofs.StatementLemmas.{Leaves, inserts, updates, d
 use Rattle.vault_store_edits.proofs.TestLemmas.{text_test, number_test}
 use Rattle.vault_store_edits.proofs.TypeLemmas.{column_taken}
 use Rattle.sqlite_tied.proofs.RuleLemmas.{and_true}
-use Rattle.vault_store_entry_edits.proofs.TextLemmas.{entry_text, entry_terms, entry_is, entry_plain, by_id, removed_text, removed_project, removed_is, removed_plain, content_text, content_terms, content_is, content_plain, no_content_text, no_content_is, no_content_plain, setting_text, setting_terms, setting_is, setting_plain, note_text, note_terms, note_is, note_plain, head_text, head_terms, head_is, head_plain, by_key, newer_text, newer_project, newer_is, newer_plain, no_head_text, no_head_is, no_head_plain}
+use Rattle.vault_store_entry_edits.proofs.TextLemmas.{entry_text, entry_terms, entry_is, entry_plain, by_id, removed_text, removed_project, removed_is, removed_plain, content_text, content_terms, content_is, content_plain, no_content_text, no_content_is, no_content_plain, setting_text, setting_terms, setting_is, setting_plain, tenure_text, tenure_terms, tenure_is, tenure_plain, note_text, note_terms, note_is, note_plain, head_text, head_terms, head_is, head_plain, by_key, newer_text, newer_project, newer_is, newer_plain, no_head_text, no_head_is, no_head_plain}
 
 -- the id in the first column is the first parameter
 identified : (id : ℕ) (rest r : Row) → (passes by_id (number id ∷ rest) r ≡ true → (n : ℤ) × (rowid r ≡ Int n)) → passes by_id (number id ∷ rest) r ≡ is_number id (column r 0)
@@ -101,7 +102,7 @@ pub drops_content : (id : ℕ) (old new : State) (count : ℕ) → IsApart (pass
     → Leaves old new (without table.Contents (is_numbered id))
 drops_content id = deletes table.Contents 6 contents no_content_text (number id ∷ []) by_id (is_numbered id) refl no_content_plain (λ row whole. identified id [] row whole) no_content_is (λ limit mode text db out h. h)
 
--- ---- settings and intake
+-- ---- settings, tenures and intake
 
 abbrev pub setting_params : SettingRow → Row
 setting_params s = setting_row s
@@ -113,6 +114,14 @@ puts_setting s =
     let mode : cast kind.Integer (retention_mode s.setting.lock.retention) ≡ retention_mode s.setting.lock.retention = cast_number _ in
     let until : cast kind.Integer (retention_until s.setting.lock.retention) ≡ retention_until s.setting.lock.retention = cast_number_or_null _ in
     rw (cast_null, cast_number s.id, cast_number s.place, cast_number s.setting.at, mode, until, cast_flag s.setting.lock.hold, cast_flag s.setting.bypass) refl)
+
+abbrev pub tenure_params : TenureRow → Row
+tenure_params t = tenure_row t
+
+pub puts_tenure : (t : TenureRow) (old new : State) (count : ℕ) → old.now.schema ≡ vault_schema → Executes tenure_text (tenure_params t) old new (Ok count) → Leaves old new (with_row table.Tenures (tenure_row t))
+puts_tenure t =
+    inserts table.Tenures 10 tenures tenure_text (tenure_params t) tenure_terms 5 (Null ∷ tenure_params t) (tenure_row t) tenure_is tenure_plain (λ limit mode text db out h. h) refl refl
+    (λ rows. rw (cast_null, cast_number t.id, cast_number t.tenure.number, cast_number t.tenure.from) refl)
 
 abbrev pub note_params : Note → Row
 note_params n = note_row n

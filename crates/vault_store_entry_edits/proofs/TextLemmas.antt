@@ -82,7 +82,7 @@ pub finds_content : Finds (codes "SELECT id FROM contents WHERE id = ?1") conten
 unfolding understood everything
 finds_content = record { names = codes "id" ∷ []; command = refl; unlisted = refl; plain = (refl, refl) }
 
--- ---- settings and intake
+-- ---- settings, tenures and intake
 
 abbrev pub setting_text : List ℕ
 setting_text = codes "INSERT INTO settings (id, n, moment, caller, mode, until, hold, bypass) VALUES (?1, ?2, ?3, ?4, ?5, ?6, ?7, ?8)"
@@ -97,6 +97,20 @@ setting_is = refl
 pub setting_plain : IsPlain (understood vault_schema setting_text)
 unfolding understood everything
 setting_plain = (refl, refl)
+
+abbrev pub tenure_text : List ℕ
+tenure_text = codes "INSERT INTO tenures (id, n, dept, moment) VALUES (?1, ?2, ?3, ?4)"
+
+abbrev pub tenure_terms : List Term
+tenure_terms = lit Null ∷ col 0 0 ∷ col 0 1 ∷ col 0 2 ∷ col 0 3 ∷ []
+
+pub tenure_is : command_of (understood vault_schema tenure_text) ≡ Insert 10 (Values tenure_terms 5)
+unfolding understood everything
+tenure_is = refl
+
+pub tenure_plain : IsPlain (understood vault_schema tenure_text)
+unfolding understood everything
+tenure_plain = (refl, refl)
 
 abbrev pub note_text : List ℕ
 note_text = codes "INSERT INTO intake (bucket, batch, line, key, size, digest, mode, until, hold, id) VALUES (?1, ?2, ?3, ?4, ?5, ?6, ?7, ?8, ?9, ?10)"

@@ -10,4 +10,5 @@ pub mod entries;
 pub mod heads;
 pub mod intake;
 pub mod settings;
+pub mod tenures;
 pub mod value;

@@ -9,8 +9,9 @@ use Rattle.vault_core_model.specs.declared.records.History.{History}
 use Rattle.vault_core_model.specs.declared.records.Note.{Note}
 use Rattle.vault_core_model.specs.declared.records.Removal.{Removal}
 use Rattle.vault_core_model.specs.declared.records.Setting.{Setting}
+use Rattle.vault_core_model.specs.declared.records.Tenure.{Tenure}
 use Rattle.vault_core_model.specs.declared.change.Admission.{Admission}
-use Rattle.vault_audit_model.specs.Rows.{entry_row, content_row, setting_row, note_row}
+use Rattle.vault_audit_model.specs.Rows.{entry_row, content_row, setting_row, note_row, tenure_row}
 use Rattle.vault_store_model.specs.Rows.{Rows}
 use Rattle.vault_store_model.specs.Edits.{with_rows, with_row, changed_if, with_changed, without, and_then, at_moment}
 use Rattle.vault_store_model.specs.Tests.{is_named, is_numbered, is_of_key, every, with_last_and_next, with_sums, removed_row, with_head_columns}
@@ -35,6 +36,14 @@ first_put id (s ∷ ss) rows = setting_row (record { id = id; place = 1; setting
 abbrev pub with_first_setting : ℕ → List Setting → Rows → Rows
 with_first_setting id settings = with_rows table.Settings (first_put id settings)
 
+-- the first of these tenures of an entry; a marker has none
+abbrev pub first_tenure_put : ℕ → List Tenure → List Row → List Row
+first_tenure_put id [] rows = rows
+first_tenure_put id (t ∷ ts) rows = tenure_row (record { id = id; tenure = t }) ∷ rows
+
+abbrev pub with_first_tenure : ℕ → List Tenure → Rows → Rows
+with_first_tenure id tenures = with_rows table.Tenures (first_tenure_put id tenures)
+
 -- these sums of a department, but for a marker, which counts in none
 abbrev pub summed_as : Bool → List ℕ → Sums → List Row → List Row
 summed_as true dept sums rows = rows
@@ -43,12 +52,13 @@ summed_as false dept sums rows = map (changed_if (is_named dept) (with_sums sums
 abbrev pub with_sums_as : Bool → List ℕ → Sums → Rows → Rows
 with_sums_as marker dept sums = with_rows table.Departments (summed_as marker dept sums)
 
--- an entry with its bytes and its first setting
+-- an entry with its bytes, its first setting and its first tenure
 abbrev pub history_put : History → Rows → Rows
 history_put h =
     and_then (with_row table.Entries (entry_row h.entry))
     (and_then (with_row_if_given table.Contents (λ bytes. content_row (record { id = h.entry.id; content = bytes })) h.content)
-    (with_first_setting h.entry.id h.settings))
+    (and_then (with_first_setting h.entry.id h.settings)
+    (with_first_tenure h.entry.id h.tenures)))
 
 abbrev pub noted_and_summed : Option Note → Bool → List ℕ → Sums → Rows → Rows
 noted_and_summed note marker dept sums = and_then (with_row_if_given table.Intake note_row note) (with_sums_as marker dept sums)

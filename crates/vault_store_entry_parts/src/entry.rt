@@ -7,7 +7,8 @@ ghost use Rattle.vault_store_transaction.specs.Ready.{IsReady};
 ghost use Rattle.vault_store_entry_parts.specs.Parts.{history_put, noted_and_summed, bytes_dropped};
 
 use crate::given::{
-    leave_head, put_content_if_given, put_first_setting, put_newest, put_note_if_given, set_sums_of,
+    leave_head, put_content_if_given, put_first_setting, put_first_tenure, put_newest,
+    put_note_if_given, set_sums_of,
 };
 use sqlite::{Alter, Error, Transaction};
 use vault_base::moment::Moment;
@@ -20,7 +21,7 @@ use vault_store_entry_edits::entries::{put_entry, remove_entry};
 use vault_store_transaction::transaction::Part;
 use vault_tally::row::Row as Sums;
 
-/// Puts in an entry with its bytes and its first setting.
+/// Puts in an entry with its bytes, its first setting and its first tenure.
 fn put_history<S: Alter>(tx: &mut Transaction<'_, S>, history: &History) -> Result<(), Error>
     ensures same_reference { tx.new.conn.ghost_name ≡ tx.old.conn.ghost_name }
     ensures edits { HasCleanDisk (state S.Store tx.new.conn.now) → IsTrue tx.old.conn.now.in_transaction → IsReady (state S.Store tx.old.conn.now)
@@ -31,7 +32,8 @@ fn put_history<S: Alter>(tx: &mut Transaction<'_, S>, history: &History) -> Resu
 {
     put_entry(tx, &history.entry)?;
     put_content_if_given(tx, history.entry.id, &history.content)?;
-    put_first_setting(tx, history.entry.id, history.settings.as_slice())
+    put_first_setting(tx, history.entry.id, history.settings.as_slice())?;
+    put_first_tenure(tx, history.entry.id, history.tenures.as_slice())
 }
 
 /// Puts in the note of an admission, and writes the sums of the department.

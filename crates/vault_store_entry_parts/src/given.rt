@@ -7,17 +7,18 @@ ghost use Rattle.vault_audit_model.specs.Rows.{content_row, note_row};
 ghost use Rattle.vault_store_changes.specs.Edits.{with_row_if_given, with_head};
 ghost use Rattle.vault_store_model.specs.Edits.{Edits};
 ghost use Rattle.vault_store_transaction.specs.Ready.{IsReady};
-ghost use Rattle.vault_store_entry_parts.specs.Parts.{with_left_head, with_first_setting, with_sums_as};
+ghost use Rattle.vault_store_entry_parts.specs.Parts.{with_left_head, with_first_setting, with_first_tenure, with_sums_as};
 
 use sqlite::{Alter, Error, Transaction};
 use vault_base::content::Content;
 use vault_base::name::{BucketName, DeptName, ObjectKey, VersionId};
-use vault_core_model::records::{Head, Note, Setting};
+use vault_core_model::records::{Head, Note, Setting, Tenure};
 use vault_store_edits::departments::set_sums;
 use vault_store_entry_edits::contents::put_content;
 use vault_store_entry_edits::heads::{delete_head, put_head, set_head};
 use vault_store_entry_edits::intake::put_note;
 use vault_store_entry_edits::settings::put_setting;
+use vault_store_entry_edits::tenures::put_tenure;
 use vault_tally::row::Row as Sums;
 
 /// Puts in the bytes of an entry, if it has any.
@@ -121,6 +122,26 @@ pub fn put_first_setting<S: Alter>(
         return Ok(());
     };
     put_setting(tx, id, 1, setting)?;
+    Ok(())
+}
+
+/// Puts in the first of these tenures of an entry, if there is one; a marker has none.
+pub fn put_first_tenure<S: Alter>(
+    tx: &mut Transaction<'_, S>,
+    id: VersionId,
+    tenures: &[Tenure],
+) -> Result<(), Error>
+    ensures same_reference { tx.new.conn.ghost_name ≡ tx.old.conn.ghost_name }
+    ensures edits { HasCleanDisk (state S.Store tx.new.conn.now) → IsTrue tx.old.conn.now.in_transaction → IsReady (state S.Store tx.old.conn.now)
+        → OnOk result (Edits (state S.Store tx.old.conn.now) (state S.Store tx.new.conn.now) (with_first_tenure id tenures.now) × IsReady (state S.Store tx.new.conn.now)) }
+    ensures kept { HasCleanDisk (state S.Store tx.new.conn.now) → IsTrue tx.old.conn.now.in_transaction → IsReady (state S.Store tx.old.conn.now)
+        → OnErr result (KeepsCommit (state S.Store tx.old.conn.now) (state S.Store tx.new.conn.now)) }
+    ensures survives { Survives (state S.Store tx.old.conn.now) (state S.Store tx.new.conn.now) (λ _. ⊥) }
+{
+    let Some(tenure) = tenures.first() else {
+        return Ok(());
+    };
+    put_tenure(tx, id, tenure)?;
     Ok(())
 }
 

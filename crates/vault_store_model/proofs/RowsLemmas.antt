@@ -24,6 +24,7 @@ rows_of_sound db v is table.Contents = is.spells.contents
 rows_of_sound db v is table.Settings = is.spells.settings
 rows_of_sound db v is table.Intake = is.spells.intake
 rows_of_sound db v is table.Heads = is.heads
+rows_of_sound db v is table.Tenures = is.spells.tenures
 
 abbrev name_in : Row → Value
 name_in row = column row 0
@@ -56,6 +57,7 @@ sound_by_rows db v is = record {
     contents = is.rows table.Contents;
     settings = is.rows table.Settings;
     intake = is.rows table.Intake;
+    tenures = is.rows table.Tenures;
     kept = is.kept;
   };
   numbers = is.rows table.Departments;

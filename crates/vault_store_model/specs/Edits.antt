@@ -19,6 +19,7 @@ number_of table.Contents = 6
 number_of table.Settings = 7
 number_of table.Intake = 8
 number_of table.Heads = 9
+number_of table.Tenures = 10
 
 -- the rows of one table become these, those of all others stay
 abbrev pub with_rows : Table → (List Row → List Row) → Rows → Rows

@@ -5,9 +5,9 @@ use Rattle.sqlite.specs.Effect.{Database}
 use Rattle.vault_base.specs.declared.refusal.Table.{Table}
 use Rattle.vault_base.specs.declared.refusal.Table.TheVariants as table
 use Rattle.vault_core_model.specs.Vault.{Vault}
-use Rattle.vault_audit_model.specs.Tables.{vault_schema, meta_tree, departments_tree, callers_tree, buckets_tree, rules_tree, entries_tree, contents_tree, settings_tree, intake_tree, heads_tree}
-use Rattle.vault_audit_model.specs.Rows.{meta_row, department_row, caller_row, bucket_row, rule_row, entry_row, content_row, setting_row, note_row, head_row, meta_columns, department_columns, caller_columns, bucket_columns, rule_columns, entry_columns, content_columns, setting_columns, note_columns, head_columns}
-use Rattle.vault_audit_model.specs.Spells.{IsKept, meta_of, department_in, bucket_of, rules_in, contents_in, settings_in, heads_in}
+use Rattle.vault_audit_model.specs.Tables.{vault_schema, meta_tree, departments_tree, callers_tree, buckets_tree, rules_tree, entries_tree, contents_tree, settings_tree, intake_tree, heads_tree, tenures_tree}
+use Rattle.vault_audit_model.specs.Rows.{meta_row, department_row, caller_row, bucket_row, rule_row, entry_row, content_row, setting_row, note_row, head_row, tenure_row, meta_columns, department_columns, caller_columns, bucket_columns, rule_columns, entry_columns, content_columns, setting_columns, note_columns, head_columns, tenure_columns}
+use Rattle.vault_audit_model.specs.Spells.{IsKept, meta_of, department_in, bucket_of, rules_in, contents_in, settings_in, tenures_in, heads_in}
 
 -- the rows of each table, in any order
 abbrev pub Rows : Type 0
@@ -25,6 +25,7 @@ rows_in db table.Contents = map content_columns (db.trees contents_tree)
 rows_in db table.Settings = map setting_columns (db.trees settings_tree)
 rows_in db table.Intake = map note_columns (db.trees intake_tree)
 rows_in db table.Heads = map head_columns (db.trees heads_tree)
+rows_in db table.Tenures = map tenure_columns (db.trees tenures_tree)
 
 -- the rows that tell a vault, with its running numbers and its heads
 abbrev pub rows_of : Vault → Rows
@@ -38,6 +39,7 @@ rows_of v table.Contents = map content_row (flat_map contents_in v.histories)
 rows_of v table.Settings = map setting_row (flat_map settings_in v.histories)
 rows_of v table.Intake = map note_row v.notes
 rows_of v table.Heads = map head_row (heads_in v)
+rows_of v table.Tenures = map tenure_row (flat_map tenures_in v.histories)
 
 -- two have the same rows in every table, in any order
 abbrev pub AreSameRows : Rows → Rows → Type 0

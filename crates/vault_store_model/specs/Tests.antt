@@ -39,14 +39,15 @@ every row = true
 
 -- the last moment; the last moment and the next id
 abbrev pub with_last : ℕ → Row → Row
-with_last last row = column row 0 ∷ column row 1 ∷ number last ∷ column row 3 ∷ []
+with_last last row = column row 0 ∷ column row 1 ∷ number last ∷ column row 3 ∷ column row 4 ∷ []
 
 abbrev pub with_last_and_next : ℕ → ℕ → Row → Row
-with_last_and_next last next row = column row 0 ∷ column row 1 ∷ number last ∷ number next ∷ []
+with_last_and_next last next row = column row 0 ∷ column row 1 ∷ number last ∷ number next ∷ column row 4 ∷ []
 
 abbrev pub with_sums : Sums → Row → Row
 with_sums sums row =
-    column row 0 ∷ number sums.admitted ∷ number sums.held ∷ number sums.removed ∷ number sums.weighted ∷ number sums.closed ∷ []
+    column row 0 ∷ number sums.admitted ∷ number sums.held ∷ number sums.removed ∷ number sums.weighted ∷ number sums.closed
+    ∷ number sums.received ∷ number sums.handed ∷ []
 
 abbrev pub closed_row : Row → Row
 closed_row row = column row 0 ∷ column row 1 ∷ column row 2 ∷ flag true ∷ []

@@ -6,6 +6,7 @@ pub mod OpenLemmas
 pub mod RuleLemmas
 pub mod SelectLemmas
 pub mod SettingLemmas
+pub mod TenureLemmas
 pub mod TextLemmas
 pub mod ToldLemmas
 pub mod ValueLemmas

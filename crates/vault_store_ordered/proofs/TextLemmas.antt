@@ -12,7 +12,7 @@ use Rattle.sqlite_sql.specs.Term.{Term, lit, col, op1, op2}
 use Rattle.sqlite_schema.specs.declared.command.Command.TheVariants.{Select}
 use Rattle.sqlite.specs.Listing.{understood}
 use Rattle.sqlite.proofs.Callers.{IsPlain, command_of}
-use Rattle.vault_audit_model.specs.Tables.{vault_schema, entries_tree, heads_tree, rules_tree, settings_tree}
+use Rattle.vault_audit_model.specs.Tables.{vault_schema, entries_tree, heads_tree, rules_tree, settings_tree, tenures_tree}
 use Rattle.vault_store_query.specs.Queries.{Selects}
 use Rattle.vault_store_ordered.proofs.SelectLemmas.{select_of}
 
@@ -57,6 +57,34 @@ rules_order = (col 1 2, ascending Binary) ∷ []
 pub rules_is : Selects rules_text (select_of rules_tree rules_tests rules_shown rules_order no_limit)
 unfolding understood everything
 rules_is = record { names = codes "bucket" ∷ codes "n" ∷ codes "id" ∷ codes "prefix" ∷ codes "enabled" ∷ codes "days" ∷ codes "lone" ∷ codes "nc_days" ∷ codes "nc_keep" ∷ codes "larger" ∷ codes "smaller" ∷ []; is = refl; plain = (refl, refl); unlisted = refl }
+
+-- ---- the tenures of a version, and the last of them
+
+abbrev pub tenures_text : List ℕ
+tenures_text = codes "SELECT id, n, dept, moment FROM tenures WHERE id = ?1 ORDER BY n"
+
+abbrev pub last_tenure_text : List ℕ
+last_tenure_text = codes "SELECT id, n, dept, moment FROM tenures WHERE id = ?1 ORDER BY n DESC LIMIT 1"
+
+abbrev pub tenures_tests : List Term
+tenures_tests = op2 (Compare Eq Binary) (col 1 1) (col 0 0) ∷ []
+
+abbrev pub tenures_shown : List Term
+tenures_shown = col 1 1 ∷ col 1 2 ∷ col 1 3 ∷ col 1 4 ∷ []
+
+abbrev pub tenures_order : List (Term × Key)
+tenures_order = (col 1 2, ascending Binary) ∷ []
+
+abbrev pub last_tenure_order : List (Term × Key)
+last_tenure_order = (col 1 2, descending) ∷ []
+
+pub tenures_is : Selects tenures_text (select_of tenures_tree tenures_tests tenures_shown tenures_order no_limit)
+unfolding understood everything
+tenures_is = record { names = codes "id" ∷ codes "n" ∷ codes "dept" ∷ codes "moment" ∷ []; is = refl; plain = (refl, refl); unlisted = refl }
+
+pub last_tenure_is : Selects last_tenure_text (select_of tenures_tree tenures_tests tenures_shown last_tenure_order (lit (Int (pos 1))))
+unfolding understood everything
+last_tenure_is = record { names = codes "id" ∷ codes "n" ∷ codes "dept" ∷ codes "moment" ∷ []; is = refl; plain = (refl, refl); unlisted = refl }
 
 -- ---- the held entries of a key
 

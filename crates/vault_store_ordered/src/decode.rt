@@ -1,14 +1,16 @@
 //! All rows of an ordered read, as what they tell.
 ghost use Rattle.std.specs.Prelude.{◌≡◌, List, map, IfOk};
 ghost use Rattle.vault_audit_model.specs.declared.rows.RuleRow.{RuleRow};
-ghost use Rattle.vault_audit_model.specs.Rows.{rule_row};
+ghost use Rattle.vault_audit_model.specs.declared.rows.TenureRow.{TenureRow};
+ghost use Rattle.vault_audit_model.specs.Rows.{rule_row, tenure_row};
 ghost use Rattle.vault_store_ordered.specs.Shown.{held_row, key_row, set_of};
 
 use crate::shown::{HeldRow, UNREADABLE, read_held, read_key};
 use sqlite::{Error, Row};
 use std::alloc::Global;
-use vault_audit_rows::records::read_rule;
+use vault_audit_rows::records::{read_rule, read_tenure};
 use vault_base::name::ObjectKey;
+use vault_core_model::records::{Tenure, Tenures};
 use vault_rules::rule::Rule;
 use vault_rules::rule_set::RuleSet;
 use vault_store_query::unread;
@@ -69,4 +71,24 @@ pub fn decode_rules(alloc: Global, rows: &[Row]) -> Result<Option<RuleSet>, Erro
         Ok(set) => Ok(Some(set)),
         Err(_) => Err(UNREADABLE),
     }
+}
+
+/// The tenure of a row.
+pub fn decode_tenure(row: &Row) -> Result<Tenure, Error>
+    ensures { IfOk result (λ tenure. (x : TenureRow) × (row.now ≡ tenure_row x) × (tenure ≡ x.tenure)) }
+{
+    let tenure_row = read_tenure(row).map_err(unread)?;
+    Ok(tenure_row.tenure)
+}
+
+/// The tenures of these rows.
+pub fn decode_tenures(alloc: Global, rows: &[Row]) -> Result<Tenures, Error>
+    ensures { IfOk result (λ tenures. (xs : List TenureRow) × (rows.now ≡ map tenure_row xs) × (tenures ≡ map (λ x. x.tenure) xs)) }
+{
+    let mut tenures = Tenures::new(alloc);
+    for row in rows {
+        let one = decode_tenure(row)?;
+        tenures.push(one)?;
+    }
+    Ok(tenures)
 }

@@ -7,14 +7,15 @@ ghost use Rattle.vault_core_model.specs.Vault.{Vault};
 ghost use Rattle.vault_store_model.specs.Keeping.{Keeps};
 ghost use Rattle.vault_store_ordered.specs.Quiet.{IsQuiet};
 ghost use Rattle.vault_store_ordered.specs.Shown.{with_lock_in};
+ghost use Rattle.vault_store_ordered.specs.Tenures.{last_tenure_of};
 
-use crate::decode::decode_held;
-use crate::rows::{entry_rows, setting_rows};
+use crate::decode::{decode_held, decode_tenure};
+use crate::rows::{entry_rows, last_tenure_rows, setting_rows};
 use crate::shown::{HeldRow, UNREADABLE, read_last};
 use sqlite::{Alter, Connection, Error};
 use std::alloc::Global;
 use vault_base::name::{BucketName, ObjectKey, VersionId};
-use vault_core_model::records::LastSetting;
+use vault_core_model::records::{LastSetting, Tenure};
 use vault_lock::lock::Lock;
 use vault_rules::plan::Held;
 
@@ -36,6 +37,26 @@ pub fn find_setting<S: Alter>(
     };
     let last = read_last(row).ok_or(UNREADABLE)?;
     Ok(Some(last))
+}
+
+/// The last tenure of a version; a marker has none.
+pub fn find_last_tenure<S: Alter>(
+    conn: &mut Connection<S>,
+    id: VersionId,
+) -> Result<Option<Tenure>, Error>
+    ensures value { HasCleanDisk (state S.Store conn.new) → IfOk result (λ found. (v : Vault) → Keeps (state S.Store conn.old) v → found ≡ last_tenure_of v id) }
+    ensures same { HasCleanDisk (state S.Store conn.new) → (v : Vault) → Keeps (state S.Store conn.old) v → Keeps (state S.Store conn.new) v }
+    ensures honest { HasCleanDisk (state S.Store conn.new) → HasCleanDisk (state S.Store conn.old) }
+    ensures mode { conn.old.in_transaction ≡ false → conn.new.in_transaction ≡ false }
+    ensures survives { Survives (state S.Store conn.old) (state S.Store conn.new) (IsQuiet (state S.Store conn.old)) }
+    ensures opened { HasCleanDisk (state S.Store conn.new) → OnOk result (IsTrue (state S.Store conn.new).is_open) }
+{
+    let rows = last_tenure_rows(conn, id)?;
+    let Some(row) = rows.first() else {
+        return Ok(None);
+    };
+    let tenure = decode_tenure(row)?;
+    Ok(Some(tenure))
 }
 
 /// The entry with the lock that its last setting gives; one without settings has none.

@@ -6,15 +6,16 @@ ghost use Rattle.vault_core_model.specs.Reads.{entries_of, keys_after, setting_o
 ghost use Rattle.vault_core_model.specs.Vault.{Vault, rules_of};
 ghost use Rattle.vault_store_model.specs.Keeping.{Keeps};
 ghost use Rattle.vault_store_ordered.specs.Shown.{newest_but};
+ghost use Rattle.vault_store_ordered.specs.Tenures.{last_tenure_of, tenures_of};
 
-use crate::decode::{decode_keys, decode_rules};
-use crate::find::{find_entries, find_setting};
-use crate::rows::{key_rows, newest_rows, rule_rows};
+use crate::decode::{decode_keys, decode_rules, decode_tenures};
+use crate::find::{find_entries, find_last_tenure, find_setting};
+use crate::rows::{key_rows, newest_rows, rule_rows, tenure_rows};
 use crate::shown::{UNREADABLE, read_id};
 use sqlite::{Alter, Connection, Error};
 use std::alloc::Global;
 use vault_base::name::{BucketName, KeyPrefix, ObjectKey, VersionId};
-use vault_core_model::records::LastSetting;
+use vault_core_model::records::{LastSetting, Tenure, Tenures};
 use vault_rules::plan::Held;
 use vault_rules::rule_set::RuleSet;
 
@@ -30,6 +31,36 @@ pub fn read_setting<S: Alter>(
     ensures crash { (v : Vault) → Keeps (state S.Store conn.old) v → Survives (state S.Store conn.old) (state S.Store conn.new) (λ _. ¬ IsTrue (state S.Store conn.old).is_open) }
 {
     find_setting(conn, id)
+}
+
+/// The tenures of a version, oldest first; a marker has none, nor has an id that no entry has.
+pub fn read_tenures<S: Alter>(
+    conn: &mut Connection<S>,
+    alloc: Global,
+    id: VersionId,
+) -> Result<Tenures, Error>
+    ensures value { HasCleanDisk (state S.Store conn.new) → IfOk result (λ found. (v : Vault) → Keeps (state S.Store conn.old) v → found ≡ tenures_of v id) }
+    ensures same { HasCleanDisk (state S.Store conn.new) → (v : Vault) → Keeps (state S.Store conn.old) v → Keeps (state S.Store conn.new) v }
+    ensures honest { HasCleanDisk (state S.Store conn.new) → HasCleanDisk (state S.Store conn.old) }
+    ensures mode { conn.old.in_transaction ≡ false → conn.new.in_transaction ≡ false }
+    ensures crash { (v : Vault) → Keeps (state S.Store conn.old) v → Survives (state S.Store conn.old) (state S.Store conn.new) (λ _. ¬ IsTrue (state S.Store conn.old).is_open) }
+{
+    let rows = tenure_rows(conn, id)?;
+    decode_tenures(alloc, &rows)
+}
+
+/// The last tenure of a version; a marker has none.
+pub fn read_last_tenure<S: Alter>(
+    conn: &mut Connection<S>,
+    id: VersionId,
+) -> Result<Option<Tenure>, Error>
+    ensures value { HasCleanDisk (state S.Store conn.new) → IfOk result (λ found. (v : Vault) → Keeps (state S.Store conn.old) v → found ≡ last_tenure_of v id) }
+    ensures same { HasCleanDisk (state S.Store conn.new) → (v : Vault) → Keeps (state S.Store conn.old) v → Keeps (state S.Store conn.new) v }
+    ensures honest { HasCleanDisk (state S.Store conn.new) → HasCleanDisk (state S.Store conn.old) }
+    ensures mode { conn.old.in_transaction ≡ false → conn.new.in_transaction ≡ false }
+    ensures crash { (v : Vault) → Keeps (state S.Store conn.old) v → Survives (state S.Store conn.old) (state S.Store conn.new) (λ _. ¬ IsTrue (state S.Store conn.old).is_open) }
+{
+    find_last_tenure(conn, id)
 }
 
 /// The newest held entry of a key besides one.

@@ -1,5 +1,5 @@
 //! The queries of the ordered reads, each with the rows that it shows of the vault.
-ghost use Rattle.std.specs.Prelude.{◌≡◌, false, List, map, option_to_list, IsTrue, IfOk, OnOk};
+ghost use Rattle.std.specs.Prelude.{◌≡◌, false, List, map, Option, option_map, option_to_list, IsTrue, IfOk, OnOk};
 ghost use Rattle.sqlite_sql.specs.Query.{Query};
 ghost use Rattle.sqlite.specs.Held.{state};
 ghost use Rattle.sqlite.specs.State.{HasCleanDisk, Survives};
@@ -8,11 +8,13 @@ ghost use Rattle.vault_core_model.specs.Reads.{entries_of, keys_after, setting_o
 ghost use Rattle.vault_core_model.specs.Sound.{Sound};
 ghost use Rattle.vault_core_model.specs.Vault.{Vault, rules_of};
 ghost use Rattle.vault_audit_model.specs.declared.rows.RuleRow.{RuleRow};
-ghost use Rattle.vault_audit_model.specs.Rows.{rule_row};
+ghost use Rattle.vault_audit_model.specs.declared.rows.TenureRow.{TenureRow};
+ghost use Rattle.vault_audit_model.specs.Rows.{rule_row, tenure_row};
 ghost use Rattle.vault_store_model.specs.Keeping.{Keeps};
 ghost use Rattle.vault_store_query.specs.Queries.{Selects, Finds};
 ghost use Rattle.vault_store_ordered.specs.Quiet.{IsQuiet};
 ghost use Rattle.vault_store_ordered.specs.Shown.{last_row, entry_shown, key_row, id_row, set_of, newest_but};
+ghost use Rattle.vault_store_ordered.specs.Tenures.{last_tenure_of, tenures_of};
 
 use sqlite::types::ValueRef;
 use sqlite::{Alter, Connection, Error, Row, params};
@@ -48,6 +50,40 @@ pub fn setting_rows<S: Alter>(conn: &mut Connection<S>, id: VersionId) -> Result
     open_rows(
         conn,
         "SELECT n, mode, until, hold FROM settings WHERE id = ?1 ORDER BY n DESC LIMIT 1",
+        params![id.number()],
+    )
+}
+
+/// The row of a version's last tenure.
+pub fn last_tenure_rows<S: Alter>(
+    conn: &mut Connection<S>,
+    id: VersionId,
+) -> Result<Vec<Row>, Error>
+    ensures rows { HasCleanDisk (state S.Store conn.new) → IfOk result (λ rows. (v : Vault) → Keeps (state S.Store conn.old) v → (last : Option TenureRow) × (rows.items ≡ map tenure_row (option_to_list last)) × (option_map (λ x. x.tenure) last ≡ last_tenure_of v id)) }
+    ensures same { HasCleanDisk (state S.Store conn.new) → (v : Vault) → Keeps (state S.Store conn.old) v → Keeps (state S.Store conn.new) v }
+    ensures honest { HasCleanDisk (state S.Store conn.new) → HasCleanDisk (state S.Store conn.old) }
+    ensures mode { conn.old.in_transaction ≡ false → conn.new.in_transaction ≡ false }
+    ensures survives { Survives (state S.Store conn.old) (state S.Store conn.new) (IsQuiet (state S.Store conn.old)) }
+    ensures opened { HasCleanDisk (state S.Store conn.new) → OnOk result (IsTrue (state S.Store conn.new).is_open) }
+{
+    open_rows(
+        conn,
+        "SELECT id, n, dept, moment FROM tenures WHERE id = ?1 ORDER BY n DESC LIMIT 1",
+        params![id.number()],
+    )
+}
+
+/// The rows of a version's tenures.
+pub fn tenure_rows<S: Alter>(conn: &mut Connection<S>, id: VersionId) -> Result<Vec<Row>, Error>
+    ensures rows { HasCleanDisk (state S.Store conn.new) → IfOk result (λ rows. (v : Vault) → Keeps (state S.Store conn.old) v → (tenures : List TenureRow) × (rows.items ≡ map tenure_row tenures) × (map (λ x. x.tenure) tenures ≡ tenures_of v id)) }
+    ensures same { HasCleanDisk (state S.Store conn.new) → (v : Vault) → Keeps (state S.Store conn.old) v → Keeps (state S.Store conn.new) v }
+    ensures honest { HasCleanDisk (state S.Store conn.new) → HasCleanDisk (state S.Store conn.old) }
+    ensures mode { conn.old.in_transaction ≡ false → conn.new.in_transaction ≡ false }
+    ensures crash { (v : Vault) → Keeps (state S.Store conn.old) v → Survives (state S.Store conn.old) (state S.Store conn.new) (λ _. ¬ IsTrue (state S.Store conn.old).is_open) }
+{
+    query_rows(
+        conn,
+        "SELECT id, n, dept, moment FROM tenures WHERE id = ?1 ORDER BY n",
         params![id.number()],
     )
 }

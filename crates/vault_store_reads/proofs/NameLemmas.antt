@@ -1,7 +1,7 @@
 -- Rows of departments, callers and buckets, by a name.
-use Rattle.std.proofs.Common.{◌≡◌, inl, inr, ℕ, suc, ◌==◌, List, [], ◌∷◌, map, filter, not, Bool, true, false, Option, None, Some, option_to_list, length, slice_get, IsPermutation, IsTrue, Equal, refl, sym, ap, subst, ◌∙◌, arith}
+use Rattle.std.proofs.Common.{◌≡◌, inl, inr, ℕ, suc, ◌==◌, List, [], ◌∷◌, map, filter, not, Bool, true, false, Option, None, Some, option_to_list, length, slice_get, IsPermutation, Equal, refl, sym, ap, subst, ◌∙◌, arith}
 use Rattle.std.specs.Prelude.{option_map}
-use Rattle.std.specs.List.{AllByRecursion, list_any}
+use Rattle.std.specs.List.{list_any}
 use Rattle.std.specs.Str.{bytes_eq}
 use Rattle.std.proofs.lemmas.Bool.{cases_Bool}
 use Rattle.std.proofs.lemmas.Cmp.{nat_list_cmp_total, tied_itself}
@@ -21,7 +21,6 @@ use Rattle.vault_core_model.specs.declared.records.Caller.{Caller}
 use Rattle.vault_core_model.specs.Order.{name_cmp, caller_cmp, bucket_cmp}
 use Rattle.vault_core_model.specs.Totals.{IsRowFor, items_of}
 use Rattle.vault_core_model.specs.Vault.{Vault, has_department, caller_of, bucket_in, config_of}
-use Rattle.vault_core_laws.proofs.Unmoved.{none_received, none_handed}
 use Rattle.vault_audit_model.specs.declared.rows.BucketRow.{BucketRow}
 use Rattle.vault_audit_model.specs.declared.rows.DepartmentRow.{DepartmentRow}
 use Rattle.vault_audit_model.specs.Rows.{department_row, department_columns, caller_row, caller_columns, bucket_row, bucket_columns}
@@ -72,26 +71,25 @@ module _ (v : Vault) (name : List ℕ) (rows : List Row) (finds : Finds v depart
       let each : length (map row_in (filter (λ d. bytes_eq d name) v.departments)) ≡ length (filter (λ d. bytes_eq d name) v.departments) = simp length-map in
       sym (any_left (λ d. bytes_eq d name) v.departments ∙ ap (λ n. not (n == 0)) (sym each ∙ sym few))
 
-  -- the row tells five of the sums; nothing moved, so the other two are 0
-  sums_read : (d : DepartmentRow) (x : List ℕ) → department_row d ≡ row_in x → (d.sums.received ≡ 0) × (d.sums.handed ≡ 0) → IsRowFor v x d.sums
-  sums_read d x e none =
+  -- the row tells the seven sums
+  sums_read : (d : DepartmentRow) (x : List ℕ) → department_row d ≡ row_in x → IsRowFor v x d.sums
+  sums_read d x e =
       let at = λ (n : ℕ). ap (λ r. column r n) e in
-      let kept = finds.1.spells.kept in
       record {
         admitted = number_same _ _ (at 1);
-        received = none.0 ∙ sym (none_received v x kept.sound kept.unmoved.moves);
+        received = number_same _ _ (at 6);
         held = number_same _ _ (at 2);
         removed = number_same _ _ (at 3);
-        handed = none.1 ∙ sym (none_handed v x kept.sound kept.unmoved.moves);
+        handed = number_same _ _ (at 7);
         weighted = number_same _ _ (at 4);
         closed = number_same _ _ (at 5);
       }
 
-  pub totals_read : (row : Row) (d : DepartmentRow) → slice_get rows 0 ≡ Some row → row ≡ department_row d → (d.sums.received ≡ 0) × (d.sums.handed ≡ 0) → IsRowFor v name d.sums
-  totals_read row d first reads none =
+  pub totals_read : (row : Row) (d : DepartmentRow) → slice_get rows 0 ≡ Some row → row ≡ department_row d → IsRowFor v name d.sums
+  totals_read row d first reads =
       let it = first_of row_in (filter (λ d. bytes_eq d name) v.departments) rows row departments_found first in
       let is = has_filtered (λ d. bytes_eq d name) v.departments it.0 it.1 in
-      subst (λ x. IsRowFor v x d.sums) (named it.0 name is.1) (sums_read d it.0 (sym reads ∙ it.2) none)
+      subst (λ x. IsRowFor v x d.sums) (named it.0 name is.1) (sums_read d it.0 (sym reads ∙ it.2))
 
   pub totals_of_none : ◌≡◌ {A = Option Row} None (slice_get rows 0) → IsRowFor v name (record { admitted = 0; received = 0; held = 0; removed = 0; handed = 0; weighted = 0; closed = 0 })
   totals_of_none none =

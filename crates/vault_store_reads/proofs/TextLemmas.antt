@@ -16,27 +16,27 @@ where_is at n = op2 (Compare Eq Binary) (col 1 at) (col 0 n)
 -- ---- meta
 
 abbrev pub meta_text : List ℕ
-meta_text = codes "SELECT one, schema, last, next FROM meta"
+meta_text = codes "SELECT one, schema, last, next, moves FROM meta"
 
 abbrev pub meta_shown : List Term
-meta_shown = col 1 0 ∷ col 1 2 ∷ col 1 3 ∷ col 1 4 ∷ []
+meta_shown = col 1 0 ∷ col 1 2 ∷ col 1 3 ∷ col 1 4 ∷ col 1 5 ∷ []
 
 pub meta_selects : Selects meta_text (select_from meta_tree [] meta_shown [])
 unfolding understood everything
-meta_selects = record { names = codes "one" ∷ codes "schema" ∷ codes "last" ∷ codes "next" ∷ []; is = refl; plain = (refl, refl); unlisted = refl }
+meta_selects = record { names = codes "one" ∷ codes "schema" ∷ codes "last" ∷ codes "next" ∷ codes "moves" ∷ []; is = refl; plain = (refl, refl); unlisted = refl }
 
 -- ---- departments
 
 abbrev pub department_text : List ℕ
-department_text = codes "SELECT name, admitted, held, removed, weighted, closed FROM departments WHERE name = ?1"
+department_text = codes "SELECT name, admitted, held, removed, weighted, closed, received, handed FROM departments WHERE name = ?1"
 
 abbrev pub department_shown : List Term
-department_shown = col 1 1 ∷ col 1 2 ∷ col 1 3 ∷ col 1 4 ∷ col 1 5 ∷ col 1 6 ∷ []
+department_shown = col 1 1 ∷ col 1 2 ∷ col 1 3 ∷ col 1 4 ∷ col 1 5 ∷ col 1 6 ∷ col 1 7 ∷ col 1 8 ∷ []
 
 pub department_selects : Selects department_text (select_from departments_tree (where_is 1 0 ∷ []) department_shown [])
 unfolding understood everything
 department_selects = record {
-  names = codes "name" ∷ codes "admitted" ∷ codes "held" ∷ codes "removed" ∷ codes "weighted" ∷ codes "closed" ∷ [];
+  names = codes "name" ∷ codes "admitted" ∷ codes "held" ∷ codes "removed" ∷ codes "weighted" ∷ codes "closed" ∷ codes "received" ∷ codes "handed" ∷ [];
   is = refl;
   plain = (refl, refl);
   unlisted = refl;

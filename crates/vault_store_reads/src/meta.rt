@@ -9,11 +9,12 @@ ghost use Rattle.vault_store_model.specs.Keeping.{Keeps};
 
 use sqlite::{Alter, Connection, Error};
 use vault_audit_model::rows::MetaRow;
+use vault_audit_rows::misread::Misread;
 use vault_audit_rows::records;
 use vault_base::moment::Moment;
 use vault_store_query::{query_rows, unread};
 
-/// The last moment and the next id.
+/// The last moment, the next id and the number of moves.
 fn read_meta<S: Alter>(conn: &mut Connection<S>) -> Result<MetaRow, Error>
     ensures value { HasCleanDisk (state S.Store conn.new) → IfOk result (λ meta. (v : Vault) → Keeps (state S.Store conn.old) v → meta ≡ meta_of v) }
     ensures sound { HasCleanDisk (state S.Store conn.new) → OnOk result ((v : Vault) → Keeps (state S.Store conn.old) v → Sound v) }
@@ -22,7 +23,7 @@ fn read_meta<S: Alter>(conn: &mut Connection<S>) -> Result<MetaRow, Error>
     ensures mode { conn.old.in_transaction ≡ false → conn.new.in_transaction ≡ false }
     ensures crash { (v : Vault) → Keeps (state S.Store conn.old) v → Survives (state S.Store conn.old) (state S.Store conn.new) (λ _. ¬ IsTrue (state S.Store conn.old).is_open) }
 {
-    let rows = query_rows(conn, "SELECT one, schema, last, next FROM meta", &[])?;
+    let rows = query_rows(conn, "SELECT one, schema, last, next, moves FROM meta", &[])?;
     match rows.first() {
         Some(row) => match records::read_meta(row) {
             Ok(meta) => Ok(meta),
@@ -56,4 +57,19 @@ pub fn read_next_id<S: Alter>(conn: &mut Connection<S>) -> Result<u64, Error>
 {
     let meta = read_meta(conn)?;
     Ok(meta.next)
+}
+
+/// How often a bucket was moved to another department.
+pub fn read_moves<S: Alter>(conn: &mut Connection<S>) -> Result<u32, Error>
+    ensures value { HasCleanDisk (state S.Store conn.new) → IfOk result (λ moves. (v : Vault) → Keeps (state S.Store conn.old) v → moves ≡ v.moves) }
+    ensures same { HasCleanDisk (state S.Store conn.new) → (v : Vault) → Keeps (state S.Store conn.old) v → Keeps (state S.Store conn.new) v }
+    ensures honest { HasCleanDisk (state S.Store conn.new) → HasCleanDisk (state S.Store conn.old) }
+    ensures mode { conn.old.in_transaction ≡ false → conn.new.in_transaction ≡ false }
+    ensures crash { (v : Vault) → Keeps (state S.Store conn.old) v → Survives (state S.Store conn.old) (state S.Store conn.new) (λ _. ¬ IsTrue (state S.Store conn.old).is_open) }
+{
+    let meta = read_meta(conn)?;
+    match u32::try_from(meta.moves) {
+        Ok(moves) => Ok(moves),
+        Err(_) => Err(unread(Misread::Wrong)),
+    }
 }

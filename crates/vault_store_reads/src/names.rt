@@ -23,7 +23,7 @@ pub fn has_department<S: Alter>(conn: &mut Connection<S>, name: &DeptName) -> Re
 {
     let rows = query_rows(
         conn,
-        "SELECT name, admitted, held, removed, weighted, closed FROM departments WHERE name = ?1",
+        "SELECT name, admitted, held, removed, weighted, closed, received, handed FROM departments WHERE name = ?1",
         params![name.as_str()],
     )?;
     Ok(!rows.is_empty())
@@ -39,7 +39,7 @@ pub fn read_totals<S: Alter>(conn: &mut Connection<S>, dept: &DeptName) -> Resul
 {
     let rows = query_rows(
         conn,
-        "SELECT name, admitted, held, removed, weighted, closed FROM departments WHERE name = ?1",
+        "SELECT name, admitted, held, removed, weighted, closed, received, handed FROM departments WHERE name = ?1",
         params![dept.as_str()],
     )?;
     match rows.first() {

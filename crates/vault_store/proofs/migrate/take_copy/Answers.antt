@@ -2,7 +2,6 @@ use Rattle.std.proofs.Common.{sym, subst, arith}
 use Rattle.sqlite.specs.Held.{state}
 use Rattle.sqlite.specs.State.{HasCleanDisk, Survives}
 use Rattle.sqlite.proofs.Callers.{unchanged_then}
-use Rattle.vault_audit_model.specs.declared.schema.Edition.TheVariants.{First}
 use Rattle.vault_audit_model.specs.Spells.{AreSoundAs}
 use Rattle.vault_store.proofs.MigrateLemmas.{survives_more, tables_from, tables_unchanged}
 use Rattle.vault_store.proofs.TableLemmas.{same_tables}
@@ -10,6 +9,13 @@ use Rattle.vault_store.proofs.migrate.take_copy.Goals as goal
 
 pub begin_copy-requires-clause-known : goal.begin_copy-requires-clause-known
 begin_copy-requires-clause-known g c clean = (c.in-Ok.ensures.sound clean).1.spells.schema
+
+pub returns-in-Ok-begin_copy-clause-copied : goal.returns-in-Ok-begin_copy-clause-copied
+returns-in-Ok-begin_copy-clause-copied g c clean after v is =
+    let mid = state g.O.Store c.look_as.new.conn in
+    let early : HasCleanDisk mid = omega (arith, clean, c.begin_copy.ensures.old_crash.clean) in
+    let here = subst (λ db. AreSoundAs c.args.edition db v) (sym (c.in-Ok.ensures.same early).0.now_is) is in
+    c.in-Ok-begin_copy.ensures.copied clean after v here
 
 pub returns-in-Err-begin_copy-clause-old_tables : goal.returns-in-Err-begin_copy-clause-old_tables
 returns-in-Err-begin_copy-clause-old_tables g c clean =

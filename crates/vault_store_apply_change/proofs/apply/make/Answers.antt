@@ -39,6 +39,38 @@ pub returns-in-Remove-clause-crash : goal.returns-in-Remove-clause-crash
 returns-in-Remove-clause-crash g c v was =
     left_of_one (state g.S.Store c.args.conn.now) (state g.S.Store c.remove.new.conn) c.args.at c.args.change.now (change.Remove c.in-Remove.id c.in-Remove.removal) c.in-Remove.is c.requires.limits v was c.remove.ensures.crash
 
+pub returns-in-AddDept-clause-done : goal.returns-in-AddDept-clause-done
+returns-in-AddDept-clause-done g c clean =
+    made_as (state g.S.Store c.args.conn.now) (state g.S.Store c.add_department.new.conn) c.args.at c.args.change.now (change.AddDept c.in-AddDept.name) c.in-AddDept.is c.requires.limits c.add_department.result (c.add_department.ensures.done clean)
+
+pub returns-in-AddCaller-clause-done : goal.returns-in-AddCaller-clause-done
+returns-in-AddCaller-clause-done g c clean =
+    made_as (state g.S.Store c.args.conn.now) (state g.S.Store c.add_caller.new.conn) c.args.at c.args.change.now (change.AddCaller c.in-AddCaller.caller) c.in-AddCaller.is c.requires.limits c.add_caller.result (c.add_caller.ensures.done clean)
+
+pub returns-in-CloseCaller-clause-done : goal.returns-in-CloseCaller-clause-done
+returns-in-CloseCaller-clause-done g c clean =
+    made_as (state g.S.Store c.args.conn.now) (state g.S.Store c.close_caller.new.conn) c.args.at c.args.change.now (change.CloseCaller c.in-CloseCaller.name) c.in-CloseCaller.is c.requires.limits c.close_caller.result (c.close_caller.ensures.done clean)
+
+pub returns-in-AddBucket-clause-done : goal.returns-in-AddBucket-clause-done
+returns-in-AddBucket-clause-done g c clean =
+    made_as (state g.S.Store c.args.conn.now) (state g.S.Store c.add_bucket.new.conn) c.args.at c.args.change.now (change.AddBucket c.in-AddBucket.name c.in-AddBucket.dept) c.in-AddBucket.is c.requires.limits c.add_bucket.result (c.add_bucket.ensures.done clean)
+
+pub returns-in-SetDefault-clause-done : goal.returns-in-SetDefault-clause-done
+returns-in-SetDefault-clause-done g c clean =
+    made_as (state g.S.Store c.args.conn.now) (state g.S.Store c.set_default.new.conn) c.args.at c.args.change.now (change.SetDefault c.in-SetDefault.name c.in-SetDefault.default) c.in-SetDefault.is c.requires.limits c.set_default.result (c.set_default.ensures.done clean)
+
+pub returns-in-SetRules-clause-done : goal.returns-in-SetRules-clause-done
+returns-in-SetRules-clause-done g c clean =
+    made_as (state g.S.Store c.args.conn.now) (state g.S.Store c.set_rules.new.conn) c.args.at c.args.change.now (change.SetRules c.in-SetRules.name c.in-SetRules.rules) c.in-SetRules.is c.requires.limits c.set_rules.result (c.set_rules.ensures.done clean)
+
+pub returns-in-Admit-clause-done : goal.returns-in-Admit-clause-done
+returns-in-Admit-clause-done g c clean =
+    made_as (state g.S.Store c.args.conn.now) (state g.S.Store c.admit.new.conn) c.args.at c.args.change.now (change.Admit c.in-Admit.admission) c.in-Admit.is c.requires.limits c.admit.result (c.admit.ensures.done clean)
+
+pub returns-in-AddSetting-clause-done : goal.returns-in-AddSetting-clause-done
+returns-in-AddSetting-clause-done g c clean =
+    made_as (state g.S.Store c.args.conn.now) (state g.S.Store c.add_setting.new.conn) c.args.at c.args.change.now (change.AddSetting c.in-AddSetting.id c.in-AddSetting.setting) c.in-AddSetting.is c.requires.limits c.add_setting.result (c.add_setting.ensures.done clean)
+
 pub returns-in-Remove-clause-done : goal.returns-in-Remove-clause-done
 returns-in-Remove-clause-done g c clean =
     made_as (state g.S.Store c.args.conn.now) (state g.S.Store c.remove.new.conn) c.args.at c.args.change.now (change.Remove c.in-Remove.id c.in-Remove.removal) c.in-Remove.is c.requires.limits c.remove.result (c.remove.ensures.done clean)

@@ -31,14 +31,16 @@ returns-clause-done g c clean given =
     (λ is_open.
     let told = c.in-Ok-read_place.ensures.value clean3 v was2 in
     let place = c.in-Ok-read_place.place in
-    edits_removal v t c.args.id c.args.removal.now c.in_ok-entry.entry place.config place.sums c.without_version-sums.result place.head c.left_head-left.result c.in-Ok.newest
-    (was3 is_open).0.spells.kept later low allowed (sym (c.in_ok-entry.ensures.value clean1 v was)) told.0 told.1 c.without_version-sums.ensures told.2 (c.in-Ok.ensures.value clean2 v was1) c.left_head-left.ensures))
+    let beside = c.in-Ok.beside in
+    let beside_is = c.in-Ok.ensures.value clean2 v was1 in
+    edits_removal v t c.args.id c.args.removal.now c.in_ok-entry.entry place.config place.sums c.without_version-sums.result place.head c.left_head-left.result beside.newest beside.since
+    (was3 is_open).0.spells.kept.sound later low allowed (sym (c.in_ok-entry.ensures.value clean1 v was)) told.0 told.1 beside_is.1 c.without_version-sums.ensures told.2 beside_is.0 c.left_head-left.ensures))
 
 pub returns-clause-crash : goal.returns-clause-crash
 returns-clause-crash g c given v was =
     let old = state g.S.Store c.args.conn.now in
     let h1 = c.find_entry.new.conn in
-    let h2 = c.find_newest_but.new.conn in
+    let h2 = c.read_beside.new.conn in
     let h3 = c.read_place.new.conn in
     let new = state g.S.Store c.commit_part-removed.new.conn in
     let t = c.args.at in
@@ -58,8 +60,10 @@ returns-clause-crash g c given v was =
     (λ is_open.
     let told = c.in-Ok-read_place.ensures.value clean3 v was2 in
     let place = c.in-Ok-read_place.place in
-    edits_removal v t c.args.id c.args.removal.now c.in_ok-entry.entry place.config place.sums c.without_version-sums.result place.head c.left_head-left.result c.in-Ok.newest
-    (was3 is_open).0.spells.kept later low allowed (sym (c.in_ok-entry.ensures.value clean1 v was)) told.0 told.1 c.without_version-sums.ensures told.2 (c.in-Ok.ensures.value clean2 v was1) c.left_head-left.ensures))
+    let beside = c.in-Ok.beside in
+    let beside_is = c.in-Ok.ensures.value clean2 v was1 in
+    edits_removal v t c.args.id c.args.removal.now c.in_ok-entry.entry place.config place.sums c.without_version-sums.result place.head c.left_head-left.result beside.newest beside.since
+    (was3 is_open).0.spells.kept.sound later low allowed (sym (c.in_ok-entry.ensures.value clean1 v was)) told.0 told.1 beside_is.1 c.without_version-sums.ensures told.2 beside_is.0 c.left_head-left.ensures))
     reads c.commit_part-removed.ensures.crash
 
 pub returns-clause-nothing : goal.returns-clause-nothing
@@ -78,7 +82,7 @@ pub returns-in-Err-clause-crash : goal.returns-in-Err-clause-crash
 returns-in-Err-clause-crash g c given v was =
     let old = state g.S.Store c.args.conn.now in
     let h1 = c.find_entry.new.conn in
-    let s2 = state g.S.Store c.find_newest_but.new.conn in
+    let s2 = state g.S.Store c.read_beside.new.conn in
     let was1 = keeps_now g.S.Store h1 v (g.met.S.Store.shut_if_dirty h1.store) (λ clean. c.in_ok-entry.ensures.same clean v was) in
     shut_leaves old s2 v c.args.at (change.Remove c.args.id c.args.removal.now)
     (read_then old (state g.S.Store h1) s2 c.in_ok-entry.ensures.open (c.in_ok-entry.ensures.crash v was) (c.in-Err.ensures.crash v was1))
@@ -87,7 +91,7 @@ pub returns-in-Err-read_place-clause-crash : goal.returns-in-Err-read_place-clau
 returns-in-Err-read_place-clause-crash g c given v was =
     let old = state g.S.Store c.args.conn.now in
     let h1 = c.find_entry.new.conn in
-    let h2 = c.find_newest_but.new.conn in
+    let h2 = c.read_beside.new.conn in
     let s3 = state g.S.Store c.read_place.new.conn in
     let was1 = keeps_now g.S.Store h1 v (g.met.S.Store.shut_if_dirty h1.store) (λ clean. c.in_ok-entry.ensures.same clean v was) in
     let was2 = keeps_now g.S.Store h2 v (g.met.S.Store.shut_if_dirty h2.store) (λ clean. c.in-Ok.ensures.same clean v was1) in

@@ -6,11 +6,11 @@ use Rattle.vault_audit_model.proofs.OutcomeLemmas.{on_ok_then}
 use Rattle.vault_store_copy.specs.Listings.{listing_of}
 use Rattle.vault_store_copy.proofs.CopyLemmas.{copies_table}
 use Rattle.vault_store_copy.proofs.ShownLemmas.{shown_told}
-use Rattle.vault_store_copy.proofs.TextLemmas.{reads}
+use Rattle.vault_store_copy.proofs.TextLemmas.{reads_only}
 use Rattle.vault_store_copy.proofs.tables.copy_table.Goals as goal
 
 pub copy_rows-requires : goal.copy_rows-requires
-copy_rows-requires g c clean = rw c.listing.ensures (subst (λ s. IsPlain (understood s (listing_of c.args.edition c.args.table))) (sym (c.requires clean)) (reads c.args.edition c.args.table).plain)
+copy_rows-requires g c clean = rw c.listing.ensures (subst (λ s. IsPlain (understood s (listing_of c.args.edition c.args.table))) (sym (c.requires clean)) (reads_only c.args.edition c.args.table))
 
 pub returns-clause-copied : goal.returns-clause-copied
 returns-clause-copied g c clean after inside is_open =

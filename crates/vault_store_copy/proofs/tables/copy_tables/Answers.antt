@@ -31,4 +31,4 @@ returns-clause-copied g c clean after inside is_open =
     let part2 = did2.copied clean2 after2 part1.inside part1.is_open in
     let up_to2 = copies_on n o0.now o1.now t0 t1 t2 (HasCopied n o0.now 0) 4 8 same1 part1 part2 in
     let same2 : o2.now ≡ o0.now = (did2.same clean2).0.now_is ∙ same1 in
-    on_ok_then c.copy_last.result (did3.copied clean3 after3 up_to2.inside up_to2.is_open) (λ part3. copies_on n o0.now o2.now t0 t2 t3 (HasCopied n o0.now 0) 8 10 same2 up_to2 part3)
+    on_ok_then c.copy_last.result (did3.copied clean3 after3 up_to2.inside up_to2.is_open) (λ part3. copies_on n o0.now o2.now t0 t2 t3 (HasCopied n o0.now 0) 8 11 same2 up_to2 part3)

@@ -14,3 +14,9 @@ invariant_of-result g c = record {
       let is = subst (AreSound (state g.S.Store c.args.conn).now) (sym same) it.sound.1 in
       record { sound = is.spells.kept.sound; keeps = λ is_open. (is, it.committed) }) ∣₁;
 }
+
+pub returns-clause-keeps : goal.returns-clause-keeps
+returns-clause-keeps g c clean =
+    let it = c.requires.sound clean in
+    let same = ap (after (noted_vault g.S.Store c.remember-opening.result.at.items c.remember-opening.result.known)) c.new.ensures ∙ c.remember-opening.ensures clean it.sound.0 it.sound.1 in
+    subst (AreSound (state g.S.Store c.args.conn).now) (sym same) it.sound.1

@@ -1,6 +1,6 @@
 use Rattle.sqlite.specs.Held.{state}
 use Rattle.vault_store_apply_entries.proofs.ReadLemmas.{looked}
-use Rattle.vault_store_apply_entries.proofs.removal.find_newest_but.Goals as goal
+use Rattle.vault_store_apply_entries.proofs.beside.find_newest_but.Goals as goal
 
 pub returns-clause-same : goal.returns-clause-same
 returns-clause-same g c clean v was = c.in_ok-check_open.ensures.same clean v (c.in_ok-newest.ensures.same (c.in_ok-check_open.ensures.honest clean) v was)

@@ -1,0 +1,40 @@
+//! Rows of `tenures`.
+ghost use Rattle.std.specs.Prelude.{◌≡◌, IsTrue, OnOk, OnErr};
+ghost use Rattle.sqlite.specs.Effect.{IsDatabase};
+ghost use Rattle.sqlite.specs.State.{HasCleanDisk, KeepsCommit, Survives};
+ghost use Rattle.sqlite.specs.Held.{state};
+ghost use Rattle.vault_base.specs.declared.refusal.Table.TheVariants as table;
+ghost use Rattle.vault_audit_model.specs.Rows.{tenure_row};
+ghost use Rattle.vault_audit_model.specs.Tables.{vault_schema};
+ghost use Rattle.vault_store_model.specs.Edits.{with_row, Edits};
+
+use sqlite::{Alter, Error, Transaction, params};
+use vault_base::name::VersionId;
+use vault_core_model::records::Tenure;
+use vault_store_edits::value::seconds;
+
+/// Puts in a tenure of a version.
+pub fn put_tenure<S: Alter>(
+    tx: &mut Transaction<'_, S>,
+    id: VersionId,
+    tenure: &Tenure,
+) -> Result<usize, Error>
+    ensures same_reference { tx.new.conn.ghost_name ≡ tx.old.conn.ghost_name }
+    ensures edits { HasCleanDisk (state S.Store tx.new.conn.now) → IsTrue tx.old.conn.now.in_transaction
+        → OnOk result (Edits (state S.Store tx.old.conn.now) (state S.Store tx.new.conn.now) (with_row table.Tenures (tenure_row (record { id = id; tenure = tenure.now })))) }
+    ensures sound { HasCleanDisk (state S.Store tx.new.conn.now) → IsTrue tx.old.conn.now.in_transaction
+        → (state S.Store tx.old.conn.now).now.schema ≡ vault_schema → OnOk result (IsDatabase (state S.Store tx.new.conn.now).now) }
+    ensures kept { HasCleanDisk (state S.Store tx.new.conn.now) → IsTrue tx.old.conn.now.in_transaction
+        → OnErr result (KeepsCommit (state S.Store tx.old.conn.now) (state S.Store tx.new.conn.now)) }
+    ensures survives { Survives (state S.Store tx.old.conn.now) (state S.Store tx.new.conn.now) (λ _. ⊥) }
+{
+    tx.execute(
+        "INSERT INTO tenures (id, n, dept, moment) VALUES (?1, ?2, ?3, ?4)",
+        params![
+            id.number(),
+            tenure.number,
+            tenure.dept.as_str(),
+            seconds(tenure.from),
+        ],
+    )
+}
