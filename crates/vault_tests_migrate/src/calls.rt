@@ -2,6 +2,8 @@
 //! call.
 use sqlite::{Alter, Connection, Error};
 use std::alloc::Global;
+use vault_audit::audit as audit_of;
+use vault_audit_model::schema::Edition;
 use vault_base::refusal::Refusal;
 use vault_store::sql_keeper::SqlKeeper;
 
@@ -21,16 +23,27 @@ pub fn number<S: Alter>(conn: &mut Connection<S>, sql: &str) -> Result<i64, Erro
     conn.query_row(sql, &[])?.get(0)
 }
 
-/// Copies the vault of a store into another: why not, where it is refused, and the connection to the other.
+/// Copies the vault of a store, of that edition, into another: why not, where it is refused, and the connection to the
+/// other.
+pub fn migrate_as<O: Alter, S: Alter>(
+    alloc: Global,
+    old: &mut Connection<O>,
+    edition: Edition,
+    new: Connection<S>,
+) -> (Option<Refusal>, Connection<S>) {
+    match SqlKeeper::migrate(alloc, old, edition, new) {
+        Ok(keeper) => (None, keeper.into_connection()),
+        Err((refusal, new)) => (Some(refusal), new),
+    }
+}
+
+/// The same of the first edition.
 pub fn migrate<O: Alter, S: Alter>(
     alloc: Global,
     old: &mut Connection<O>,
     new: Connection<S>,
 ) -> (Option<Refusal>, Connection<S>) {
-    match SqlKeeper::migrate(alloc, old, new) {
-        Ok(keeper) => (None, keeper.into_connection()),
-        Err((refusal, new)) => (Some(refusal), new),
-    }
+    migrate_as(alloc, old, Edition::First, new)
 }
 
 /// Makes a vault in a store: why not, where it is refused, and the connection.
@@ -47,4 +60,13 @@ pub fn open<S: Alter>(alloc: Global, conn: Connection<S>) -> (Option<Refusal>, C
         Ok(keeper) => (None, keeper.into_connection()),
         Err((refusal, conn)) => (Some(refusal), conn),
     }
+}
+
+/// Looks at the vault of a store as one of that edition: as what it is damaged, where it is.
+pub fn audit<S: Alter>(
+    alloc: Global,
+    conn: &mut Connection<S>,
+    edition: Edition,
+) -> Option<Refusal> {
+    audit_of(alloc, conn, edition).err()
 }

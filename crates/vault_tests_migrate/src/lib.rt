@@ -1,4 +1,5 @@
-//! Tests of a vault of the first edition that is copied into an empty store.
+//! Tests of vaults of all editions: one of an earlier is copied into an empty store, and one with moved buckets is
+//! audited and opened.
 #![tactic(auto)]
 
 #[cfg(test)]
@@ -8,8 +9,12 @@ mod copies;
 #[cfg(test)]
 mod disks;
 #[cfg(test)]
-mod first;
+mod earlier;
 #[cfg(test)]
 mod refusals;
 #[cfg(test)]
 mod stops;
+#[cfg(test)]
+mod tenures;
+#[cfg(test)]
+mod third;

@@ -1,6 +1,6 @@
 //! What isn't copied, and what is left then.
 use crate::calls::{batches, create, migrate, number};
-use crate::first::make_first;
+use crate::earlier::make_first;
 use sqlite::{Alter, Connection};
 use std::alloc::Global;
 use std::process::Abort;

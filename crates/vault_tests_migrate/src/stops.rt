@@ -1,7 +1,7 @@
 //! A copy that is stopped at each call of one of the new files: these hold no tables then, or the whole vault.
 use crate::calls::{migrate, number, open};
 use crate::disks::{Left, VaultFiles, Which, fused, leave, sound};
-use crate::first::{COPIED, make_first};
+use crate::earlier::{COPIED, make_first};
 use sqlite::{Alter, Connection, FileStore, Files, MemStore, Options};
 use sqlite_disk::{Fuse, Memory};
 use std::alloc::Global;

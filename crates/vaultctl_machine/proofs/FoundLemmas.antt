@@ -1,14 +1,23 @@
 -- From what an opening finds in the files to the vault that their tables spell.
-use Rattle.std.proofs.Common.{◌≡◌, arith, sym, subst}
+use Rattle.std.proofs.Common.{◌≡◌, ◌⊎◌, inl, inr, ℕ, [], ◌∷◌, map, get_or, IsPermutation, arith, refl, sym, ap, subst, ◌∙◌}
+use Rattle.std.proofs.lemmas.List.Sorted.{IsPermutation-map}
 use Rattle.sqlite.specs.Start.{FindsIn}
 use Rattle.sqlite.specs.State.{State, HasCleanDisk, Opens, IsUnchanged, Survives}
+use Rattle.sqlite.proofs.Callers.{one_permutation}
+use Rattle.sqlite_trees.proofs.ListLemmas.{map-map}
 use Rattle.sqlite_trees.specs.Tree.{Trees}
+use Rattle.sqlite_value.specs.Order.{column}
 use Rattle.sqlite_wal.specs.Recovery.{Image}
 use Rattle.vault_core_model.specs.Vault.{Vault}
 use Rattle.vault_audit_laws.proofs.Uniqueness.{same_vault_as}
 use Rattle.vault_audit_model.specs.declared.schema.Edition.{Edition}
+use Rattle.vault_audit_model.specs.declared.schema.Edition.TheVariants.{First, Second, Third}
+use Rattle.vault_audit_model.specs.Editions.{number_of}
+use Rattle.vault_audit_model.specs.Rows.{meta_columns_as}
 use Rattle.vault_audit_model.specs.Spells.{AreSoundAs}
-use Rattle.vaultctl_machine.specs.Files.{AreTreesAs, IsFoundAs, IsHeldAs}
+use Rattle.vault_audit_model.specs.Tables.{meta_tree}
+use Rattle.vault_audit_model.specs.Values.{number}
+use Rattle.vaultctl_machine.specs.Files.{AreTreesAs, IsFoundAs, IsFoundEarlier, IsHeldAs}
 
 -- a disk that is clean was clean before
 pub was_clean : (old new : State) (Commits : Trees → Type 0) → Survives old new Commits → HasCleanDisk new → HasCleanDisk old
@@ -17,6 +26,27 @@ was_clean old new Commits is clean = omega (arith, is.clean, clean)
 -- tables that were only read were sound before
 pub was_sound : (n : Edition) (old new : State) (v : Vault) → IsUnchanged old new → AreSoundAs n new.now v → AreSoundAs n old.now v
 was_sound n old new v same sound = subst (λ db. AreSoundAs n db v) same.0.now_is sound
+
+-- ---- tables are of one edition, by its number
+
+abbrev edition_at : ℕ → Edition
+edition_at n = get_or (First ∷ First ∷ Second ∷ Third ∷ []) n Third
+
+numbered_back : (n : Edition) → edition_at (number_of n) ≡ n
+numbered_back First = refl
+numbered_back Second = refl
+numbered_back Third = refl
+
+number_told : (n : Edition) (trees : Trees) (v : Vault) → AreTreesAs n v trees → map (λ r. column r 2) (trees meta_tree) ≡ number (number_of n) ∷ []
+number_told n trees v is =
+    one_permutation (number (number_of n)) _
+    (subst (IsPermutation (number (number_of n) ∷ [])) (map-map (λ row. column row 1) (meta_columns_as n) (trees meta_tree)) (IsPermutation-map (λ row. column row 1) _ _ is.spells.meta))
+
+one_edition : (n m : Edition) (trees : Trees) (v w : Vault) → AreTreesAs n v trees → AreTreesAs m w trees → n ≡ m
+one_edition n m trees v w first second =
+    let told = sym (number_told n trees v first) ∙ number_told m trees w second in
+    let same : number_of n ≡ number_of m = cc told in
+    sym (numbered_back n) ∙ ap edition_at same ∙ numbered_back m
 
 module _ (n : Edition) (image : Image) (s : State) (v : Vault) (opens : Opens s) (found : FindsIn image s) (sound : AreSoundAs n s.now v) where
   -- the tables that were found are those that were looked at
@@ -28,7 +58,14 @@ module _ (n : Edition) (image : Image) (s : State) (v : Vault) (opens : Opens s)
   pub found_in_files : IsFoundAs n image v
   found_in_files = (s.committed.trees, found.reads, spelled)
 
-  pub held_in_files : (w : Vault) → IsHeldAs n image w → v ≡ w
-  held_in_files w held =
-      let is = subst (AreTreesAs n w) (sym (found.holds held.0 held.1)) held.2 in
-      same_vault_as n _ v w spelled.spells is.spells
+  pub found_earlier : (n ≡ First) ⊎ (n ≡ Second) → IsFoundEarlier image v
+  found_earlier (inl is) = inl (subst (λ m. IsFoundAs m image v) is found_in_files)
+  found_earlier (inr is) = inr (subst (λ m. IsFoundAs m image v) is found_in_files)
+
+  pub held_in_files : (m : Edition) (w : Vault) → IsHeldAs m image w → v ≡ w
+  held_in_files m w held =
+      let trees = s.committed.trees in
+      let is : AreTreesAs m w trees = subst (AreTreesAs m w) (sym (found.holds held.0 held.1)) held.2 in
+      let same = one_edition n m trees v w spelled is in
+      let there : AreTreesAs n w trees = subst (λ k. AreTreesAs k w trees) (sym same) is in
+      same_vault_as n _ v w spelled.spells there.spells

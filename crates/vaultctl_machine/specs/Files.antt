@@ -1,9 +1,11 @@
 -- The vault that a file and its log hold.
+use Rattle.std.specs.Prelude.{◌⊎◌}
 use Rattle.sqlite.specs.Files.{AreFoundIn, HoldsDatabase}
 use Rattle.sqlite_trees.specs.Tree.{Trees}
 use Rattle.sqlite_wal.specs.Recovery.{Image}
 use Rattle.vault_core_model.specs.Vault.{Vault}
 use Rattle.vault_audit_model.specs.declared.schema.Edition.{Edition}
+use Rattle.vault_audit_model.specs.declared.schema.Edition.TheVariants.{First, Second}
 use Rattle.vault_audit_model.specs.Editions.{newest}
 use Rattle.vault_audit_model.specs.Spells.{AreSoundAs}
 use Rattle.vault_audit_model.specs.Tables.{schema_of}
@@ -19,6 +21,10 @@ IsHeldAs n image v = (trees : Trees) × HoldsDatabase image trees × AreTreesAs 
 -- an opening finds tables in them that are of that edition, are sound and spell this vault
 abbrev pub IsFoundAs : Edition → Image → Vault → Type 0
 IsFoundAs n image v = (trees : Trees) × AreFoundIn image trees × AreTreesAs n v trees
+
+-- the same of one of the editions before the newest
+abbrev pub IsFoundEarlier : Image → Vault → Type 0
+IsFoundEarlier image v = IsFoundAs First image v ⊎ IsFoundAs Second image v
 
 -- the same of the newest
 abbrev pub IsHeldIn : Image → Vault → Type 0

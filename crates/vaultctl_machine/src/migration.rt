@@ -5,12 +5,13 @@ ghost use Rattle.sqlite.specs.Held.{state};
 ghost use Rattle.sqlite.specs.Start.{FindsIn};
 ghost use Rattle.sqlite.specs.State.{HasCleanDisk};
 ghost use Rattle.sqlite_wal.specs.Files.{image_at};
-ghost use Rattle.vault_audit_model.specs.declared.schema.Edition.TheVariants.{First};
+ghost use Rattle.vault_audit_model.specs.declared.schema.Edition.{Edition};
 ghost use Rattle.vault_audit_model.specs.Spells.{AreSound, AreSoundAs};
 ghost use Rattle.vault_core_model.specs.Vault.{Vault};
 ghost use Rattle.vault_store.specs.Kept.{kept_vault};
-ghost use Rattle.vaultctl_machine.specs.Files.{IsFoundAs, IsHeldAs};
+ghost use Rattle.vaultctl_machine.specs.Files.{IsFoundEarlier, IsHeldAs};
 
+use crate::editions::edition_of;
 use crate::places::place_at;
 use crate::starts::Starts;
 use crate::unopened::Unopened;
@@ -18,6 +19,7 @@ use crate::vaults::{Machine, VaultStore, close_vault, connect_there, unmade, uns
 use sqlite::{Alter, Connection, FileFrom, Leftover, Start};
 use std::alloc::Global;
 use std::fs;
+use vault_audit_model::schema::Edition;
 use vault_base::refusal::Refusal;
 use vault_store::sql_keeper::SqlKeeper;
 use vault_store_create::create::is_blank;
@@ -37,22 +39,23 @@ struct Copied<O: Alter, S: Alter> {
     outcome: Result<SqlKeeper<S>, (Refusal, Connection<S>)>,
 }
 
-/// Copies the vault of one connection into another, over any stores.
+/// Copies the vault of one connection, whose tables are of that edition, into another, over any stores.
 ///
 /// The errors are those of `SqlKeeper::migrate`.
 fn copy<O: Alter, S: Alter>(
     alloc: Global,
     source: Connection<O>,
+    edition: Edition,
     new: Connection<S>,
 ) -> Copied<O, S>
     ensures clean { HasCleanDisk (state O.Store result.source) → HasCleanDisk (state O.Store source) }
     // The tables that were found spell the vault that the keeper stands for, and so do the new ones.
     ensures found { IfOk result.outcome (λ k. HasCleanDisk (state O.Store result.source) → HasCleanDisk (state S.Store k.conn)
-        → AreSoundAs First (state O.Store source).now (kept_vault S.Store k.opening.at.items k.opening.known k.made.items)) }
+        → AreSoundAs edition (state O.Store source).now (kept_vault S.Store k.opening.at.items k.opening.known k.made.items)) }
     ensures sound { IfOk result.outcome (λ k. HasCleanDisk (state S.Store k.conn) → AreSound (state S.Store k.conn).now (kept_vault S.Store k.opening.at.items k.opening.known k.made.items)) }
 {
     let mut source = source;
-    let outcome = SqlKeeper::migrate(alloc, &mut source, new);
+    let outcome = SqlKeeper::migrate(alloc, &mut source, edition, new);
     Copied { source, outcome }
 }
 
@@ -61,28 +64,30 @@ fn copy<O: Alter, S: Alter>(
 fn copy_to_file<O: Alter, B: Start>(
     alloc: Global,
     source: Connection<O>,
+    edition: Edition,
     new: Connection<VaultStore<B>>,
 ) -> Copied<O, VaultStore<B>>
     ensures clean { HasCleanDisk (state O.Store result.source) → HasCleanDisk (state O.Store source) }
     ensures found { IfOk result.outcome (λ k. HasCleanDisk (state O.Store result.source) → HasCleanDisk (file_state k.conn)
-        → AreSoundAs First (state O.Store source).now (kept_vault over_files k.opening.at.items k.opening.known k.made.items)) }
+        → AreSoundAs edition (state O.Store source).now (kept_vault over_files k.opening.at.items k.opening.known k.made.items)) }
     ensures sound { IfOk result.outcome (λ k. HasCleanDisk (file_state k.conn) → AreSound (file_state k.conn).now (kept_vault over_files k.opening.at.items k.opening.known k.made.items)) }
 {
-    copy(alloc, source, new)
+    copy(alloc, source, edition, new)
 }
 
 /// The same from a file.
 fn copy_file<A: Start, B: Start>(
     alloc: Global,
     source: Connection<VaultStore<A>>,
+    edition: Edition,
     new: Connection<VaultStore<B>>,
 ) -> Copied<VaultStore<A>, VaultStore<B>>
     ensures clean { HasCleanDisk (file_state result.source) → HasCleanDisk (file_state source) }
     ensures found { IfOk result.outcome (λ k. HasCleanDisk (file_state result.source) → HasCleanDisk (file_state k.conn)
-        → AreSoundAs First (file_state source).now (kept_vault over_files k.opening.at.items k.opening.known k.made.items)) }
+        → AreSoundAs edition (file_state source).now (kept_vault over_files k.opening.at.items k.opening.known k.made.items)) }
     ensures sound { IfOk result.outcome (λ k. HasCleanDisk (file_state k.conn) → AreSound (file_state k.conn).now (kept_vault over_files k.opening.at.items k.opening.known k.made.items)) }
 {
-    copy_to_file(alloc, source, new)
+    copy_to_file(alloc, source, edition, new)
 }
 
 /// The file that gets a copy.
@@ -124,7 +129,7 @@ impl<'a> Target<'a> {
     }
 }
 
-/// Whether a file is too small for a vault, whose ten tables take more than a page.
+/// Whether a file is too small for a vault, whose eleven tables take more than a page.
 fn is_one_page(rt: &HostRuntime, path: &str) -> bool {
     match fs::metadata(rt, path) {
         Ok(found) => found.len() <= PAGE_SIZE,
@@ -186,11 +191,12 @@ fn copy_into<A: Start, B: Start>(
     requires found { HasCleanDisk (file_state source) → FindsIn (image_at A.Start) (file_state source) }
     ensures sound { IfOk result (λ m. HasCleanDisk (file_state m.vault.conn) → AreSound (file_state m.vault.conn).now (kept_vault over_files m.vault.opening.at.items m.vault.opening.known m.vault.made.items)) }
     ensures found { IfOk result (λ m. HasCleanDisk (file_state m.source) → HasCleanDisk (file_state m.vault.conn)
-        → IsFoundAs First (image_at A.Start) (kept_vault over_files m.vault.opening.at.items m.vault.opening.known m.vault.made.items)) }
-    ensures held { (v : Vault) → IsHeldAs First (image_at A.Start) v → IfOk result (λ m. HasCleanDisk (file_state m.source) → HasCleanDisk (file_state m.vault.conn)
+        → IsFoundEarlier (image_at A.Start) (kept_vault over_files m.vault.opening.at.items m.vault.opening.known m.vault.made.items)) }
+    ensures held { (n : Edition) (v : Vault) → IsHeldAs n (image_at A.Start) v → IfOk result (λ m. HasCleanDisk (file_state m.source) → HasCleanDisk (file_state m.vault.conn)
         → kept_vault over_files m.vault.opening.at.items m.vault.opening.known m.vault.made.items ≡ v) }
 {
-    let Copied { source, outcome } = copy_file(rt.alloc(), source, new);
+    let edition = edition_of(source.schema());
+    let Copied { source, outcome } = copy_file(rt.alloc(), source, edition, new);
     match outcome {
         Ok(vault) => Ok(Migrated { source, vault }),
         Err((refusal, new)) => {
@@ -209,11 +215,11 @@ pub fn close_migrated<A: Start, B: Start>(migrated: Migrated<VaultStore<A>, Vaul
 }
 
 impl<'a> Machine<'a> {
-    /// Copies the vault in a file of the first edition, at `old`, into a file at `new` that isn't there or is empty. `starts`
-    /// stands for what the two files and their logs hold.
+    /// Copies the vault in a file of the first or the second edition, at `old`, into a file at `new` that isn't there or is
+    /// empty. `starts` stands for what the two files and their logs hold.
     ///
-    /// `Damaged` with the first table at `old` that isn't sound; with `meta` where no file is there, or where it is empty, of a
-    /// newer edition, or no store of tables whose rows keep its own schema. `NameTaken` where something is in the file at
+    /// `Damaged` with the first table at `old` that isn't sound; with `meta` where no file is there, or where it is empty, of the
+    /// newest edition, or no store of tables whose rows keep its own schema. `NameTaken` where something is in the file at
     /// `new`, or changes may be in the log beside it. `Memory` where memory was refused. `Held` where another program has
     /// the file at `old`. `Device` where a file can't be read or made, where somebody has the one at `new`, and where
     /// both are one file. The file at `old` isn't changed; beside it a log without a change may be left. A file that was
@@ -228,9 +234,9 @@ impl<'a> Machine<'a> {
         ensures sound { IfOk result (λ m. HasCleanDisk (file_state m.vault.conn) → AreSound (file_state m.vault.conn).now (kept_vault over_files m.vault.opening.at.items m.vault.opening.known m.vault.made.items)) }
         // The vault of the copy is the one that the tables spell which were found in the old files.
         ensures found { IfOk result (λ m. HasCleanDisk (file_state m.source) → HasCleanDisk (file_state m.vault.conn)
-            → IsFoundAs First (image_at A.Start) (kept_vault over_files m.vault.opening.at.items m.vault.opening.known m.vault.made.items)) }
+            → IsFoundEarlier (image_at A.Start) (kept_vault over_files m.vault.opening.at.items m.vault.opening.known m.vault.made.items)) }
         // Where these held a vault, it is that one.
-        ensures held { (v : Vault) → IsHeldAs First (image_at A.Start) v → IfOk result (λ m. HasCleanDisk (file_state m.source) → HasCleanDisk (file_state m.vault.conn)
+        ensures held { (n : Edition) (v : Vault) → IsHeldAs n (image_at A.Start) v → IfOk result (λ m. HasCleanDisk (file_state m.source) → HasCleanDisk (file_state m.vault.conn)
             → kept_vault over_files m.vault.opening.at.items m.vault.opening.known m.vault.made.items ≡ v) }
     {
         let rt = self.look();

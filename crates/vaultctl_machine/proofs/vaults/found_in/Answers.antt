@@ -13,4 +13,4 @@ pub returns-in-Ok-clause-held : goal.returns-in-Ok-clause-held
 returns-in-Ok-clause-held g c w held clean =
     let before = was_clean _ _ _ c.in-Ok.ensures.crash clean in
     let sound = was_sound newest _ _ _ (c.in-Ok.ensures.same clean) (c.in-Ok.ensures.sound clean) in
-    held_in_files newest (image_at g.S.Start) _ _ (c.requires.opened before).0 (c.requires.found before) sound w held
+    held_in_files newest (image_at g.S.Start) _ _ (c.requires.opened before).0 (c.requires.found before) sound newest w held

@@ -1,14 +1,28 @@
-//! A vault of the first edition, by statements of the tests' own.
+//! A vault of an earlier edition, by statements of the tests' own.
 use crate::calls::batches;
 use sqlite::{Alter, Connection, Error};
 
-/// Its tables. Rules have no bounds of sizes.
+/// The tables that are made before `rules`.
 const TABLES: &[&str] = &[
     "CREATE TABLE meta (one INTEGER PRIMARY KEY, schema INTEGER NOT NULL, last INTEGER NOT NULL, next INTEGER NOT NULL) STRICT",
     "CREATE TABLE departments (name TEXT NOT NULL, admitted INTEGER NOT NULL, held INTEGER NOT NULL, removed INTEGER NOT NULL, weighted INTEGER NOT NULL, closed INTEGER NOT NULL, PRIMARY KEY (name)) STRICT",
     "CREATE TABLE callers (name TEXT NOT NULL, dept TEXT REFERENCES departments (name), rights INTEGER NOT NULL, closed INTEGER NOT NULL, PRIMARY KEY (name)) STRICT",
     "CREATE TABLE buckets (name TEXT NOT NULL, dept TEXT NOT NULL REFERENCES departments (name), mode INTEGER NOT NULL, days INTEGER, years INTEGER, PRIMARY KEY (name)) STRICT",
+];
+
+/// In the first edition rules have no bounds of sizes.
+const FIRST_RULES: &[&str] = &[
     "CREATE TABLE rules (bucket TEXT NOT NULL REFERENCES buckets (name), n INTEGER NOT NULL, id TEXT NOT NULL, prefix TEXT NOT NULL, enabled INTEGER NOT NULL, days INTEGER, lone INTEGER NOT NULL, nc_days INTEGER, nc_keep INTEGER, PRIMARY KEY (bucket, n)) STRICT",
+    "INSERT INTO meta VALUES (1, 1, 2592000, 5)",
+];
+
+const SECOND_RULES: &[&str] = &[
+    "CREATE TABLE rules (bucket TEXT NOT NULL REFERENCES buckets (name), n INTEGER NOT NULL, id TEXT NOT NULL, prefix TEXT NOT NULL, enabled INTEGER NOT NULL, days INTEGER, lone INTEGER NOT NULL, nc_days INTEGER, nc_keep INTEGER, larger INTEGER, smaller INTEGER, PRIMARY KEY (bucket, n)) STRICT",
+    "INSERT INTO meta VALUES (1, 2, 2592000, 5)",
+];
+
+/// The tables behind it.
+const LATER_TABLES: &[&str] = &[
     "CREATE TABLE entries (id INTEGER PRIMARY KEY, bucket TEXT NOT NULL REFERENCES buckets (name), key TEXT NOT NULL, marker INTEGER NOT NULL, size INTEGER NOT NULL, digest BLOB, admitted INTEGER NOT NULL, by_rule INTEGER NOT NULL, admitted_by TEXT NOT NULL, removed INTEGER, cause INTEGER, cause_by TEXT, UNIQUE (bucket, key, id)) STRICT",
     "CREATE TABLE contents (id INTEGER PRIMARY KEY REFERENCES entries (id), bytes BLOB NOT NULL) STRICT",
     "CREATE TABLE settings (id INTEGER NOT NULL REFERENCES entries (id), n INTEGER NOT NULL, moment INTEGER NOT NULL, caller TEXT NOT NULL, mode INTEGER NOT NULL, until INTEGER, hold INTEGER NOT NULL, bypass INTEGER NOT NULL, PRIMARY KEY (id, n)) STRICT",
@@ -19,13 +33,12 @@ const TABLES: &[&str] = &[
 /// Its rows: a department with a bucket of four entries, two held versions of one key, a removed one, and a
 /// marker. The department's sums are of days 10, 20 and 30.
 const ROWS: &[&str] = &[
-    "INSERT INTO meta VALUES (1, 1, 2592000, 5)",
     "INSERT INTO callers VALUES ('registrar', NULL, 1, 0)",
     "INSERT INTO departments VALUES ('records', 12, 8, 4, 110, 40)",
     "INSERT INTO callers VALUES ('clerk', 'records', 60, 0)",
     "INSERT INTO buckets VALUES ('papers', 'records', 1, 30, NULL)",
-    "INSERT INTO rules VALUES ('papers', 1, 'old', 'tmp/', 1, 30, 0, NULL, NULL)",
-    "INSERT INTO rules VALUES ('papers', 2, 'keep', '', 1, NULL, 0, 7, NULL)",
+    "INSERT INTO rules (bucket, n, id, prefix, enabled, days, lone, nc_days, nc_keep) VALUES ('papers', 1, 'old', 'tmp/', 1, 30, 0, NULL, NULL)",
+    "INSERT INTO rules (bucket, n, id, prefix, enabled, days, lone, nc_days, nc_keep) VALUES ('papers', 2, 'keep', '', 1, NULL, 0, 7, NULL)",
     "INSERT INTO entries VALUES (1, 'papers', 'a', 0, 5, x'2cf24dba5fb0a30e26e83b2ac5b9e29e1b161e5c1fa7425e73043362938b9824', 864000, 0, 'clerk', NULL, NULL, NULL)",
     "INSERT INTO entries VALUES (2, 'papers', 'a', 0, 3, x'3fc4ccfe745870e2c0d99f71f30ff0656c8dedd41cc1d7d3d376b0dbe685e2f3', 1728000, 0, 'clerk', NULL, NULL, NULL)",
     "INSERT INTO entries VALUES (3, 'papers', 'b', 0, 4, x'283bb9deef02e6843abfb538efa1eca70801bd8a701c3f98191e123496339247', 1728005, 0, 'clerk', 2592000, 0, 'clerk')",
@@ -44,12 +57,12 @@ const ROWS: &[&str] = &[
 /// What each table has of it in the newest edition: how many rows, and how many with the values of each row.
 pub const COPIED: &[(&str, i64)] = &[
     (
-        "SELECT count(*) FROM meta WHERE one = 1 AND schema = 2 AND last = 2592000 AND next = 5",
+        "SELECT count(*) FROM meta WHERE one = 1 AND schema = 3 AND last = 2592000 AND next = 5 AND moves = 0",
         1,
     ),
     ("SELECT count(*) FROM meta", 1),
     (
-        "SELECT count(*) FROM departments WHERE name = 'records' AND admitted = 12 AND held = 8 AND removed = 4 AND weighted = 110 AND closed = 40",
+        "SELECT count(*) FROM departments WHERE name = 'records' AND admitted = 12 AND held = 8 AND removed = 4 AND weighted = 110 AND closed = 40 AND received = 0 AND handed = 0",
         1,
     ),
     ("SELECT count(*) FROM departments", 1),
@@ -76,8 +89,8 @@ pub const COPIED: &[(&str, i64)] = &[
         1,
     ),
     (
-        "SELECT count(*) FROM rules WHERE larger IS NULL AND smaller IS NULL",
-        2,
+        "SELECT count(*) FROM rules WHERE id = 'keep' AND larger IS NULL AND smaller IS NULL",
+        1,
     ),
     ("SELECT count(*) FROM rules", 2),
     (
@@ -133,10 +146,26 @@ pub const COPIED: &[(&str, i64)] = &[
         1,
     ),
     ("SELECT count(*) FROM heads", 2),
+    (
+        "SELECT count(*) FROM tenures WHERE n = 0 AND dept = 'records' AND (id = 1 AND moment = 864000 OR id = 2 AND moment = 1728000 OR id = 3 AND moment = 1728005)",
+        3,
+    ),
+    ("SELECT count(*) FROM tenures", 3),
 ];
 
-/// Makes the vault in an empty store.
+/// Makes the vault of the first edition in an empty store.
 pub fn make_first<S: Alter>(conn: &mut Connection<S>) -> Result<(), Error> {
     batches(conn, TABLES)?;
+    batches(conn, FIRST_RULES)?;
+    batches(conn, LATER_TABLES)?;
     batches(conn, ROWS)
+}
+
+/// The same of the second. One of its rules has a bound.
+pub fn make_second<S: Alter>(conn: &mut Connection<S>) -> Result<(), Error> {
+    batches(conn, TABLES)?;
+    batches(conn, SECOND_RULES)?;
+    batches(conn, LATER_TABLES)?;
+    batches(conn, ROWS)?;
+    batches(conn, &["UPDATE rules SET larger = 5 WHERE n = 1"])
 }
