@@ -78,14 +78,22 @@ def fill_departments(connection, shape):
     for number, held in enumerate(shape.sizes()):
         dept, bucket = name_of("records", number), name_of("docs", number)
         execute = connection.execute
-        execute("INSERT INTO departments VALUES (?1, ?2, ?2, 0, ?3, 0)", (dept, held, held * DAY))
+        execute("INSERT INTO departments VALUES (?1, ?2, ?2, 0, ?3, 0, 0, 0)", (dept, held, held * DAY))
         execute("INSERT INTO callers VALUES (?, ?, ?, 0)", (name_of("ann", number), dept, EVERY_RIGHT))
         execute("INSERT INTO buckets VALUES (?, ?, 0, NULL, NULL)", (bucket, dept))
         execute("INSERT INTO rules VALUES (?, 1, 'expire', '', 1, 1, 0, NULL, NULL, NULL, NULL)", (bucket,))
 
 
+def add_tenures(connection):
+    """Adds the tenure of each entry that has none: of its bucket's department, from its admission."""
+    connection.execute(
+        "INSERT INTO tenures SELECT entries.id, 0, dept, admitted FROM entries JOIN buckets ON name = bucket"
+        " WHERE entries.id > (SELECT coalesce(max(id), 0) FROM tenures)"
+    )
+
+
 def fill_entries(connection, shape):
-    """Adds the entries, each with its bytes, a setting and the head of its key."""
+    """Adds the entries, each with its bytes, a setting, its tenure and the head of its key."""
     many, docs, ann = connection.executemany, "docs", "ann"
     many(
         "INSERT INTO entries VALUES (?, ?, ?, 0, ?, ?, ?, 0, ?, NULL, NULL, NULL)",
@@ -100,6 +108,7 @@ def fill_entries(connection, shape):
         ((n, MOMENT, name_of(ann, d)) for n, d, _, _ in entries(shape)),
     )
     many("INSERT INTO heads VALUES (?, ?, ?, 1)", ((name_of(docs, d), key, n) for n, d, key, _ in entries(shape)))
+    add_tenures(connection)
 
 
 def fill_removed(connection, shape):
@@ -123,6 +132,7 @@ def fill_removed(connection, shape):
         "INSERT INTO settings VALUES (?, 1, ?, 'ann', 0, NULL, 0, 0)",
         ((n, MOMENT) for n in range(first, last + 2)),
     )
+    add_tenures(connection)
     removed, held = shape.removed * len(data), 2 * len(data)
     execute(
         "UPDATE departments SET admitted = admitted + ?1 + ?2, held = held + ?2, removed = removed + ?1,"

@@ -60,8 +60,8 @@ def in_bucket(db, asked, right):
 def admit(db, asked, now, number):
     dept = in_bucket(db, asked, PUT)
     bucket, key, data = asked["bucket"], asked["key"], asked["text"].encode()
-    admitted = one(db, "SELECT admitted FROM departments WHERE name = ?", dept)[0]
-    if admitted + len(data) > QUOTA:
+    brought = one(db, "SELECT admitted + received FROM departments WHERE name = ?", dept)[0]
+    if brought + len(data) > QUOTA:
         raise Refused
     digest = hashlib.sha256(data).digest()
     db.execute(
@@ -70,6 +70,7 @@ def admit(db, asked, now, number):
     )
     db.execute("INSERT INTO contents VALUES (?, ?)", (number, data))
     db.execute("INSERT INTO settings VALUES (?, 1, ?, ?, 0, NULL, 0, 0)", (number, now, asked["as"]))
+    db.execute("INSERT INTO tenures VALUES (?, 0, ?, ?)", (number, dept, now))
     db.execute(
         "UPDATE departments SET admitted = admitted + ?1, held = held + ?1, weighted = weighted + ?2 WHERE name = ?3",
         (len(data), len(data) * (now // 86_400), dept),

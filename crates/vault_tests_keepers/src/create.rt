@@ -6,7 +6,7 @@ use vault_base::refusal::Refusal;
 
 /// Each of both counts is one at most, as its rows have a key among these values.
 const HAS_FIRST_ROWS: Step<'static> = Step::Number(
-    "SELECT (SELECT count(*) FROM meta WHERE one = 1 AND schema = 2 AND last = 0 AND next = 1) + (SELECT count(*) FROM callers WHERE name = 'registrar' AND dept IS NULL AND rights = 1 AND closed = 0)",
+    "SELECT (SELECT count(*) FROM meta WHERE one = 1 AND schema = 3 AND last = 0 AND next = 1 AND moves = 0) + (SELECT count(*) FROM callers WHERE name = 'registrar' AND dept IS NULL AND rights = 1 AND closed = 0)",
     Some(2),
 );
 
@@ -26,7 +26,7 @@ fn a_new_vault_has_two_rows(rt: HostRuntime) -> Result<(), Fail> {
             Some(0),
         ),
         Step::Number(
-            "SELECT (SELECT count(*) FROM entries) + (SELECT count(*) FROM contents) + (SELECT count(*) FROM settings) + (SELECT count(*) FROM heads)",
+            "SELECT (SELECT count(*) FROM entries) + (SELECT count(*) FROM contents) + (SELECT count(*) FROM settings) + (SELECT count(*) FROM heads) + (SELECT count(*) FROM tenures)",
             Some(0),
         ),
     ];

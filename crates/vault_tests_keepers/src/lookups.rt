@@ -131,7 +131,7 @@ fn grow<S: Alter>(conn: &mut Connection<S>) -> Result<(), Error> {
 }
 
 const TEN_VERSIONS: &str =
-    "INSERT INTO departments VALUES ('records', 10, 10, 0, 185180, 0); INSERT INTO buckets VALUES ('docs', 'records', 0, NULL, NULL); INSERT INTO entries SELECT id + n, 'docs', 'k' || (id + n), 0, 1, x'00', 1600000000, 0, 'ada', NULL, NULL, NULL FROM (SELECT 1 AS id UNION ALL SELECT 2 UNION ALL SELECT 3 UNION ALL SELECT 4 UNION ALL SELECT 5), (SELECT 0 AS n UNION ALL SELECT 5); INSERT INTO settings SELECT id, 1, admitted, admitted_by, 0, NULL, 0, 0 FROM entries; INSERT INTO heads SELECT bucket, key, id, 1 FROM entries";
+    "INSERT INTO departments VALUES ('records', 10, 10, 0, 185180, 0, 0, 0); INSERT INTO buckets VALUES ('docs', 'records', 0, NULL, NULL); INSERT INTO entries SELECT id + n, 'docs', 'k' || (id + n), 0, 1, x'00', 1600000000, 0, 'ada', NULL, NULL, NULL FROM (SELECT 1 AS id UNION ALL SELECT 2 UNION ALL SELECT 3 UNION ALL SELECT 4 UNION ALL SELECT 5), (SELECT 0 AS n UNION ALL SELECT 5); INSERT INTO settings SELECT id, 1, admitted, admitted_by, 0, NULL, 0, 0 FROM entries; INSERT INTO heads SELECT bucket, key, id, 1 FROM entries";
 
 const MORE_ENTRIES: &str =
     "INSERT INTO entries SELECT id + ?1, bucket, 'k' || (id + ?1), marker, size, digest, admitted, by_rule, admitted_by, removed, cause, cause_by FROM entries";
