@@ -1,5 +1,5 @@
 -- A bucket that is added leaves the others in their place.
-use Rattle.std.proofs.Common.{◌≡◌, ℕ, List, [], ◌∷◌, Bool, true, false, Option, Some, None, refl, sym, ap, subst}
+use Rattle.std.proofs.Common.{◌≡◌, ◌∙◌, ℕ, List, [], ◌∷◌, Bool, true, false, Option, Some, None, refl, sym, ap, subst}
 use Rattle.std.specs.Prelude.{IsSome, find, map, option_map, if◌then◌else◌}
 use Rattle.std.specs.Str.{bytes_eq}
 use Rattle.std.specs.declared.cmp.Ordering.{Ordering}
@@ -9,7 +9,7 @@ use Rattle.vault_core_model.specs.declared.records.Bucket.{Bucket}
 use Rattle.vault_core_model.specs.declared.records.BucketConfig.{BucketConfig}
 use Rattle.vault_core_model.specs.Order.{placed, placed_by, bucket_cmp}
 use Rattle.vault_core_model.specs.Vault.{bucket_in, config_in}
-use Rattle.vault_core_model.specs.Change.{new_bucket, with_default, with_rules}
+use Rattle.vault_core_model.specs.Change.{new_bucket, with_default, with_department, with_rules}
 use Rattle.vault_lock.specs.declared.retention.Default.{Default}
 use Rattle.vault_rules.specs.declared.rule.Rule.{Rule}
 
@@ -65,6 +65,9 @@ dept_same f same (Some b) = ap (λ own. Some own) (same b)
 pub owner-mapped : (f : Bucket → Bucket) → ((b : Bucket) → (f b).name ≡ b.name) → ((b : Bucket) → (f b).config.dept ≡ b.config.dept) → (bs : List Bucket) (name : List ℕ) → option_map (λ (c : BucketConfig). c.dept) (config_in (map f bs) name) ≡ option_map (λ (c : BucketConfig). c.dept) (config_in bs name)
 owner-mapped f same_name same_dept bs name = rw (bucket_in-mapped f same_name bs name) (dept_same f same_dept (bucket_in bs name))
 
+pub name-with_department : (name dept : List ℕ) (b : Bucket) → (with_department name dept b).name ≡ b.name
+name-with_department name dept b = elim (bytes_eq b.name name) as (λ x. (if x then record b { config = record { dept = dept; default = b.config.default } } else b).name ≡ b.name) [ true ↦ refl | false ↦ refl ]
+
 pub name-with_default : (name : List ℕ) (default : Option Default) (b : Bucket) → (with_default name default b).name ≡ b.name
 name-with_default name default b = elim (bytes_eq b.name name) as (λ x. (if x then record b { config = record { dept = b.config.dept; default = default } } else b).name ≡ b.name) [ true ↦ refl | false ↦ refl ]
 
@@ -76,3 +79,36 @@ name-with_rules name rules b = elim (bytes_eq b.name name) as (λ x. (if x then 
 
 pub dept-with_rules : (name : List ℕ) (rules : Option (List Rule)) (b : Bucket) → (with_rules name rules b).config.dept ≡ b.config.dept
 dept-with_rules name rules b = elim (bytes_eq b.name name) as (λ x. (if x then record b { rules = rules } else b).config.dept ≡ b.config.dept) [ true ↦ refl | false ↦ refl ]
+
+-- ---- a bucket that becomes another department's
+
+-- the bucket that is found has the name that was asked for
+abbrev IsNamed : List ℕ → Option Bucket → Type 0
+IsNamed other None = Unit {0}
+IsNamed other (Some b) = bytes_eq b.name other ≡ true
+
+is_named : (bs : List Bucket) (other : List ℕ) → IsNamed other (bucket_in bs other)
+is_named [] other = tt
+is_named (b ∷ bs) other = by_name (bytes_eq b.name other) refl (is_named bs other)
+  where
+    by_name : (x : Bool) → bytes_eq b.name other ≡ x → IsNamed other (bucket_in bs other) → IsNamed other (if x then Some b else bucket_in bs other)
+    by_name true same later = same
+    by_name false differ later = later
+
+-- whose it is
+abbrev dept_in : Option Bucket → Option (List ℕ)
+dept_in o = option_map (λ (c : BucketConfig). c.dept) (option_map (λ (b : Bucket). b.config) o)
+
+moved_dept : (name dept other : List ℕ) (o : Option Bucket) → IsNamed other o → dept_in (option_map (with_department name dept) o) ≡ (if bytes_eq other name then option_map (λ (d : List ℕ). dept) (dept_in o) else dept_in o)
+moved_dept name dept other None named = elim (bytes_eq other name) as (λ (b : Bool). ◌≡◌ {A = Option (List ℕ)} None (if b then None else None)) [ true ↦ refl | false ↦ refl ]
+moved_dept name dept other (Some b) named =
+    let P : List ℕ → Type 0 = λ n. dept_in (Some (with_department name dept b)) ≡ (if bytes_eq n name then Some dept else Some b.config.dept) in
+    subst P ((bytes_eq-Decides b.name other).0 named) (
+    elim (bytes_eq b.name name) as (λ x. dept_in (Some (if x then record b { config = record { dept = dept; default = b.config.default } } else b)) ≡ (if x then Some dept else Some b.config.dept)) [ true ↦ refl | false ↦ refl ]
+    )
+
+-- the bucket of that name has the new department, and each other its own
+pub owner-moved : (bs : List Bucket) (name dept other : List ℕ) → option_map (λ (c : BucketConfig). c.dept) (config_in (map (with_department name dept) bs) other)
+    ≡ (if bytes_eq other name then option_map (λ (d : List ℕ). dept) (option_map (λ (c : BucketConfig). c.dept) (config_in bs other)) else option_map (λ (c : BucketConfig). c.dept) (config_in bs other))
+owner-moved bs name dept other =
+    ap dept_in (bucket_in-mapped (with_department name dept) (name-with_department name dept) bs other) ∙ moved_dept name dept other (bucket_in bs other) (is_named bs other)

@@ -53,6 +53,11 @@ items_sum dept (h ∷ hs) = omega (
   sum_by-cons (brought dept) h hs,
 )
 
+-- a sum over what is left of a list by a test, entry by entry
+pub kept_sum : (f : History → ℕ) (h : History) (rest : List History) (b : Bool) → sum_by f (if b then h ∷ rest else rest) ≡ (if b then f h else 0) + sum_by f rest
+kept_sum f h rest true = sum_by-cons f h rest
+kept_sum f h rest false = omega arith
+
 -- ---- the changes of histories
 
 -- histories that are altered, each with its size and its tenures

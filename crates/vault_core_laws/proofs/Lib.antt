@@ -2,8 +2,10 @@ pub mod Balance
 pub mod Bounds
 pub mod Buckets
 pub mod Exchange
+pub mod Holdings
 pub mod Items
 pub mod Lists
+pub mod Moves
 pub mod NameOrder
 pub mod Newest
 pub mod References

@@ -17,14 +17,14 @@ use Rattle.vault_core_model.specs.declared.records.Caller.{Caller}
 use Rattle.vault_core_model.specs.declared.records.Entry.{Entry}
 use Rattle.vault_core_model.specs.declared.records.Note.{Note}
 use Rattle.vault_core_model.specs.declared.change.Change.{Change}
-use Rattle.vault_core_model.specs.declared.change.Change.TheVariants.{AddDept, AddCaller, CloseCaller, AddBucket, SetDefault, SetRules, Admit, AddSetting, Remove}
+use Rattle.vault_core_model.specs.declared.change.Change.TheVariants.{AddDept, AddCaller, CloseCaller, AddBucket, MoveBucket, SetDefault, SetRules, Admit, AddSetting, Remove}
 use Rattle.vault_core_model.specs.Order.{IsAscending, placed, placed_by, placed_if_given, name_cmp, caller_cmp, bucket_cmp, note_cmp}
 use Rattle.vault_core_model.specs.Vault.{Vault, has_department, caller_of, config_of, bucket_in}
-use Rattle.vault_core_model.specs.Change.{changed, new_bucket, closed_if, with_default, with_rules}
+use Rattle.vault_core_model.specs.Change.{changed, new_bucket, closed_if, with_default, with_department, with_rules}
 use Rattle.vault_core_model.specs.Sound.{IsInNameOrder}
 use Rattle.vault_core_model.specs.Allowed.{Allows, IsFirstNote}
 use Rattle.vault_core_laws.proofs.Lists.{All-placed, All-weaker}
-use Rattle.vault_core_laws.proofs.Buckets.{name-with_default, name-with_rules}
+use Rattle.vault_core_laws.proofs.Buckets.{name-with_default, name-with_department, name-with_rules}
 
 -- ---- in any order
 
@@ -179,6 +179,12 @@ ordered-changed v t (AddBucket name dept) in_order allowed = record {
   departments = in_order.departments;
   callers = in_order.callers;
   buckets = bucket-placed v name dept allowed.0 in_order.buckets;
+  notes = in_order.notes;
+}
+ordered-changed v t (MoveBucket name dept) in_order allowed = record {
+  departments = in_order.departments;
+  callers = in_order.callers;
+  buckets = buckets-mapped (with_department name dept) (name-with_department name dept) v.buckets in_order.buckets;
   notes = in_order.notes;
 }
 ordered-changed v t (SetDefault name default) in_order allowed = record {

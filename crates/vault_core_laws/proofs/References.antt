@@ -13,11 +13,11 @@ use Rattle.vault_core_model.specs.declared.records.Caller.{Caller}
 use Rattle.vault_core_model.specs.declared.records.Entry.{Entry}
 use Rattle.vault_core_model.specs.declared.records.Note.{Note}
 use Rattle.vault_core_model.specs.declared.change.Change.{Change}
-use Rattle.vault_core_model.specs.declared.change.Change.TheVariants.{AddDept, AddCaller, CloseCaller, AddBucket, SetDefault, SetRules, Admit, AddSetting, Remove}
+use Rattle.vault_core_model.specs.declared.change.Change.TheVariants.{AddDept, AddCaller, CloseCaller, AddBucket, MoveBucket, SetDefault, SetRules, Admit, AddSetting, Remove}
 use Rattle.vault_core_model.specs.Checks.{has_period}
 use Rattle.vault_core_model.specs.Order.{placed, placed_by, placed_if_given, name_cmp, caller_cmp, bucket_cmp, note_cmp}
 use Rattle.vault_core_model.specs.Vault.{Vault, has_department}
-use Rattle.vault_core_model.specs.Change.{changed, new_bucket, closed_if, with_default, with_rules}
+use Rattle.vault_core_model.specs.Change.{changed, new_bucket, closed_if, with_default, with_department, with_rules}
 use Rattle.vault_core_model.specs.Sound.{IsEmployed, IsOwned, HasPeriod, HasLine, Sound}
 use Rattle.vault_core_model.specs.Allowed.{Allows, IsFirstNote}
 use Rattle.vault_core_laws.proofs.Lists.{All-placed, All-weaker, All-map}
@@ -57,11 +57,16 @@ employed-changed v t (AddCaller c) sound allowed = All-placed (IsEmployed v) cal
 employed-changed v t (CloseCaller name) sound allowed =
     All-map (IsEmployed v) (IsEmployed v) (IsEmployed v) (closed_if name) (λ c employed same. employed-closed v name c employed) v.callers sound.employed sound.employed
 employed-changed v t (AddBucket name dept) sound allowed = sound.employed
+employed-changed v t (MoveBucket name dept) sound allowed = sound.employed
 employed-changed v t (SetDefault name default) sound allowed = sound.employed
 employed-changed v t (SetRules name rules) sound allowed = sound.employed
 employed-changed v t (Admit a) sound allowed = sound.employed
 employed-changed v t (AddSetting id s) sound allowed = sound.employed
 employed-changed v t (Remove id r) sound allowed = sound.employed
+
+owned-department : (v : Vault) (name dept : List ℕ) → IsTrue (has_department v dept) → (b : Bucket) → IsOwned v b → IsOwned v (with_department name dept b)
+owned-department v name dept known b owned =
+    elim (bytes_eq b.name name) as (λ x. IsOwned v (if x then record b { config = record { dept = dept; default = b.config.default } } else b)) [ true ↦ known | false ↦ owned ]
 
 owned-default : (v : Vault) (name : List ℕ) (default : Option Default) (b : Bucket) → IsOwned v b → IsOwned v (with_default name default b)
 owned-default v name default b owned =
@@ -77,6 +82,8 @@ owned-changed v t (AddDept name) sound allowed =
 owned-changed v t (AddCaller c) sound allowed = sound.owned
 owned-changed v t (CloseCaller name) sound allowed = sound.owned
 owned-changed v t (AddBucket name dept) sound allowed = All-placed (IsOwned v) bucket_cmp (new_bucket name dept) v.buckets allowed.1 sound.owned
+owned-changed v t (MoveBucket name dept) sound allowed =
+    All-map (IsOwned v) (IsOwned v) (IsOwned v) (with_department name dept) (λ b owned same. owned-department v name dept allowed.known b owned) v.buckets sound.owned sound.owned
 owned-changed v t (SetDefault name default) sound allowed =
     All-map (IsOwned v) (IsOwned v) (IsOwned v) (with_default name default) (λ b owned same. owned-default v name default b owned) v.buckets sound.owned sound.owned
 owned-changed v t (SetRules name rules) sound allowed =
@@ -86,6 +93,10 @@ owned-changed v t (AddSetting id s) sound allowed = sound.owned
 owned-changed v t (Remove id r) sound allowed = sound.owned
 
 -- ---- the periods of defaults
+
+period-department : (name dept : List ℕ) (b : Bucket) → HasPeriod b → HasPeriod (with_department name dept b)
+period-department name dept b has =
+    elim (bytes_eq b.name name) as (λ x. HasPeriod (if x then record b { config = record { dept = dept; default = b.config.default } } else b)) [ true ↦ has | false ↦ has ]
 
 period-default : (name : List ℕ) (default : Option Default) → IsTrue (has_period default) → (b : Bucket) → HasPeriod b → HasPeriod (with_default name default b)
 period-default name default given b has =
@@ -99,6 +110,8 @@ periods-changed v t (AddDept name) sound allowed = sound.periods
 periods-changed v t (AddCaller c) sound allowed = sound.periods
 periods-changed v t (CloseCaller name) sound allowed = sound.periods
 periods-changed v t (AddBucket name dept) sound allowed = All-placed HasPeriod bucket_cmp (new_bucket name dept) v.buckets refl sound.periods
+periods-changed v t (MoveBucket name dept) sound allowed =
+    All-map HasPeriod HasPeriod HasPeriod (with_department name dept) (λ b has same. period-department name dept b has) v.buckets sound.periods sound.periods
 periods-changed v t (SetDefault name default) sound allowed =
     All-map HasPeriod HasPeriod HasPeriod (with_default name default) (λ b has same. period-default name default allowed.1 b has) v.buckets sound.periods sound.periods
 periods-changed v t (SetRules name rules) sound allowed =
@@ -118,6 +131,7 @@ lines-changed v t (AddDept name) sound allowed = sound.lines
 lines-changed v t (AddCaller c) sound allowed = sound.lines
 lines-changed v t (CloseCaller name) sound allowed = sound.lines
 lines-changed v t (AddBucket name dept) sound allowed = sound.lines
+lines-changed v t (MoveBucket name dept) sound allowed = sound.lines
 lines-changed v t (SetDefault name default) sound allowed = sound.lines
 lines-changed v t (SetRules name rules) sound allowed = sound.lines
 lines-changed v t (Admit a) sound allowed = line-placed v a.history.entry a.note allowed.noted sound.lines

@@ -19,18 +19,21 @@ use Rattle.vault_core_model.specs.declared.records.History.{History}
 use Rattle.vault_core_model.specs.declared.records.Note.{Note}
 use Rattle.vault_core_model.specs.declared.records.Removal.{Removal}
 use Rattle.vault_core_model.specs.declared.records.Setting.{Setting}
+use Rattle.vault_core_model.specs.declared.records.Tenure.{Tenure}
 use Rattle.vault_core_model.specs.declared.change.Change.{Change}
-use Rattle.vault_core_model.specs.declared.change.Change.TheVariants.{AddDept, AddCaller, CloseCaller, AddBucket, SetDefault, SetRules, Admit, AddSetting, Remove}
+use Rattle.vault_core_model.specs.declared.change.Change.TheVariants.{AddDept, AddCaller, CloseCaller, AddBucket, MoveBucket, SetDefault, SetRules, Admit, AddSetting, Remove}
 use Rattle.vault_core_model.specs.Checks.{most_ids, most_settings}
+use Rattle.vault_core_model.specs.Places.{is_held_version_in}
 use Rattle.vault_core_model.specs.Order.{placed, placed_if_given, bucket_cmp, note_cmp}
-use Rattle.vault_core_model.specs.Vault.{Vault, has_department}
-use Rattle.vault_core_model.specs.Change.{changed, removed_by, removed_if, new_bucket, with_default, with_rules, with_setting}
+use Rattle.vault_core_model.specs.Vault.{Vault, config_of, has_department}
+use Rattle.vault_core_model.specs.Change.{changed, next_tenure, removed_by, removed_if, new_bucket, tenured_by, tenured_if, with_default, with_department, with_rules, with_setting}
 use Rattle.vault_core_model.specs.Sound.{AreIdsFrom, AreInOrder, IsInTime, LiesBetween, HasItsBytes, IsWhole, IsWholeAs, IsPlaced, IsNoted, NamesItsVersion, IsEmployed, IsOwned, HasPeriod, HasLine, HasRuleSet, IsInNameOrder, HasTenures, Sound}
 use Rattle.vault_core_model.specs.Allowed.{Allows, IsNextSetting, IsFirstNote}
 use Rattle.vault_core_model.specs.Totals.{admitted_bytes, received_bytes, items_of}
 use Rattle.vault_core_laws.proofs.Lists.{All-push, All-last, All-placed, All-weaker, All-both, All-map}
-use Rattle.vault_core_laws.proofs.Buckets.{config_in-placed, placed-mapped, owner-mapped, name-with_default, dept-with_default, name-with_rules, dept-with_rules}
+use Rattle.vault_core_laws.proofs.Buckets.{config_in-placed, placed-mapped, owner-mapped, name-with_default, name-with_department, dept-with_default, name-with_rules, dept-with_rules}
 use Rattle.vault_core_laws.proofs.Items.{brought, sizes-push, sizes-removed, sizes-setting, first_fits}
+use Rattle.vault_core_laws.proofs.Moves.{entry-tenured, tenured-moved, within-moved}
 use Rattle.vault_core_laws.proofs.NameOrder.{ordered-changed}
 use Rattle.vault_core_laws.proofs.Newest.{finds_itself}
 use Rattle.vault_core_laws.proofs.References.{department-stays, employed-changed, owned-changed, periods-changed, lines-changed}
@@ -150,13 +153,17 @@ untold-removed id r = record {
   digest = λ h. elim (eqb h.entry.id id) as (λ b. (if b then removed_by r h else h).entry.digest ≡ h.entry.digest) [ true ↦ refl | false ↦ refl ];
 }
 
-untold-setting : (id : ℕ) (s : Setting) → IsUntold (with_setting id s)
-untold-setting id s = record {
-  id = λ h. elim (eqb h.entry.id id) as (λ b. (if b then record h { settings = h.settings ++ s ∷ [] } else h).entry.id ≡ h.entry.id) [ true ↦ refl | false ↦ refl ];
-  bucket = λ h. elim (eqb h.entry.id id) as (λ b. (if b then record h { settings = h.settings ++ s ∷ [] } else h).entry.bucket ≡ h.entry.bucket) [ true ↦ refl | false ↦ refl ];
-  key = λ h. elim (eqb h.entry.id id) as (λ b. (if b then record h { settings = h.settings ++ s ∷ [] } else h).entry.key ≡ h.entry.key) [ true ↦ refl | false ↦ refl ];
-  size = λ h. elim (eqb h.entry.id id) as (λ b. (if b then record h { settings = h.settings ++ s ∷ [] } else h).entry.size ≡ h.entry.size) [ true ↦ refl | false ↦ refl ];
-  digest = λ h. elim (eqb h.entry.id id) as (λ b. (if b then record h { settings = h.settings ++ s ∷ [] } else h).entry.digest ≡ h.entry.digest) [ true ↦ refl | false ↦ refl ];
+-- an alteration of a history that leaves its entry
+abbrev KeepsEntries : (History → History) → Type 0
+KeepsEntries f = (h : History) → (f h).entry ≡ h.entry
+
+untold-kept : (f : History → History) → KeepsEntries f → IsUntold f
+untold-kept f same = record {
+  id = λ h. ap (λ (e : Entry). e.id) (same h);
+  bucket = λ h. ap (λ (e : Entry). e.bucket) (same h);
+  key = λ h. ap (λ (e : Entry). e.key) (same h);
+  size = λ h. ap (λ (e : Entry). e.size) (same h);
+  digest = λ h. ap (λ (e : Entry). e.digest) (same h);
 }
 
 -- the notes of a vault whose histories are so altered
@@ -235,27 +242,38 @@ buckets_set v t f same_name same_dept same_rules sound le recorded = record {
   notes = sound.notes;
 }
 
+-- ---- histories that are altered, each with its entry
+
+AreIdsFrom-kept : (f : History → History) → KeepsEntries f → (n : ℕ) (hs : List History) → AreIdsFrom n hs → AreIdsFrom n (map f hs)
+AreIdsFrom-kept f same n [] ids = tt
+AreIdsFrom-kept f same n (h ∷ hs) ids = (ap (λ (e : Entry). e.id) (same h) ∙ ids.0, AreIdsFrom-kept f same (n + 1) hs ids.1)
+
+AreInOrder-kept : (f : History → History) → KeepsEntries f → (from last : ℕ) (hs : List History) → AreInOrder from last hs → AreInOrder from last (map f hs)
+AreInOrder-kept f same from last [] order = order
+AreInOrder-kept f same from last (h ∷ hs) order =
+    subst (λ (e : Entry). (from ≤ e.admitted) × AreInOrder e.admitted last (map f hs)) (sym (same h)) (order.0, AreInOrder-kept f same h.entry.admitted last hs order.1)
+
+IsInTime-kept : (f : History → History) → KeepsEntries f → (t : ℕ) (hs : List History) → AllByRecursion (IsInTime t) hs → AllByRecursion (IsInTime t) (map f hs)
+IsInTime-kept f same t hs all =
+    All-map (IsInTime t) (IsInTime t) (IsInTime t) f (λ h in_time again. subst (λ (e : Entry). LiesBetween e.admitted t e.removal) (sym (same h)) in_time) hs all all
+
+IsPlaced-kept : (v : Vault) (f : History → History) → KeepsEntries f → (hs : List History) → AllByRecursion (IsPlaced v) hs → AllByRecursion (IsPlaced v) (map f hs)
+IsPlaced-kept v f same hs all =
+    All-map (IsPlaced v) (IsPlaced v) (IsPlaced v) f (λ h there again. subst (λ (e : Entry). IsSome (config_of v e.bucket)) (sym (same h)) there) hs all all
+
+-- ---- one tenure more
+
+IsWhole-tenured : (name : List ℕ) (x : Tenure) (h : History) → IsWhole h → IsWhole (tenured_if name x h)
+IsWhole-tenured name x h whole = elim (is_held_version_in name h.entry) as (λ b. IsWhole (if b then tenured_by x h else h)) [ true ↦ whole | false ↦ whole ]
+
+HasRuleSet-department : (name dept : List ℕ) (b : Bucket) → HasRuleSet b → HasRuleSet (with_department name dept b)
+HasRuleSet-department name dept b has =
+    elim (bytes_eq b.name name) as (λ x. HasRuleSet (if x then record b { config = record { dept = dept; default = b.config.default } } else b)) [ true ↦ has | false ↦ has ]
+
 -- ---- one setting more
 
-AreIdsFrom-setting : (id : ℕ) (s : Setting) (n : ℕ) (hs : List History) → AreIdsFrom n hs → AreIdsFrom n (map (with_setting id s) hs)
-AreIdsFrom-setting id s n [] ids = tt
-AreIdsFrom-setting id s n (h ∷ hs) ids =
-    elim (eqb h.entry.id id) as (λ b. AreIdsFrom n ((if b then record h { settings = h.settings ++ s ∷ [] } else h) ∷ map (with_setting id s) hs))
-    [ true ↦ (ids.0, AreIdsFrom-setting id s (n + 1) hs ids.1) | false ↦ (ids.0, AreIdsFrom-setting id s (n + 1) hs ids.1) ]
-
-AreInOrder-setting : (id : ℕ) (s : Setting) (from last : ℕ) (hs : List History) → AreInOrder from last hs → AreInOrder from last (map (with_setting id s) hs)
-AreInOrder-setting id s from last [] order = order
-AreInOrder-setting id s from last (h ∷ hs) order =
-    elim (eqb h.entry.id id) as (λ b. AreInOrder from last ((if b then record h { settings = h.settings ++ s ∷ [] } else h) ∷ map (with_setting id s) hs))
-    [ true ↦ (order.0, AreInOrder-setting id s h.entry.admitted last hs order.1) | false ↦ (order.0, AreInOrder-setting id s h.entry.admitted last hs order.1) ]
-
-IsInTime-setting : (t id : ℕ) (s : Setting) (h : History) → IsInTime t h → IsInTime t (with_setting id s h)
-IsInTime-setting t id s h in_time =
-    elim (eqb h.entry.id id) as (λ b. IsInTime t (if b then record h { settings = h.settings ++ s ∷ [] } else h)) [ true ↦ in_time | false ↦ in_time ]
-
-IsPlaced-setting : (v : Vault) (id : ℕ) (s : Setting) (h : History) → IsPlaced v h → IsPlaced v (with_setting id s h)
-IsPlaced-setting v id s h placed =
-    elim (eqb h.entry.id id) as (λ b. IsPlaced v (if b then record h { settings = h.settings ++ s ∷ [] } else h)) [ true ↦ placed | false ↦ placed ]
+entry-setting : (id : ℕ) (s : Setting) (h : History) → (with_setting id s h).entry ≡ h.entry
+entry-setting id s h = elim (eqb h.entry.id id) as (λ b. (if b then record h { settings = h.settings ++ s ∷ [] } else h).entry ≡ h.entry) [ true ↦ refl | false ↦ refl ]
 
 setting_count : (ss : List Setting) → count_by (last_setting ss) ≡ length ss
 setting_count [] = refl
@@ -350,12 +368,12 @@ Sound-changed v t (SetRules name rules) sound le allowed = buckets_set v t (with
 Sound-changed v t (AddSetting id s) sound le allowed =
     let recorded = recorded-changed v t (AddSetting id s) sound allowed in
     let tenured = all_tenured-later v (changed v t (AddSetting id s)) (later v t (changed v t (AddSetting id s)) le refl refl (λ dept there. there)) (λ bucket. refl) v.histories sound.tenured in record {
-      ids = AreIdsFrom-setting id s 1 v.histories sound.ids;
+      ids = AreIdsFrom-kept (with_setting id s) (entry-setting id s) 1 v.histories sound.ids;
       enough_ids = rw (length-map v.histories (with_setting id s)) sound.enough_ids;
-      order = AreInOrder-setting id s 0 t v.histories (AreInOrder-later 0 v.last t v.histories le sound.order);
-      in_time = All-map (IsInTime t) (IsInTime t) (IsInTime t) (with_setting id s) (λ h in_time same. IsInTime-setting t id s h in_time) v.histories (IsInTime-later v.last t v.histories le sound.in_time) (IsInTime-later v.last t v.histories le sound.in_time);
+      order = AreInOrder-kept (with_setting id s) (entry-setting id s) 0 t v.histories (AreInOrder-later 0 v.last t v.histories le sound.order);
+      in_time = IsInTime-kept (with_setting id s) (entry-setting id s) t v.histories (IsInTime-later v.last t v.histories le sound.in_time);
       whole = All-map (λ y. find (λ h. h.entry.id == y.entry.id) v.histories ≡ Some y) IsWhole IsWhole (with_setting id s) (λ h found whole. IsWhole-setting v t id s h allowed found whole) v.histories (finds_itself 1 v.histories sound.ids) sound.whole;
-      placed = All-map (IsPlaced v) (IsPlaced v) (IsPlaced v) (with_setting id s) (λ h placed same. IsPlaced-setting v id s h placed) v.histories sound.placed sound.placed;
+      placed = IsPlaced-kept v (with_setting id s) (entry-setting id s) v.histories sound.placed;
       within = λ dept. within_more v (changed v t (AddSetting id s)) dept 0 (omega (arith, sizes-setting dept id s v.histories)) (omega (arith, sound.within dept));
       tenured = All-map (HasTenures (changed v t (AddSetting id s))) (HasTenures (changed v t (AddSetting id s))) (HasTenures (changed v t (AddSetting id s))) (with_setting id s) (λ h has same. tenured-setting (changed v t (AddSetting id s)) id s h has) v.histories tenured tenured;
       enough_moves = sound.enough_moves;
@@ -365,7 +383,7 @@ Sound-changed v t (AddSetting id s) sound le allowed =
       periods = recorded.periods;
       rule_sets = sound.rule_sets;
       lines = recorded.lines;
-      notes = notes_mapped (with_setting id s) (untold-setting id s) v.histories v.notes sound.notes;
+      notes = notes_mapped (with_setting id s) (untold-kept (with_setting id s) (entry-setting id s)) v.histories v.notes sound.notes;
     }
 Sound-changed v t (AddBucket name dept) sound le allowed =
     let recorded = recorded-changed v t (AddBucket name dept) sound allowed in
@@ -386,6 +404,29 @@ Sound-changed v t (AddBucket name dept) sound le allowed =
       rule_sets = All-placed HasRuleSet bucket_cmp (new_bucket name dept) v.buckets refl sound.rule_sets;
       lines = recorded.lines;
       notes = sound.notes;
+    }
+Sound-changed v t (MoveBucket name dept) sound le allowed =
+    let w = changed v t (MoveBucket name dept) in
+    let more = tenured_if name (next_tenure v t dept) in
+    let same : KeepsEntries more = entry-tenured name (next_tenure v t dept) in
+    let there = All-weaker (IsPlaced v) (IsPlaced w) (λ h there. placed-mapped (with_department name dept) (name-with_department name dept) v.buckets h.entry.bucket there) v.histories sound.placed in
+    let recorded = recorded-changed v t (MoveBucket name dept) sound allowed in record {
+      ids = AreIdsFrom-kept more same 1 v.histories sound.ids;
+      enough_ids = rw (length-map v.histories more) sound.enough_ids;
+      order = AreInOrder-kept more same 0 t v.histories (AreInOrder-later 0 v.last t v.histories le sound.order);
+      in_time = IsInTime-kept more same t v.histories (IsInTime-later v.last t v.histories le sound.in_time);
+      whole = All-map IsWhole IsWhole IsWhole more (λ h whole again. IsWhole-tenured name (next_tenure v t dept) h whole) v.histories sound.whole sound.whole;
+      placed = IsPlaced-kept w more same v.histories there;
+      within = within-moved v t name dept sound allowed;
+      tenured = tenured-moved v t name dept sound le allowed;
+      enough_moves = omega (arith, allowed.left);
+      ordered = recorded.ordered;
+      employed = recorded.employed;
+      owned = recorded.owned;
+      periods = recorded.periods;
+      rule_sets = All-map HasRuleSet HasRuleSet HasRuleSet (with_department name dept) (λ b has again. HasRuleSet-department name dept b has) v.buckets sound.rule_sets sound.rule_sets;
+      lines = recorded.lines;
+      notes = notes_mapped more (untold-kept more same) v.histories v.notes sound.notes;
     }
 Sound-changed v t (Admit a) sound le allowed =
     let recorded = recorded-changed v t (Admit a) sound allowed in record {

@@ -50,12 +50,12 @@ pub record IsLater (v w : Vault) : Type 0 where
 abbrev pub owner_of : Vault → List ℕ → Option (List ℕ)
 owner_of v name = option_map (λ c. c.dept) (config_of v name)
 
-tenures-later : (v w : Vault) → IsLater v w → (e : Entry) (ts : List Tenure) → AreTenures v e ts → AreTenures w e ts
+pub tenures-later : (v w : Vault) → IsLater v w → (e : Entry) (ts : List Tenure) → AreTenures v e ts → AreTenures w e ts
 tenures-later v w later e [] are = are
 tenures-later v w later e (t ∷ ts) are =
     (are.0, are.1, follow_later v.moves w.moves (end_of v.last e.removal) (end_of w.last e.removal) t ts later.moves (end-later v.last w.last e.removal later.last) are.2)
 
-known-later : (v w : Vault) → IsLater v w → (ts : List Tenure) → AllByRecursion (λ t. IsTrue (has_department v t.dept)) ts → AllByRecursion (λ t. IsTrue (has_department w t.dept)) ts
+pub known-later : (v w : Vault) → IsLater v w → (ts : List Tenure) → AllByRecursion (λ t. IsTrue (has_department v t.dept)) ts → AllByRecursion (λ t. IsTrue (has_department w t.dept)) ts
 known-later v w later ts all = All-weaker (λ t. IsTrue (has_department v t.dept)) (λ t. IsTrue (has_department w t.dept)) (λ t there. later.known t.dept there) ts all
 
 with_bucket-later : (v w : Vault) (r : Option Removal) (h : History) → owner_of w h.entry.bucket ≡ owner_of v h.entry.bucket → IsWithBucket v r h → IsWithBucket w r h

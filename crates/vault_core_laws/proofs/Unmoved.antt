@@ -7,7 +7,7 @@ use Rattle.std.proofs.lemmas.List.Sums.{sum_by-append}
 use Rattle.vault_base.specs.Days.{day}
 use Rattle.vault_tally.specs.Row.{Item, handed_size, if_held, received_size}
 use Rattle.vault_core_model.specs.declared.change.Change.{Change}
-use Rattle.vault_core_model.specs.declared.change.Change.TheVariants.{AddDept, AddCaller, CloseCaller, AddBucket, SetDefault, SetRules, Admit, AddSetting, Remove}
+use Rattle.vault_core_model.specs.declared.change.Change.TheVariants.{AddDept, AddCaller, CloseCaller, AddBucket, MoveBucket, SetDefault, SetRules, Admit, AddSetting, Remove}
 use Rattle.vault_core_model.specs.declared.records.History.{History}
 use Rattle.vault_core_model.specs.declared.records.Removal.{Removal}
 use Rattle.vault_core_model.specs.declared.records.Tenure.{Tenure}
@@ -59,14 +59,15 @@ none_handed v dept = none_of v dept handed_size (λ size e from. last_stays e si
 pub all_stays : (v : Vault) (dept : List ℕ) → Sound v → v.moves ≡ 0 → admitted_bytes v dept ≡ held_bytes v dept + removed_bytes v dept
 all_stays v dept sound unmoved = omega (arith, one_place v dept, none_received v dept sound unmoved, none_handed v dept sound unmoved)
 
--- no change moves anything
-pub moves-changed : (v : Vault) (t : ℕ) (c : Change) → (changed v t c).moves ≡ v.moves
-moves-changed v t (AddDept name) = refl
-moves-changed v t (AddCaller c) = refl
-moves-changed v t (CloseCaller name) = refl
-moves-changed v t (AddBucket name dept) = refl
-moves-changed v t (SetDefault name default) = refl
-moves-changed v t (SetRules name rules) = refl
-moves-changed v t (Admit a) = refl
-moves-changed v t (AddSetting id s) = refl
-moves-changed v t (Remove id r) = refl
+-- no change but a bucket's move counts as one
+pub moves-changed : (v : Vault) (t : ℕ) (c : Change) → ((name dept : List ℕ) → c ≡ MoveBucket name dept → ⊥) → (changed v t c).moves ≡ v.moves
+moves-changed v t (AddDept name) other = refl
+moves-changed v t (AddCaller c) other = refl
+moves-changed v t (CloseCaller name) other = refl
+moves-changed v t (AddBucket name dept) other = refl
+moves-changed v t (MoveBucket name dept) other = absurd (other name dept refl)
+moves-changed v t (SetDefault name default) other = refl
+moves-changed v t (SetRules name rules) other = refl
+moves-changed v t (Admit a) other = refl
+moves-changed v t (AddSetting id s) other = refl
+moves-changed v t (Remove id r) other = refl

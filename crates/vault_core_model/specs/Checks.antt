@@ -1,5 +1,5 @@
--- The checks that commands share, in their order: the clock, the caller, the bucket, its department, the right, the arguments, the entry, the lock, the quota, the ids.
-use Rattle.std.specs.Prelude.{ℕ, ◌+◌, Bool, true, false, ◌||◌, nat_lt, nat_le, List, length, Option, Some, None, Result, Ok, Err, if◌then◌else◌, ⊤, unwrap_or}
+-- The checks that commands share, in their order: the clock, the caller, the bucket, its department, the right, the arguments, the entry, the lock, the quota, the ids and numbers.
+use Rattle.std.specs.Prelude.{ℕ, ◌+◌, Bool, true, false, not, ◌||◌, nat_lt, nat_le, List, length, Option, Some, None, Result, Ok, Err, if◌then◌else◌, ⊤, unwrap_or}
 use Rattle.std.specs.Str.{bytes_eq}
 use Rattle.vault_base.specs.declared.refusal.Refusal.{Refusal}
 use Rattle.vault_base.specs.declared.refusal.Refusal.TheVariants.{ClockBack, AccessDenied, NoSuchBucket, NoSuchKey, NoSuchVersion, MethodNotAllowed, InvalidArgument, RetentionOutOfRange, EntityTooLarge, QuotaExceeded, VaultFull}
@@ -116,6 +116,12 @@ allowed_default d = check (has_period d) InvalidArgument
 abbrev pub known_department : Vault → List ℕ → Result ⊤ Refusal
 known_department v dept = check (has_department v dept) InvalidArgument
 
+-- a department that is there, and isn't the bucket's own
+abbrev pub other_department : Vault → BucketConfig → List ℕ → Result ⊤ Refusal
+other_department v b dept = do
+  _ ← known_department v dept
+  check (not (bytes_eq b.dept dept)) InvalidArgument
+
 abbrev pub known_department_if_given : Vault → Option (List ℕ) → Result ⊤ Refusal
 known_department_if_given v None = Ok tt
 known_department_if_given v (Some dept) = known_department v dept
@@ -169,7 +175,7 @@ permitted (Err d) = Err (refusal_of d)
 abbrev pub lock_at_admission : BucketConfig → Option Retention → Option Bool → ℕ → Result Lock Refusal
 lock_at_admission b retention hold t = found (first_lock b.default retention (unwrap_or hold false) t) RetentionOutOfRange
 
--- ---- the quota and the ids
+-- ---- the quota, the ids and the numbers
 
 abbrev pub within_quota : Vault → List ℕ → ℕ → Result ⊤ Refusal
 within_quota v dept size = check (nat_le (admitted_bytes v dept + received_bytes v dept + size) quota) QuotaExceeded
@@ -185,6 +191,10 @@ free_id v = if nat_le (next_id v) most_ids then Ok (next_id v) else Err VaultFul
 -- the moves of buckets at most
 abbrev pub most_moves : ℕ
 most_moves = 1000000000
+
+-- one move more may be made
+abbrev pub free_move : Vault → Result ⊤ Refusal
+free_move v = check (nat_lt v.moves most_moves) VaultFull
 
 -- the settings of one version at most
 abbrev pub most_settings : ℕ

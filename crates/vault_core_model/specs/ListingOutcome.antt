@@ -14,7 +14,7 @@ use Rattle.vault_core_model.specs.declared.reply.Answer.TheVariants as answer
 use Rattle.vault_core_model.specs.declared.reply.Listed.{Listed}
 use Rattle.vault_core_model.specs.Vault.{Vault}
 use Rattle.vault_core_model.specs.Places.{is_held, held_at, is_current, is_behind, keys_of}
-use Rattle.vault_core_model.specs.Reads.{entry_of}
+use Rattle.vault_core_model.specs.Reads.{entry_of, tenures_of}
 use Rattle.vault_core_model.specs.Checks.{◌>>=◌, check, access}
 
 -- ---- the listing
@@ -71,10 +71,10 @@ entry_in bucket (Some e) = if bytes_eq e.bucket bucket then Ok e else Err NoSuch
 abbrev pub is_certifiable : Entry → Bool
 is_certifiable e = not e.marker && not (is_held e)
 
--- the removed version that a certificate is of
+-- the removed version that a certificate is of, and its tenures
 abbrev pub certificate : Vault → ℕ → List ℕ → Certificate → Result (Answer × Vault) Refusal
 certificate v t who c = do
   _ ← access v t who c.bucket right.Report
   e ← entry_in c.bucket (entry_of v c.id)
   _ ← check (is_certifiable e) MethodNotAllowed
-  Ok (answer.Certificate e, v)
+  Ok (answer.Certificate e (tenures_of v c.id), v)

@@ -1,5 +1,5 @@
 -- Which entries are held, which are current, and which keys have one.
-use Rattle.std.specs.Prelude.{ℕ, ◌&&◌, ◌||◌, ◌==◌, Bool, nat_lt, List, [], ◌∷◌, length, map, filter, find, Option, is_none}
+use Rattle.std.specs.Prelude.{ℕ, ◌&&◌, ◌||◌, ◌==◌, Bool, nat_lt, List, [], ◌∷◌, length, map, filter, find, Option, is_none, not}
 use Rattle.std.specs.Cmp.Lexicographic.{slice_cmp}
 use Rattle.std.specs.Ordering.{nat_cmp, is_gt}
 use Rattle.std.specs.Str.{bytes_eq}
@@ -56,6 +56,10 @@ key_set (k ∷ ks) = with_key k (key_set ks)
 -- held in that bucket
 abbrev pub is_held_in : List ℕ → Entry → Bool
 is_held_in bucket e = bytes_eq e.bucket bucket && is_held e
+
+-- a held content version in that bucket
+abbrev pub is_held_version_in : List ℕ → Entry → Bool
+is_held_version_in bucket e = not e.marker && is_held_in bucket e
 
 -- the keys of a bucket that have a held entry, by their bytes
 abbrev pub keys_of : Vault → List ℕ → List (List ℕ)

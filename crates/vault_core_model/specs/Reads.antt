@@ -1,5 +1,5 @@
 -- What a keeper reads of a vault.
-use Rattle.std.specs.Prelude.{ℕ, List, [], ◌∷◌, length, map, filter, take, Option, Some, None, option_map, option_and_then, false, not}
+use Rattle.std.specs.Prelude.{ℕ, List, [], ◌∷◌, length, map, filter, take, Option, Some, None, option_map, option_and_then, unwrap_or, false, not}
 use Rattle.vault_lock.specs.declared.lock.Lock.{Lock}
 use Rattle.vault_rules.specs.declared.plan.Held.{Held}
 use Rattle.vault_core_model.specs.declared.records.Entry.{Entry}
@@ -7,6 +7,7 @@ use Rattle.vault_core_model.specs.declared.records.Head.{Head}
 use Rattle.vault_core_model.specs.declared.records.History.{History}
 use Rattle.vault_core_model.specs.declared.records.LastSetting.{LastSetting}
 use Rattle.vault_core_model.specs.declared.records.Setting.{Setting}
+use Rattle.vault_core_model.specs.declared.records.Tenure.{Tenure}
 use Rattle.vault_core_model.specs.Vault.{Vault, history_of, last_lock}
 use Rattle.vault_core_model.specs.Places.{held_at, is_held, is_behind, keys_of}
 
@@ -35,6 +36,10 @@ lock_of v id = lock_by (setting_of v id)
 abbrev pub count_by : Option LastSetting → ℕ
 count_by None = 0
 count_by (Some s) = s.count
+
+-- the tenures of the entry of that id; a marker has none
+abbrev pub tenures_of : Vault → ℕ → List Tenure
+tenures_of v id = unwrap_or (option_map (λ h. h.tenures) (history_of v id)) []
 
 -- the bytes of a held version
 abbrev pub content_of : Vault → ℕ → Option (List ℕ)

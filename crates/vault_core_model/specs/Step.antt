@@ -35,6 +35,7 @@ Step v t who (command.AddDept c) reply v' = Answers (records.add_dept v t who c)
 Step v t who (command.AddCaller c) reply v' = Answers (records.add_caller v t who c) v reply v'
 Step v t who (command.CloseCaller c) reply v' = Answers (records.close_caller v t who c) v reply v'
 Step v t who (command.AddBucket c) reply v' = Answers (records.add_bucket v t who c) v reply v'
+Step v t who (command.MoveBucket c) reply v' = Answers (records.move_bucket v t who c) v reply v'
 Step v t who (command.SetDefault c) reply v' = Answers (records.set_default v t who c) v reply v'
 Step v t who (command.GetDefault c) reply v' = Answers (records.get_default v t who c) v reply v'
 Step v t who (command.SetRules c) reply v' = IsTrue (is_rule_set c.rules) × Answers (records.set_rules v t who c) v reply v'

@@ -7,6 +7,7 @@ use Rattle.vault_tally.specs.declared.row.Row.{Row}
 use Rattle.vault_core_model.specs.declared.records.History.{History}
 use Rattle.vault_core_model.specs.declared.records.Removal.{Removal}
 use Rattle.vault_core_model.specs.declared.records.Tenure.{Tenure}
+use Rattle.vault_core_model.specs.Places.{is_held_version_in}
 use Rattle.vault_core_model.specs.Vault.{Vault}
 
 -- what counts of a tenure, and whose it is
@@ -79,3 +80,23 @@ versions_of v = filter (λ h. not h.entry.marker) v.histories
 -- size times whole days held, up to the removal or to t, summed over the versions
 abbrev pub vault_byte_days : Vault → ℕ → ℕ
 vault_byte_days v t = sum_by (λ h. h.entry.size * (end_day (removal_day h.entry.removal) (day t) - day h.entry.admitted)) (versions_of v)
+
+-- ---- of a bucket
+
+-- the day from which a version's department has it: that of its last tenure
+abbrev pub last_day_from : List Tenure → ℕ
+last_day_from [] = 0
+last_day_from (t ∷ []) = day t.from
+last_day_from (t ∷ u ∷ us) = last_day_from (u ∷ us)
+
+-- the held content versions of a bucket
+abbrev pub held_versions_in : Vault → List ℕ → List History
+held_versions_in v bucket = filter (λ h. is_held_version_in bucket h.entry) v.histories
+
+-- the size of a bucket's held content
+abbrev pub bucket_bytes : Vault → List ℕ → ℕ
+bucket_bytes v bucket = sum_by (λ h. h.entry.size) (held_versions_in v bucket)
+
+-- each size times the day from which the department has it
+abbrev pub bucket_weight : Vault → List ℕ → ℕ
+bucket_weight v bucket = sum_by (λ h. h.entry.size * last_day_from h.tenures) (held_versions_in v bucket)

@@ -25,6 +25,7 @@ pub enum Change {
     AddCaller(Caller),
     CloseCaller(CallerName),
     AddBucket(BucketName, DeptName),
+    MoveBucket(BucketName, DeptName),
     SetDefault(BucketName, Option<Default>),
     SetRules(BucketName, Option<RuleSet>),
     Admit(Admission),

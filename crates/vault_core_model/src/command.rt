@@ -35,6 +35,13 @@ pub struct AddBucket {
     pub dept: DeptName,
 }
 
+/// A bucket that becomes another department's, with its held content.
+#[derive(Drop)]
+pub struct MoveBucket {
+    pub bucket: BucketName,
+    pub dept: DeptName,
+}
+
 /// The default retention that a bucket gets; none clears it.
 #[derive(Drop)]
 pub struct SetDefault {
@@ -193,6 +200,7 @@ pub enum Command {
     AddCaller(AddCaller),
     CloseCaller(CloseCaller),
     AddBucket(AddBucket),
+    MoveBucket(MoveBucket),
     SetDefault(SetDefault),
     GetDefault(GetDefault),
     SetRules(SetRules),

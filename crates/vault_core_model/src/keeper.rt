@@ -1,17 +1,17 @@
 //! What keeps a vault.
 ghost use Rattle.std.specs.Prelude.{◌≡◌, ◌≤◌, ◌<◌, ◌+◌, ℕ, List, length, IfOk, OnOk, OnErr, false};
 ghost use Rattle.vault_core_model.specs.Vault.{Vault, caller_of, config_of, has_department, next_id, note_of, rules_of};
-ghost use Rattle.vault_core_model.specs.Reads.{content_of, entries_of, entry_of, head_of, keys_after, removed_entries, setting_of};
+ghost use Rattle.vault_core_model.specs.Reads.{content_of, entries_of, entry_of, head_of, keys_after, removed_entries, setting_of, tenures_of};
 ghost use Rattle.vault_core_model.specs.Change.{changed};
 ghost use Rattle.vault_core_model.specs.Allowed.{Allows};
 ghost use Rattle.vault_core_model.specs.Sound.{Sound};
 ghost use Rattle.vault_core_model.specs.Halts.{is_device_given, Rose};
 ghost use Rattle.vault_core_model.specs.Handing.{Hands, Taking};
-ghost use Rattle.vault_core_model.specs.Totals.{IsRowFor};
+ghost use Rattle.vault_core_model.specs.Totals.{IsRowFor, bucket_bytes, bucket_weight};
 
 use crate::change::Change;
 use crate::halt::Fault;
-use crate::records::{BucketConfig, Caller, Entry, Head, LastSetting, Note};
+use crate::records::{BucketConfig, Caller, Entry, Head, LastSetting, Note, Tenures};
 use vault_base::content::Content;
 use vault_base::moment::Moment;
 use vault_base::name::{
@@ -182,6 +182,34 @@ pub trait Keeper {
     /// Hands on each removed entry by rising id: true after all of them, false where the sink refused.
     fn walk_removed<S: Sink>(&mut self, sink: &mut S) -> Result<bool, Fault>
         ensures value { is_honest self.new → Hands S.takes sink.old (removed_entries (vault self.old)) result sink.new }
+        ensures same { vault self.new ≡ vault self.old }
+        ensures honest { is_honest self.new → is_honest self.old }
+        ensures counted { count self.old ≤ count self.new }
+        ensures device { result ≡ Err Fault.Device → Rose (count self.old) (count self.new) }
+        ensures steady { is_device_given result ≡ false → count self.new ≡ count self.old };
+
+    /// How many moves of buckets were made.
+    fn moves(&mut self) -> Result<u32, Fault>
+        ensures value { is_honest self.new → IfOk result (λ made. made ≡ (vault self.old).moves) }
+        ensures same { vault self.new ≡ vault self.old }
+        ensures honest { is_honest self.new → is_honest self.old }
+        ensures counted { count self.old ≤ count self.new }
+        ensures device { result ≡ Err Fault.Device → Rose (count self.old) (count self.new) }
+        ensures steady { is_device_given result ≡ false → count self.new ≡ count self.old };
+
+    /// The tenures of an entry, oldest first; a marker has none.
+    fn tenures(&mut self, id: VersionId) -> Result<Tenures, Fault>
+        ensures value { is_honest self.new → IfOk result (λ found. found ≡ tenures_of (vault self.old) id) }
+        ensures same { vault self.new ≡ vault self.old }
+        ensures honest { is_honest self.new → is_honest self.old }
+        ensures counted { count self.old ≤ count self.new }
+        ensures device { result ≡ Err Fault.Device → Rose (count self.old) (count self.new) }
+        ensures steady { is_device_given result ≡ false → count self.new ≡ count self.old };
+
+    /// The bytes of a bucket's held content, and their weight: each byte times the day from which the
+    /// department has it.
+    fn bucket_held(&mut self, bucket: &BucketName) -> Result<(u64, u64), Fault>
+        ensures value { is_honest self.new → IfOk result (λ held. (held.0 ≡ bucket_bytes (vault self.old) bucket.now) × (held.1 ≡ bucket_weight (vault self.old) bucket.now)) }
         ensures same { vault self.new ≡ vault self.old }
         ensures honest { is_honest self.new → is_honest self.old }
         ensures counted { count self.old ≤ count self.new }

@@ -1,7 +1,7 @@
 //! What the vault answers.
 ghost use Rattle.std.specs.Prelude.{◌≡◌, [], ◌∷◌, ◌++◌, OnOk, OnErr};
 
-use crate::records::Entry;
+use crate::records::{Entry, Tenures};
 use std::alloc::{AllocError, Global};
 use std::marker::Model;
 use vault_base::content::Content;
@@ -102,11 +102,15 @@ pub struct Report {
     pub at: Moment,
     /// The bytes ever admitted.
     pub admitted: u64,
+    /// The bytes ever received with buckets.
+    pub received: u64,
     /// The bytes held.
     pub held: u64,
     /// The bytes removed.
     pub removed: u64,
-    /// Bytes times whole days held, of removed versions too.
+    /// The bytes handed over with buckets.
+    pub handed: u64,
+    /// Bytes times whole days that the department had them, of removed and handed over versions too.
     pub byte_days: u64,
 }
 
@@ -133,7 +137,10 @@ pub enum Answer {
     Hold(bool),
     Ran(Counts),
     Report(Report),
-    Certificate(Entry),
+    /// The removed version, and the departments that had it.
+    Certificate(Entry, Tenures),
+    /// The bytes of the held content that moved with its bucket.
+    Moved(u64),
     TakenIn(TakenIn),
 }
 

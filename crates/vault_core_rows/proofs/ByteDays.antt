@@ -16,7 +16,7 @@ next_day-script =
 next_day : replies_to start next_day-script ≡
     Done (answer.Admitted 1) ∷
     Done (answer.Removed (record { id = 1; marker = false; permit = permit.Free })) ∷
-    Done (answer.Report (record { dept = records; at = 1705363200; admitted = 100; held = 0; removed = 100; byte_days = 100 })) ∷ []
+    Done (answer.Report (record { dept = records; at = 1705363200; admitted = 100; received = 0; held = 0; removed = 100; handed = 0; byte_days = 100 })) ∷ []
 next_day = refl
 
 abbrev same_day-script : List Timed
@@ -28,7 +28,7 @@ same_day-script =
 same_day : replies_to start same_day-script ≡
     Done (answer.Admitted 1) ∷
     Done (answer.Removed (record { id = 1; marker = false; permit = permit.Free })) ∷
-    Done (answer.Report (record { dept = records; at = 1705363199; admitted = 100; held = 0; removed = 100; byte_days = 0 })) ∷ []
+    Done (answer.Report (record { dept = records; at = 1705363199; admitted = 100; received = 0; held = 0; removed = 100; handed = 0; byte_days = 0 })) ∷ []
 same_day = refl
 
 abbrev nothing_there-script : List Timed
@@ -36,5 +36,5 @@ nothing_there-script =
     by admin_name 1388534400 (report) ∷ []
 
 nothing_there : replies_to start nothing_there-script ≡
-    Done (answer.Report (record { dept = records; at = 1388534400; admitted = 0; held = 0; removed = 0; byte_days = 0 })) ∷ []
+    Done (answer.Report (record { dept = records; at = 1388534400; admitted = 0; received = 0; held = 0; removed = 0; handed = 0; byte_days = 0 })) ∷ []
 nothing_there = refl

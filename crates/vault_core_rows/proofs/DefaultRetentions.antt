@@ -33,6 +33,6 @@ by_the_calendar : replies_to start by_the_calendar-script ≡
     Done (answer.Retention (compliance 1709251200)) ∷
     Done answer.Nothing ∷
     Refused refusal.RetentionOutOfRange ∷
-    Done (answer.Report (record { dept = records; at = 251824464000; admitted = 3; held = 3; removed = 0; byte_days = 8684604 })) ∷ []
+    Done (answer.Report (record { dept = records; at = 251824464000; admitted = 3; received = 0; held = 3; removed = 0; handed = 0; byte_days = 8684604 })) ∷ []
 unfolding date_of
 by_the_calendar = refl

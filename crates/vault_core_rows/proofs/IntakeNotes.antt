@@ -32,6 +32,6 @@ lines : replies_to start lines-script ≡
     Refused refusal.InvalidArgument ∷
     Done (answer.Removed (record { id = 1; marker = false; permit = permit.Free })) ∷
     Done (answer.TakenIn (record { id = 1; again = true })) ∷
-    Done (answer.Report (record { dept = records; at = 1705314600; admitted = 2; held = 1; removed = 1; byte_days = 0 })) ∷ []
+    Done (answer.Report (record { dept = records; at = 1705314600; admitted = 2; received = 0; held = 1; removed = 1; handed = 0; byte_days = 0 })) ∷ []
 unfolding sha256 digest_bytes hash_after compress rounds schedule first_words
 lines = refl

@@ -1,3 +1,4 @@
+mod BucketMoves
 mod ByteDays
 mod ClockAndPuts
 mod ComplianceHolds

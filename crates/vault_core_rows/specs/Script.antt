@@ -90,6 +90,9 @@ certificate id = command.Certificate (record { bucket = docs; id = id })
 abbrev pub list_versions : List ℕ → Option ℕ → ℕ → Command
 list_versions after_key after_id most = command.ListVersions (record { bucket = docs; prefix = []; after_key = after_key; after_id = after_id; most = most })
 
+abbrev pub move_bucket : List ℕ → Command
+move_bucket dept = command.MoveBucket (record { bucket = docs; dept = dept })
+
 abbrev pub close_caller : List ℕ → Command
 close_caller name = command.CloseCaller (record { caller = name })
 

@@ -4,7 +4,7 @@ use Rattle.std.specs.Prelude.{find, option_map, if◌then◌else◌}
 use Rattle.std.specs.Str.{bytes_eq}
 use Rattle.std.proofs.lemmas.Slice.Eq.{bytes_eq-Decides}
 use Rattle.vault_core_model.specs.declared.change.Change.{Change}
-use Rattle.vault_core_model.specs.declared.change.Change.TheVariants.{AddDept, AddCaller, CloseCaller, AddBucket, SetDefault, SetRules, Admit, AddSetting, Remove}
+use Rattle.vault_core_model.specs.declared.change.Change.TheVariants.{AddDept, AddCaller, CloseCaller, AddBucket, MoveBucket, SetDefault, SetRules, Admit, AddSetting, Remove}
 use Rattle.vault_core_model.specs.declared.records.Caller.{Caller}
 use Rattle.vault_core_model.specs.Order.{placed, caller_cmp}
 use Rattle.vault_core_model.specs.Vault.{Vault}
@@ -65,6 +65,7 @@ callers_changed v t who (AddDept name) may = λ n c there. record { closed = c.c
 callers_changed v t who (AddCaller new) may = λ n c there. from_found (changed v t (AddCaller new)) n c (still_placed v.callers new n c may.allowed.0 there)
 callers_changed v t who (CloseCaller gone) may = λ n c there. from_found (changed v t (CloseCaller gone)) n c (still_closed v.callers gone n c there)
 callers_changed v t who (AddBucket name dept) may = λ n c there. record { closed = c.closed; there = there; for_good = λ e. e }
+callers_changed v t who (MoveBucket name dept) may = λ n c there. record { closed = c.closed; there = there; for_good = λ e. e }
 callers_changed v t who (SetDefault name default) may = λ n c there. record { closed = c.closed; there = there; for_good = λ e. e }
 callers_changed v t who (SetRules name rules) may = λ n c there. record { closed = c.closed; there = there; for_good = λ e. e }
 callers_changed v t who (Admit a) may = λ n c there. record { closed = c.closed; there = there; for_good = λ e. e }

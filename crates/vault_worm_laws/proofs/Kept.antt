@@ -6,14 +6,16 @@ use Rattle.std.proofs.lemmas.Bool.{eqb-true}
 use Rattle.vault_lock.specs.declared.lock.Lock.{Lock}
 use Rattle.vault_lock.specs.Lock.{guards}
 use Rattle.vault_core_model.specs.declared.change.Change.{Change}
-use Rattle.vault_core_model.specs.declared.change.Change.TheVariants.{AddDept, AddCaller, CloseCaller, AddBucket, SetDefault, SetRules, Admit, AddSetting, Remove}
+use Rattle.vault_core_model.specs.declared.change.Change.TheVariants.{AddDept, AddCaller, CloseCaller, AddBucket, MoveBucket, SetDefault, SetRules, Admit, AddSetting, Remove}
 use Rattle.vault_core_model.specs.declared.records.Entry.{Entry}
 use Rattle.vault_core_model.specs.declared.records.History.{History}
 use Rattle.vault_core_model.specs.declared.records.Removal.{Removal}
 use Rattle.vault_core_model.specs.declared.records.Setting.{Setting}
+use Rattle.vault_core_model.specs.declared.records.Tenure.{Tenure}
+use Rattle.vault_core_model.specs.Places.{is_held_version_in}
 use Rattle.vault_core_model.specs.Vault.{Vault, history_of, last_lock}
 use Rattle.vault_core_model.specs.Reads.{last_setting, lock_by, lock_of}
-use Rattle.vault_core_model.specs.Change.{changed, with_setting, removed_if, removed_by}
+use Rattle.vault_core_model.specs.Change.{changed, next_tenure, removed_by, removed_if, tenured_by, tenured_if, with_setting}
 use Rattle.vault_core_model.specs.Sound.{Sound}
 use Rattle.vault_core_model.specs.Allowed.{IsHeldId}
 use Rattle.vault_core_laws.proofs.Lists.{All-push, All-weaker, All-map}
@@ -114,6 +116,16 @@ removed_one v w t id r h keep le now held permitted own safe = by_id (eqb h.entr
     by_id true e = removed (by_own_id v id h own e)
     by_id false e = safe-on v w v.last t h.entry.removal h.settings keep le safe
 
+-- ---- a move
+
+-- a tenure more leaves the removal and the settings
+moved_one : (v w : Vault) (t : ℕ) (bucket : List ℕ) (tenure : Tenure) (h : History) → KeepsRights v w → v.last ≤ t → IsSafe v v.last h.entry.removal h.settings → IsSafe w t (tenured_if bucket tenure h).entry.removal (tenured_if bucket tenure h).settings
+moved_one v w t bucket tenure h keep le safe =
+    elim (is_held_version_in bucket h.entry) as (λ b. IsSafe w t (if b then tenured_by tenure h else h).entry.removal (if b then tenured_by tenure h else h).settings) [
+      | true ↦ safe-on v w v.last t h.entry.removal h.settings keep le safe
+      | false ↦ safe-on v w v.last t h.entry.removal h.settings keep le safe
+    ]
+
 -- ---- the changes
 
 pub Safe-changed : (v : Vault) (t : ℕ) (who : List ℕ) (c : Change) → Sound v → Safe v → MayMake v t who c → Safe (changed v t c)
@@ -123,6 +135,11 @@ Safe-changed v t who (AddCaller c) sound safe may =
 Safe-changed v t who (CloseCaller name) sound safe may =
     stay v (changed v t (CloseCaller name)) t v.histories (λ by m. rights-closed v.callers name by ∙ m) may.in_time safe
 Safe-changed v t who (AddBucket name dept) sound safe may = stay v (changed v t (AddBucket name dept)) t v.histories (λ by m. m) may.in_time safe
+Safe-changed v t who (MoveBucket name dept) sound safe may =
+    let w = changed v t (MoveBucket name dept) in
+    All-map (λ h. find (λ g. g.entry.id == h.entry.id) v.histories ≡ Some h) (λ h. IsSafe v v.last h.entry.removal h.settings) (λ h. IsSafe w t h.entry.removal h.settings) (tenured_if name (next_tenure v t dept))
+    (λ h own one. moved_one v w t name (next_tenure v t dept) h (λ by m. m) may.in_time one)
+    v.histories (finds_itself 1 v.histories sound.ids) safe
 Safe-changed v t who (SetDefault name default) sound safe may = stay v (changed v t (SetDefault name default)) t v.histories (λ by m. m) may.in_time safe
 Safe-changed v t who (SetRules name rules) sound safe may = stay v (changed v t (SetRules name rules)) t v.histories (λ by m. m) may.in_time safe
 Safe-changed v t who (Admit a) sound safe may =

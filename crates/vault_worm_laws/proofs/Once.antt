@@ -3,13 +3,15 @@ use Rattle.std.proofs.Common.{◌≡◌, ◌⊎◌, ℕ, List, [], ◌∷◌, �
 use Rattle.std.specs.Prelude.{find, ◌==◌, if◌then◌else◌}
 use Rattle.std.specs.List.{AllByRecursion}
 use Rattle.vault_core_model.specs.declared.change.Change.{Change}
-use Rattle.vault_core_model.specs.declared.change.Change.TheVariants.{AddDept, AddCaller, CloseCaller, AddBucket, SetDefault, SetRules, Admit, AddSetting, Remove}
+use Rattle.vault_core_model.specs.declared.change.Change.TheVariants.{AddDept, AddCaller, CloseCaller, AddBucket, MoveBucket, SetDefault, SetRules, Admit, AddSetting, Remove}
 use Rattle.vault_core_model.specs.declared.records.Entry.{Entry}
 use Rattle.vault_core_model.specs.declared.records.History.{History}
 use Rattle.vault_core_model.specs.declared.records.Removal.{Removal}
 use Rattle.vault_core_model.specs.declared.records.Setting.{Setting}
+use Rattle.vault_core_model.specs.declared.records.Tenure.{Tenure}
+use Rattle.vault_core_model.specs.Places.{is_held_version_in}
 use Rattle.vault_core_model.specs.Vault.{Vault}
-use Rattle.vault_core_model.specs.Change.{changed, with_setting, removed_if, removed_by}
+use Rattle.vault_core_model.specs.Change.{changed, next_tenure, removed_by, removed_if, tenured_by, tenured_if, with_setting}
 use Rattle.vault_core_model.specs.Sound.{Sound}
 use Rattle.vault_core_model.specs.Allowed.{IsHeldId}
 use Rattle.vault_core_laws.proofs.Newest.{finds_itself}
@@ -73,6 +75,13 @@ with_one_more id s h =
       | false ↦ continues_itself h
     ]
 
+with_tenure : (bucket : List ℕ) (t : Tenure) (h : History) → Continues h (tenured_if bucket t h)
+with_tenure bucket t h =
+    elim (is_held_version_in bucket h.entry) as (λ b. Continues h (if b then tenured_by t h else h)) [
+      | true ↦ record { entry = refl; removal = inr refl; content = λ held. refl; more = []; settings = sym (append-nil h.settings); further = t ∷ []; tenures = refl }
+      | false ↦ continues_itself h
+    ]
+
 removed_once : (v : Vault) (id : ℕ) (r : Removal) (h : History) → IsHeldId v id → find (λ g. g.entry.id == h.entry.id) v.histories ≡ Some h → Continues h (removed_if id r h)
 removed_once v id r h held own = by_id (eqb h.entry.id id) refl
   where
@@ -93,6 +102,8 @@ extends_changed v t who (AddDept name) sound may = extends_itself v.histories
 extends_changed v t who (AddCaller c) sound may = extends_itself v.histories
 extends_changed v t who (CloseCaller name) sound may = extends_itself v.histories
 extends_changed v t who (AddBucket name dept) sound may = extends_itself v.histories
+extends_changed v t who (MoveBucket name dept) sound may =
+    extends_map (λ h. find (λ g. g.entry.id == h.entry.id) v.histories ≡ Some h) (tenured_if name (next_tenure v t dept)) (λ h own. with_tenure name (next_tenure v t dept) h) v.histories (finds_itself 1 v.histories sound.ids)
 extends_changed v t who (SetDefault name default) sound may = extends_itself v.histories
 extends_changed v t who (SetRules name rules) sound may = extends_itself v.histories
 extends_changed v t who (Admit a) sound may = extends_push v.histories a.history

@@ -1,5 +1,5 @@
 -- What every permitted change keeps holds of every vault that is reached.
-use Rattle.std.proofs.Common.{◌≡◌, ◌∙◌, ℕ, List, [], ◌∷◌, sym, subst, lit≤, ◌++◌, refl}
+use Rattle.std.proofs.Common.{ℕ, List, [], ◌∷◌, sym, subst, lit≤, ◌++◌, refl}
 use Rattle.vault_core_model.specs.declared.change.Change.{Change}
 use Rattle.vault_core_model.specs.declared.command.Command.{Command}
 use Rattle.vault_core_model.specs.declared.command.Timed.{Timed}
@@ -8,10 +8,8 @@ use Rattle.vault_core_model.specs.Vault.{Vault, opening}
 use Rattle.vault_core_model.specs.Change.{changed}
 use Rattle.vault_core_model.specs.Sound.{Sound}
 use Rattle.vault_core_model.specs.Step.{Step, Run, Reached}
-use Rattle.vault_core_model.specs.Totals.{received_bytes, handed_bytes}
 use Rattle.vault_core_laws.proofs.Runs.{Run-push}
 use Rattle.vault_core_laws.proofs.Soundness.{Sound-changed}
-use Rattle.vault_core_laws.proofs.Unmoved.{none_received, none_handed, moves-changed}
 use Rattle.vault_worm_laws.specs.Callers.{KeepsCallers}
 use Rattle.vault_worm_laws.specs.Chains.{MayMake, Makes}
 use Rattle.vault_worm_laws.specs.Once.{Extends}
@@ -81,21 +79,6 @@ run-extends v w cs rs sound run =
 
 pub run-callers : (v w : Vault) (cs : List Timed) (rs : List Reply) → Sound v → Run v cs rs w → KeepsCallers v w
 run-callers v w cs rs sound run = (Run-keeps (KeepsCallers v) (Callers-changed v) v w cs rs run (sound, keeps_itself v)).1
-
--- ---- no bucket moves
-
-pub run-moves : (v w : Vault) (cs : List Timed) (rs : List Reply) → Sound v → Run v cs rs w → w.moves ≡ v.moves
-run-moves v w cs rs sound run =
-    (Run-keeps (λ u. u.moves ≡ v.moves) (λ u t who c s same may. moves-changed u t c ∙ same) v w cs rs run (sound, refl)).1
-
-pub reached-moves : (v : Vault) → Reached v → v.moves ≡ 0
-reached-moves v reached = run-moves opening v reached.0 reached.1 Sound-opening reached.2
-
-pub reached-stays : (v : Vault) (dept : List ℕ) → Reached v → (received_bytes v dept ≡ 0) × (handed_bytes v dept ≡ 0)
-reached-stays v dept reached =
-    let sound = reached-Sound v reached in
-    let unmoved = reached-moves v reached in
-    (none_received v dept sound unmoved, none_handed v dept sound unmoved)
 
 -- ---- one step more
 

@@ -28,6 +28,7 @@ Step-leads v v' t who (command.AddDept c) r sound step = answers-lead _ v v' t w
 Step-leads v v' t who (command.AddCaller c) r sound step = answers-lead _ v v' t who r (records.add_caller-changes v t who c) step
 Step-leads v v' t who (command.CloseCaller c) r sound step = answers-lead _ v v' t who r (records.close_caller-changes v t who c) step
 Step-leads v v' t who (command.AddBucket c) r sound step = answers-lead _ v v' t who r (records.add_bucket-changes v t who c) step
+Step-leads v v' t who (command.MoveBucket c) r sound step = answers-lead _ v v' t who r (records.move_bucket-changes v t who c) step
 Step-leads v v' t who (command.SetDefault c) r sound step = answers-lead _ v v' t who r (records.set_default-changes v t who c) step
 Step-leads v v' t who (command.GetDefault c) r sound step = answers-lead _ v v' t who r (records.get_default-changes v t who c) step
 Step-leads v v' t who (command.SetRules c) r sound step = answers-lead _ v v' t who r (records.set_rules-changes v t who c step.0) step.1

@@ -4,7 +4,7 @@ use Rattle.vault_lock.specs.declared.lock.Lock.{Lock}
 use Rattle.vault_lock.specs.declared.retention.Retention.{Retention}
 use Rattle.vault_lock.specs.Lock.{guards, KeepsRetention, LowersGovernance}
 use Rattle.vault_core_model.specs.declared.change.Change.{Change}
-use Rattle.vault_core_model.specs.declared.change.Change.TheVariants.{AddDept, AddCaller, CloseCaller, AddBucket, SetDefault, SetRules, Admit, AddSetting, Remove}
+use Rattle.vault_core_model.specs.declared.change.Change.TheVariants.{AddDept, AddCaller, CloseCaller, AddBucket, MoveBucket, SetDefault, SetRules, Admit, AddSetting, Remove}
 use Rattle.vault_core_model.specs.declared.records.Cause.{Cause}
 use Rattle.vault_core_model.specs.declared.records.Cause.TheVariants as cause
 use Rattle.vault_core_model.specs.declared.records.Setting.{Setting}
@@ -48,6 +48,7 @@ Permits v t who (AddDept name) = Unit {0}
 Permits v t who (AddCaller c) = Unit {0}
 Permits v t who (CloseCaller name) = Unit {0}
 Permits v t who (AddBucket name dept) = Unit {0}
+Permits v t who (MoveBucket name dept) = Unit {0}
 Permits v t who (SetDefault name default) = Unit {0}
 Permits v t who (SetRules name rules) = Unit {0}
 Permits v t who (Admit a) = ComesWith t who a.history.entry.marker a.history.settings

@@ -55,13 +55,6 @@ pub fn bytes_are_conserved()
         over_departments v (admitted_bytes v) ≡ all_stored_bytes v + over_departments v (removed_bytes v) }
 {}
 
-/// Of every vault that is reached, no bucket moved, and no department received bytes or handed any over.
-pub fn no_bucket_moves()
-    ensures moves { (v : Vault) → Reached v → v.moves ≡ 0 }
-    ensures bytes { (v : Vault) (dept : List ℕ) → Reached v →
-        (received_bytes v dept ≡ 0) × (handed_bytes v dept ≡ 0) }
-{}
-
 /// The sums by days of a department's row, and what a charge adds up of them, stay below 2^63: so they never
 /// come near what 64 bits hold. Days are in range, as every moment that can be read is.
 pub fn sums_stay_far_below()
