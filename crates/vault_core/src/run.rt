@@ -49,9 +49,6 @@ pub fn run<K: Keeper>(
         over_departments (K.vault keeper.new) (admitted_bytes (K.vault keeper.new)) ≡ all_stored_bytes (K.vault keeper.new) + over_departments (K.vault keeper.new) (removed_bytes (K.vault keeper.new)) }
     ensures days { K.is_honest keeper.new → Sound (K.vault keeper.old) → (t : ℕ) → (K.vault keeper.new).last ≤ t →
         over_departments (K.vault keeper.new) (λ dept. byte_days_at (K.vault keeper.new) dept t) ≡ vault_byte_days (K.vault keeper.new) t }
-    // No command moves a bucket yet: no department received bytes or handed any over.
-    ensures unmoved { K.is_honest keeper.new → Reached (K.vault keeper.old) → (dept : List ℕ) →
-        (received_bytes (K.vault keeper.new) dept ≡ 0) × (handed_bytes (K.vault keeper.new) dept ≡ 0) }
     // Lifecycle runs that were cut are the beginning of one run, and a last one that is done completes it.
     ensures begun { K.is_honest keeper.new → Sound (K.vault keeper.old) → IfOk result (λ replies. BeginRun (K.vault keeper.old) commands.now replies.items (K.vault keeper.new)) }
     ensures completed { K.is_honest keeper.new → Sound (K.vault keeper.old) → IfOk result (λ replies. CompleteRun (K.vault keeper.old) commands.now replies.items (K.vault keeper.new)) }

@@ -24,6 +24,7 @@ use vault_core_model::halt::{Fault, Halt};
 use vault_core_model::keeper::Keeper;
 use vault_core_model::reply::{Answer, Reply};
 use vault_core_records::config::{drop_rules, get_default, get_rules, set_default, set_rules};
+use vault_core_records::moves::move_bucket;
 use vault_core_records::records::{add_bucket, add_caller, add_dept, close_caller, report};
 use vault_core_runs::run::run_rules;
 use vault_core_steps::entries::{delete, delete_version, get, head};
@@ -78,6 +79,7 @@ fn carry_out<K: Keeper>(
         Command::AddCaller(command) => reply_to(add_caller(keeper, at, who, command)),
         Command::CloseCaller(command) => reply_to(close_caller(keeper, at, who, command)),
         Command::AddBucket(command) => reply_to(add_bucket(keeper, at, who, command)),
+        Command::MoveBucket(command) => reply_to(move_bucket(keeper, at, who, command)),
         Command::SetDefault(command) => reply_to(set_default(keeper, at, who, command)),
         Command::GetDefault(command) => reply_to(get_default(keeper, at, who, command)),
         Command::SetRules(command) => reply_to(set_rules(keeper, at, who, command)),

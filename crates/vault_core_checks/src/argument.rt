@@ -1,10 +1,11 @@
 //! The arguments of commands.
 ghost use Rattle.std.specs.Prelude.{◌≡◌, ◌≤◌, IsTrue, IfErr, OnOk, false, length};
+ghost use Rattle.std.specs.Str.{bytes_eq};
 ghost use Rattle.vault_core_model.specs.Halts.{Finds, is_device, is_device_refusal, Rose};
 ghost use Rattle.vault_lock.specs.Retention.{is_period};
 ghost use Rattle.vault_core_model.specs.Vault.{has_department};
 ghost use Rattle.vault_rules.specs.Rules.{passes_if_given};
-ghost use Rattle.vault_core_model.specs.Checks.{small_enough, ends_later_if_given, known_department, known_department_if_given, allowed_default, has_period};
+ghost use Rattle.vault_core_model.specs.Checks.{small_enough, ends_later_if_given, known_department, known_department_if_given, other_department, allowed_default, has_period};
 
 use vault_base::content::Content;
 use vault_base::moment::Moment;
@@ -12,6 +13,7 @@ use vault_base::name::DeptName;
 use vault_base::refusal::Refusal;
 use vault_core_model::halt::Halt;
 use vault_core_model::keeper::Keeper;
+use vault_core_model::records::BucketConfig;
 use vault_lock::retention::{Default, Period, Retention};
 
 /// The greatest content of one version, in bytes.
@@ -73,6 +75,28 @@ pub fn check_dept_if_given<K: Keeper>(keeper: &mut K, dept: &Option<DeptName>) -
         None => Ok(()),
         Some(dept) => check_dept(keeper, dept),
     }
+}
+
+/// The department is there, and isn't the bucket's own; else InvalidArgument.
+pub fn check_other<K: Keeper>(
+    keeper: &mut K,
+    bucket: &BucketConfig,
+    dept: &DeptName,
+) -> Result<(), Halt>
+    ensures found { K.is_honest keeper.new → Finds result (other_department (K.vault keeper.old) bucket.now dept.now) }
+    ensures there { K.is_honest keeper.new → OnOk result (IsTrue (has_department (K.vault keeper.old) dept.now)) }
+    ensures other { OnOk result (bytes_eq bucket.now.dept dept.now ≡ false) }
+    ensures same { K.vault keeper.new ≡ K.vault keeper.old }
+    ensures honest { K.is_honest keeper.new → K.is_honest keeper.old }
+    ensures counted { K.count keeper.old ≤ K.count keeper.new }
+    ensures device { IsTrue (is_device result) → Rose (K.count keeper.old) (K.count keeper.new) }
+    ensures steady { is_device result ≡ false → K.count keeper.new ≡ K.count keeper.old }
+{
+    check_dept(keeper, dept)?;
+    if bucket.dept == *dept {
+        return Err(Halt::Refused(Refusal::InvalidArgument));
+    }
+    Ok(())
 }
 
 /// A default's period, where there is a default, is in its range, 1 to 36,500 days or 1 to 100 years; else

@@ -1,10 +1,10 @@
-//! The quota of a department, and the ids of the vault.
+//! The quota of a department, and the numbers that the vault gives.
 ghost use Rattle.std.specs.Prelude.{◌≡◌, ◌≤◌, ◌+◌, IsTrue, IfOk, IfErr, OnOk, nat_lt, ◌<◌, false, Some, None, if◌then◌else◌};
 ghost use Rattle.vault_base.specs.Name.{is_version_id};
 ghost use Rattle.vault_core_model.specs.Halts.{Finds, is_device, is_device_refusal, Rose};
 ghost use Rattle.vault_core_model.specs.Vault.{next_id};
 ghost use Rattle.vault_core_model.specs.Totals.{admitted_bytes, received_bytes};
-ghost use Rattle.vault_core_model.specs.Checks.{check, within_quota, free_id, most_ids, most_settings};
+ghost use Rattle.vault_core_model.specs.Checks.{check, within_quota, free_id, free_move, most_ids, most_moves, most_settings};
 ghost use Rattle.vault_base.specs.declared.refusal.Refusal.TheVariants.{VaultFull};
 ghost use Rattle.vault_tally.specs.Row.{quota};
 
@@ -15,6 +15,9 @@ use vault_core_model::keeper::Keeper;
 
 /// The settings of one version at most.
 pub const MOST_SETTINGS: u64 = 1_000_000_000;
+
+/// The moves of buckets in one vault at most.
+pub const MOST_MOVES: u32 = 1_000_000_000;
 
 /// The department may admit or receive so many bytes more; else QuotaExceeded.
 pub fn check_quota<K: Keeper>(keeper: &mut K, dept: &DeptName, size: u64) -> Result<(), Halt>
@@ -59,6 +62,24 @@ fn id_of(number: u64) -> Option<VersionId>
     match u32::try_from(number) {
         Ok(number) => VersionId::new(number),
         Err(_) => None,
+    }
+}
+
+/// One bucket more may be moved; else VaultFull.
+pub fn check_moves<K: Keeper>(keeper: &mut K) -> Result<(), Halt>
+    ensures found { K.is_honest keeper.new → Finds result (free_move (K.vault keeper.old)) }
+    ensures left { K.is_honest keeper.new → OnOk result ((K.vault keeper.old).moves < most_moves) }
+    ensures same { K.vault keeper.new ≡ K.vault keeper.old }
+    ensures honest { K.is_honest keeper.new → K.is_honest keeper.old }
+    ensures counted { K.count keeper.old ≤ K.count keeper.new }
+    ensures device { IsTrue (is_device result) → Rose (K.count keeper.old) (K.count keeper.new) }
+    ensures steady { is_device result ≡ false → K.count keeper.new ≡ K.count keeper.old }
+{
+    let made = keeper.moves()?;
+    if made < MOST_MOVES {
+        Ok(())
+    } else {
+        Err(Halt::Refused(Refusal::VaultFull))
     }
 }
 

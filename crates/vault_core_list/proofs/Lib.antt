@@ -1,8 +1,11 @@
 pub mod ById
 pub mod Handings
 pub mod Heads
+pub mod HeldSums
 pub mod KeySets
 pub mod LastSettings
+pub mod LastTenures
+pub mod Longer
 pub mod Places
 pub mod Rows
 pub mod Shares

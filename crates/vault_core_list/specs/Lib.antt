@@ -1,1 +1,2 @@
+pub mod Moves
 pub mod Shares

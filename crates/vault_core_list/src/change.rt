@@ -1,15 +1,15 @@
 //! Changes of the list of histories.
 ghost use Rattle.std.specs.Prelude.{◌≡◌, ◌==◌, [], ◌∷◌, ◌++◌, map, position, IfOk, OnOk, OnErr};
-ghost use Rattle.vault_core_model.specs.Change.{closed_if, removed_if, with_default, with_rules, with_setting};
+ghost use Rattle.vault_core_model.specs.Change.{closed_if, removed_if, tenured_if, with_default, with_department, with_rules, with_setting};
 ghost use Rattle.vault_core_model.specs.Order.{note_cmp, placed_if_given};
 ghost use Rattle.vault_core_model.specs.Sound.{AreIdsFrom};
 
-use crate::place;
+use crate::{bucket, place};
 use std::alloc::{AllocError, Global};
-use vault_base::name::{BucketName, CallerName, VersionId};
+use vault_base::name::{BucketName, CallerName, DeptName, VersionId};
 use vault_core_model::change::Admission;
 use vault_core_model::records::{
-    Bucket, BucketConfig, Caller, History, Note, Removal, Setting, Settings,
+    Bucket, BucketConfig, Caller, History, Note, Removal, Setting, Settings, Tenure,
 };
 use vault_lock::retention::Default;
 use vault_rules::rule_set::RuleSet;
@@ -141,6 +141,65 @@ fn closed_if(caller: &Caller, name: &CallerName) -> Result<Caller, AllocError>
         rights: caller.rights,
         closed: caller.closed || caller.name == *name,
     })
+}
+
+/// The buckets, with the one of that name as that department's.
+fn with_department(
+    alloc: Global,
+    buckets: &[Bucket],
+    name: &BucketName,
+    dept: &DeptName,
+) -> Result<Vec<Bucket>, AllocError>
+    ensures { IfOk result (λ list. list.items ≡ map (with_department name.now dept.now) buckets.now) }
+{
+    let mut list = Vec::new(alloc);
+    for bucket in buckets {
+        list.push(with_department_if(bucket, name, dept)?)?;
+    }
+    Ok(list)
+}
+
+fn with_department_if(
+    bucket: &Bucket,
+    name: &BucketName,
+    dept: &DeptName,
+) -> Result<Bucket, AllocError>
+    ensures { IfOk result (λ found. found ≡ with_department name.now dept.now bucket.now) }
+{
+    let owner = if bucket.name == *name {
+        dept
+    } else {
+        &bucket.config.dept
+    };
+    Ok(Bucket {
+        name: bucket.name.clone()?,
+        config: BucketConfig {
+            dept: owner.clone()?,
+            default: bucket.config.default,
+        },
+        rules: bucket.rules.clone()?,
+    })
+}
+
+/// Gives the bucket to the department of that tenure, and each version that it holds the tenure: all or
+/// nothing.
+pub(crate) fn move_bucket(
+    alloc: Global,
+    buckets: &mut Vec<Bucket>,
+    histories: &mut Vec<History>,
+    name: &BucketName,
+    tenure: Tenure,
+) -> Result<(), AllocError>
+    ensures owned { OnOk result (buckets.new.items ≡ map (with_department name.now tenure.dept) buckets.old.items) }
+    ensures tenured { OnOk result (histories.new.items ≡ map (tenured_if name.now tenure) histories.old.items) }
+    ensures no_bucket { OnErr result (buckets.new.items ≡ buckets.old.items) }
+    ensures no_tenure { OnErr result (histories.new.items ≡ histories.old.items) }
+{
+    let mut longer = bucket::longer(alloc, histories, name, &tenure)?;
+    *buckets = with_department(alloc, buckets, name, &tenure.dept)?;
+    // Only what is there by now is put in, so nothing fails once the bucket is given.
+    bucket::put_in(histories, &mut longer);
+    Ok(())
 }
 
 /// The buckets, with that default at the one of that name.

@@ -1,5 +1,5 @@
 //! Records found by name or id, going over a whole list.
-ghost use Rattle.std.specs.Prelude.{◌≡◌, ◌==◌, ◌&&◌, IfOk, find, map, option_map, option_and_then, filter};
+ghost use Rattle.std.specs.Prelude.{◌≡◌, ◌==◌, ◌&&◌, [], IfOk, find, map, option_map, option_and_then, unwrap_or, filter};
 ghost use Rattle.std.specs.List.{list_any};
 ghost use Rattle.std.specs.Option.{option_copied};
 ghost use Rattle.std.specs.Str.{bytes_eq};
@@ -11,7 +11,7 @@ use std::alloc::{AllocError, Global};
 use vault_base::content::Content;
 use vault_base::name::{BatchName, BucketName, CallerName, DeptName, ObjectKey, VersionId};
 use vault_core_model::records::{
-    Bucket, BucketConfig, Caller, Entry, Head, History, LastSetting, Note, Settings,
+    Bucket, BucketConfig, Caller, Entry, Head, History, LastSetting, Note, Settings, Tenures,
 };
 use vault_lock::lock::Lock;
 use vault_rules::plan::Held;
@@ -121,6 +121,20 @@ pub(crate) fn content(histories: &[History], id: VersionId) -> Result<Option<Con
         return Ok(None);
     };
     history.content.clone()
+}
+
+/// The tenures of the entry of that id; none where no entry has it.
+pub(crate) fn tenures(
+    alloc: Global,
+    histories: &[History],
+    id: VersionId,
+) -> Result<Tenures, AllocError>
+    ensures { IfOk result (λ found. found ≡ unwrap_or (option_map (λ h. h.tenures) (find (λ h. h.entry.id == id) histories.now)) []) }
+{
+    let Some(history) = history(histories, id) else {
+        return Ok(Tenures::new(alloc));
+    };
+    history.tenures.clone()
 }
 
 /// The last setting of the version of that id.

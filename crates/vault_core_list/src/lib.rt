@@ -4,6 +4,7 @@
 //! and running sums has to answer what this one answers.
 #![tactic(auto)]
 
+mod bucket;
 mod change;
 mod find;
 mod keys;

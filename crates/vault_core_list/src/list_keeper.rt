@@ -3,7 +3,7 @@ ghost use Rattle.std.specs.Prelude.{◌≡◌, IfOk};
 ghost use Rattle.vault_core_model.specs.Change.{new_bucket};
 ghost use Rattle.vault_core_model.specs.Vault as vaults;
 
-use crate::{change, find, keys, place, removed, sums};
+use crate::{bucket, change, find, keys, place, removed, sums};
 use std::alloc::{AllocError, Global};
 use std::marker::Model;
 use vault_base::content::Content;
@@ -16,7 +16,7 @@ use vault_core_model::change::Change;
 use vault_core_model::halt::Fault;
 use vault_core_model::keeper::{Keeper, Sink};
 use vault_core_model::records::{
-    Bucket, BucketConfig, Caller, Entry, Head, History, LastSetting, Note,
+    Bucket, BucketConfig, Caller, Entry, Head, History, LastSetting, Note, Tenure, Tenures,
 };
 use vault_core_model::rights::Rights;
 use vault_rules::plan::Held;
@@ -90,7 +90,7 @@ impl Keeper for ListKeeper {
     ghost use Rattle.vault_core_model.specs.Handing.{Hands};
     ghost use Rattle.vault_core_model.specs.Reads.{setting_of, head_of, removed_entries};
     ghost use Rattle.vault_core_model.specs.Sound.{Sound};
-    ghost use Rattle.vault_core_model.specs.Totals.{IsRowFor};
+    ghost use Rattle.vault_core_model.specs.Totals.{IsRowFor, bucket_bytes, bucket_weight};
     ghost use Rattle.vault_core_model.specs.Vault.{has_department, next_id};
 
     ghost is_honest = { λ _. Unit {0} };
@@ -188,6 +188,26 @@ impl Keeper for ListKeeper {
         Ok(removed::walk(&self.histories, sink))
     }
 
+    fn moves(&mut self) -> Result<u32, Fault>
+        ensures value { result ≡ Ok self.old.moves }
+        ensures same { self.new ≡ self.old }
+    {
+        Ok(self.moves)
+    }
+
+    fn tenures(&mut self, id: VersionId) -> Result<Tenures, Fault> {
+        Ok(find::tenures(self.alloc, &self.histories, id)?)
+    }
+
+    fn bucket_held(&mut self, bucket: &BucketName) -> Result<(u64, u64), Fault>
+        ensures value { result ≡ Ok (bucket_bytes self.old bucket.now, bucket_weight self.old bucket.now) }
+        ensures same { self.new ≡ self.old }
+    {
+        // Only the proof reads this: no day is past that of the last moment, so the weight fits.
+        let _seconds = self.last.secs();
+        Ok(bucket::held(&self.histories, bucket))
+    }
+
     fn totals(&mut self, dept: &DeptName) -> Result<Row, Fault>
         ensures value { IsOkAnd result (λ row. IsRowFor self.old dept.now row) }
         ensures same { self.new ≡ self.old }
@@ -217,6 +237,20 @@ impl Keeper for ListKeeper {
             }
             Change::AddBucket(bucket, dept) => {
                 place::place(&mut self.buckets, new_bucket(bucket, dept)?)?;
+                self.last = at;
+                Ok(())
+            }
+            Change::MoveBucket(bucket, dept) => {
+                let number = self.moves + 1;
+                let tenure = new_tenure(dept, at, number)?;
+                change::move_bucket(
+                    self.alloc,
+                    &mut self.buckets,
+                    &mut self.histories,
+                    bucket,
+                    tenure,
+                )?;
+                self.moves = number;
                 self.last = at;
                 Ok(())
             }
@@ -260,5 +294,16 @@ fn new_bucket(name: &BucketName, dept: &DeptName) -> Result<Bucket, AllocError>
             default: None,
         },
         rules: None,
+    })
+}
+
+/// The tenure that the move of that number begins.
+fn new_tenure(dept: &DeptName, from: Moment, number: u32) -> Result<Tenure, AllocError>
+    ensures { IfOk result (λ tenure. tenure ≡ record { dept = dept.now; from = from; number = number }) }
+{
+    Ok(Tenure {
+        dept: dept.clone()?,
+        from,
+        number,
     })
 }

@@ -16,7 +16,7 @@ use vault_core_model::keeper::Keeper;
 use vault_core_model::records::Entry;
 use vault_core_model::reply::Answer;
 
-/// Certifies that a content version was removed: answers its entry.
+/// Certifies that a content version was removed: answers its entry, and the tenures of the departments that had it.
 pub fn certificate<K: Keeper>(
     keeper: &mut K,
     at: Moment,
@@ -32,7 +32,8 @@ pub fn certificate<K: Keeper>(
     drop(find_access(keeper, at, who, &command.bucket, Right::Report)?);
     let entry = find_entry(keeper, &command.bucket, command.id)?;
     check_certifiable(&entry)?;
-    Ok(Answer::Certificate(entry))
+    let tenures = keeper.tenures(command.id)?;
+    Ok(Answer::Certificate(entry, tenures))
 }
 
 /// The entry of that id, held or removed, that was ever in that bucket.

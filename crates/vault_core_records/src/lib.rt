@@ -8,4 +8,5 @@
 #![tactic(auto)]
 
 pub mod config;
+pub mod moves;
 pub mod records;

@@ -172,8 +172,10 @@ fn sums_of<K: Keeper>(keeper: &mut K, dept: &DeptName, at: Moment) -> Result<rep
         dept: dept.clone()?,
         at,
         admitted: row.admitted,
+        received: row.received,
         held: row.held,
         removed: row.removed,
+        handed: row.handed,
         byte_days: row.charged(at.day()),
     })
 }

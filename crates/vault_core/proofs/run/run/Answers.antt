@@ -10,7 +10,7 @@ use Rattle.vault_core_laws.proofs.Balance.{conserved, moved, one_place}
 use Rattle.vault_core_laws.proofs.Telescope.{days_joined}
 use Rattle.vault_worm_laws.proofs.Once.{extends_itself}
 use Rattle.vault_worm_laws.proofs.Repeated.{run-begins, run-completes}
-use Rattle.vault_worm_laws.proofs.Reached.{reached-permitted, reached-Worm, reached-stays, run-Sound, run-extends}
+use Rattle.vault_worm_laws.proofs.Reached.{reached-permitted, reached-Worm, run-Sound, run-extends}
 use Rattle.vault_worm_laws.proofs.Stored.{Sound-stands_once, Sound-conserved, Sound-all_conserved}
 use Rattle.vault_core.proofs.Device.{any_last, none_last, Rose-before, Rose-after}
 use Rattle.vault_core.proofs.run.run.Goals as goal
@@ -102,12 +102,6 @@ returns-in_err-replies-clause-days g c = λ h sound t late. days_joined _ t soun
 
 pub returns-clause-days : goal.returns-clause-days
 returns-clause-days g c = λ h sound t late. days_joined _ t (run-Sound _ _ _ _ sound (c.loop-timed.invariant.so_far h)) late
-
-pub returns-in_err-replies-clause-unmoved : goal.returns-in_err-replies-clause-unmoved
-returns-in_err-replies-clause-unmoved g c = λ h before dept. reached-stays _ dept before
-
-pub returns-clause-unmoved : goal.returns-clause-unmoved
-returns-clause-unmoved g c = λ h before dept. reached-stays _ dept (returns-clause-reached g c h before)
 
 pub returns-clause-begun : goal.returns-clause-begun
 returns-clause-begun g c = λ h sound.

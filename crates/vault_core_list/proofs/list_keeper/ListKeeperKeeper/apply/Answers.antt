@@ -27,3 +27,6 @@ invariant_of-self-in-SetRules c = rw (c.in_ok-self-inside-in-SetRules.ensures, c
 
 pub invariant_of-self-in-AddSetting : goal.invariant_of-self-in-AddSetting
 invariant_of-self-in-AddSetting c = rw c.in_ok-add_setting-in-AddSetting.ensures.ok (Sound-changed-to _ _ _ _ _ c.self.view_is c.in-AddSetting.is c.self.invariant (c.requires.in_time tt) (c.requires.allowed tt))
+
+pub invariant_of-self-in-MoveBucket : goal.invariant_of-self-in-MoveBucket
+invariant_of-self-in-MoveBucket c = rw (c.in_ok-move_bucket-in-MoveBucket.ensures.owned, c.in_ok-move_bucket-in-MoveBucket.ensures.tenured, c.in_ok-tenure-in-MoveBucket.ensures) (Sound-changed-to _ _ _ _ _ c.self.view_is c.in-MoveBucket.is c.self.invariant (c.requires.in_time tt) (c.requires.allowed tt))
