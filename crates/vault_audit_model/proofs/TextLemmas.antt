@@ -1,12 +1,12 @@
 -- What the statements that make the tables mean.
 use Rattle.std.proofs.Common.{◌≡◌, Ok, refl}
 use Rattle.vault_base.specs.declared.refusal.Table.TheVariants as table
-use Rattle.sqlite.specs.Compile.{table_defined_by}
+use Rattle.sqlite.specs.Compile.{table_defined_by, index_defined_by}
 use Rattle.sqlite_tied.specs.Compute.{everything}
-use Rattle.sqlite_catalog.specs.Change.{created}
+use Rattle.sqlite_catalog.specs.Change.{created, indexed}
 use Rattle.sqlite.specs.Schema.{Schema}
-use Rattle.vault_audit_model.specs.Texts.{creation_of}
-use Rattle.vault_audit_model.specs.Tables.{no_schema, vault_schema, meta, departments, callers, buckets, rules, entries, contents, settings, intake, heads, tenures}
+use Rattle.vault_audit_model.specs.Texts.{creation_of, index_creation}
+use Rattle.vault_audit_model.specs.Tables.{no_schema, vault_schema, entries_held, meta, departments, callers, buckets, rules, entries, contents, settings, intake, heads, tenures}
 
 pub meta_is : table_defined_by (creation_of table.Meta) ≡ Ok (record meta { tree = 0 })
 unfolding everything
@@ -32,6 +32,10 @@ pub entries_is : table_defined_by (creation_of table.Entries) ≡ Ok (record ent
 unfolding everything
 entries_is = refl
 
+pub entries_held_is : index_defined_by entries index_creation ≡ Ok (record entries_held { tree = 0 })
+unfolding everything
+entries_held_is = refl
+
 pub contents_is : table_defined_by (creation_of table.Contents) ≡ Ok (record contents { tree = 0 })
 unfolding everything
 contents_is = refl
@@ -52,7 +56,7 @@ pub tenures_is : table_defined_by (creation_of table.Tenures) ≡ Ok (record ten
 unfolding everything
 tenures_is = refl
 
--- the tables, made one after another in a store without tables
+-- the tables and the index of the entries, made one after another in a store without tables
 abbrev pub schema_1 : Schema
 schema_1 = created no_schema meta
 
@@ -69,7 +73,7 @@ abbrev pub schema_5 : Schema
 schema_5 = created schema_4 rules
 
 abbrev pub schema_6 : Schema
-schema_6 = created schema_5 entries
+schema_6 = indexed (created schema_5 entries) entries entries_held
 
 abbrev pub schema_7 : Schema
 schema_7 = created schema_6 contents

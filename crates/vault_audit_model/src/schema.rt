@@ -1,7 +1,7 @@
 //! The editions of the schema, and the texts that make the tables of the newest.
 ghost use Rattle.std.specs.Prelude.{◌≡◌};
 ghost use Rattle.vault_audit_model.specs.Editions.{number_of};
-ghost use Rattle.vault_audit_model.specs.Texts.{creation_of};
+ghost use Rattle.vault_audit_model.specs.Texts.{creation_of, index_creation};
 
 use vault_base::refusal::Table;
 
@@ -11,7 +11,7 @@ pub enum Edition {
     First,
     /// Rules have bounds of sizes.
     Second,
-    /// Versions have tenures, and the moves of buckets are counted.
+    /// Versions have tenures, the moves of buckets are counted, and the held entries of a key are found by an index.
     Third,
 }
 
@@ -52,7 +52,7 @@ pub fn creation(table: Table) -> &'static str
             "CREATE TABLE rules (bucket TEXT NOT NULL REFERENCES buckets (name), n INTEGER NOT NULL, id TEXT NOT NULL, prefix TEXT NOT NULL, enabled INTEGER NOT NULL, days INTEGER, lone INTEGER NOT NULL, nc_days INTEGER, nc_keep INTEGER, larger INTEGER, smaller INTEGER, PRIMARY KEY (bucket, n)) STRICT"
         }
         Table::Entries => {
-            "CREATE TABLE entries (id INTEGER PRIMARY KEY, bucket TEXT NOT NULL REFERENCES buckets (name), key TEXT NOT NULL, marker INTEGER NOT NULL, size INTEGER NOT NULL, digest BLOB, admitted INTEGER NOT NULL, by_rule INTEGER NOT NULL, admitted_by TEXT NOT NULL, removed INTEGER, cause INTEGER, cause_by TEXT, UNIQUE (bucket, key, id)) STRICT"
+            "CREATE TABLE entries (id INTEGER PRIMARY KEY, bucket TEXT NOT NULL REFERENCES buckets (name), key TEXT NOT NULL, marker INTEGER NOT NULL, size INTEGER NOT NULL, digest BLOB, admitted INTEGER NOT NULL, by_rule INTEGER NOT NULL, admitted_by TEXT NOT NULL, removed INTEGER, cause INTEGER, cause_by TEXT) STRICT"
         }
         Table::Contents => {
             "CREATE TABLE contents (id INTEGER PRIMARY KEY REFERENCES entries (id), bytes BLOB NOT NULL) STRICT"
@@ -70,4 +70,11 @@ pub fn creation(table: Table) -> &'static str
             "CREATE TABLE tenures (id INTEGER NOT NULL REFERENCES entries (id), n INTEGER NOT NULL, dept TEXT NOT NULL REFERENCES departments (name), moment INTEGER NOT NULL, PRIMARY KEY (id, n)) STRICT"
         }
     }
+}
+
+/// The statement that makes the index of the entries, right behind their table.
+pub fn index_creation() -> &'static str
+    ensures { result.now ≡ index_creation }
+{
+    "CREATE INDEX entries_held ON entries (bucket, key, removed DESC)"
 }

@@ -1,5 +1,5 @@
 -- What the forms stand for.
-use Rattle.std.specs.Prelude.{ℕ, List, [], ◌∷◌, Option, Some, None, true, map}
+use Rattle.std.specs.Prelude.{ℕ, List, [], ◌∷◌, Option, Some, None, map}
 use Rattle.vault_base.specs.Refusal.{table_name}
 use Rattle.sqlite_value.specs.Keys.{plain}
 use Rattle.sqlite_value.specs.declared.keys.Order.{Order}
@@ -59,4 +59,4 @@ table_of form =
 -- the index of a form
 abbrev pub index_of : IndexForm → Index
 index_of form =
-    record { name = form.name.now; tree = form.tree; table = form.table_tree; columns = form.places.now; order = plain; is_unique = true }
+    record { name = form.name.now; tree = form.tree; table = form.table_tree; columns = form.places.now; order = form.order; is_unique = form.is_unique }

@@ -1,5 +1,5 @@
 -- The way from a store without tables to a new vault.
-use Rattle.std.specs.Prelude.{◌≡◌, ◌⊎◌, ◌==◌, ℕ, [], ◌∷◌, filter, map, take, drop, IsTrue}
+use Rattle.std.specs.Prelude.{◌≡◌, ◌⊎◌, ◌==◌, ℕ, ◌+◌, [], ◌∷◌, filter, map, take, drop, IsTrue}
 use Rattle.std.specs.List.{AllByRecursion, list_any}
 use Rattle.sqlite_trees.specs.Tree.{Trees}
 use Rattle.sqlite_catalog.specs.Listing.{IsSound}
@@ -37,10 +37,22 @@ schema_of_first n = record {
   views = [];
 }
 
--- these and no others are there, and none has a row
-pub record HasFirst (n : ℕ) (db : Database) : Type 0 where
-  pub schema : db.schema ≡ schema_of_first n
-  pub rows : AllByRecursion (λ t. db.trees t.tree ≡ []) (take n vault_schema.tables)
+-- these tables and no others are there, and none has a row
+pub record HasEmpty (schema_is : Schema) (db : Database) : Type 0 where
+  pub schema : db.schema ≡ schema_is
+  pub rows : AllByRecursion (λ t. db.trees t.tree ≡ []) schema_is.tables
+
+abbrev pub HasFirst : ℕ → Database → Type 0
+HasFirst n = HasEmpty (schema_of_first n)
+
+-- the first six, without the index that follows the entries
+abbrev pub unindexed : Schema
+unindexed = record { tables = take 6 vault_schema.tables; indexes = (schema_of_first 5).indexes; views = [] }
+
+-- what is there once the statement of a table was carried out
+abbrev pub schema_after : Table → Schema
+schema_after table.Entries = unindexed
+schema_after t = schema_of_first (place_of t + 1)
 
 -- A part of a transaction goes from a database of one kind to one of another, and leaves the last commit alone.
 pub record Moves (old new : State) (From To : Database → Type 0) : Type 0 where

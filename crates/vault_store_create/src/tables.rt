@@ -1,23 +1,35 @@
-//! The tables of a new vault, made one after another.
-ghost use Rattle.std.specs.Prelude.{◌≡◌, ◌+◌, IsTrue, OnOk, OnErr};
+//! The tables of a new vault and the index of its entries, made one after another.
+ghost use Rattle.std.specs.Prelude.{◌≡◌, IsTrue, OnOk, OnErr};
 ghost use Rattle.sqlite.specs.State.{HasCleanDisk, KeepsCommit, Survives};
 ghost use Rattle.sqlite.specs.Held.{state};
-ghost use Rattle.vault_store_create.specs.Create.{Moves, HasFirst, place_of};
+ghost use Rattle.vault_store_create.specs.Create.{Moves, HasFirst, HasEmpty, place_of, unindexed, schema_after};
 
 use sqlite::{Alter, Error, Transaction};
-use vault_audit_model::schema::creation;
+use vault_audit_model::schema::{creation, index_creation};
 use vault_base::refusal::Table;
 
 /// Makes a table of the newest edition, all those before it being there.
 fn make_table<S: Alter>(tx: &mut Transaction<'_, S>, table: Table) -> Result<usize, Error>
     ensures same_reference { tx.new.conn.ghost_name ≡ tx.old.conn.ghost_name }
     ensures made { HasCleanDisk (state S.Store tx.new.conn.now) → IsTrue tx.old.conn.now.in_transaction
-        → OnOk result (Moves (state S.Store tx.old.conn.now) (state S.Store tx.new.conn.now) (HasFirst (place_of table)) (HasFirst (place_of table + 1))) }
+        → OnOk result (Moves (state S.Store tx.old.conn.now) (state S.Store tx.new.conn.now) (HasFirst (place_of table)) (HasEmpty (schema_after table))) }
     ensures kept { HasCleanDisk (state S.Store tx.new.conn.now) → IsTrue tx.old.conn.now.in_transaction
         → OnErr result (KeepsCommit (state S.Store tx.old.conn.now) (state S.Store tx.new.conn.now)) }
     ensures survives { Survives (state S.Store tx.old.conn.now) (state S.Store tx.new.conn.now) (λ _. ⊥) }
 {
     tx.execute(creation(table), &[])
+}
+
+/// Makes the index of the entries, right behind their table.
+fn make_index<S: Alter>(tx: &mut Transaction<'_, S>) -> Result<usize, Error>
+    ensures same_reference { tx.new.conn.ghost_name ≡ tx.old.conn.ghost_name }
+    ensures made { HasCleanDisk (state S.Store tx.new.conn.now) → IsTrue tx.old.conn.now.in_transaction
+        → OnOk result (Moves (state S.Store tx.old.conn.now) (state S.Store tx.new.conn.now) (HasEmpty unindexed) (HasFirst 6)) }
+    ensures kept { HasCleanDisk (state S.Store tx.new.conn.now) → IsTrue tx.old.conn.now.in_transaction
+        → OnErr result (KeepsCommit (state S.Store tx.old.conn.now) (state S.Store tx.new.conn.now)) }
+    ensures survives { Survives (state S.Store tx.old.conn.now) (state S.Store tx.new.conn.now) (λ _. ⊥) }
+{
+    tx.execute(index_creation(), &[])
 }
 
 fn make_first<S: Alter>(tx: &mut Transaction<'_, S>) -> Result<(), Error>
@@ -45,6 +57,7 @@ fn make_second<S: Alter>(tx: &mut Transaction<'_, S>) -> Result<(), Error>
 {
     make_table(tx, Table::Rules)?;
     make_table(tx, Table::Entries)?;
+    make_index(tx)?;
     make_table(tx, Table::Contents)?;
     make_table(tx, Table::Settings)?;
     Ok(())

@@ -1,4 +1,6 @@
+pub mod CountLemmas
 pub mod EntryLemmas
+pub mod HoldingLemmas
 pub mod KeyLemmas
 pub mod KeySetLemmas
 pub mod ListLemmas

@@ -60,6 +60,14 @@ map_once f one (x ∷ xs) (y ∷ ys) same =
     let rest : map f xs ≡ map f ys = cc in
     ap₂ (λ a l. a ∷ l) (one x y first) (map_once f one xs ys rest)
 
+-- two that agree on what passes show the same of it
+pub mapped_kept : {X Y : Type 0} (f g : X → Y) (p : X → Bool) → ((x : X) → p x ≡ true → f x ≡ g x) → (xs : List X) → map f (filter p xs) ≡ map g (filter p xs)
+mapped_kept f g p same [] = refl
+mapped_kept f g p same (x ∷ xs) = elim (cases_Bool (p x)) [
+  | inl kept ↦ rw kept (ap₂ (λ a l. a ∷ l) (same x kept) (mapped_kept f g p same xs))
+  | inr left ↦ rw left (mapped_kept f g p same xs)
+]
+
 -- ---- the parts of a list of which one has a key
 
 pub filter-append : {X : Type 0} (p : X → Bool) (xs ys : List X) → filter p (xs ++ ys) ≡ filter p xs ++ filter p ys

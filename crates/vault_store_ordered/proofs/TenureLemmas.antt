@@ -19,6 +19,7 @@ use Rattle.vault_audit_model.specs.Tables.{tenures_tree}
 use Rattle.vault_core_model.specs.declared.records.Entry.{Entry}
 use Rattle.vault_core_model.specs.declared.records.History.{History}
 use Rattle.vault_core_model.specs.declared.records.Tenure.{Tenure}
+use Rattle.vault_core_model.specs.Reads.{tenures_of}
 use Rattle.vault_core_model.specs.Sound.{AreTenures, FollowOn, HasTenures, HasTenuresAs, end_of, last_tenure}
 use Rattle.vault_core_model.specs.Vault.{Vault, history_of}
 use Rattle.vault_audit_model.specs.declared.rows.TenureRow.{TenureRow}
@@ -27,7 +28,7 @@ use Rattle.vault_audit_model.specs.Spells.{AreSound, tenure_at, tenures_in}
 use Rattle.vault_audit_model.specs.Values.{number}
 use Rattle.vault_store_query.specs.Queries.{Finds}
 use Rattle.vault_store_model.specs.Scans.{passes}
-use Rattle.vault_store_ordered.specs.Tenures.{last_tenure_of, tenures_of}
+use Rattle.vault_store_ordered.specs.Tenures.{last_tenure_of}
 use Rattle.sqlite_tied.proofs.RuleLemmas.{and_true}
 use Rattle.vault_store_ordered.proofs.ListLemmas.{falls, map-reverse, last, first_reversed, last-map, mapped_option, part_of, in_one_part, always}
 use Rattle.vault_store_ordered.proofs.SelectLemmas.{select_of, of_records, answered}

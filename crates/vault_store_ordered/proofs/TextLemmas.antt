@@ -86,10 +86,18 @@ pub last_tenure_is : Selects last_tenure_text (select_of tenures_tree tenures_te
 unfolding understood everything
 last_tenure_is = record { names = codes "id" ∷ codes "n" ∷ codes "dept" ∷ codes "moment" ∷ []; is = refl; plain = (refl, refl); unlisted = refl }
 
--- ---- the held entries of a key
+-- ---- the held entries of a key, the newest first
+
+-- by their ids
+abbrev pub entries_order : List (Term × Key)
+entries_order = (col 1 0, ascending Binary) ∷ []
+
+-- by removal, which those that are held have none of, and then by the latest id
+abbrev pub held_order : List (Term × Key)
+held_order = (col 1 10, ascending Binary) ∷ (col 1 0, descending) ∷ []
 
 abbrev pub entries_text : List ℕ
-entries_text = codes "SELECT id, marker, size, admitted FROM entries WHERE bucket = ?1 AND key = ?2 AND removed IS NULL ORDER BY id"
+entries_text = codes "SELECT id, marker, size, admitted FROM entries WHERE bucket = ?1 AND key = ?2 AND removed IS NULL ORDER BY removed, id DESC LIMIT ?3"
 
 abbrev pub entries_tests : List Term
 entries_tests = op2 (Compare Eq Binary) (col 1 2) (col 0 0) ∷ op2 (Compare Eq Binary) (col 1 3) (col 0 1) ∷ op2 (Is Binary) (col 1 10) (lit Null) ∷ []
@@ -97,26 +105,35 @@ entries_tests = op2 (Compare Eq Binary) (col 1 2) (col 0 0) ∷ op2 (Compare Eq 
 abbrev pub entries_shown : List Term
 entries_shown = col 1 0 ∷ col 1 4 ∷ col 1 5 ∷ col 1 7 ∷ []
 
-abbrev pub entries_order : List (Term × Key)
-entries_order = (col 1 0, ascending Binary) ∷ []
-
-pub entries_is : Selects entries_text (select_of entries_tree entries_tests entries_shown entries_order no_limit)
+pub entries_is : Selects entries_text (select_of entries_tree entries_tests entries_shown held_order (col 0 2))
 unfolding understood everything
 entries_is = record { names = codes "id" ∷ codes "marker" ∷ codes "size" ∷ codes "admitted" ∷ []; is = refl; plain = (refl, refl); unlisted = refl }
+
+-- ---- the held versions of a bucket
+
+abbrev pub sized_text : List ℕ
+sized_text = codes "SELECT id, size FROM entries WHERE bucket = ?1 AND marker = 0 AND removed IS NULL ORDER BY id"
+
+abbrev pub sized_tests : List Term
+sized_tests = op2 (Compare Eq Binary) (col 1 2) (col 0 0) ∷ op2 (Compare Eq Binary) (col 1 4) (lit (Int (pos 0))) ∷ op2 (Is Binary) (col 1 10) (lit Null) ∷ []
+
+abbrev pub sized_shown : List Term
+sized_shown = col 1 0 ∷ col 1 5 ∷ []
+
+pub sized_is : Selects sized_text (select_of entries_tree sized_tests sized_shown entries_order no_limit)
+unfolding understood everything
+sized_is = record { names = codes "id" ∷ codes "size" ∷ []; is = refl; plain = (refl, refl); unlisted = refl }
 
 -- ---- the newest of them besides one
 
 abbrev pub newest_text : List ℕ
-newest_text = codes "SELECT id FROM entries WHERE bucket = ?1 AND key = ?2 AND id <> ?3 AND removed IS NULL ORDER BY id DESC LIMIT 1"
+newest_text = codes "SELECT id FROM entries WHERE bucket = ?1 AND key = ?2 AND id <> ?3 AND removed IS NULL ORDER BY removed, id DESC LIMIT 1"
 
 abbrev pub newest_tests : List Term
 newest_tests =
     op2 (Compare Eq Binary) (col 1 2) (col 0 0) ∷ op2 (Compare Eq Binary) (col 1 3) (col 0 1) ∷ op2 (Compare Ne Binary) (col 1 0) (col 0 2) ∷ op2 (Is Binary) (col 1 10) (lit Null) ∷ []
 
-abbrev pub newest_order : List (Term × Key)
-newest_order = (col 1 0, descending) ∷ []
-
-pub newest_is : Selects newest_text (select_of entries_tree newest_tests (col 1 0 ∷ []) newest_order (lit (Int (pos 1))))
+pub newest_is : Selects newest_text (select_of entries_tree newest_tests (col 1 0 ∷ []) held_order (lit (Int (pos 1))))
 unfolding understood everything
 newest_is = record { names = codes "id" ∷ []; is = refl; plain = (refl, refl); unlisted = refl }
 

@@ -63,7 +63,8 @@ held_with id marker size admitted lock = record { id = id; marker = marker; size
 
 -- ---- entries with their locks
 
-found_each : (next : ℕ) (hs : List History) → AreIdsFrom next hs → AllByRecursion (λ h. find (λ g. g.entry.id == h.entry.id) hs ≡ Some h) hs
+-- each history of a vault is the one of its id
+pub found_each : (next : ℕ) (hs : List History) → AreIdsFrom next hs → AllByRecursion (λ h. find (λ g. g.entry.id == h.entry.id) hs ≡ Some h) hs
 found_each next [] ids = tt
 found_each next (h ∷ hs) ids =
     let rest = λ (y : History). find (λ g. g.entry.id == y.entry.id) hs in (

@@ -43,10 +43,19 @@ pub some_removed : (r : Option Removal) → is_true (unary Not (binary (Is Binar
 unfolding unary binary
 some_removed r = turned _ ∙ ap not (null_is r)
 
+-- what is held has no moment of removal
+pub null_removal : (r : Option Removal) → is_none r ≡ true → removal_at r ≡ Null
+null_removal None is = refl
+null_removal (Some r) is = absurd (cc is)
+
 -- ---- in order
 
 pub number_less : (a b : ℕ) → a < b → ordering_then (value_cmp (number a) (number b)) Equal ≡ Less
 number_less a b low = ap (λ o. ordering_then o Equal) (value_cmp-Int (pos a) (pos b) ∙ int_less a b low)
+
+-- what is NULL in both is told apart by the number behind it
+pub null_then_less : (a b : ℕ) → a < b → ordering_then (value_cmp Null Null) (ordering_then (value_cmp (number a) (number b)) Equal) ≡ Less
+null_then_less a b low = ap (λ o. ordering_then o (ordering_then (value_cmp (number a) (number b)) Equal)) (value_cmp-Null Null) ∙ number_less a b low
 
 pub text_less : (a b : List ℕ) → slice_cmp nat_cmp a b ≡ Less → ordering_then (value_cmp (Text a) (Text b)) Equal ≡ Less
 text_less a b low = ap (λ o. ordering_then o Equal) (value_cmp-Text a b ∙ low)

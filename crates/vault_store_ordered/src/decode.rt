@@ -3,9 +3,9 @@ ghost use Rattle.std.specs.Prelude.{◌≡◌, List, map, IfOk};
 ghost use Rattle.vault_audit_model.specs.declared.rows.RuleRow.{RuleRow};
 ghost use Rattle.vault_audit_model.specs.declared.rows.TenureRow.{TenureRow};
 ghost use Rattle.vault_audit_model.specs.Rows.{rule_row, tenure_row};
-ghost use Rattle.vault_store_ordered.specs.Shown.{held_row, key_row, set_of};
+ghost use Rattle.vault_store_ordered.specs.Shown.{held_row, key_row, set_of, sized_row};
 
-use crate::shown::{HeldRow, UNREADABLE, read_held, read_key};
+use crate::shown::{HeldRow, SizedRow, UNREADABLE, read_held, read_key, read_sized};
 use sqlite::{Error, Row};
 use std::alloc::Global;
 use vault_audit_rows::records::{read_rule, read_tenure};
@@ -25,6 +25,18 @@ pub fn decode_held(alloc: Global, rows: &[Row]) -> Result<Vec<HeldRow>, Error>
         held.push(one)?;
     }
     Ok(held)
+}
+
+/// Versions and their sizes.
+pub fn decode_sized(alloc: Global, rows: &[Row]) -> Result<Vec<SizedRow>, Error>
+    ensures { IfOk result (λ versions. map sized_row versions.items ≡ rows.now) }
+{
+    let mut versions = Vec::new(alloc);
+    for row in rows {
+        let one = read_sized(row).ok_or(UNREADABLE)?;
+        versions.push(one)?;
+    }
+    Ok(versions)
 }
 
 /// Keys.

@@ -3,12 +3,14 @@ ghost use Rattle.std.specs.Prelude.{◌≡◌, false, map, IsTrue, IfOk, OnOk};
 ghost use Rattle.sqlite.specs.Held.{state};
 ghost use Rattle.sqlite.specs.State.{HasCleanDisk, Survives};
 ghost use Rattle.vault_core_model.specs.Reads.{entries_of, setting_of};
+ghost use Rattle.vault_core_model.specs.Sound.{Sound};
 ghost use Rattle.vault_core_model.specs.Vault.{Vault};
 ghost use Rattle.vault_store_model.specs.Keeping.{Keeps};
 ghost use Rattle.vault_store_ordered.specs.Quiet.{IsQuiet};
-ghost use Rattle.vault_store_ordered.specs.Shown.{with_lock_in};
+ghost use Rattle.vault_store_ordered.specs.Shown.{held_row, entry_shown, with_lock_in};
 ghost use Rattle.vault_store_ordered.specs.Tenures.{last_tenure_of};
 
+use crate::count::find_count;
 use crate::decode::{decode_held, decode_tenure};
 use crate::rows::{entry_rows, last_tenure_rows, setting_rows};
 use crate::shown::{HeldRow, UNREADABLE, read_last};
@@ -106,6 +108,30 @@ fn with_locks<S: Alter>(
     Ok(locked)
 }
 
+/// The held entries of a key, oldest first, without their locks.
+fn find_bare<S: Alter>(
+    conn: &mut Connection<S>,
+    alloc: Global,
+    bucket: &BucketName,
+    key: &ObjectKey,
+) -> Result<Vec<HeldRow>, Error>
+    ensures value { HasCleanDisk (state S.Store conn.new) → IfOk result (λ held. (v : Vault) → Keeps (state S.Store conn.old) v → (map held_row held.items ≡ map entry_shown (entries_of v bucket.now key.now)) × Sound v) }
+    ensures same { HasCleanDisk (state S.Store conn.new) → (v : Vault) → Keeps (state S.Store conn.old) v → Keeps (state S.Store conn.new) v }
+    ensures honest { HasCleanDisk (state S.Store conn.new) → HasCleanDisk (state S.Store conn.old) }
+    ensures mode { conn.old.in_transaction ≡ false → conn.new.in_transaction ≡ false }
+    ensures survives { Survives (state S.Store conn.old) (state S.Store conn.new) (IsQuiet (state S.Store conn.old)) }
+    ensures opened { HasCleanDisk (state S.Store conn.new) → OnOk result (IsTrue (state S.Store conn.new).is_open) }
+{
+    let count = find_count(conn, bucket, key)?;
+    if count == 0 {
+        return Ok(Vec::new(alloc));
+    }
+    let rows = entry_rows(conn, bucket, key, count)?;
+    let mut held = decode_held(alloc, &rows)?;
+    held.reverse();
+    Ok(held)
+}
+
 /// The held entries of a key, oldest first.
 pub fn find_entries<S: Alter>(
     conn: &mut Connection<S>,
@@ -119,7 +145,6 @@ pub fn find_entries<S: Alter>(
     ensures mode { conn.old.in_transaction ≡ false → conn.new.in_transaction ≡ false }
     ensures survives { Survives (state S.Store conn.old) (state S.Store conn.new) (IsQuiet (state S.Store conn.old)) }
 {
-    let rows = entry_rows(conn, bucket, key)?;
-    let entries = decode_held(alloc, &rows)?;
+    let entries = find_bare(conn, alloc, bucket, key)?;
     with_locks(conn, alloc, &entries)
 }

@@ -3,8 +3,10 @@
 //! An error is want of memory, told as `ErrorCode::OutOfMemory`, or a failure of the store.
 #![tactic(auto)]
 
+mod count;
 mod decode;
 mod find;
+mod holding;
 pub mod reads;
 mod rows;
 mod shown;

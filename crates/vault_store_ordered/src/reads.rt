@@ -2,14 +2,16 @@
 ghost use Rattle.std.specs.Prelude.{◌≡◌, false, IsTrue, IfOk};
 ghost use Rattle.sqlite.specs.Held.{state};
 ghost use Rattle.sqlite.specs.State.{HasCleanDisk, Survives};
-ghost use Rattle.vault_core_model.specs.Reads.{entries_of, keys_after, setting_of};
+ghost use Rattle.vault_core_model.specs.Reads.{entries_of, keys_after, setting_of, tenures_of};
+ghost use Rattle.vault_core_model.specs.Totals.{bucket_bytes, bucket_weight};
 ghost use Rattle.vault_core_model.specs.Vault.{Vault, rules_of};
 ghost use Rattle.vault_store_model.specs.Keeping.{Keeps};
 ghost use Rattle.vault_store_ordered.specs.Shown.{newest_but};
-ghost use Rattle.vault_store_ordered.specs.Tenures.{last_tenure_of, tenures_of};
+ghost use Rattle.vault_store_ordered.specs.Tenures.{last_tenure_of};
 
 use crate::decode::{decode_keys, decode_rules, decode_tenures};
 use crate::find::{find_entries, find_last_tenure, find_setting};
+use crate::holding::find_bucket_held;
 use crate::rows::{key_rows, newest_rows, rule_rows, tenure_rows};
 use crate::shown::{UNREADABLE, read_id};
 use sqlite::{Alter, Connection, Error};
@@ -132,4 +134,20 @@ pub fn read_entries<S: Alter>(
     ensures crash { (v : Vault) → Keeps (state S.Store conn.old) v → Survives (state S.Store conn.old) (state S.Store conn.new) (λ _. ¬ IsTrue (state S.Store conn.old).is_open) }
 {
     find_entries(conn, alloc, bucket, key)
+}
+
+/// The bytes of a bucket's held versions, and their weight: each size times the day from which the
+/// department has the version.
+pub fn read_bucket_held<S: Alter>(
+    conn: &mut Connection<S>,
+    alloc: Global,
+    bucket: &BucketName,
+) -> Result<(u64, u64), Error>
+    ensures value { HasCleanDisk (state S.Store conn.new) → IfOk result (λ held. (v : Vault) → Keeps (state S.Store conn.old) v → (held.0 ≡ bucket_bytes v bucket.now) × (held.1 ≡ bucket_weight v bucket.now)) }
+    ensures same { HasCleanDisk (state S.Store conn.new) → (v : Vault) → Keeps (state S.Store conn.old) v → Keeps (state S.Store conn.new) v }
+    ensures honest { HasCleanDisk (state S.Store conn.new) → HasCleanDisk (state S.Store conn.old) }
+    ensures mode { conn.old.in_transaction ≡ false → conn.new.in_transaction ≡ false }
+    ensures crash { (v : Vault) → Keeps (state S.Store conn.old) v → Survives (state S.Store conn.old) (state S.Store conn.new) (λ _. ¬ IsTrue (state S.Store conn.old).is_open) }
+{
+    find_bucket_held(conn, alloc, bucket)
 }

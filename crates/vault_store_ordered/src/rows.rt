@@ -1,11 +1,12 @@
 //! The queries of the ordered reads, each with the rows that it shows of the vault.
-ghost use Rattle.std.specs.Prelude.{◌≡◌, false, List, map, Option, option_map, option_to_list, IsTrue, IfOk, OnOk};
+ghost use Rattle.std.specs.Prelude.{◌≡◌, false, List, map, reverse, take, Option, option_map, option_to_list, IsTrue, IfOk, OnOk};
 ghost use Rattle.sqlite_sql.specs.Query.{Query};
 ghost use Rattle.sqlite.specs.Held.{state};
 ghost use Rattle.sqlite.specs.State.{HasCleanDisk, Survives};
 ghost use Rattle.sqlite.specs.Values.{bound};
-ghost use Rattle.vault_core_model.specs.Reads.{entries_of, keys_after, setting_of};
+ghost use Rattle.vault_core_model.specs.Reads.{entries_of, keys_after, setting_of, tenures_of};
 ghost use Rattle.vault_core_model.specs.Sound.{Sound};
+ghost use Rattle.vault_core_model.specs.Totals.{held_versions_in};
 ghost use Rattle.vault_core_model.specs.Vault.{Vault, rules_of};
 ghost use Rattle.vault_audit_model.specs.declared.rows.RuleRow.{RuleRow};
 ghost use Rattle.vault_audit_model.specs.declared.rows.TenureRow.{TenureRow};
@@ -13,8 +14,8 @@ ghost use Rattle.vault_audit_model.specs.Rows.{rule_row, tenure_row};
 ghost use Rattle.vault_store_model.specs.Keeping.{Keeps};
 ghost use Rattle.vault_store_query.specs.Queries.{Selects, Finds};
 ghost use Rattle.vault_store_ordered.specs.Quiet.{IsQuiet};
-ghost use Rattle.vault_store_ordered.specs.Shown.{last_row, entry_shown, key_row, id_row, set_of, newest_but};
-ghost use Rattle.vault_store_ordered.specs.Tenures.{last_tenure_of, tenures_of};
+ghost use Rattle.vault_store_ordered.specs.Shown.{last_row, entry_shown, key_row, id_row, set_of, sized_row, sized_of, newest_but};
+ghost use Rattle.vault_store_ordered.specs.Tenures.{last_tenure_of};
 
 use sqlite::types::ValueRef;
 use sqlite::{Alter, Connection, Error, Row, params};
@@ -22,7 +23,7 @@ use vault_base::name::{BucketName, KeyPrefix, ObjectKey, VersionId};
 use vault_store_query::query_rows;
 
 /// All rows of a query over the tables of a vault, which shows that the connection is open.
-fn open_rows<S: Alter>(
+pub fn open_rows<S: Alter>(
     conn: &mut Connection<S>,
     sql: &str,
     params: &[ValueRef<'_>],
@@ -88,6 +89,25 @@ pub fn tenure_rows<S: Alter>(conn: &mut Connection<S>, id: VersionId) -> Result<
     )
 }
 
+/// The rows of a bucket's held versions and their sizes.
+pub fn sized_rows<S: Alter>(
+    conn: &mut Connection<S>,
+    bucket: &BucketName,
+) -> Result<Vec<Row>, Error>
+    ensures rows { HasCleanDisk (state S.Store conn.new) → IfOk result (λ rows. (v : Vault) → Keeps (state S.Store conn.old) v → (rows.items ≡ map sized_row (map sized_of (held_versions_in v bucket.now))) × Sound v) }
+    ensures same { HasCleanDisk (state S.Store conn.new) → (v : Vault) → Keeps (state S.Store conn.old) v → Keeps (state S.Store conn.new) v }
+    ensures honest { HasCleanDisk (state S.Store conn.new) → HasCleanDisk (state S.Store conn.old) }
+    ensures mode { conn.old.in_transaction ≡ false → conn.new.in_transaction ≡ false }
+    ensures survives { Survives (state S.Store conn.old) (state S.Store conn.new) (IsQuiet (state S.Store conn.old)) }
+    ensures opened { HasCleanDisk (state S.Store conn.new) → OnOk result (IsTrue (state S.Store conn.new).is_open) }
+{
+    open_rows(
+        conn,
+        "SELECT id, size FROM entries WHERE bucket = ?1 AND marker = 0 AND removed IS NULL ORDER BY id",
+        params![bucket.as_str()],
+    )
+}
+
 /// The rows of a bucket's rules.
 pub fn rule_rows<S: Alter>(conn: &mut Connection<S>, bucket: &BucketName) -> Result<Vec<Row>, Error>
     ensures rows { HasCleanDisk (state S.Store conn.new) → IfOk result (λ rows. (v : Vault) → Keeps (state S.Store conn.old) v → (rules : List RuleRow) × (rows.items ≡ map rule_row rules) × (set_of rules ≡ rules_of v bucket.now)) }
@@ -103,13 +123,14 @@ pub fn rule_rows<S: Alter>(conn: &mut Connection<S>, bucket: &BucketName) -> Res
     )
 }
 
-/// The rows of a key's held entries.
+/// The rows of a key's held entries, the newest first: at most `most`. Where that is how many the key holds, no removed one is looked at.
 pub fn entry_rows<S: Alter>(
     conn: &mut Connection<S>,
     bucket: &BucketName,
     key: &ObjectKey,
+    most: u32,
 ) -> Result<Vec<Row>, Error>
-    ensures rows { HasCleanDisk (state S.Store conn.new) → IfOk result (λ rows. (v : Vault) → Keeps (state S.Store conn.old) v → (rows.items ≡ map entry_shown (entries_of v bucket.now key.now)) × Sound v) }
+    ensures rows { HasCleanDisk (state S.Store conn.new) → IfOk result (λ rows. (v : Vault) → Keeps (state S.Store conn.old) v → (rows.items ≡ take most (reverse (map entry_shown (entries_of v bucket.now key.now)))) × Sound v) }
     ensures same { HasCleanDisk (state S.Store conn.new) → (v : Vault) → Keeps (state S.Store conn.old) v → Keeps (state S.Store conn.new) v }
     ensures honest { HasCleanDisk (state S.Store conn.new) → HasCleanDisk (state S.Store conn.old) }
     ensures mode { conn.old.in_transaction ≡ false → conn.new.in_transaction ≡ false }
@@ -118,8 +139,8 @@ pub fn entry_rows<S: Alter>(
 {
     open_rows(
         conn,
-        "SELECT id, marker, size, admitted FROM entries WHERE bucket = ?1 AND key = ?2 AND removed IS NULL ORDER BY id",
-        params![bucket.as_str(), key.as_str()],
+        "SELECT id, marker, size, admitted FROM entries WHERE bucket = ?1 AND key = ?2 AND removed IS NULL ORDER BY removed, id DESC LIMIT ?3",
+        params![bucket.as_str(), key.as_str(), most],
     )
 }
 
@@ -158,7 +179,7 @@ pub fn newest_rows<S: Alter>(
 {
     query_rows(
         conn,
-        "SELECT id FROM entries WHERE bucket = ?1 AND key = ?2 AND id <> ?3 AND removed IS NULL ORDER BY id DESC LIMIT 1",
+        "SELECT id FROM entries WHERE bucket = ?1 AND key = ?2 AND id <> ?3 AND removed IS NULL ORDER BY removed, id DESC LIMIT 1",
         params![bucket.as_str(), key.as_str(), id.number()],
     )
 }

@@ -1,6 +1,6 @@
 //! Rows of the ordered reads, each read as what it tells.
 ghost use Rattle.std.specs.Prelude.{◌≡◌, IfSome, IfOk};
-ghost use Rattle.vault_store_ordered.specs.Shown.{last_row, held_row, key_row, id_row};
+ghost use Rattle.vault_store_ordered.specs.Shown.{last_row, held_row, sized_row, key_row, id_row};
 
 use sqlite::{Error, ErrorCode, Row};
 use vault_audit_rows::cell::{flag, moment, number_within, version_id};
@@ -57,6 +57,29 @@ pub fn read_held(row: &Row) -> Option<HeldRow>
         marker,
         size: u64::from(size),
         admitted,
+    })
+}
+
+/// A version and its size.
+#[derive(Clone, Copy)]
+pub struct SizedRow {
+    pub id: VersionId,
+    /// In bytes.
+    pub size: u64,
+}
+
+/// A version and its size.
+pub fn read_sized(row: &Row) -> Option<SizedRow>
+    ensures { IfSome result (λ x. row.now ≡ sized_row x) }
+{
+    if row.column_count() != 2 {
+        return None;
+    }
+    let id = version_id(row, 0)?;
+    let size = number_within(row, 1, 0, 1_048_576)?;
+    Some(SizedRow {
+        id,
+        size: u64::from(size),
     })
 }
 

@@ -1,4 +1,4 @@
-use Rattle.std.proofs.Common.{◌∙◌}
+use Rattle.std.proofs.Common.{refl, ◌∙◌}
 use Rattle.vault_store_query.proofs.QueryLemmas.{if_shown}
 use Rattle.vault_store_ordered.proofs.OpenLemmas.{quiet_then}
 use Rattle.vault_store_ordered.proofs.ToldLemmas.{locked_entries}
@@ -7,11 +7,12 @@ use Rattle.vault_store_ordered.proofs.find.find_entries.Goals as goal
 pub returns-clause-value : goal.returns-clause-value
 returns-clause-value g c clean = if_shown c.with_locks.result (c.with_locks.ensures.value clean) (λ locked told v was.
     let mid = c.with_locks.ensures.honest clean in
-    (rw c.deref-2.ensures.value at (told v (c.entry_rows.ensures.same mid v was)))
-    ∙ locked_entries v c.args.bucket.now c.args.key.now _ _ (c.in_ok-rows.ensures.rows mid v was) (rw c.deref.ensures.value at c.in_ok-entries.ensures))
+    let bare = c.in_ok-entries.ensures.value mid v was in
+    (rw c.deref.ensures.value at (told v (c.find_bare.ensures.same mid v was)))
+    ∙ locked_entries v c.args.bucket.now c.args.key.now _ _ (refl, bare.1) bare.0)
 
 pub returns-clause-same : goal.returns-clause-same
-returns-clause-same g c clean v was = c.with_locks.ensures.same clean v (c.entry_rows.ensures.same (c.with_locks.ensures.honest clean) v was)
+returns-clause-same g c clean v was = c.with_locks.ensures.same clean v (c.find_bare.ensures.same (c.with_locks.ensures.honest clean) v was)
 
 pub returns-clause-survives : goal.returns-clause-survives
-returns-clause-survives g c = quiet_then _ _ _ c.entry_rows.ensures.same (λ clean _. c.in_ok-rows.ensures.opened clean) c.entry_rows.ensures.survives c.with_locks.ensures.survives
+returns-clause-survives g c = quiet_then _ _ _ c.find_bare.ensures.same (λ clean _. c.in_ok-entries.ensures.opened clean) c.find_bare.ensures.survives c.with_locks.ensures.survives
