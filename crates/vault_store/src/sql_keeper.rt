@@ -30,16 +30,18 @@ use vault_base::refusal::Refusal;
 use vault_core_model::change::Change;
 use vault_core_model::halt::Fault;
 use vault_core_model::keeper::{Keeper, Sink};
-use vault_core_model::records::{BucketConfig, Caller, Entry, Head, LastSetting, Note};
+use vault_core_model::records::{BucketConfig, Caller, Entry, Head, LastSetting, Note, Tenures};
 use vault_rules::plan::Held;
 use vault_rules::rule_set::RuleSet;
 use vault_store_apply_change::apply::apply_change;
 use vault_store_create::create::fill;
 use vault_store_opening::{Opening, remember};
-use vault_store_ordered::reads::{read_entries, read_keys, read_rules, read_setting};
+use vault_store_ordered::reads::{
+    read_bucket_held, read_entries, read_keys, read_rules, read_setting, read_tenures,
+};
 use vault_store_reads::entries::{read_content, read_entry};
 use vault_store_reads::heads::read_head;
-use vault_store_reads::meta::{read_last, read_next_id};
+use vault_store_reads::meta::{read_last, read_moves, read_next_id};
 use vault_store_reads::names::{has_department, read_bucket, read_caller, read_totals};
 use vault_store_reads::notes::read_note;
 use vault_store_removed::removed::walk_removed;
@@ -304,6 +306,27 @@ impl<S: Alter> Keeper for SqlKeeper<S> {
 
     fn walk_removed<T: Sink>(&mut self, sink: &mut T) -> Result<bool, Fault> {
         match walk_removed(&mut self.conn, sink) {
+            Ok(found) => Ok(found),
+            Err(error) => Err(blame(&mut self.faults, error)),
+        }
+    }
+
+    fn moves(&mut self) -> Result<u32, Fault> {
+        match read_moves(&mut self.conn) {
+            Ok(found) => Ok(found),
+            Err(error) => Err(blame(&mut self.faults, error)),
+        }
+    }
+
+    fn tenures(&mut self, id: VersionId) -> Result<Tenures, Fault> {
+        match read_tenures(&mut self.conn, self.alloc, id) {
+            Ok(found) => Ok(found),
+            Err(error) => Err(blame(&mut self.faults, error)),
+        }
+    }
+
+    fn bucket_held(&mut self, bucket: &BucketName) -> Result<(u64, u64), Fault> {
+        match read_bucket_held(&mut self.conn, self.alloc, bucket) {
             Ok(found) => Ok(found),
             Err(error) => Err(blame(&mut self.faults, error)),
         }

@@ -18,13 +18,19 @@ use vault_store_apply::records::{
     add_bucket, add_caller, add_department, close_caller, set_default, set_rules,
 };
 use vault_store_apply_entries::entries::admit;
+use vault_store_apply_entries::moves::move_bucket;
 use vault_store_apply_entries::open::check_open;
 use vault_store_apply_entries::removal::remove;
 use vault_store_apply_entries::settings::add_setting;
 use vault_store_limits::change::is_in_limits;
 
 /// Makes a change that is in its limits.
-fn make<S: Alter>(conn: &mut Connection<S>, at: Moment, change: &Change) -> Result<(), Error>
+fn make<S: Alter>(
+    conn: &mut Connection<S>,
+    alloc: Global,
+    at: Moment,
+    change: &Change,
+) -> Result<(), Error>
     requires settled { conn.old.in_transaction ≡ false }
     requires limits { IsChangeInLimits change.now }
     ensures mode { conn.new.in_transaction ≡ false }
@@ -39,6 +45,7 @@ fn make<S: Alter>(conn: &mut Connection<S>, at: Moment, change: &Change) -> Resu
         Change::AddCaller(caller) => add_caller(conn, at, caller),
         Change::CloseCaller(name) => close_caller(conn, at, name),
         Change::AddBucket(name, dept) => add_bucket(conn, at, name, dept),
+        Change::MoveBucket(name, dept) => move_bucket(conn, alloc, at, name, dept),
         Change::SetDefault(name, default) => set_default(conn, at, name, *default),
         Change::SetRules(name, rules) => set_rules(conn, at, name, rules),
         Change::Admit(admission) => admit(conn, at, admission),
@@ -72,5 +79,5 @@ pub fn apply_change<S: Alter>(
     }
     // What a read of a connection that a failure has shut leaves is told by no clause.
     check_open(conn)?;
-    make(conn, at, change)
+    make(conn, alloc, at, change)
 }

@@ -1,3 +1,4 @@
 pub mod AdmissionLemmas
 pub mod ReadLemmas
 pub mod RemovalLemmas
+pub mod MoveLemmas

@@ -1,6 +1,8 @@
 -- The part of a removal makes the edit of that change, by what was read of the vault before.
-use Rattle.std.proofs.Common.{◌≡◌, ℕ, ◌+◌, ◌-◌, ◌≤◌, ◌==◌, List, [], ◌∷◌, length, filter, cond, Bool, true, false, Option, Some, None, refl, sym, ap, subst, ◌∙◌, arith, eqb}
+use Rattle.std.proofs.Common.{◌≡◌, ℕ, ◌+◌, ◌-◌, ◌≤◌, ◌==◌, List, [], ◌∷◌, length, filter, cond, Bool, true, false, not, nat_lt, Option, Some, None, refl, sym, ap, subst, ◌∙◌, arith, eqb}
 use Rattle.std.specs.Prelude.{find, option_map, option_and_then, unwrap_or, if◌then◌else◌}
+use Rattle.std.proofs.lemmas.Bool.{and_parts}
+use Rattle.std.proofs.lemmas.Bool.Decides.{nat_tests}
 use Rattle.sqlite_value.specs.Order.{Row}
 use Rattle.vault_base.specs.Days.{day, last_moment}
 use Rattle.vault_base.specs.declared.refusal.Table.{Table}
@@ -16,7 +18,7 @@ use Rattle.vault_core_model.specs.declared.records.Tenure.{Tenure}
 use Rattle.vault_core_model.specs.declared.change.Change.TheVariants as change
 use Rattle.vault_core_model.specs.Allowed.{IsRemoval}
 use Rattle.vault_core_model.specs.Change.{changed}
-use Rattle.vault_core_model.specs.Places.{is_held_at}
+use Rattle.vault_core_model.specs.Places.{is_held_at, held_at}
 use Rattle.vault_core_model.specs.Reads.{entry_of, head_of, head_over}
 use Rattle.vault_core_model.specs.Sound.{Sound, last_tenure}
 use Rattle.vault_core_model.specs.Totals.{items_of}
@@ -34,7 +36,7 @@ use Rattle.vault_store_ordered.specs.Shown.{newest_but}
 use Rattle.vault_store_ordered.specs.Tenures as read
 use Rattle.vault_store_entry_parts.specs.Parts.{entry_removed, left_rows}
 use Rattle.vault_store_apply.specs.Applies.{IsEditOf}
-use Rattle.vault_store_apply_entries.specs.Heads.{head_without}
+use Rattle.vault_store_apply_entries.specs.Heads.{head_without, holds_no_other}
 use Rattle.vault_store_apply_entries.proofs.AdmissionLemmas.{summed_same}
 
 -- ---- the tenure that a removal ends
@@ -79,6 +81,26 @@ head_there : (v : Vault) (id : ℕ) (e : Entry) → entry_of v id ≡ Some e →
 head_there v id e there held =
     let found = found_history (history_of v id) e there in
     head_among (λ h. is_held_at e.bucket e.key h.entry) id v.histories found.0 found.1 (ap (is_held_at e.bucket e.key) found.2 ∙ is_held_there e held)
+
+-- ---- the newest besides one, where the head tells of no other
+
+none_besides : (id : ℕ) (hs : List History) (head : Option Head) → head ≡ head_over hs → holds_no_other head id ≡ true → None ≡ option_map (λ (x : Head). x.newest) (head_over (filter (λ h. not (h.entry.id == id)) hs))
+none_besides id [] head is alone = refl
+none_besides id (h ∷ []) head is alone =
+    let both = and_parts (nat_lt 1 2) (h.entry.id == id) (subst (λ o. holds_no_other o id ≡ true) is alone) in
+    ap (λ b. option_map (λ (x : Head). x.newest) (head_over (cond (not b) (h ∷ []) []))) (sym both.1)
+none_besides id (h ∷ g ∷ gs) head is alone =
+    let some = head_of_some g gs in
+    let two : Head = record { newest = some.0.newest; count = length (h ∷ g ∷ gs) } in
+    let told : head ≡ Some two = is ∙ ap (option_map (λ (x : Head). record { newest = x.newest; count = length (h ∷ g ∷ gs) })) some.1 in
+    let both = and_parts (nat_lt (length (h ∷ g ∷ gs)) 2) (some.0.newest == id) (subst (λ o. holds_no_other o id ≡ true) told alone) in
+    absurd (many (length (h ∷ g ∷ gs)) both.0 (omega arith))
+  where
+    many : (n : ℕ) → nat_lt n 2 ≡ true → 2 ≤ n → ⊥
+    many n less more = grind (arith, nat_tests, less, more)
+
+pub no_other : (v : Vault) (bucket key : List ℕ) (id : ℕ) (head : Option Head) → holds_no_other head id ≡ true → head ≡ head_of v bucket key → None ≡ newest_but v bucket key id
+no_other v bucket key id head alone is = none_besides id (held_at v bucket key) head is alone
 
 -- ---- the head that is left
 

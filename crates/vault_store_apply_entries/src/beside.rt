@@ -3,31 +3,47 @@ ghost use Rattle.std.specs.Prelude.{◌≡◌, false, option_map, unwrap_or, IsT
 ghost use Rattle.sqlite.specs.Held.{state};
 ghost use Rattle.sqlite.specs.State.{HasCleanDisk, Survives};
 ghost use Rattle.vault_core_model.specs.declared.records.Tenure.{Tenure};
+ghost use Rattle.vault_core_model.specs.Reads.{head_of};
 ghost use Rattle.vault_core_model.specs.Vault.{Vault};
 ghost use Rattle.vault_store_model.specs.Keeping.{Keeps};
 ghost use Rattle.vault_store_changes.specs.Sums.{last_tenure_of};
 ghost use Rattle.vault_store_ordered.specs.Shown.{newest_but};
+ghost use Rattle.vault_store_apply_entries.specs.Heads.{holds_no_other};
 
 use crate::open::check_open;
 use sqlite::{Alter, Connection, Error};
 use vault_base::moment::Moment;
 use vault_base::name::VersionId;
-use vault_core_model::records::{Entry, Tenure};
+use vault_core_model::records::{Entry, Head, Tenure};
 use vault_store_ordered::reads::{read_last_tenure, read_newest_but};
 
-/// The newest held entry of a key besides the one of that id.
+/// Whether a key with this head holds no entry but that one.
+fn holds_no_other(head: Option<Head>, id: VersionId) -> bool
+    ensures { result ≡ holds_no_other head id }
+{
+    match head {
+        Some(head) => head.count < 2 && head.newest == id,
+        None => true,
+    }
+}
+
+/// The newest held entry of a key besides the one of that id; where its head tells of no other, nothing is asked.
 fn find_newest_but<S: Alter>(
     conn: &mut Connection<S>,
     entry: &Entry,
     id: VersionId,
+    head: Option<Head>,
 ) -> Result<Option<VersionId>, Error>
-    ensures value { HasCleanDisk (state S.Store conn.new) → IfOk result (λ newest. (v : Vault) → Keeps (state S.Store conn.old) v → newest ≡ newest_but v entry.now.bucket entry.now.key id) }
-    ensures open { HasCleanDisk (state S.Store conn.new) → OnOk result (IsTrue (state S.Store conn.new).is_open) }
+    ensures value { HasCleanDisk (state S.Store conn.new) → IfOk result (λ newest. (v : Vault) → Keeps (state S.Store conn.old) v → head ≡ head_of v entry.now.bucket entry.now.key → newest ≡ newest_but v entry.now.bucket entry.now.key id) }
+    ensures open { HasCleanDisk (state S.Store conn.new) → IsTrue (state S.Store conn.old).is_open → OnOk result (IsTrue (state S.Store conn.new).is_open) }
     ensures same { HasCleanDisk (state S.Store conn.new) → (v : Vault) → Keeps (state S.Store conn.old) v → Keeps (state S.Store conn.new) v }
     ensures honest { HasCleanDisk (state S.Store conn.new) → HasCleanDisk (state S.Store conn.old) }
     ensures mode { conn.old.in_transaction ≡ false → conn.new.in_transaction ≡ false }
     ensures crash { (v : Vault) → Keeps (state S.Store conn.old) v → Survives (state S.Store conn.old) (state S.Store conn.new) (λ _. ¬ IsTrue (state S.Store conn.old).is_open) }
 {
+    if holds_no_other(head, id) {
+        return Ok(None);
+    }
     let newest = read_newest_but(conn, &entry.bucket, &entry.key, id)?;
     check_open(conn)?;
     Ok(newest)
@@ -50,14 +66,12 @@ fn find_begin<S: Alter>(
     id: VersionId,
 ) -> Result<Moment, Error>
     ensures value { HasCleanDisk (state S.Store conn.new) → IfOk result (λ since. (v : Vault) → Keeps (state S.Store conn.old) v → since ≡ unwrap_or (option_map (λ (t : Tenure). t.from) (last_tenure_of v id)) entry.now.admitted) }
-    ensures open { HasCleanDisk (state S.Store conn.new) → OnOk result (IsTrue (state S.Store conn.new).is_open) }
     ensures same { HasCleanDisk (state S.Store conn.new) → (v : Vault) → Keeps (state S.Store conn.old) v → Keeps (state S.Store conn.new) v }
     ensures honest { HasCleanDisk (state S.Store conn.new) → HasCleanDisk (state S.Store conn.old) }
     ensures mode { conn.old.in_transaction ≡ false → conn.new.in_transaction ≡ false }
     ensures crash { (v : Vault) → Keeps (state S.Store conn.old) v → Survives (state S.Store conn.old) (state S.Store conn.new) (λ _. ¬ IsTrue (state S.Store conn.old).is_open) }
 {
     let tenure = read_last_tenure(conn, id)?;
-    check_open(conn)?;
     Ok(begin_of(tenure, entry.admitted))
 }
 
@@ -68,21 +82,24 @@ pub struct Beside {
     pub since: Moment,
 }
 
-/// Reads that.
+/// Reads that, by the head of the key.
+///
+/// It first looks whether the connection is open, so that nothing is to be known of what was read before.
 pub fn read_beside<S: Alter>(
     conn: &mut Connection<S>,
     entry: &Entry,
     id: VersionId,
+    head: Option<Head>,
 ) -> Result<Beside, Error>
-    ensures value { HasCleanDisk (state S.Store conn.new) → IfOk result (λ beside. (v : Vault) → Keeps (state S.Store conn.old) v
+    ensures value { HasCleanDisk (state S.Store conn.new) → IfOk result (λ beside. (v : Vault) → Keeps (state S.Store conn.old) v → head ≡ head_of v entry.now.bucket entry.now.key
         → (beside.newest ≡ newest_but v entry.now.bucket entry.now.key id) × (beside.since ≡ unwrap_or (option_map (λ (t : Tenure). t.from) (last_tenure_of v id)) entry.now.admitted)) }
-    ensures open { HasCleanDisk (state S.Store conn.new) → OnOk result (IsTrue (state S.Store conn.new).is_open) }
     ensures same { HasCleanDisk (state S.Store conn.new) → (v : Vault) → Keeps (state S.Store conn.old) v → Keeps (state S.Store conn.new) v }
     ensures honest { HasCleanDisk (state S.Store conn.new) → HasCleanDisk (state S.Store conn.old) }
     ensures mode { conn.old.in_transaction ≡ false → conn.new.in_transaction ≡ false }
-    ensures crash { (v : Vault) → Keeps (state S.Store conn.old) v → Survives (state S.Store conn.old) (state S.Store conn.new) (λ _. ¬ IsTrue (state S.Store conn.old).is_open) }
+    ensures crash { (v : Vault) → Keeps (state S.Store conn.old) v → Survives (state S.Store conn.old) (state S.Store conn.new) (λ _. ⊥) }
 {
-    let newest = find_newest_but(conn, entry, id)?;
+    check_open(conn)?;
+    let newest = find_newest_but(conn, entry, id, head)?;
     let since = find_begin(conn, entry, id)?;
     Ok(Beside { newest, since })
 }

@@ -1,4 +1,4 @@
-//! Changes of entries, each made in one transaction, as a whole or not at all.
+//! Changes of entries, and moves of buckets with all that they hold, each made in one transaction, as a whole or not at all.
 //!
 //! An error is want of memory, told as `ErrorCode::OutOfMemory`, `ErrorCode::TooBig` for a number that a
 //! column can't take, or a failure of the store.
@@ -6,6 +6,7 @@
 
 mod beside;
 pub mod entries;
+pub mod moves;
 pub mod open;
 mod place;
 pub mod removal;

@@ -1,4 +1,4 @@
-//! What an admission and a removal read of the vault beside their entry.
+//! What changes read of the vault beside their entry.
 ghost use Rattle.std.specs.Prelude.{◌≡◌, false, Some, IsTrue, IfOk, OnOk};
 ghost use Rattle.sqlite.specs.Held.{state};
 ghost use Rattle.sqlite.specs.State.{HasCleanDisk, Survives};
@@ -16,7 +16,7 @@ use vault_store_reads::names::{read_bucket, read_totals};
 use vault_tally::row::Row;
 
 /// The configuration of a bucket; an error where there is no such bucket.
-fn read_config<S: Alter>(
+pub fn read_config<S: Alter>(
     conn: &mut Connection<S>,
     bucket: &BucketName,
 ) -> Result<BucketConfig, Error>
@@ -33,7 +33,7 @@ fn read_config<S: Alter>(
 }
 
 /// The sums of a department.
-fn read_sums<S: Alter>(conn: &mut Connection<S>, dept: &DeptName) -> Result<Row, Error>
+pub fn read_sums<S: Alter>(conn: &mut Connection<S>, dept: &DeptName) -> Result<Row, Error>
     ensures value { HasCleanDisk (state S.Store conn.new) → IfOk result (λ sums. (v : Vault) → Keeps (state S.Store conn.old) v → IsRowFor v dept.now sums) }
     ensures open { HasCleanDisk (state S.Store conn.new) → OnOk result (IsTrue (state S.Store conn.new).is_open) }
     ensures same { HasCleanDisk (state S.Store conn.new) → (v : Vault) → Keeps (state S.Store conn.old) v → Keeps (state S.Store conn.new) v }

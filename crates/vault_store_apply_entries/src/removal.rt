@@ -75,16 +75,17 @@ pub fn remove<S: Alter>(
     ensures crash { IsChangeInLimits (change.Remove id removal.now) → (v : Vault) → Keeps (state S.Store conn.old) v → Survives (state S.Store conn.old) (state S.Store conn.new) (IsChanged (state S.Store conn.old) v at (change.Remove id removal.now)) }
 {
     let entry = find_entry(conn, id)?;
-    let beside = match read_beside(conn, &entry, id) {
-        Ok(beside) => beside,
+    let place = match read_place(conn, &entry.bucket, &entry.key) {
+        Ok(place) => place,
         Err(error) => {
             drop(entry);
             return Err(error);
         }
     };
-    let place = match read_place(conn, &entry.bucket, &entry.key) {
-        Ok(place) => place,
+    let beside = match read_beside(conn, &entry, id, place.head) {
+        Ok(beside) => beside,
         Err(error) => {
+            drop(place);
             drop(entry);
             return Err(error);
         }

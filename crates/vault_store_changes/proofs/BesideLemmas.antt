@@ -1,7 +1,7 @@
 -- Every change is its edits, in every table but that of the heads.
 use Rattle.std.proofs.Common.{ℕ}
 use Rattle.vault_core_model.specs.declared.change.Change.{Change}
-use Rattle.vault_core_model.specs.declared.change.Change.TheVariants.{AddDept, AddCaller, CloseCaller, AddBucket, SetDefault, SetRules, Admit, AddSetting, Remove}
+use Rattle.vault_core_model.specs.declared.change.Change.TheVariants.{AddDept, AddCaller, CloseCaller, AddBucket, MoveBucket, SetDefault, SetRules, Admit, AddSetting, Remove}
 use Rattle.vault_core_model.specs.Allowed.{Allows}
 use Rattle.vault_core_model.specs.Change.{changed}
 use Rattle.vault_core_model.specs.Sound.{Sound}
@@ -10,6 +10,7 @@ use Rattle.vault_store_model.specs.Rows.{rows_of}
 use Rattle.vault_store_changes.specs.Edits.{edit_of}
 use Rattle.vault_store_changes.specs.Beside.{AreSameBesideHeads}
 use Rattle.vault_store_changes.proofs.RecordLemmas.{dept_added, caller_added, caller_closed, bucket_added}
+use Rattle.vault_store_changes.proofs.MoveLemmas.{bucket_moved}
 use Rattle.vault_store_changes.proofs.ConfigLemmas.{default_set, rules_set}
 use Rattle.vault_store_changes.proofs.SettingLemmas.{setting_added}
 use Rattle.vault_store_changes.proofs.AdmissionLemmas.{entry_admitted}
@@ -20,6 +21,7 @@ beside_heads v t (AddDept name) sound allowed s beside = dept_added v t name sou
 beside_heads v t (AddCaller c) sound allowed s beside = caller_added v t c s
 beside_heads v t (CloseCaller name) sound allowed s beside = caller_closed v t name s
 beside_heads v t (AddBucket name dept) sound allowed s beside = bucket_added v t name dept s
+beside_heads v t (MoveBucket name dept) sound allowed s beside = bucket_moved v t name dept sound allowed s beside
 beside_heads v t (SetDefault name default) sound allowed s beside = default_set v t name default s
 beside_heads v t (SetRules name rules) sound allowed s beside = rules_set v t name rules sound allowed.0 s
 beside_heads v t (Admit a) sound allowed s beside = entry_admitted v t a sound allowed s beside

@@ -13,11 +13,13 @@ use Rattle.vault_core_model.specs.declared.records.History.{History}
 use Rattle.vault_core_model.specs.declared.records.Note.{Note}
 use Rattle.vault_core_model.specs.declared.records.Removal.{Removal}
 use Rattle.vault_core_model.specs.declared.records.Setting.{Setting}
+use Rattle.vault_core_model.specs.declared.records.Tenure.{Tenure}
 use Rattle.vault_core_model.specs.declared.change.Change.{Change}
-use Rattle.vault_core_model.specs.declared.change.Change.TheVariants.{AddDept, AddCaller, CloseCaller, AddBucket, SetDefault, SetRules, Admit, AddSetting, Remove}
+use Rattle.vault_core_model.specs.declared.change.Change.TheVariants.{AddDept, AddCaller, CloseCaller, AddBucket, MoveBucket, SetDefault, SetRules, Admit, AddSetting, Remove}
 use Rattle.vault_core_model.specs.Allowed.{Allows}
-use Rattle.vault_core_model.specs.Change.{changed, new_bucket, closed_if, with_default, with_rules, with_setting, removed_by, removed_if}
+use Rattle.vault_core_model.specs.Change.{changed, new_bucket, closed_if, with_default, with_rules, with_department, with_setting, tenured_by, tenured_if, next_tenure, removed_by, removed_if}
 use Rattle.vault_core_model.specs.Order.{name_cmp, caller_cmp, bucket_cmp, note_cmp, placed_if_given}
+use Rattle.vault_core_model.specs.Places.{is_held_version_in}
 use Rattle.vault_core_model.specs.Vault.{Vault}
 use Rattle.vault_core_laws.proofs.Lists.{All-push, All-placed}
 use Rattle.vault_core_laws.proofs.Soundness.{Sound-changed}
@@ -47,6 +49,20 @@ rules_limited : (name : List ℕ) (rules : Option (List Rule)) → IfSome rules 
 rules_limited name rules given b is =
     elim (bytes_eq b.name name) as (λ x. IsBucket (if x then record b { rules = rules } else b)) [
       | true ↦ record { name = is.name; config = is.config; rules = given }
+      | false ↦ is
+    ]
+
+owner_limited : (name dept : List ℕ) → IsPlainName dept → (b : Bucket) → IsBucket b → IsBucket (with_department name dept b)
+owner_limited name dept given b is =
+    elim (bytes_eq b.name name) as (λ x. IsBucket (if x then record b { config = record { dept = dept; default = b.config.default } } else b)) [
+      | true ↦ record { name = is.name; config = record { dept = given; default = is.config.default }; rules = is.rules }
+      | false ↦ is
+    ]
+
+tenure_limited : (name : List ℕ) (t : Tenure) (h : History) → IsHistory h → IsHistory (tenured_if name t h)
+tenure_limited name t h is =
+    elim (is_held_version_in name h.entry) as (λ b. IsHistory (if b then tenured_by t h else h)) [
+      | true ↦ record { entry = is.entry; settings = is.settings }
       | false ↦ is
     ]
 
@@ -111,6 +127,14 @@ limited_changed v t (AddBucket name dept) is low given = record {
   buckets = All-placed IsBucket bucket_cmp (new_bucket name dept) v.buckets (record { name = given.0; config = record { dept = given.1; default = tt }; rules = tt }) is.buckets;
   notes = is.notes;
   histories = is.histories;
+}
+limited_changed v t (MoveBucket name dept) is low given = record {
+  last = low;
+  departments = is.departments;
+  callers = is.callers;
+  buckets = each_map IsBucket (with_department name dept) (owner_limited name dept given) v.buckets is.buckets;
+  notes = is.notes;
+  histories = each_map IsHistory (tenured_if name (next_tenure v t dept)) (tenure_limited name (next_tenure v t dept)) v.histories is.histories;
 }
 limited_changed v t (SetDefault name default) is low given = record {
   last = low;

@@ -8,5 +8,11 @@ pub mod EntryLemmas
 pub mod SettingLemmas
 pub mod AdmissionLemmas
 pub mod RemovalLemmas
+pub mod CopyLemmas
+pub mod SumsAlone
+pub mod MovedShares
+pub mod MovedItems
+pub mod MoveSums
+pub mod MoveLemmas
 pub mod BesideLemmas
 pub mod SumLemmas

@@ -11,7 +11,7 @@ use Rattle.vault_core_model.specs.declared.records.Head.{Head}
 use Rattle.vault_core_model.specs.declared.records.History.{History}
 use Rattle.vault_core_model.specs.declared.records.Removal.{Removal}
 use Rattle.vault_core_model.specs.declared.change.Change.{Change}
-use Rattle.vault_core_model.specs.declared.change.Change.TheVariants.{AddDept, AddCaller, CloseCaller, AddBucket, SetDefault, SetRules, Admit, AddSetting, Remove}
+use Rattle.vault_core_model.specs.declared.change.Change.TheVariants.{AddDept, AddCaller, CloseCaller, AddBucket, MoveBucket, SetDefault, SetRules, Admit, AddSetting, Remove}
 use Rattle.vault_core_model.specs.Change.{changed, new_bucket}
 use Rattle.vault_core_model.specs.Reads.{entry_of, head_of, head_over}
 use Rattle.vault_core_model.specs.Vault.{Vault, config_of, next_id}
@@ -19,9 +19,10 @@ use Rattle.vault_audit_model.specs.Rows.{caller_row, bucket_row, rule_row, entry
 use Rattle.vault_audit_model.specs.Spells.{bucket_of, rules_if_given, settings_in, tenures_in, department_in}
 use Rattle.vault_store_model.specs.Rows.{Rows, AreSameRows}
 use Rattle.vault_store_model.specs.Edits.{number_of, with_rows, with_row, changed_if, and_then, IgnoresOrder, pushed, with_each, at_moment}
-use Rattle.vault_store_model.specs.Tests.{is_named, is_numbered, is_of_key, every, with_last, with_last_and_next, with_sums, closed_row, with_default_columns, removed_row, with_head_columns}
-use Rattle.vault_store_model.proofs.EditLemmas.{with_row_ignores, with_changed_ignores, without_ignores, and_then_ignores}
-use Rattle.vault_store_changes.specs.Edits.{added_if_given, with_row_if_given, summed, with_sums_of, headed, with_head, head_with, others_at, with_history, without_entry, edit_of}
+use Rattle.vault_store_model.specs.Copies.{is_held_version, moved_row}
+use Rattle.vault_store_model.specs.Tests.{is_named, is_numbered, is_of_key, every, with_last, with_last_and_next, with_last_and_moves, with_sums, closed_row, with_default_columns, with_owner, removed_row, with_head_columns}
+use Rattle.vault_store_model.proofs.EditLemmas.{with_row_ignores, with_changed_ignores, without_ignores, with_copies_ignores, and_then_ignores}
+use Rattle.vault_store_changes.specs.Edits.{added_if_given, with_row_if_given, summed, with_sums_of, headed, with_head, head_with, others_at, with_history, without_entry, with_department_sums, with_move, edit_of}
 
 -- ---- lists of rows
 
@@ -68,6 +69,9 @@ sums_ignore v marker config = rows_ignore table.Departments (summed v marker con
 pub head_ignores : (bucket key : List ℕ) (old new : Option Head) → IgnoresOrder (with_head bucket key old new)
 head_ignores bucket key old new = rows_ignore table.Heads (headed bucket key old new) (headed_same bucket key old new)
 
+department_ignores : (v : Vault) (dept : List ℕ) → IgnoresOrder (with_department_sums v dept)
+department_ignores v dept = with_changed_ignores table.Departments (is_named dept) (with_sums (department_in v dept).sums)
+
 -- what is nothing is no edit
 unwritten : (t : Table) (edit : List Row → List Row) → ((rows : List Row) → edit rows ≡ rows) → (xs : Rows) → AreSameRows (with_rows t edit xs) xs
 unwritten t edit still xs s =
@@ -113,6 +117,14 @@ removal_ignores v w id r (Some e) xs ys are =
     (and_then_ignores _ _ (sums_ignore w e.marker (config_of v e.bucket))
     (head_ignores e.bucket e.key (head_of v e.bucket e.key) (head_over (others_at v id e.bucket e.key))))) xs ys are
 
+move_ignores : (v w : Vault) (t : ℕ) (name dept : List ℕ) (owner : Option BucketConfig) → IgnoresOrder (with_move v w t name dept owner)
+move_ignores v w t name dept None xs ys are = are
+move_ignores v w t name dept (Some owner) xs ys are =
+    and_then_ignores _ _ (with_copies_ignores table.Tenures table.Entries (is_held_version name) (moved_row (v.moves + 1) dept t))
+    (and_then_ignores _ _ (with_changed_ignores table.Buckets (is_named name) (with_owner dept))
+    (and_then_ignores _ _ (department_ignores w owner.dept)
+    (and_then_ignores _ _ (department_ignores w dept) (with_changed_ignores table.Meta every (with_last_and_moves t (v.moves + 1)))))) xs ys are
+
 -- ---- the edits of a change
 
 pub edit_ignores : (v : Vault) (t : ℕ) (c : Change) → IgnoresOrder (edit_of v t c)
@@ -120,6 +132,7 @@ edit_ignores v t (AddDept name) = and_then_ignores _ _ (with_row_ignores table.D
 edit_ignores v t (AddCaller c) = and_then_ignores _ _ (with_row_ignores table.Callers (caller_row c)) (moment_ignores t)
 edit_ignores v t (CloseCaller name) = and_then_ignores _ _ (with_changed_ignores table.Callers (is_named name) closed_row) (moment_ignores t)
 edit_ignores v t (AddBucket name dept) = and_then_ignores _ _ (with_row_ignores table.Buckets (bucket_row (bucket_of (new_bucket name dept)))) (moment_ignores t)
+edit_ignores v t (MoveBucket name dept) = move_ignores v (changed v t (MoveBucket name dept)) t name dept (config_of v name)
 edit_ignores v t (SetDefault name default) = and_then_ignores _ _ (with_changed_ignores table.Buckets (is_named name) (with_default_columns default)) (moment_ignores t)
 edit_ignores v t (SetRules name rules) =
     and_then_ignores _ _ (without_ignores table.Rules (is_named name))

@@ -36,14 +36,14 @@ sums a b c d e f g = record { admitted = a; received = b; held = c; removed = d;
 same_sums : (a b c d e f g h i j k l m n : ℕ) → a ≡ h → b ≡ i → c ≡ j → d ≡ k → e ≡ l → f ≡ m → g ≡ n → sums a b c d e f g ≡ sums h i j k l m n
 same_sums a b c d e f g h i j k l m n o p q r s t u = rw (o, p, q, r, s, t, u) refl
 
-row_is : (row : Sums) (items : List Item) → IsRowOf row items → row ≡ sums_over items
+pub row_is : (row : Sums) (items : List Item) → IsRowOf row items → row ≡ sums_over items
 row_is row items is =
     same_sums row.admitted row.received row.held row.removed row.handed row.weighted row.closed _ _ _ _ _ _ _
     is.admitted is.received is.held is.removed is.handed is.weighted is.closed
 
 -- ---- an admission
 
-same_config : (c d : BucketConfig) (o : Option BucketConfig) → o ≡ Some c → o ≡ Some d → c ≡ d
+pub same_config : (c d : BucketConfig) (o : Option BucketConfig) → o ≡ Some c → o ≡ Some d → c ≡ d
 same_config c d o e f = cc (sym e ∙ f)
 
 pub sums_admitted : (v : Vault) (t : ℕ) (a : Admission) (config : BucketConfig) (row new : Sums) → Sound v → v.last ≤ t → t ≤ last_moment → IsAdmission v t a → a.history.entry.marker ≡ false

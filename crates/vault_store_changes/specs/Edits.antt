@@ -9,7 +9,7 @@ use Rattle.vault_core_model.specs.declared.records.Head.{Head}
 use Rattle.vault_core_model.specs.declared.records.History.{History}
 use Rattle.vault_core_model.specs.declared.records.Removal.{Removal}
 use Rattle.vault_core_model.specs.declared.change.Change.{Change}
-use Rattle.vault_core_model.specs.declared.change.Change.TheVariants.{AddDept, AddCaller, CloseCaller, AddBucket, SetDefault, SetRules, Admit, AddSetting, Remove}
+use Rattle.vault_core_model.specs.declared.change.Change.TheVariants.{AddDept, AddCaller, CloseCaller, AddBucket, MoveBucket, SetDefault, SetRules, Admit, AddSetting, Remove}
 use Rattle.vault_core_model.specs.Change.{changed, new_bucket}
 use Rattle.vault_core_model.specs.Reads.{entry_of, setting_of, count_by, head_of, head_over}
 use Rattle.vault_core_model.specs.Places.{held_at}
@@ -18,7 +18,8 @@ use Rattle.vault_audit_model.specs.Rows.{department_row, caller_row, bucket_row,
 use Rattle.vault_audit_model.specs.Spells.{bucket_of, rules_if_given, settings_in, tenures_in, department_in}
 use Rattle.vault_store_model.specs.Rows.{Rows}
 use Rattle.vault_store_model.specs.Edits.{with_rows, with_row, changed_if, with_changed, without, and_then, with_each, at_moment}
-use Rattle.vault_store_model.specs.Tests.{is_named, is_numbered, is_of_key, every, with_last_and_next, with_sums, closed_row, with_default_columns, removed_row, with_head_columns}
+use Rattle.vault_store_model.specs.Copies.{with_tenures}
+use Rattle.vault_store_model.specs.Tests.{is_named, is_numbered, is_of_key, every, with_last_and_next, with_last_and_moves, with_sums, closed_row, with_default_columns, with_owner, removed_row, with_head_columns}
 
 -- ---- parts of edits
 
@@ -80,6 +81,20 @@ without_entry v w id r (Some e) xs =
     (and_then (with_sums_of w e.marker (config_of v e.bucket))
     (with_head e.bucket e.key (head_of v e.bucket e.key) (head_over (others_at v id e.bucket e.key))))) xs
 
+-- the sums that this vault has, in the row of a department
+abbrev pub with_department_sums : Vault → List ℕ → Rows → Rows
+with_department_sums v dept = with_changed table.Departments (is_named dept) (with_sums (department_in v dept).sums)
+
+-- a bucket becomes that department's: its held versions get a tenure, and both departments their sums; w is the vault after that
+abbrev pub with_move : Vault → Vault → ℕ → List ℕ → List ℕ → Option BucketConfig → Rows → Rows
+with_move v w t name dept None xs = xs
+with_move v w t name dept (Some owner) xs =
+    and_then (with_tenures name (v.moves + 1) dept t)
+    (and_then (with_changed table.Buckets (is_named name) (with_owner dept))
+    (and_then (with_department_sums w owner.dept)
+    (and_then (with_department_sums w dept)
+    (with_changed table.Meta every (with_last_and_moves t (v.moves + 1)))))) xs
+
 -- the edits that a change at t is
 abbrev pub edit_of : Vault → ℕ → Change → Rows → Rows
 edit_of v t (AddDept name) =
@@ -88,6 +103,7 @@ edit_of v t (AddDept name) =
 edit_of v t (AddCaller c) = and_then (with_row table.Callers (caller_row c)) (at_moment t)
 edit_of v t (CloseCaller name) = and_then (with_changed table.Callers (is_named name) closed_row) (at_moment t)
 edit_of v t (AddBucket name dept) = and_then (with_row table.Buckets (bucket_row (bucket_of (new_bucket name dept)))) (at_moment t)
+edit_of v t (MoveBucket name dept) = with_move v (changed v t (MoveBucket name dept)) t name dept (config_of v name)
 edit_of v t (SetDefault name default) = and_then (with_changed table.Buckets (is_named name) (with_default_columns default)) (at_moment t)
 edit_of v t (SetRules name rules) =
     and_then (without table.Rules (is_named name)) (and_then (with_each table.Rules (map rule_row (rules_if_given name rules))) (at_moment t))

@@ -3,7 +3,7 @@
 //! that does nothing.
 #![tactic(auto)]
 
-ghost use Rattle.std.specs.Prelude.{◌≡◌, ℕ, ◌≤◌, false, Some};
+ghost use Rattle.std.specs.Prelude.{◌≡◌, ℕ, ◌≤◌, false, List, Some};
 ghost use Rattle.vault_base.specs.Days.{day, last_moment};
 ghost use Rattle.vault_tally.specs.Row.{IsRowOf};
 ghost use Rattle.vault_tally.specs.declared.row.Row.{Row};
@@ -12,12 +12,12 @@ ghost use Rattle.vault_core_model.specs.declared.records.History.{History};
 ghost use Rattle.vault_core_model.specs.declared.records.Removal.{Removal};
 ghost use Rattle.vault_core_model.specs.declared.records.Tenure.{Tenure};
 ghost use Rattle.vault_core_model.specs.declared.change.Admission.{Admission};
-ghost use Rattle.vault_core_model.specs.declared.change.Change.TheVariants.{Admit, Remove};
+ghost use Rattle.vault_core_model.specs.declared.change.Change.TheVariants.{Admit, MoveBucket, Remove};
 ghost use Rattle.vault_core_model.specs.declared.change.Change.{Change};
-ghost use Rattle.vault_core_model.specs.Allowed.{Allows, IsAdmission, IsRemoval};
+ghost use Rattle.vault_core_model.specs.Allowed.{Allows, IsAdmission, IsMove, IsRemoval};
 ghost use Rattle.vault_core_model.specs.Change.{changed};
 ghost use Rattle.vault_core_model.specs.Sound.{Sound, last_tenure};
-ghost use Rattle.vault_core_model.specs.Totals.{items_of};
+ghost use Rattle.vault_core_model.specs.Totals.{bucket_bytes, bucket_weight, items_of};
 ghost use Rattle.vault_core_model.specs.Vault.{Vault, config_of, history_of};
 ghost use Rattle.vault_audit_model.specs.Spells.{IsKept, department_in};
 ghost use Rattle.vault_store_model.specs.Edits.{IgnoresOrder};
@@ -25,7 +25,7 @@ ghost use Rattle.vault_store_model.specs.Rows.{rows_of};
 ghost use Rattle.vault_store_changes.specs.Beside.{AreSameBesideHeads};
 ghost use Rattle.vault_store_changes.specs.Edits.{edit_of};
 ghost use Rattle.vault_store_changes.specs.Limits.{IsChangeInLimits};
-ghost use Rattle.vault_store_changes.specs.Sums.{CountsIn, CountsOut};
+ghost use Rattle.vault_store_changes.specs.Sums.{CountsIn, CountsOut, HandsOver, Receives};
 
 /// The order in which rows stand makes no difference to the edits of a change.
 pub fn edits_ignore_order()
@@ -48,7 +48,8 @@ pub fn edits_make_all_rows_but_heads()
 
 /// The sums of a department after the admission or the removal of a version are those that its row comes
 /// to by counting the version in, or the end of the tenure that it has of it: what `Row::admit` and
-/// `Row::remove` promise.
+/// `Row::remove` promise. After a bucket's move, those of the department that had it and of the one that
+/// gets it come of `Row::hand_over` and `Row::receive`.
 pub fn sums_come_of_the_row()
     ensures admitted { (v : Vault) (t : ℕ) (a : Admission) (config : BucketConfig) (row new : Row) → Sound v → v.last ≤ t →
         t ≤ last_moment → IsAdmission v t a → a.history.entry.marker ≡ false →
@@ -60,4 +61,11 @@ pub fn sums_come_of_the_row()
         last_tenure h.tenures ≡ Some tenure → IsRowOf row (items_of v tenure.dept) →
         CountsOut row h.entry.size (day tenure.from) (day t) new →
         new ≡ (department_in (changed v t (Remove id r)) tenure.dept).sums }
+    ensures handed_over { (v : Vault) (t : ℕ) (name dept : List ℕ) (owner : BucketConfig) (row new : Row) → Sound v → v.last ≤ t →
+        t ≤ last_moment → IsMove v name dept → config_of v name ≡ Some owner → IsRowOf row (items_of v owner.dept) →
+        HandsOver row (bucket_bytes v name) (bucket_weight v name) (day t) new →
+        new ≡ (department_in (changed v t (MoveBucket name dept)) owner.dept).sums }
+    ensures received { (v : Vault) (t : ℕ) (name dept : List ℕ) (row new : Row) → Sound v → v.last ≤ t → t ≤ last_moment →
+        IsMove v name dept → IsRowOf row (items_of v dept) → Receives row (bucket_bytes v name) (day t) new →
+        new ≡ (department_in (changed v t (MoveBucket name dept)) dept).sums }
 {}

@@ -6,6 +6,7 @@ pub mod TypeLemmas
 pub mod ScanLemmas
 pub mod QueryLemmas
 pub mod StatementLemmas
+pub mod CopyLemmas
 mod TextLemmas
 mod RowLemmas
 mod RulesLemmas

@@ -18,12 +18,12 @@ use Rattle.vault_store_model.specs.Edits.{with_row, with_changed, without}
 use Rattle.sqlite_tied.proofs.RuleLemmas.{and_true}
 use Rattle.vault_store_edits.specs.Apart.{IsApart}
 use Rattle.vault_store_model.specs.Scans.{passes}
-use Rattle.vault_store_model.specs.Tests.{is_text, is_named, every, with_last, with_last_and_next, with_sums, closed_row, with_default_columns}
+use Rattle.vault_store_model.specs.Tests.{is_text, is_named, every, with_last, with_last_and_next, with_last_and_moves, with_sums, closed_row, with_default_columns, with_owner}
 use Rattle.vault_audit_model.proofs.ValueLemmas.{cast_null, cast_int}
 use Rattle.vault_store_edits.proofs.CastLemmas.{cast_number, cast_number_or_null, cast_flag, cast_text_or_null}
 use Rattle.vault_store_edits.proofs.StatementLemmas.{Leaves, inserts, updates, deletes}
 use Rattle.vault_store_edits.proofs.TestLemmas.{text_test}
-use Rattle.vault_store_edits.proofs.TextLemmas.{department_text, department_terms, department_is, department_plain, by_name, sums_text, sums_project, sums_is, sums_plain, caller_text, caller_terms, caller_is, caller_plain, closed_text, closed_project, closed_is, closed_plain, bucket_text, bucket_terms, bucket_is, bucket_plain, default_text, default_project, default_is, default_plain, rule_text, rule_terms, rule_is, rule_plain, no_rules_text, no_rules_is, no_rules_plain, last_text, last_project, last_is, last_plain, next_text, next_project, next_is, next_plain}
+use Rattle.vault_store_edits.proofs.TextLemmas.{department_text, department_terms, department_is, department_plain, by_name, sums_text, sums_project, sums_is, sums_plain, caller_text, caller_terms, caller_is, caller_plain, closed_text, closed_project, closed_is, closed_plain, bucket_text, bucket_terms, bucket_is, bucket_plain, default_text, default_project, default_is, default_plain, owner_text, owner_project, owner_is, owner_plain, rule_text, rule_terms, rule_is, rule_plain, no_rules_text, no_rules_is, no_rules_plain, last_text, last_project, last_is, last_plain, next_text, next_project, next_is, next_plain, moves_text, moves_project, moves_is, moves_plain}
 use Rattle.vault_store_edits.proofs.TypeLemmas.{column_taken}
 
 -- the name in the first column is the first parameter
@@ -53,6 +53,16 @@ module _ (last : ℕ) where
       let schema : cast kind.Integer (column r 2) ≡ column r 2 = column_taken meta r refl typed 1 _ refl in
       let moves : cast kind.Integer (column r 5) ≡ column r 5 = column_taken meta r refl typed 4 _ refl in
       rw (one, schema, moves, cast_number last, cast_number next) refl)
+
+  pub sets_moves : (moves : ℕ) (old new : State) (count : ℕ) → IsApart (passes [] (number last ∷ number moves ∷ [])) (old.now.trees meta_tree) → IsDatabase old.now → old.now.schema ≡ vault_schema
+      → Executes moves_text (number last ∷ number moves ∷ []) old new (Ok count) → Leaves old new (with_changed table.Meta every (with_last_and_moves last moves))
+  sets_moves moves =
+      updates table.Meta 0 meta moves_text (number last ∷ number moves ∷ []) [] every refl moves_plain (λ r whole. refl) moves_project (with_last_and_moves last moves) moves_is (λ limit mode text db out h. h) (λ db k. k.0)
+      (λ r typed id is.
+      let one : cast kind.Integer (column r 0) ≡ column r 0 = subst (λ v. cast kind.Integer v ≡ v) (sym is) (cast_int id) in
+      let schema : cast kind.Integer (column r 2) ≡ column r 2 = column_taken meta r refl typed 1 _ refl in
+      let next : cast kind.Integer (column r 4) ≡ column r 4 = column_taken meta r refl typed 3 _ refl in
+      rw (one, schema, next, cast_number last, cast_number moves) refl)
 
 -- ---- departments
 
@@ -122,6 +132,20 @@ sets_default name default =
     let days : cast kind.Integer (default_days default) ≡ default_days default = cast_number_or_null _ in
     let years : cast kind.Integer (default_years default) ≡ default_years default = cast_number_or_null _ in
     rw (first, dept, mode, days, years) refl)
+
+abbrev pub owner_params : List ℕ → List ℕ → Row
+owner_params name dept = Text name ∷ Text dept ∷ []
+
+pub sets_owner : (name dept : List ℕ) (old new : State) (count : ℕ) → IsApart (passes by_name (owner_params name dept)) (old.now.trees buckets_tree) → IsDatabase old.now → old.now.schema ≡ vault_schema
+    → Executes owner_text (owner_params name dept) old new (Ok count) → Leaves old new (with_changed table.Buckets (is_named name) (with_owner dept))
+sets_owner name dept =
+    updates table.Buckets 3 buckets owner_text (owner_params name dept) by_name (is_named name) refl owner_plain (λ r whole. named name (Text dept ∷ []) r) owner_project (with_owner dept) owner_is (λ limit mode text db out h. h) (λ db k. k.1.1.1.0)
+    (λ r typed id is.
+    let first : cast kind.Text (column r 1) ≡ column r 1 = column_taken buckets r refl typed 0 _ refl in
+    let mode : cast kind.Integer (column r 3) ≡ column r 3 = column_taken buckets r refl typed 2 _ refl in
+    let days : cast kind.Integer (column r 4) ≡ column r 4 = column_taken buckets r refl typed 3 _ refl in
+    let years : cast kind.Integer (column r 5) ≡ column r 5 = column_taken buckets r refl typed 4 _ refl in
+    rw (first, mode, days, years) refl)
 
 -- ---- rules
 

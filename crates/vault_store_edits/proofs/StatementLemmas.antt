@@ -138,7 +138,7 @@ abbrev pub task_on : Option ℕ → Mode → Columns → Row → Task
 task_on limit mode base params = record { limit = limit; keys = mode.keys; schema = vault_schema; table = record base { is_counted = false }; params = params }
 
 -- an INSERT of rows puts them into its table, since no foreign key acts on it
-added : (limit : Option ℕ) (mode : Mode) (base : Columns) (params : Row) (at : ℕ) (from : Source) (db : Trees) (tally : Tally) (after : Database)
+pub added : (limit : Option ℕ) (mode : Mode) (base : Columns) (params : Row) (at : ℕ) (from : Source) (db : Trees) (tally : Tally) (after : Database)
     → OnRows (task_on limit mode base params) mode None (Insert at from) db (Ok (tally, after))
     → (rows : List Row) × Sourced limit (record { schema = vault_schema; trees = db }) (stamped base params) from (Ok rows)
     × Applies vault_schema mode.keys db (edit_of db (record base { is_counted = false }) [] Chosen 0 rows) after.trees × (after.schema ≡ vault_schema)

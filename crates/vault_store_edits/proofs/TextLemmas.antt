@@ -114,6 +114,20 @@ pub default_plain : IsPlain (understood vault_schema default_text)
 unfolding understood everything
 default_plain = (refl, refl)
 
+abbrev pub owner_text : List ℕ
+owner_text = codes "UPDATE buckets SET dept = ?2 WHERE name = ?1"
+
+abbrev pub owner_project : List Term
+owner_project = col 1 0 ∷ col 1 1 ∷ col 0 1 ∷ col 1 3 ∷ col 1 4 ∷ col 1 5 ∷ []
+
+pub owner_is : command_of (understood vault_schema owner_text) ≡ Update 3 (record { lets = []; body = scan buckets_tree by_name (col 1 0 ∷ owner_project) })
+unfolding understood everything
+owner_is = refl
+
+pub owner_plain : IsPlain (understood vault_schema owner_text)
+unfolding understood everything
+owner_plain = (refl, refl)
+
 pub finds_bucket : Finds (codes "SELECT rowid FROM buckets WHERE name = ?1") buckets_tree by_name
 unfolding understood everything
 finds_bucket = record { names = codes "rowid" ∷ []; command = refl; unlisted = refl; plain = (refl, refl) }
@@ -178,6 +192,20 @@ next_is = refl
 pub next_plain : IsPlain (understood vault_schema next_text)
 unfolding understood everything
 next_plain = (refl, refl)
+
+abbrev pub moves_text : List ℕ
+moves_text = codes "UPDATE meta SET last = ?1, moves = ?2"
+
+abbrev pub moves_project : List Term
+moves_project = col 1 0 ∷ lit Null ∷ col 1 2 ∷ col 0 0 ∷ col 1 4 ∷ col 0 1 ∷ []
+
+pub moves_is : command_of (understood vault_schema moves_text) ≡ Update 0 (record { lets = []; body = scan meta_tree [] (col 1 0 ∷ moves_project) })
+unfolding understood everything
+moves_is = refl
+
+pub moves_plain : IsPlain (understood vault_schema moves_text)
+unfolding understood everything
+moves_plain = (refl, refl)
 
 pub finds_meta : Finds (codes "SELECT rowid FROM meta") meta_tree []
 unfolding understood everything

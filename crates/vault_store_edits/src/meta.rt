@@ -6,7 +6,7 @@ ghost use Rattle.sqlite.specs.Held.{state};
 ghost use Rattle.vault_base.specs.declared.refusal.Table.TheVariants as table;
 ghost use Rattle.vault_audit_model.specs.Tables.{vault_schema};
 ghost use Rattle.vault_store_model.specs.Edits.{with_changed, Edits};
-ghost use Rattle.vault_store_model.specs.Tests.{every, with_last, with_last_and_next};
+ghost use Rattle.vault_store_model.specs.Tests.{every, with_last, with_last_and_moves, with_last_and_next};
 
 use crate::apart::check_apart;
 use crate::value::{seconds, whole};
@@ -49,5 +49,27 @@ pub fn set_last_and_next<S: Alter>(
     tx.execute(
         "UPDATE meta SET last = ?1, next = ?2",
         params![seconds(last), next],
+    )
+}
+
+/// Writes the last moment, and how many moves of buckets were made.
+pub fn set_last_and_moves<S: Alter>(
+    tx: &mut Transaction<'_, S>,
+    last: Moment,
+    moves: u32,
+) -> Result<usize, Error>
+    ensures same_reference { tx.new.conn.ghost_name ≡ tx.old.conn.ghost_name }
+    ensures edits { HasCleanDisk (state S.Store tx.new.conn.now) → IsTrue tx.old.conn.now.in_transaction → IsDatabase (state S.Store tx.old.conn.now).now
+        → OnOk result (Edits (state S.Store tx.old.conn.now) (state S.Store tx.new.conn.now) (with_changed table.Meta every (with_last_and_moves last moves))) }
+    ensures sound { HasCleanDisk (state S.Store tx.new.conn.now) → IsTrue tx.old.conn.now.in_transaction → IsDatabase (state S.Store tx.old.conn.now).now
+        → (state S.Store tx.old.conn.now).now.schema ≡ vault_schema → OnOk result (IsDatabase (state S.Store tx.new.conn.now).now) }
+    ensures kept { HasCleanDisk (state S.Store tx.new.conn.now) → IsTrue tx.old.conn.now.in_transaction
+        → OnErr result (KeepsCommit (state S.Store tx.old.conn.now) (state S.Store tx.new.conn.now)) }
+    ensures survives { Survives (state S.Store tx.old.conn.now) (state S.Store tx.new.conn.now) (λ _. ⊥) }
+{
+    check_apart(tx, Table::Meta, "SELECT rowid FROM meta", &[])?;
+    tx.execute(
+        "UPDATE meta SET last = ?1, moves = ?2",
+        params![seconds(last), moves],
     )
 }

@@ -1,10 +1,13 @@
 -- What each statement on entries, contents, settings, tenures, intake and heads does.
-use Rattle.std.proofs.Common.{◌≡◌, ℕ, ℤ, List, [], ◌∷◌, true, false, ◌&&◌, Some, Ok, refl, sym, ap₂, subst, ◌∙◌}
+use Rattle.std.proofs.Common.{◌≡◌, ℕ, ℤ, List, [], ◌∷◌, drop, true, false, ◌&&◌, Some, Ok, refl, sym, ap₂, subst, ◌∙◌}
+use Rattle.sqlite_value.specs.declared.value.Value.{Value}
 use Rattle.sqlite_value.specs.declared.value.Value.TheVariants.{Null, Int, Text, Blob}
 use Rattle.sqlite_value.specs.Order.{Row, column}
 use Rattle.sqlite_trees.specs.Tree.{rowid}
 use Rattle.sqlite_schema.specs.declared.schema.Kind.TheVariants as kind
-use Rattle.sqlite_rules.specs.Cast.{cast}
+use Rattle.sqlite_rules.specs.declared.error.Rowids.TheVariants.{Chosen}
+use Rattle.sqlite_rules.specs.Cast.{cast, cast_all}
+use Rattle.sqlite_rules.specs.Edit.{with_rowid}
 use Rattle.sqlite.specs.Effect.{IsDatabase}
 use Rattle.sqlite.specs.State.{State, Executes}
 use Rattle.vault_base.specs.declared.refusal.Table.TheVariants as table
@@ -20,17 +23,20 @@ use Rattle.vault_audit_model.specs.declared.rows.TenureRow.{TenureRow}
 use Rattle.vault_audit_model.specs.Rows.{entry_row, content_row, setting_row, note_row, head_row, tenure_row, author_kind, author_name, removal_at, removal_cause, removal_by, retention_mode, retention_until}
 use Rattle.vault_audit_model.specs.Tables.{vault_schema, entries, contents, settings, intake, heads, tenures, entries_tree, contents_tree, heads_tree}
 use Rattle.vault_audit_model.specs.Values.{number, bytes_or_null, flag}
+use Rattle.vault_store_model.specs.Copies.{with_tenures, is_held_version, moved_row}
 use Rattle.vault_store_model.specs.Edits.{with_row, with_changed, without}
 use Rattle.vault_store_edits.specs.Apart.{IsApart}
+use Rattle.vault_store_edits.specs.Trees.{columns_of}
 use Rattle.vault_store_model.specs.Scans.{passes}
 use Rattle.vault_store_model.specs.Tests.{is_text, is_number, is_numbered, is_of_key, removed_row, with_head_columns}
 use Rattle.vault_audit_model.proofs.ValueLemmas.{cast_null, cast_int}
 use Rattle.vault_store_edits.proofs.CastLemmas.{cast_number, cast_number_or_null, cast_flag, cast_flag_or_null, cast_text_or_null}
+use Rattle.vault_store_edits.proofs.CopyLemmas.{copies}
 use Rattle.vault_store_edits.proofs.StatementLemmas.{Leaves, inserts, updates, deletes}
 use Rattle.vault_store_edits.proofs.TestLemmas.{text_test, number_test}
 use Rattle.vault_store_edits.proofs.TypeLemmas.{column_taken}
 use Rattle.sqlite_tied.proofs.RuleLemmas.{and_true}
-use Rattle.vault_store_entry_edits.proofs.TextLemmas.{entry_text, entry_terms, entry_is, entry_plain, by_id, removed_text, removed_project, removed_is, removed_plain, content_text, content_terms, content_is, content_plain, no_content_text, no_content_is, no_content_plain, setting_text, setting_terms, setting_is, setting_plain, tenure_text, tenure_terms, tenure_is, tenure_plain, note_text, note_terms, note_is, note_plain, head_text, head_terms, head_is, head_plain, by_key, newer_text, newer_project, newer_is, newer_plain, no_head_text, no_head_is, no_head_plain}
+use Rattle.vault_store_entry_edits.proofs.TextLemmas.{entry_text, entry_terms, entry_is, entry_plain, by_id, removed_text, removed_project, removed_is, removed_plain, content_text, content_terms, content_is, content_plain, no_content_text, no_content_is, no_content_plain, setting_text, setting_terms, setting_is, setting_plain, tenure_text, tenure_terms, tenure_is, tenure_plain, moved_text, moved_tests, moved_project, moved_collations, moved_is, moved_plain, note_text, note_terms, note_is, note_plain, head_text, head_terms, head_is, head_plain, by_key, newer_text, newer_project, newer_is, newer_plain, no_head_text, no_head_is, no_head_plain}
 
 -- the id in the first column is the first parameter
 identified : (id : ℕ) (rest r : Row) → (passes by_id (number id ∷ rest) r ≡ true → (n : ℤ) × (rowid r ≡ Int n)) → passes by_id (number id ∷ rest) r ≡ is_number id (column r 0)
@@ -122,6 +128,21 @@ pub puts_tenure : (t : TenureRow) (old new : State) (count : ℕ) → old.now.sc
 puts_tenure t =
     inserts table.Tenures 10 tenures tenure_text (tenure_params t) tenure_terms 5 (Null ∷ tenure_params t) (tenure_row t) tenure_is tenure_plain (λ limit mode text db out h. h) refl refl
     (λ rows. rw (cast_null, cast_number t.id, cast_number t.tenure.number, cast_number t.tenure.from) refl)
+
+-- a rowid that is chosen stands in no column
+spared : (v : Value) (vs : Row) (rows : List Row) → columns_of table.Tenures (with_rowid Chosen rows (v ∷ vs)) ≡ columns_of table.Tenures (v ∷ vs)
+spared Null vs rows = refl
+spared v vs rows = refl
+
+abbrev pub moved_params : List ℕ → ℕ → List ℕ → ℕ → Row
+moved_params bucket n dept at = Text bucket ∷ number n ∷ Text dept ∷ number at ∷ []
+
+pub puts_tenures : (bucket : List ℕ) (n : ℕ) (dept : List ℕ) (moment : ℕ) (old new : State) (count : ℕ) → old.now.schema ≡ vault_schema → Executes moved_text (moved_params bucket n dept moment) old new (Ok count)
+    → Leaves old new (with_tenures bucket n dept moment)
+puts_tenures bucket n dept moment =
+    copies table.Tenures table.Entries 10 tenures moved_text (moved_params bucket n dept moment) moved_tests moved_project moved_collations (is_held_version bucket) (moved_row n dept moment) moved_is moved_plain
+    (λ limit mode text db out h. h) refl refl (λ r. refl) (λ rows s. spared (cast kind.Integer (column s 0)) (cast_all tenures.columns (drop 1 s)) rows)
+    (λ r. rw (cast_number n, cast_number moment) refl)
 
 abbrev pub note_params : Note → Row
 note_params n = note_row n

@@ -1,14 +1,19 @@
 -- What the statements mean.
-use Rattle.std.proofs.Common.{◌≡◌, ℕ, List, [], ◌∷◌, codes, refl}
+use Rattle.std.proofs.Common.{◌≡◌, ℕ, pos, List, [], ◌∷◌, codes, refl}
 use Rattle.sqlite_tied.specs.Compute.{everything}
-use Rattle.sqlite.specs.declared.types.Value.TheVariants.{Null}
+use Rattle.sqlite_value.specs.declared.keys.Collation.{Collation}
+use Rattle.sqlite_value.specs.declared.keys.Collation.TheVariants.{Binary}
+use Rattle.sqlite_sql.specs.declared.ops.BinaryOp.TheVariants.{Compare, Is}
+use Rattle.sqlite_sql.specs.declared.ops.CompareOp.TheVariants.{Eq}
+use Rattle.sqlite_sql.specs.Term.{op2}
+use Rattle.sqlite.specs.declared.types.Value.TheVariants.{Null, Int}
 use Rattle.sqlite.specs.Term.{Term, lit, col}
-use Rattle.sqlite.specs.Source.TheVariants.{Values}
+use Rattle.sqlite.specs.Source.TheVariants.{Values, Query}
 use Rattle.sqlite.specs.Command.TheVariants.{Insert, Update, Delete}
 use Rattle.sqlite.specs.Listing.{understood}
 use Rattle.sqlite.proofs.Callers.{IsPlain, command_of}
 use Rattle.vault_audit_model.specs.Tables.{vault_schema, entries_tree, contents_tree, heads_tree}
-use Rattle.vault_store_model.specs.Scans.{scan}
+use Rattle.vault_store_model.specs.Scans.{scan, scan_as}
 use Rattle.vault_store_edits.specs.Queries.{equals, Finds}
 
 -- ---- entries
@@ -111,6 +116,27 @@ tenure_is = refl
 pub tenure_plain : IsPlain (understood vault_schema tenure_text)
 unfolding understood everything
 tenure_plain = (refl, refl)
+
+abbrev pub moved_text : List ℕ
+moved_text = codes "INSERT INTO tenures (id, n, dept, moment) SELECT id, ?2, ?3, ?4 FROM entries WHERE bucket = ?1 AND marker = 0 AND removed IS NULL"
+
+-- the bucket is the first parameter, and the entry is a version that isn't removed
+abbrev pub moved_tests : List Term
+moved_tests = op2 (Compare Eq Binary) (col 1 2) (col 0 0) ∷ op2 (Compare Eq Binary) (col 1 4) (lit (Int (pos 0))) ∷ op2 (Is Binary) (col 1 10) (lit Null) ∷ []
+
+abbrev pub moved_project : List Term
+moved_project = lit Null ∷ col 1 0 ∷ col 0 1 ∷ col 0 2 ∷ col 0 3 ∷ []
+
+abbrev pub moved_collations : List Collation
+moved_collations = Binary ∷ Binary ∷ Binary ∷ Binary ∷ Binary ∷ []
+
+pub moved_is : command_of (understood vault_schema moved_text) ≡ Insert 10 (Query (record { lets = []; body = scan_as moved_collations entries_tree moved_tests moved_project }))
+unfolding understood everything
+moved_is = refl
+
+pub moved_plain : IsPlain (understood vault_schema moved_text)
+unfolding understood everything
+moved_plain = (refl, refl)
 
 abbrev pub note_text : List ℕ
 note_text = codes "INSERT INTO intake (bucket, batch, line, key, size, digest, mode, until, hold, id) VALUES (?1, ?2, ?3, ?4, ?5, ?6, ?7, ?8, ?9, ?10)"

@@ -10,17 +10,19 @@ use Rattle.sqlite_trees.proofs.ListLemmas.{IsPermutation-same}
 use Rattle.sqlite.specs.Effect.{Database}
 use Rattle.vault_base.specs.Days.{last_moment}
 use Rattle.vault_base.specs.declared.refusal.Table.TheVariants as table
+use Rattle.vault_core_model.specs.declared.records.BucketConfig.{BucketConfig}
 use Rattle.vault_core_model.specs.declared.records.Entry.{Entry}
 use Rattle.vault_core_model.specs.declared.records.Head.{Head}
 use Rattle.vault_core_model.specs.declared.records.History.{History}
 use Rattle.vault_core_model.specs.declared.records.Removal.{Removal}
 use Rattle.vault_core_model.specs.declared.records.Setting.{Setting}
+use Rattle.vault_core_model.specs.declared.records.Tenure.{Tenure}
 use Rattle.vault_core_model.specs.declared.change.Admission.{Admission}
 use Rattle.vault_core_model.specs.declared.change.Change.{Change}
-use Rattle.vault_core_model.specs.declared.change.Change.TheVariants.{AddDept, AddCaller, CloseCaller, AddBucket, SetDefault, SetRules, Admit, AddSetting, Remove}
-use Rattle.vault_core_model.specs.Allowed.{Allows, IsAdmission, IsRemoval}
-use Rattle.vault_core_model.specs.Change.{changed, with_setting, removed_by, removed_if}
-use Rattle.vault_core_model.specs.Places.{is_held, is_held_at}
+use Rattle.vault_core_model.specs.declared.change.Change.TheVariants.{AddDept, AddCaller, CloseCaller, AddBucket, MoveBucket, SetDefault, SetRules, Admit, AddSetting, Remove}
+use Rattle.vault_core_model.specs.Allowed.{Allows, IsAdmission, IsMove, IsRemoval}
+use Rattle.vault_core_model.specs.Change.{changed, with_setting, tenured_by, tenured_if, next_tenure, removed_by, removed_if}
+use Rattle.vault_core_model.specs.Places.{is_held, is_held_at, is_held_version_in}
 use Rattle.vault_core_model.specs.Reads.{entry_of, head_of, head_over}
 use Rattle.vault_core_model.specs.Sound.{Sound}
 use Rattle.vault_core_model.specs.Vault.{Vault, history_of}
@@ -30,7 +32,7 @@ use Rattle.vault_audit_model.specs.Spells.{IsKept, heads_in, entries_in}
 use Rattle.vault_audit_model.specs.Tables.{vault_schema}
 use Rattle.vault_store_model.specs.Rows.{AreSameRows, HasRows, rows_in, rows_of}
 use Rattle.vault_store_model.specs.Edits.{and_then, at_moment}
-use Rattle.vault_store_changes.specs.Edits.{edit_of, headed, head_with, others_at, without_entry}
+use Rattle.vault_store_changes.specs.Edits.{edit_of, headed, head_with, others_at, with_move, without_entry}
 use Rattle.vault_store_changes.specs.Limits.{IsChangeInLimits}
 use Rattle.vault_store_changes.proofs.BesideLemmas.{beside_heads}
 use Rattle.vault_store_changes.proofs.ConfigLemmas.{default_set, rules_set}
@@ -51,6 +53,21 @@ entry_kept id s h = elim (eqb h.entry.id id) as (λ b. (if b then record h { set
 heads_of_setting : (v : Vault) (t id : ℕ) (s : Setting) → heads_in (changed v t (AddSetting id s)) ≡ heads_in v
 heads_of_setting v t id s =
     heads_are (changed v t (AddSetting id s)) ∙ ap heads_by (map_untold (λ (h : History). h.entry) (with_setting id s) (entry_kept id s) v.histories) ∙ sym (heads_are v)
+
+-- ---- a move
+
+entry_stays : (name : List ℕ) (t : Tenure) (h : History) → (tenured_if name t h).entry ≡ h.entry
+entry_stays name t h = elim (is_held_version_in name h.entry) as (λ b. (if b then tenured_by t h else h).entry ≡ h.entry) [ true ↦ refl | false ↦ refl ]
+
+heads_stay : (v : Vault) (t : ℕ) (name dept : List ℕ) → heads_in (changed v t (MoveBucket name dept)) ≡ heads_in v
+heads_stay v t name dept =
+    heads_are (changed v t (MoveBucket name dept))
+    ∙ ap heads_by (map_untold (λ (h : History). h.entry) (tenured_if name (next_tenure v t dept)) (entry_stays name (next_tenure v t dept)) v.histories) ∙ sym (heads_are v)
+
+heads_of_move : (v : Vault) (t : ℕ) (name dept : List ℕ) → IsMove v name dept → IsPermutation (rows_of (changed v t (MoveBucket name dept)) table.Heads) (edit_of v t (MoveBucket name dept) (rows_of v) table.Heads)
+heads_of_move v t name dept is =
+    subst (λ (o : Option BucketConfig). IsPermutation (map head_row (heads_in (changed v t (MoveBucket name dept)))) (with_move v (changed v t (MoveBucket name dept)) t name dept o (rows_of v) table.Heads)) (sym is.there)
+    (IsPermutation-same _ _ (ap (map head_row) (heads_stay v t name dept)))
 
 -- ---- an admission
 
@@ -179,6 +196,7 @@ heads_made v t (AddDept name) sound later allowed = dept_added v t name sound al
 heads_made v t (AddCaller c) sound later allowed = caller_added v t c table.Heads
 heads_made v t (CloseCaller name) sound later allowed = caller_closed v t name table.Heads
 heads_made v t (AddBucket name dept) sound later allowed = bucket_added v t name dept table.Heads
+heads_made v t (MoveBucket name dept) sound later allowed = heads_of_move v t name dept allowed
 heads_made v t (SetDefault name default) sound later allowed = default_set v t name default table.Heads
 heads_made v t (SetRules name rules) sound later allowed = rules_set v t name rules sound allowed.0 table.Heads
 heads_made v t (Admit a) sound later allowed = heads_of_admission v t a sound later allowed

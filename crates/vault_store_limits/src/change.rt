@@ -46,6 +46,7 @@ pub fn is_in_limits(alloc: Global, change: &Change) -> Result<bool, AllocError>
         Change::AddCaller(caller) => is_caller(alloc, caller),
         Change::CloseCaller(_) => Ok(true),
         Change::AddBucket(name, dept) => is_new_bucket(alloc, name, dept),
+        Change::MoveBucket(_, dept) => is_plain(alloc, dept.as_str()),
         Change::SetDefault(_, default) => Ok(is_default(*default)),
         Change::SetRules(_, rules) => are_rules_if_given(alloc, rules),
         Change::Admit(admission) => is_admission(alloc, admission),

@@ -1,12 +1,13 @@
 -- Edits ignore the order of rows, and one after the other makes one edit.
-use Rattle.std.proofs.Common.{◌==◌, Bool, true, false, not, cond, List, ◌∷◌, map, filter, ◌∙◌}
+use Rattle.std.proofs.Common.{◌==◌, Bool, true, false, not, cond, List, ◌∷◌, ◌++◌, map, filter, ◌∙◌}
 use Rattle.std.specs.Prelude.{IsPermutation}
-use Rattle.std.proofs.lemmas.List.Sorted.{IsPermutation-map, IsPermutation-cons, IsPermutation-trans}
+use Rattle.std.proofs.lemmas.List.Sorted.{IsPermutation-map, IsPermutation-cons, IsPermutation-append, IsPermutation-trans}
 use Rattle.sqlite_keyed.proofs.ListLemmas.{IsPermutation-filter}
 use Rattle.sqlite_value.specs.Order.{Row}
 use Rattle.sqlite.specs.State.{State}
 use Rattle.vault_base.specs.declared.refusal.Table.{Table}
 use Rattle.vault_store_model.specs.Rows.{Rows, AreSameRows, rows_in}
+use Rattle.vault_store_model.specs.Copies.{with_copies}
 use Rattle.vault_store_model.specs.Edits.{number_of, with_rows, with_row, with_changed, changed_if, without, and_then, IgnoresOrder, Edits}
 
 -- an edit of one table's list of rows ignores the order, where it is so on lists
@@ -26,6 +27,16 @@ with_changed_ignores t test change = with_rows_ignores t (map (changed_if test c
 
 pub without_ignores : (t : Table) (test : Row → Bool) → IgnoresOrder (without t test)
 without_ignores t test = with_rows_ignores t (filter (λ row. not (test row))) (λ xs ys same. IsPermutation-filter (λ row. not (test row)) xs ys same)
+
+-- rows that come of another table's, before those that are there
+copies_by : (b : Bool) (test : Row → Bool) (made : Row → Row) (xs ys us vs : List Row) → IsPermutation xs ys → IsPermutation us vs
+    → IsPermutation (cond b (map made (filter test xs) ++ us) us) (cond b (map made (filter test ys) ++ vs) vs)
+copies_by true test made xs ys us vs same alike =
+    IsPermutation-append (map made (filter test xs)) (map made (filter test ys)) us vs (IsPermutation-map made _ _ (IsPermutation-filter test xs ys same)) alike
+copies_by false test made xs ys us vs same alike = alike
+
+pub with_copies_ignores : (t from : Table) (test : Row → Bool) (made : Row → Row) → IgnoresOrder (with_copies t from test made)
+with_copies_ignores t from test made xs ys same s = copies_by (number_of t == number_of s) test made (xs from) (ys from) (xs s) (ys s) (same from) (same s)
 
 pub and_then_ignores : (first second : Rows → Rows) → IgnoresOrder first → IgnoresOrder second → IgnoresOrder (and_then first second)
 and_then_ignores first second a b xs ys same = b (first xs) (first ys) (a xs ys same)

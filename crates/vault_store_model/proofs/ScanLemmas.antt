@@ -5,12 +5,13 @@ use Rattle.std.proofs.lemmas.List.Sorted.{IsPermutation-map}
 use Rattle.sqlite_trees.specs.Tree.{Trees}
 use Rattle.sqlite_trees.proofs.ListLemmas.{map-map}
 use Rattle.sqlite_value.specs.declared.value.Value.TheVariants.{Null}
+use Rattle.sqlite_value.specs.declared.keys.Collation.{Collation}
 use Rattle.sqlite_value.specs.Order.{Row}
 use Rattle.sqlite.specs.Term.{Term}
 use Rattle.sqlite.specs.Query.{inner, end, IsAnswer, Output, output, matches}
 use Rattle.sqlite.specs.Program.{overlay}
 use Rattle.sqlite.specs.Effect.{Database, Answers}
-use Rattle.vault_store_model.specs.Scans.{scan, passes, shows}
+use Rattle.vault_store_model.specs.Scans.{scan, scan_as, passes, shows}
 
 matched_in : (tests : List Term) (params : Row) (rows : List Row) → flat_map (λ r. cond (passes tests params r) ((params ∷ r ∷ []) ∷ []) []) rows ≡ map (λ r. params ∷ r ∷ []) (filter (passes tests params) rows)
 matched_in tests params [] = refl
@@ -23,10 +24,10 @@ pub matched : (t : ℕ) (tests : List Term) (db : Trees) (params : Row) → matc
 matched t tests db params = matched_in tests params (db t)
 
 -- the rows that pass, in some order, each as it is shown
-unordered : (t : ℕ) (tests project : List Term) (db : Trees) (params : Row) (rows : List Row) → IsAnswer (scan t tests project) db params rows
+unordered : (collations : List Collation) (t : ℕ) (tests project : List Term) (db : Trees) (params : Row) (rows : List Row) → IsAnswer (scan_as collations t tests project) db params rows
     → IsPermutation (map (shows project params) (filter (passes tests params) (db t))) rows
-unordered t tests project db params rows a =
-    let q = scan t tests project in
+unordered collations t tests project db params rows a =
+    let q = scan_as collations t tests project in
     let found = filter (passes tests params) (db t) in
     let kept : map (λ (o : Output). o.1) a.kept ≡ map (shows project params) found =
     ap (map (λ (o : Output). o.1)) (a.distinct ∙ ap (map (output q)) (a.grouped ∙ matched t tests db params) ∙ map-map (output q) (λ r. params ∷ r ∷ []) found)
@@ -44,7 +45,11 @@ no_table false n rows = refl
 pub uncovered : (db : Trees) (t : ℕ) → overlay db [] t ≡ db t
 uncovered db t = no_table (nat_le (2 ^ 31) t) (t - 2 ^ 31) (db t)
 
+pub scanned_as : (collations : List Collation) (db : Database) (t : ℕ) (tests project : List Term) (params : Row) (rows : List Row) → Answers db (record { lets = []; body = scan_as collations t tests project }) params rows
+    → IsPermutation (map (shows project params) (filter (passes tests params) (db.trees t))) rows
+scanned_as collations db t tests project params rows a =
+    subst (λ xs. IsPermutation (map (shows project params) (filter (passes tests params) xs)) rows) (uncovered db.trees t) (unordered collations t tests project (overlay db.trees []) params rows (a.answer Null))
+
 pub scanned : (db : Database) (t : ℕ) (tests project : List Term) (params : Row) (rows : List Row) → Answers db (record { lets = []; body = scan t tests project }) params rows
     → IsPermutation (map (shows project params) (filter (passes tests params) (db.trees t))) rows
-scanned db t tests project params rows a =
-    subst (λ xs. IsPermutation (map (shows project params) (filter (passes tests params) xs)) rows) (uncovered db.trees t) (unordered t tests project (overlay db.trees []) params rows (a.answer Null))
+scanned = scanned_as []

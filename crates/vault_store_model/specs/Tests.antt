@@ -37,12 +37,15 @@ every row = true
 
 -- ---- what is written
 
--- the last moment; the last moment and the next id
+-- the last moment, alone, with the next id, and with the number of moves
 abbrev pub with_last : ℕ → Row → Row
 with_last last row = column row 0 ∷ column row 1 ∷ number last ∷ column row 3 ∷ column row 4 ∷ []
 
 abbrev pub with_last_and_next : ℕ → ℕ → Row → Row
 with_last_and_next last next row = column row 0 ∷ column row 1 ∷ number last ∷ number next ∷ column row 4 ∷ []
+
+abbrev pub with_last_and_moves : ℕ → ℕ → Row → Row
+with_last_and_moves last moves row = column row 0 ∷ column row 1 ∷ number last ∷ column row 3 ∷ number moves ∷ []
 
 abbrev pub with_sums : Sums → Row → Row
 with_sums sums row =
@@ -55,6 +58,10 @@ closed_row row = column row 0 ∷ column row 1 ∷ column row 2 ∷ flag true �
 abbrev pub with_default_columns : Option Default → Row → Row
 with_default_columns default row =
     column row 0 ∷ column row 1 ∷ default_mode default ∷ default_days default ∷ default_years default ∷ []
+
+-- the department of a bucket
+abbrev pub with_owner : List ℕ → Row → Row
+with_owner dept row = column row 0 ∷ Text dept ∷ column row 2 ∷ column row 3 ∷ column row 4 ∷ []
 
 abbrev pub removed_row : Removal → Row → Row
 removed_row r row =

@@ -3,12 +3,14 @@ use Rattle.std.specs.Prelude.{ℕ, List, map, Option, None}
 use Rattle.vault_base.specs.declared.refusal.Table.TheVariants as table
 use Rattle.vault_lock.specs.declared.retention.Default.{Default}
 use Rattle.vault_rules.specs.declared.rule.Rule.{Rule}
+use Rattle.vault_tally.specs.declared.row.Row.{Row as Sums}
 use Rattle.vault_core_model.specs.declared.records.Caller.{Caller}
 use Rattle.vault_audit_model.specs.Rows.{department_row, caller_row, bucket_row, rule_row}
 use Rattle.vault_audit_model.specs.Spells.{rules_from}
 use Rattle.vault_store_model.specs.Rows.{Rows}
 use Rattle.vault_store_model.specs.Edits.{with_row, with_changed, without, and_then, with_each, at_moment}
-use Rattle.vault_store_model.specs.Tests.{is_named, closed_row, with_default_columns}
+use Rattle.vault_store_model.specs.Copies.{with_tenures}
+use Rattle.vault_store_model.specs.Tests.{is_named, every, closed_row, with_default_columns, with_last_and_moves, with_owner, with_sums}
 
 abbrev pub department_added : List ℕ → ℕ → Rows → Rows
 department_added name t =
@@ -28,3 +30,21 @@ default_set name default t = and_then (with_changed table.Buckets (is_named name
 
 abbrev pub rules_set : List ℕ → List Rule → ℕ → Rows → Rows
 rules_set name rules t = and_then (without table.Rules (is_named name)) (and_then (with_each table.Rules (map rule_row (rules_from name 1 rules))) (at_moment t))
+
+-- the held versions of a bucket get a tenure of that department by the move of that number, and the bucket gets the department
+abbrev pub bucket_given : List ℕ → ℕ → List ℕ → ℕ → Rows → Rows
+bucket_given name number dept t = and_then (with_tenures name number dept t) (with_changed table.Buckets (is_named name) (with_owner dept))
+
+-- the sums of a department that hands a bucket over, and of the one that receives it
+abbrev pub both_summed : List ℕ → Sums → List ℕ → Sums → Rows → Rows
+both_summed owner handed dept received =
+    and_then (with_changed table.Departments (is_named owner) (with_sums handed)) (with_changed table.Departments (is_named dept) (with_sums received))
+
+-- a bucket becomes that department's by the move of that number, with the sums of the department that had it and of the one that gets it
+abbrev pub bucket_moved : List ℕ → ℕ → List ℕ → ℕ → List ℕ → Sums → Sums → Rows → Rows
+bucket_moved name number dept t owner handed received =
+    and_then (with_tenures name number dept t)
+    (and_then (with_changed table.Buckets (is_named name) (with_owner dept))
+    (and_then (with_changed table.Departments (is_named owner) (with_sums handed))
+    (and_then (with_changed table.Departments (is_named dept) (with_sums received))
+    (with_changed table.Meta every (with_last_and_moves t number)))))

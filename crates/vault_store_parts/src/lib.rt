@@ -4,3 +4,4 @@
 pub mod bucket;
 pub mod caller;
 pub mod department;
+pub mod moves;

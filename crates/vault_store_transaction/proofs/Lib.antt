@@ -1,1 +1,2 @@
 pub mod TransactionLemmas
+pub mod ReadyLemmas

@@ -19,6 +19,10 @@ pub returns-in-AddBucket-clause-crash : goal.returns-in-AddBucket-clause-crash
 returns-in-AddBucket-clause-crash g c v was =
     left_of_all (state g.S.Store c.args.conn.now) (state g.S.Store c.add_bucket.new.conn) c.args.at c.args.change.now (change.AddBucket c.in-AddBucket.name c.in-AddBucket.dept) c.in-AddBucket.is c.requires.limits v was c.add_bucket.ensures.crash
 
+pub returns-in-MoveBucket-clause-crash : goal.returns-in-MoveBucket-clause-crash
+returns-in-MoveBucket-clause-crash g c v was =
+    left_of_one (state g.S.Store c.args.conn.now) (state g.S.Store c.move_bucket.new.conn) c.args.at c.args.change.now (change.MoveBucket c.in-MoveBucket.name c.in-MoveBucket.dept) c.in-MoveBucket.is c.requires.limits v was c.move_bucket.ensures.crash
+
 pub returns-in-SetDefault-clause-crash : goal.returns-in-SetDefault-clause-crash
 returns-in-SetDefault-clause-crash g c v was =
     left_of_all (state g.S.Store c.args.conn.now) (state g.S.Store c.set_default.new.conn) c.args.at c.args.change.now (change.SetDefault c.in-SetDefault.name c.in-SetDefault.default) c.in-SetDefault.is c.requires.limits v was c.set_default.ensures.crash
@@ -54,6 +58,10 @@ returns-in-CloseCaller-clause-done g c clean =
 pub returns-in-AddBucket-clause-done : goal.returns-in-AddBucket-clause-done
 returns-in-AddBucket-clause-done g c clean =
     made_as (state g.S.Store c.args.conn.now) (state g.S.Store c.add_bucket.new.conn) c.args.at c.args.change.now (change.AddBucket c.in-AddBucket.name c.in-AddBucket.dept) c.in-AddBucket.is c.requires.limits c.add_bucket.result (c.add_bucket.ensures.done clean)
+
+pub returns-in-MoveBucket-clause-done : goal.returns-in-MoveBucket-clause-done
+returns-in-MoveBucket-clause-done g c clean =
+    made_as (state g.S.Store c.args.conn.now) (state g.S.Store c.move_bucket.new.conn) c.args.at c.args.change.now (change.MoveBucket c.in-MoveBucket.name c.in-MoveBucket.dept) c.in-MoveBucket.is c.requires.limits c.move_bucket.result (c.move_bucket.ensures.done clean)
 
 pub returns-in-SetDefault-clause-done : goal.returns-in-SetDefault-clause-done
 returns-in-SetDefault-clause-done g c clean =

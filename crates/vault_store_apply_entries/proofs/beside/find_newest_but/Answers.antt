@@ -1,6 +1,12 @@
+use Rattle.std.proofs.Common.{sym, ◌∙◌}
 use Rattle.sqlite.specs.Held.{state}
 use Rattle.vault_store_apply_entries.proofs.ReadLemmas.{looked}
+use Rattle.vault_store_apply_entries.proofs.RemovalLemmas.{no_other}
 use Rattle.vault_store_apply_entries.proofs.beside.find_newest_but.Goals as goal
+
+pub returns-then-holds_no_other-clause-value : goal.returns-then-holds_no_other-clause-value
+returns-then-holds_no_other-clause-value g c clean v was is =
+    no_other v c.args.entry.now.bucket c.args.entry.now.key c.args.id c.args.head (sym c.holds_no_other.ensures ∙ c.if-holds_no_other.true) is
 
 pub returns-clause-same : goal.returns-clause-same
 returns-clause-same g c clean v was = c.in_ok-check_open.ensures.same clean v (c.in_ok-newest.ensures.same (c.in_ok-check_open.ensures.honest clean) v was)

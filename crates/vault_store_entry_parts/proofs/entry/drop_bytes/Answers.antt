@@ -2,7 +2,7 @@ use Rattle.std.proofs.Common.{arith}
 use Rattle.sqlite.specs.State.{HasCleanDisk}
 use Rattle.sqlite.specs.Held.{state}
 use Rattle.vault_store_transaction.proofs.TransactionLemmas.{kept_after, on_err_here}
-use Rattle.vault_store_entry_parts.proofs.PartLemmas.{one_done, both_done}
+use Rattle.vault_store_transaction.proofs.ReadyLemmas.{one_done, both_done}
 use Rattle.vault_store_entry_parts.proofs.entry.drop_bytes.Goals as goal
 
 pub returns-clause-edits : goal.returns-clause-edits

@@ -3,7 +3,7 @@ use Rattle.sqlite.specs.State.{HasCleanDisk}
 use Rattle.sqlite.specs.Held.{state}
 use Rattle.vault_audit_model.proofs.OutcomeLemmas.{on_ok_then}
 use Rattle.vault_store_transaction.proofs.TransactionLemmas.{kept_after, on_err_all}
-use Rattle.vault_store_entry_parts.proofs.PartLemmas.{both_done}
+use Rattle.vault_store_transaction.proofs.ReadyLemmas.{both_done}
 use Rattle.vault_store_entry_parts.proofs.entry.put_beside.Goals as goal
 
 pub returns-clause-edits : goal.returns-clause-edits

@@ -1,6 +1,6 @@
 use Rattle.std.proofs.Common.{rules, ◌≡◌, None}
 use Rattle.sqlite.specs.Held.{state}
-use Rattle.vault_store_entry_parts.proofs.PartLemmas.{one_done}
+use Rattle.vault_store_transaction.proofs.ReadyLemmas.{one_done}
 use Rattle.vault_store_entry_parts.proofs.given.leave_head.Goals as goal
 
 pub returns-in_default-clause-edits : goal.returns-in_default-clause-edits

@@ -1,6 +1,6 @@
 use Rattle.std.proofs.Common.{rules, ◌≡◌, Some}
 use Rattle.sqlite.specs.Held.{state}
-use Rattle.vault_store_entry_parts.proofs.PartLemmas.{one_done}
+use Rattle.vault_store_transaction.proofs.ReadyLemmas.{one_done}
 use Rattle.vault_store_entry_parts.proofs.given.put_note_if_given.Goals as goal
 
 pub returns-clause-edits : goal.returns-clause-edits
