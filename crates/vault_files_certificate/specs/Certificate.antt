@@ -7,6 +7,7 @@ use Rattle.vault_base.specs.Moment.{moment_text}
 use Rattle.vault_core_model.specs.declared.records.Cause.{Cause}
 use Rattle.vault_core_model.specs.declared.records.Entry.{Entry}
 use Rattle.vault_core_model.specs.declared.records.Removal.{Removal}
+use Rattle.vault_core_model.specs.declared.records.Tenure.{Tenure}
 use Rattle.vault_files_certificate.specs.Removed.{digest_text, author_text, cause_kind, cause_name, days_between}
 
 -- a line of a label and a value, with its LF
@@ -34,20 +35,41 @@ removal_lines e r =
     ++ labelled (codes "cause") (cause_text r.cause)
     ++ labelled (codes "days held") (decimal (days_between e.admitted r.at))
 
+-- when a tenure ended: as the next one began, or else as the version was removed
+abbrev pub end_before : ℕ → List Tenure → ℕ
+end_before removed [] = removed
+end_before removed (t ∷ ts) = t.from
+
+-- a department that had the version, and the whole days that it had it
+unfoldable pub tenure_line : Tenure → ℕ → List ℕ
+tenure_line t end = labelled (codes "of which " ++ t.dept) (decimal (days_between t.from end))
+
+-- a line for each tenure, oldest first
+abbrev pub of_which : ℕ → List Tenure → List ℕ
+of_which removed [] = []
+of_which removed (t ∷ ts) = tenure_line t (end_before removed ts) ++ of_which removed ts
+
+-- the departments that had a version, where its bucket moved while it was held; of one alone there is nothing to tell
+abbrev pub tenure_lines : ℕ → List Tenure → List ℕ
+tenure_lines removed [] = []
+tenure_lines removed (t ∷ []) = []
+tenure_lines removed (t ∷ u ∷ us) = of_which removed (t ∷ u ∷ us)
+
 -- all lines above the seal
-unfoldable pub body : Entry → Removal → List ℕ
-body e r = codes "CERTIFICATE OF DESTRUCTION" ++ 10 ∷ [] ++ version_lines e ++ removal_lines e r
+unfoldable pub body : Entry → Removal → List Tenure → List ℕ
+body e r tenures =
+    codes "CERTIFICATE OF DESTRUCTION" ++ 10 ∷ [] ++ version_lines e ++ removal_lines e r ++ tenure_lines r.at tenures
 
 -- a text and its seal: the hex digits of the SHA-256 digest of all bytes above the seal's line
 abbrev pub sealed : List ℕ → List ℕ
 sealed text = text ++ labelled (codes "seal") (encode_lower (sha256 text))
 
--- of a content version with that removal; a marker and what is held have no certificate, and so no text
-abbrev pub certificate_by : Bool → Option Removal → Entry → List ℕ
-certificate_by true r e = []
-certificate_by false None e = []
-certificate_by false (Some r) e = sealed (body e r)
+-- of a content version with that removal and those tenures; a marker and what is held have no certificate, and so no text
+abbrev pub certificate_by : Bool → Option Removal → Entry → List Tenure → List ℕ
+certificate_by true r e tenures = []
+certificate_by false None e tenures = []
+certificate_by false (Some r) e tenures = sealed (body e r tenures)
 
 -- the certificate of a removed content version
-unfoldable pub certificate_text : Entry → List ℕ
-certificate_text e = certificate_by e.marker e.removal e
+unfoldable pub certificate_text : Entry → List Tenure → List ℕ
+certificate_text e tenures = certificate_by e.marker e.removal e tenures

@@ -24,12 +24,14 @@ text_line label value = left_in_12 label ++ value ++ 10 ∷ []
 unfoldable pub number_line : List ℕ → ℕ → List ℕ
 number_line label n = text_line label (right_in_20 (decimal n))
 
--- the department and the moment, and the four sums
+-- the department and the moment, and the six sums
 unfoldable pub report_text : Report → List ℕ
 report_text r =
     text_line (codes "department") r.dept
     ++ text_line (codes "at") (moment_text r.at)
     ++ number_line (codes "admitted") r.admitted
+    ++ number_line (codes "received") r.received
     ++ number_line (codes "held") r.held
     ++ number_line (codes "removed") r.removed
+    ++ number_line (codes "handed") r.handed
     ++ number_line (codes "byte-days") r.byte_days

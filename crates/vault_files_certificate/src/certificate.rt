@@ -13,6 +13,15 @@
 //! days held: 1
 //! seal: (64 hex digits)
 //! ```
+//!
+//! Where its bucket moved while the version was held, a line for each department that had it, oldest first,
+//! stands above the seal:
+//!
+//! ```text
+//! days held: 5
+//! of which records: 2
+//! of which court: 3
+//! ```
 ghost use Rattle.std.specs.Prelude.{◌≡◌, ◌++◌, ◌∷◌, ℕ, IfOk, OnOk, codes, string_bytes};
 ghost use Rattle.std.specs.Fmt.{decimal};
 ghost use Rattle.hex.specs.Hex.{encode_lower};
@@ -24,7 +33,8 @@ ghost use Rattle.vault_base.specs.Moment.{moment_text};
 use crate::removed::{author_text, cause_kind, cause_name, days_between, digest_text};
 use sha2::{Digest, Sha256};
 use std::alloc::{AllocError, Global};
-use vault_core_model::records::{Cause, Entry, Removal};
+use vault_base::moment::Moment;
+use vault_core_model::records::{Cause, Entry, Removal, Tenure};
 
 /// Appends a line of a label and a value.
 fn push_line(out: &mut String, label: &str, value: &str) -> Result<(), AllocError>
@@ -102,14 +112,81 @@ fn push_removal(
     )
 }
 
+/// When a tenure ended, before those: as the next one began, or else as the version was removed.
+fn end_before(removed: Moment, later: &[Tenure]) -> Moment
+    ensures { result ≡ spec.end_before removed later.now }
+{
+    match later {
+        [next, ..] => next.from,
+        [] => removed,
+    }
+}
+
+/// Appends a line for a department that had the version until that moment, and for how many whole days.
+#[tactic(auto, unfolding(crate::specs::Certificate::tenure_line))]
+fn push_tenure(
+    alloc: Global,
+    out: &mut String,
+    tenure: &Tenure,
+    end: Moment,
+) -> Result<(), AllocError>
+    ensures { OnOk result (string_bytes out.new ≡ string_bytes out.old ++ spec.tenure_line tenure.now end) }
+{
+    out.push_str("of which ")?;
+    push_number(
+        alloc,
+        out,
+        tenure.dept.as_str(),
+        days_between(tenure.from, end),
+    )
+}
+
+/// Appends a line for each tenure.
+fn push_each_tenure(
+    alloc: Global,
+    out: &mut String,
+    tenures: &[Tenure],
+    removed: Moment,
+) -> Result<(), AllocError>
+    ensures { OnOk result (string_bytes out.new ≡ string_bytes out.old ++ spec.of_which removed tenures.now) }
+{
+    let mut rest = tenures;
+    while let [tenure, later @ ..] = rest {
+        push_tenure(alloc, out, tenure, end_before(removed, later))?;
+        rest = later;
+    }
+    Ok(())
+}
+
+/// Appends which departments had the version, where it has two tenures or more.
+fn push_tenures(
+    alloc: Global,
+    out: &mut String,
+    tenures: &[Tenure],
+    removed: Moment,
+) -> Result<(), AllocError>
+    ensures { OnOk result (string_bytes out.new ≡ string_bytes out.old ++ spec.tenure_lines removed tenures.now) }
+{
+    match tenures {
+        [] | [_] => Ok(()),
+        _ => push_each_tenure(alloc, out, tenures, removed),
+    }
+}
+
 /// The lines above the seal.
 #[tactic(auto, unfolding(crate::specs::Certificate::body))]
-fn body(alloc: Global, entry: &Entry, removal: &Removal) -> Result<String, AllocError>
-    ensures { IfOk result (λ text. string_bytes text ≡ spec.body entry.now removal.now) }
+fn body(
+    alloc: Global,
+    entry: &Entry,
+    removal: &Removal,
+    tenures: &[Tenure],
+) -> Result<String, AllocError>
+    ensures { IfOk result (λ text. string_bytes text ≡ spec.body entry.now removal.now tenures.now) }
 {
     let mut out = String::from_str(alloc, "CERTIFICATE OF DESTRUCTION\n")?;
     push_version(alloc, &mut out, entry)?;
     push_removal(alloc, &mut out, entry, removal)?;
+    push_tenures(alloc, &mut out, tenures, removal.at)?;
     Ok(out)
 }
 
@@ -133,11 +210,12 @@ fn sealed(alloc: Global, text: String) -> Result<String, AllocError>
 
 /// The certificate of a removed content version: what it was, when and by whom it was admitted and removed,
 /// how many whole days it was held, and a seal, which is the SHA-256 digest of all bytes above its line.
+/// Of two tenures or more it tells each: its department, and the whole days from its beginning to its end.
 ///
 /// A marker and a version that is held have no certificate; their text is empty. The error is want of memory.
 #[tactic(auto, unfolding(crate::specs::Certificate::certificate_text))]
-pub fn certificate(alloc: Global, entry: &Entry) -> Result<String, AllocError>
-    ensures { IfOk result (λ text. string_bytes text ≡ spec.certificate_text entry.now) }
+pub fn certificate(alloc: Global, entry: &Entry, tenures: &[Tenure]) -> Result<String, AllocError>
+    ensures { IfOk result (λ text. string_bytes text ≡ spec.certificate_text entry.now tenures.now) }
 {
     if entry.marker {
         return Ok(String::new(alloc));
@@ -145,6 +223,6 @@ pub fn certificate(alloc: Global, entry: &Entry) -> Result<String, AllocError>
     let Some(removal) = entry.removal.as_ref() else {
         return Ok(String::new(alloc));
     };
-    let text = body(alloc, entry, removal)?;
+    let text = body(alloc, entry, removal, tenures)?;
     sealed(alloc, text)
 }

@@ -4,8 +4,10 @@
 //! department  records
 //! at          2024-01-16T00:00:00Z
 //! admitted                     100
+//! received                       0
 //! held                           0
 //! removed                      100
+//! handed                         0
 //! byte-days                    100
 //! ```
 ghost use Rattle.std.specs.Prelude.{◌≡◌, ◌++◌, ◌-◌, IfOk, OnOk, length, string_bytes};
@@ -65,8 +67,10 @@ pub fn report_text(alloc: Global, report: &Report) -> Result<String, AllocError>
     push_text(&mut out, "department", report.dept.as_str())?;
     push_text(&mut out, "at", at.as_str())?;
     push_number(alloc, &mut out, "admitted", report.admitted)?;
+    push_number(alloc, &mut out, "received", report.received)?;
     push_number(alloc, &mut out, "held", report.held)?;
     push_number(alloc, &mut out, "removed", report.removed)?;
+    push_number(alloc, &mut out, "handed", report.handed)?;
     push_number(alloc, &mut out, "byte-days", report.byte_days)?;
     Ok(out)
 }

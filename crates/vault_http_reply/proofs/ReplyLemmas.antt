@@ -84,7 +84,8 @@ answer-whole (answer.Retention r) = rw (retention-whole r) refl
 answer-whole (answer.Hold hold) = refl
 answer-whole (answer.Ran c) = refl
 answer-whole (answer.Report r) = refl
-answer-whole (answer.Certificate e) = refl
+answer-whole (answer.Certificate e tenures) = refl
+answer-whole (answer.Moved bytes) = refl
 answer-whole (answer.TakenIn t) = refl
 
 refusal-whole : (r : Refusal) → has_float (refusal_value r) ≡ false

@@ -9,6 +9,7 @@ use Rattle.vault_base.specs.Refusal.{name_of, number_of, reason_name}
 use Rattle.vault_base.specs.declared.refusal.Refusal.{Refusal}
 use Rattle.vault_base.specs.declared.refusal.Refusal.TheVariants.{AccessDenied, NoSuchKey}
 use Rattle.vault_core_model.specs.declared.records.Entry.{Entry}
+use Rattle.vault_core_model.specs.declared.records.Tenure.{Tenure}
 use Rattle.vault_core_model.specs.declared.reply.Answer.{Answer}
 use Rattle.vault_core_model.specs.declared.reply.Answer.TheVariants as answer
 use Rattle.vault_core_model.specs.declared.reply.Counts.{Counts}
@@ -137,7 +138,7 @@ removed_value r = object (member (codes "cause") (text (cause_name r.permit)) (m
 
 -- a report by the text of its moment
 abbrev pub report_members : Report → List ℕ → Data
-report_members r at = object (member (codes "admitted") (whole r.admitted) (member (codes "at") (text at) (member (codes "byte_days") (whole r.byte_days) (member (codes "dept") (text r.dept) (member (codes "held") (whole r.held) (member (codes "removed") (whole r.removed) no_members))))))
+report_members r at = object (member (codes "admitted") (whole r.admitted) (member (codes "at") (text at) (member (codes "byte_days") (whole r.byte_days) (member (codes "dept") (text r.dept) (member (codes "handed") (whole r.handed) (member (codes "held") (whole r.held) (member (codes "received") (whole r.received) (member (codes "removed") (whole r.removed) no_members))))))))
 
 abbrev pub report_value : Report → Data
 report_value r = report_members r (moment_text r.at)
@@ -146,8 +147,12 @@ abbrev pub text_member : List ℕ → Data
 text_member bytes = object (member (codes "text") (text bytes) no_members)
 
 -- a certificate of destruction, as text
-abbrev pub certificate_value : Entry → Data
-certificate_value e = text_member (certificate_text e)
+abbrev pub certificate_value : Entry → List Tenure → Data
+certificate_value e tenures = text_member (certificate_text e tenures)
+
+-- the bytes that moved with a bucket
+abbrev pub moved_value : ℕ → Data
+moved_value bytes = object (member (codes "bytes") (whole bytes) no_members)
 
 abbrev pub answer_value : Answer → Data
 answer_value answer.Nothing = object no_members
@@ -163,7 +168,8 @@ answer_value (answer.Retention retention) = object (member (codes "retention") (
 answer_value (answer.Hold hold) = object (member (codes "hold") (text (hold_name hold)) no_members)
 answer_value (answer.Ran counts) = counts_value counts
 answer_value (answer.Report report) = report_value report
-answer_value (answer.Certificate entry) = certificate_value entry
+answer_value (answer.Certificate entry tenures) = certificate_value entry tenures
+answer_value (answer.Moved bytes) = moved_value bytes
 answer_value (answer.TakenIn taken) = taken_in_value taken
 
 -- a refusal's name and number

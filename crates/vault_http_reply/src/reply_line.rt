@@ -11,7 +11,7 @@ use std::alloc::{AllocError, Global};
 use vault_base::content::{Content, Digest};
 use vault_base::name::VersionId;
 use vault_base::refusal::{Reason, Refusal};
-use vault_core_model::records::Entry;
+use vault_core_model::records::{Entry, Tenure};
 use vault_core_model::reply::{
     Answer, Counts, Listed, Page, Removed, Reply, Report, Stop, TakenIn, Version,
 };
@@ -167,7 +167,9 @@ fn report_members(alloc: Global, report: &Report, at: &str) -> Result<Value, All
         "at": at,
         "byte_days": report.byte_days,
         "dept": report.dept.as_str(),
+        "handed": report.handed,
         "held": report.held,
+        "received": report.received,
         "removed": report.removed
     })
 }
@@ -228,10 +230,10 @@ fn taken_in_value(alloc: Global, taken: TakenIn) -> Result<Value, AllocError>
     json!(in alloc; {"again": taken.again, "version_id": taken.id.number()})
 }
 
-fn certificate_value(alloc: Global, entry: &Entry) -> Result<Value, AllocError>
-    ensures { IfOk result (λ value. view value ≡ spec.certificate_value entry.now) }
+fn certificate_value(alloc: Global, entry: &Entry, tenures: &[Tenure]) -> Result<Value, AllocError>
+    ensures { IfOk result (λ value. view value ≡ spec.certificate_value entry.now tenures.now) }
 {
-    let text = certificate(alloc, entry)?;
+    let text = certificate(alloc, entry, tenures)?;
     text_member(alloc, text.as_str())
 }
 
@@ -239,6 +241,12 @@ fn text_member(alloc: Global, text: &str) -> Result<Value, AllocError>
     ensures { IfOk result (λ value. view value ≡ spec.text_member text.now) }
 {
     json!(in alloc; {"text": text})
+}
+
+fn moved_value(alloc: Global, bytes: u64) -> Result<Value, AllocError>
+    ensures { IfOk result (λ value. view value ≡ spec.moved_value bytes) }
+{
+    json!(in alloc; {"bytes": bytes})
 }
 
 fn default_answer(alloc: Global, default: Option<Default>) -> Result<Value, AllocError>
@@ -290,7 +298,8 @@ fn answer_value(alloc: Global, answer: &Answer) -> Result<Value, AllocError>
         Answer::Hold(hold) => hold_value(alloc, *hold),
         Answer::Ran(counts) => counts_value(alloc, *counts),
         Answer::Report(report) => report_value(alloc, report),
-        Answer::Certificate(entry) => certificate_value(alloc, entry),
+        Answer::Certificate(entry, tenures) => certificate_value(alloc, entry, tenures.as_slice()),
+        Answer::Moved(bytes) => moved_value(alloc, *bytes),
         Answer::TakenIn(taken) => taken_in_value(alloc, *taken),
     }
 }

@@ -25,7 +25,7 @@ use Rattle.vault_http_script.specs.Grammar.{IsDo, IsPut, IsAfterId, IsMost, Spel
 use Rattle.vault_http_script.specs.ListLine.{with_key, after_id_of, or_thousand, most_of, list_versions_of}
 use Rattle.vault_http_script.specs.LockLines.{set_retention_of, get_retention_of, set_hold_of, get_hold_of}
 use Rattle.vault_http_script.specs.ReadLine.{values_of}
-use Rattle.vault_http_script.specs.RecordLines.{add_dept_of, add_caller_of, close_caller_of, add_bucket_of, report_of, certificate_of}
+use Rattle.vault_http_script.specs.RecordLines.{add_dept_of, add_caller_of, close_caller_of, add_bucket_of, move_bucket_of, report_of, certificate_of}
 use Rattle.vault_http_script.specs.Verb.{members_of, is_shaped}
 use Rattle.vault_http_script.specs.declared.verb.Verb.{Verb}
 use Rattle.vault_http_script.specs.declared.verb.Verb.TheVariants as verb
@@ -102,6 +102,13 @@ reads-close-caller d do_is fit =
 reads-add-bucket : (d : Data) → IsDo d verb.AddBucket → Fit (members_of verb.AddBucket) d → Reads (SpellsCommand d) (add_bucket_of d)
 unfolding add_bucket_of
 reads-add-bucket d do_is fit =
+    reads-then _ _ (bucket_of d) _ (reads-bucket d fit.1.1.1.0) (λ bucket bucket_is.
+    reads-then _ _ (dept_of d) _ (reads-dept d fit.1.1.1.1.0) (λ dept dept_is.
+    (do_is, bucket_is, dept_is)))
+
+reads-move-bucket : (d : Data) → IsDo d verb.MoveBucket → Fit (members_of verb.MoveBucket) d → Reads (SpellsCommand d) (move_bucket_of d)
+unfolding move_bucket_of
+reads-move-bucket d do_is fit =
     reads-then _ _ (bucket_of d) _ (reads-bucket d fit.1.1.1.0) (λ bucket bucket_is.
     reads-then _ _ (dept_of d) _ (reads-dept d fit.1.1.1.1.0) (λ dept dept_is.
     (do_is, bucket_is, dept_is)))
@@ -256,6 +263,7 @@ reads-values verb.AddDept d do_is shaped = reads-add-dept d do_is (all-fit (memb
 reads-values verb.AddCaller d do_is shaped = reads-add-caller d do_is (all-fit (members_of verb.AddCaller) d shaped)
 reads-values verb.CloseCaller d do_is shaped = reads-close-caller d do_is (all-fit (members_of verb.CloseCaller) d shaped)
 reads-values verb.AddBucket d do_is shaped = reads-add-bucket d do_is (all-fit (members_of verb.AddBucket) d shaped)
+reads-values verb.MoveBucket d do_is shaped = reads-move-bucket d do_is (all-fit (members_of verb.MoveBucket) d shaped)
 reads-values verb.SetDefault d do_is shaped = reads-set-default d do_is (all-fit (members_of verb.SetDefault) d shaped)
 reads-values verb.GetDefault d do_is shaped = reads-get-default d do_is (all-fit (members_of verb.GetDefault) d shaped)
 reads-values verb.SetRules d do_is shaped = reads-set-rules d do_is (all-fit (members_of verb.SetRules) d shaped)
@@ -282,6 +290,7 @@ heading-fits verb.AddDept d shaped = let fit = all-fit (members_of verb.AddDept)
 heading-fits verb.AddCaller d shaped = let fit = all-fit (members_of verb.AddCaller) d shaped in (fit.0, fit.1.0)
 heading-fits verb.CloseCaller d shaped = let fit = all-fit (members_of verb.CloseCaller) d shaped in (fit.0, fit.1.0)
 heading-fits verb.AddBucket d shaped = let fit = all-fit (members_of verb.AddBucket) d shaped in (fit.0, fit.1.0)
+heading-fits verb.MoveBucket d shaped = let fit = all-fit (members_of verb.MoveBucket) d shaped in (fit.0, fit.1.0)
 heading-fits verb.SetDefault d shaped = let fit = all-fit (members_of verb.SetDefault) d shaped in (fit.0, fit.1.0)
 heading-fits verb.GetDefault d shaped = let fit = all-fit (members_of verb.GetDefault) d shaped in (fit.0, fit.1.0)
 heading-fits verb.SetRules d shaped = let fit = all-fit (members_of verb.SetRules) d shaped in (fit.0, fit.1.0)

@@ -24,6 +24,7 @@ use Rattle.vault_core_model.specs.declared.command.GetRules.{GetRules}
 use Rattle.vault_core_model.specs.declared.command.Head.{Head}
 use Rattle.vault_core_model.specs.declared.command.Intake.{Intake}
 use Rattle.vault_core_model.specs.declared.command.ListVersions.{ListVersions}
+use Rattle.vault_core_model.specs.declared.command.MoveBucket.{MoveBucket}
 use Rattle.vault_core_model.specs.declared.command.Put.{Put}
 use Rattle.vault_core_model.specs.declared.command.Report.{Report}
 use Rattle.vault_core_model.specs.declared.command.Run.{Run}
@@ -43,7 +44,7 @@ use Rattle.vault_http_script.specs.Grammar.{IsDo, IsPut, IsAfterId, IsMost, has_
 use Rattle.vault_http_script.specs.ListLine.{after_id_of, most_of, list_versions_of}
 use Rattle.vault_http_script.specs.LockLines.{set_retention_of, get_retention_of, set_hold_of, get_hold_of}
 use Rattle.vault_http_script.specs.ReadLine.{if_shaped, verb_of, values_of, timed_of}
-use Rattle.vault_http_script.specs.RecordLines.{add_dept_of, add_caller_of, close_caller_of, add_bucket_of, report_of, certificate_of}
+use Rattle.vault_http_script.specs.RecordLines.{add_dept_of, add_caller_of, close_caller_of, add_bucket_of, move_bucket_of, report_of, certificate_of}
 use Rattle.vault_http_script.specs.Verb.{verb_name, verb_named, is_shaped}
 use Rattle.vault_http_script.specs.declared.verb.Verb.{Verb}
 use Rattle.vault_http_script.specs.declared.verb.Verb.TheVariants as verb
@@ -81,6 +82,10 @@ reads-close-caller d c s = rw (caller-ok d c.caller s.1) refl
 reads-add-bucket : (d : Data) (c : AddBucket) → SpellsCommand d (command.AddBucket c) → add_bucket_of d ≡ Ok (command.AddBucket c)
 unfolding add_bucket_of
 reads-add-bucket d c s = rw (bucket-ok d c.bucket s.1, dept-ok d c.dept s.2) refl
+
+reads-move-bucket : (d : Data) (c : MoveBucket) → SpellsCommand d (command.MoveBucket c) → move_bucket_of d ≡ Ok (command.MoveBucket c)
+unfolding move_bucket_of
+reads-move-bucket d c s = rw (bucket-ok d c.bucket s.1, dept-ok d c.dept s.2) refl
 
 reads-set-default : (d : Data) (c : SetDefault) → SpellsCommand d (command.SetDefault c) → set_default_of d ≡ Ok (command.SetDefault c)
 unfolding set_default_of
@@ -166,6 +171,7 @@ named verb.AddDept = refl
 named verb.AddCaller = refl
 named verb.CloseCaller = refl
 named verb.AddBucket = refl
+named verb.MoveBucket = refl
 named verb.SetDefault = refl
 named verb.GetDefault = refl
 named verb.SetRules = refl
@@ -216,6 +222,7 @@ reads-timed d at who (command.AddDept c) shape m n s = reads-as-verb verb.AddDep
 reads-timed d at who (command.AddCaller c) shape m n s = reads-as-verb verb.AddCaller d at who _ s.0 shape m n (reads-add-caller d c s)
 reads-timed d at who (command.CloseCaller c) shape m n s = reads-as-verb verb.CloseCaller d at who _ s.0 shape m n (reads-close-caller d c s)
 reads-timed d at who (command.AddBucket c) shape m n s = reads-as-verb verb.AddBucket d at who _ s.0 shape m n (reads-add-bucket d c s)
+reads-timed d at who (command.MoveBucket c) shape m n s = reads-as-verb verb.MoveBucket d at who _ s.0 shape m n (reads-move-bucket d c s)
 reads-timed d at who (command.SetDefault c) shape m n s = reads-as-verb verb.SetDefault d at who _ s.0 shape m n (reads-set-default d c s)
 reads-timed d at who (command.GetDefault c) shape m n s = reads-as-verb verb.GetDefault d at who _ s.0 shape m n (reads-get-default d c s)
 reads-timed d at who (command.SetRules c) shape m n s = reads-as-verb verb.SetRules d at who _ s.0 shape m n (reads-set-rules d c s)

@@ -56,6 +56,7 @@ SpellsCommand d (command.AddDept c) = IsDo d verb.AddDept × IsName d (codes "de
 SpellsCommand d (command.AddCaller c) = IsDo d verb.AddCaller × IsName d (codes "caller") c.caller × MatchOption c.dept (IsAbsent d (codes "dept")) (λ dept. IsName d (codes "dept") dept) × IsRights d c.rights
 SpellsCommand d (command.CloseCaller c) = IsDo d verb.CloseCaller × IsName d (codes "caller") c.caller
 SpellsCommand d (command.AddBucket c) = IsDo d verb.AddBucket × IsBucket d c.bucket × IsName d (codes "dept") c.dept
+SpellsCommand d (command.MoveBucket c) = IsDo d verb.MoveBucket × IsBucket d c.bucket × IsName d (codes "dept") c.dept
 SpellsCommand d (command.SetDefault c) = IsDo d verb.SetDefault × IsBucket d c.bucket × IsDefault d c.default
 SpellsCommand d (command.GetDefault c) = IsDo d verb.GetDefault × IsBucket d c.bucket
 SpellsCommand d (command.SetRules c) = IsDo d verb.SetRules × IsBucket d c.bucket × IsRules d c.rules

@@ -13,7 +13,7 @@ use Rattle.vault_http_script.specs.ConfigLines.{set_default_of, get_default_of, 
 use Rattle.vault_http_script.specs.EntryLines.{put_of, get_of, head_of, delete_of, delete_version_of, intake_of}
 use Rattle.vault_http_script.specs.ListLine.{list_versions_of}
 use Rattle.vault_http_script.specs.LockLines.{set_retention_of, get_retention_of, set_hold_of, get_hold_of}
-use Rattle.vault_http_script.specs.RecordLines.{add_dept_of, add_caller_of, close_caller_of, add_bucket_of, report_of, certificate_of}
+use Rattle.vault_http_script.specs.RecordLines.{add_dept_of, add_caller_of, close_caller_of, add_bucket_of, move_bucket_of, report_of, certificate_of}
 use Rattle.vault_http_script.specs.Verb.{verb_named, is_shaped}
 use Rattle.vault_http_script.specs.declared.verb.Verb.{Verb}
 use Rattle.vault_http_script.specs.declared.verb.Verb.TheVariants as verb
@@ -36,6 +36,7 @@ values_of verb.AddDept d = add_dept_of d
 values_of verb.AddCaller d = add_caller_of d
 values_of verb.CloseCaller d = close_caller_of d
 values_of verb.AddBucket d = add_bucket_of d
+values_of verb.MoveBucket d = move_bucket_of d
 values_of verb.SetDefault d = set_default_of d
 values_of verb.GetDefault d = get_default_of d
 values_of verb.SetRules d = set_rules_of d

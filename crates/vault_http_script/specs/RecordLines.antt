@@ -3,7 +3,7 @@ use Rattle.std.specs.Prelude.{Result, Ok}
 use Rattle.serde_json.specs.Data.{Data}
 use Rattle.vault_base.specs.declared.refusal.Refusal.{Refusal}
 use Rattle.vault_core_model.specs.declared.command.Command.{Command}
-use Rattle.vault_core_model.specs.declared.command.Command.TheVariants.{AddDept, AddCaller, CloseCaller, AddBucket, Report, Certificate}
+use Rattle.vault_core_model.specs.declared.command.Command.TheVariants.{AddDept, AddCaller, CloseCaller, AddBucket, MoveBucket, Report, Certificate}
 use Rattle.vault_http_values.specs.Fault.{◌>>=◌}
 use Rattle.vault_http_values.specs.Values.{caller_of, dept_of, optional_dept_of, bucket_of, id_of, rights_of}
 
@@ -29,6 +29,12 @@ add_bucket_of d = do
   bucket ← bucket_of d
   dept ← dept_of d
   Ok (AddBucket (record { bucket = bucket; dept = dept }))
+
+unfoldable pub move_bucket_of : Data → Result Command Refusal
+move_bucket_of d = do
+  bucket ← bucket_of d
+  dept ← dept_of d
+  Ok (MoveBucket (record { bucket = bucket; dept = dept }))
 
 unfoldable pub report_of : Data → Result Command Refusal
 report_of d = do

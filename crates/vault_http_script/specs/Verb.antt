@@ -15,6 +15,7 @@ verb_name verb.AddDept = codes "add-dept"
 verb_name verb.AddCaller = codes "add-caller"
 verb_name verb.CloseCaller = codes "close-caller"
 verb_name verb.AddBucket = codes "add-bucket"
+verb_name verb.MoveBucket = codes "move-bucket"
 verb_name verb.SetDefault = codes "set-default"
 verb_name verb.GetDefault = codes "get-default"
 verb_name verb.SetRules = codes "set-rules"
@@ -37,8 +38,8 @@ verb_name verb.Intake = codes "intake"
 
 abbrev pub verbs : List Verb
 verbs =
-    verb.AddDept ∷ verb.AddCaller ∷ verb.CloseCaller ∷ verb.AddBucket ∷ verb.SetDefault ∷ verb.GetDefault
-    ∷ verb.SetRules ∷ verb.GetRules ∷ verb.DropRules ∷ verb.Put ∷ verb.Get ∷ verb.Head ∷ verb.ListVersions
+    verb.AddDept ∷ verb.AddCaller ∷ verb.CloseCaller ∷ verb.AddBucket ∷ verb.MoveBucket ∷ verb.SetDefault
+    ∷ verb.GetDefault ∷ verb.SetRules ∷ verb.GetRules ∷ verb.DropRules ∷ verb.Put ∷ verb.Get ∷ verb.Head ∷ verb.ListVersions
     ∷ verb.Delete ∷ verb.DeleteVersion ∷ verb.SetRetention ∷ verb.GetRetention ∷ verb.SetHold ∷ verb.GetHold
     ∷ verb.Run ∷ verb.Report ∷ verb.Certificate ∷ verb.Intake ∷ []
 
@@ -53,6 +54,9 @@ with_common own = (codes "at", Text) ∷ (codes "as", Text) ∷ (codes "do", Tex
 abbrev pub of_bucket : List (List ℕ × Kind)
 of_bucket = with_common ((codes "bucket", Text) ∷ [])
 
+abbrev pub of_bucket_and_dept : List (List ℕ × Kind)
+of_bucket_and_dept = with_common ((codes "bucket", Text) ∷ (codes "dept", Text) ∷ [])
+
 -- without an id the current entry is meant
 abbrev pub of_entry : List (List ℕ × Kind)
 of_entry = with_common ((codes "bucket", Text) ∷ (codes "key", Text) ∷ (codes "id", OptionalNumber) ∷ [])
@@ -62,7 +66,8 @@ abbrev pub members_of : Verb → List (List ℕ × Kind)
 members_of verb.AddDept = with_common ((codes "dept", Text) ∷ [])
 members_of verb.AddCaller = with_common ((codes "caller", Text) ∷ (codes "dept", OptionalText) ∷ (codes "rights", Texts) ∷ [])
 members_of verb.CloseCaller = with_common ((codes "caller", Text) ∷ [])
-members_of verb.AddBucket = with_common ((codes "bucket", Text) ∷ (codes "dept", Text) ∷ [])
+members_of verb.AddBucket = of_bucket_and_dept
+members_of verb.MoveBucket = of_bucket_and_dept
 members_of verb.SetDefault = with_common ((codes "bucket", Text) ∷ (codes "mode", OptionalText) ∷ (codes "days", OptionalNumber) ∷ (codes "years", OptionalNumber) ∷ [])
 members_of verb.GetDefault = of_bucket
 members_of verb.SetRules = with_common ((codes "bucket", Text) ∷ (codes "rules", Rules) ∷ [])

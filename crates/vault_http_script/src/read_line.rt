@@ -52,6 +52,7 @@ fn values(alloc: Global, verb: Verb, value: &Value) -> Result<Command, LineFault
         Verb::AddCaller => record_lines::add_caller(alloc, value),
         Verb::CloseCaller => record_lines::close_caller(alloc, value),
         Verb::AddBucket => record_lines::add_bucket(alloc, value),
+        Verb::MoveBucket => record_lines::move_bucket(alloc, value),
         Verb::SetDefault => config_lines::set_default(alloc, value),
         Verb::GetDefault => config_lines::get_default(alloc, value),
         Verb::SetRules => config_lines::set_rules(alloc, value),

@@ -6,7 +6,7 @@ ghost use Rattle.vault_http_script.specs.RecordLines as spec;
 use serde_json::Value;
 use std::alloc::Global;
 use vault_core_model::command::{
-    AddBucket, AddCaller, AddDept, Certificate, CloseCaller, Command, Report,
+    AddBucket, AddCaller, AddDept, Certificate, CloseCaller, Command, MoveBucket, Report,
 };
 use vault_http_values::fault::LineFault;
 use vault_http_values::values;
@@ -52,6 +52,16 @@ pub fn add_bucket(alloc: Global, value: &Value) -> Result<Command, LineFault>
     let bucket = values::bucket(alloc, value)?;
     let dept = values::dept(alloc, value)?;
     Ok(Command::AddBucket(AddBucket { bucket, dept }))
+}
+
+/// The command of a `move-bucket` line, or its first fault: a value's refusal, or want of memory.
+#[tactic(auto, unfolding(crate::specs::RecordLines::move_bucket_of))]
+pub fn move_bucket(alloc: Global, value: &Value) -> Result<Command, LineFault>
+    ensures { Gives (λ x. x) result (spec.move_bucket_of (view value.now)) }
+{
+    let bucket = values::bucket(alloc, value)?;
+    let dept = values::dept(alloc, value)?;
+    Ok(Command::MoveBucket(MoveBucket { bucket, dept }))
 }
 
 /// The command of a `report` line, or its first fault: a value's refusal, or want of memory.

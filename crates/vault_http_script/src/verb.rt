@@ -14,6 +14,7 @@ pub enum Verb {
     AddCaller,
     CloseCaller,
     AddBucket,
+    MoveBucket,
     SetDefault,
     GetDefault,
     SetRules,
@@ -56,7 +57,13 @@ const ADD_CALLER: [(&str, Kind); 6] = [
 
 const OF_BUCKET: [(&str, Kind); 4] = [AT, WHO, VERB, ("bucket", Kind::Text)];
 
-const ADD_BUCKET: [(&str, Kind); 5] = [AT, WHO, VERB, ("bucket", Kind::Text), ("dept", Kind::Text)];
+const OF_BUCKET_AND_DEPT: [(&str, Kind); 5] = [
+    AT,
+    WHO,
+    VERB,
+    ("bucket", Kind::Text),
+    ("dept", Kind::Text),
+];
 
 const SET_DEFAULT: [(&str, Kind); 7] = [
     AT,
@@ -177,6 +184,7 @@ impl Verb {
             "add-caller" => Some(Verb::AddCaller),
             "close-caller" => Some(Verb::CloseCaller),
             "add-bucket" => Some(Verb::AddBucket),
+            "move-bucket" => Some(Verb::MoveBucket),
             "set-default" => Some(Verb::SetDefault),
             "get-default" => Some(Verb::GetDefault),
             "set-rules" => Some(Verb::SetRules),
@@ -225,7 +233,8 @@ impl Verb {
             Verb::AddDept => &OF_DEPT,
             Verb::AddCaller => &ADD_CALLER,
             Verb::CloseCaller => &OF_CALLER,
-            Verb::AddBucket => &ADD_BUCKET,
+            Verb::AddBucket => &OF_BUCKET_AND_DEPT,
+            Verb::MoveBucket => &OF_BUCKET_AND_DEPT,
             Verb::SetDefault => &SET_DEFAULT,
             Verb::GetDefault => &OF_BUCKET,
             Verb::SetRules => &SET_RULES,

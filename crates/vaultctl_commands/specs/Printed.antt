@@ -13,7 +13,7 @@ use Rattle.vaultctl_commands.specs.declared.outcome.Outcome.TheVariants as outco
 -- a report and a certificate as text, and any other reply as its line
 abbrev pub printed : Reply → List ℕ
 printed (Done (answer.Report report)) = report_text report
-printed (Done (answer.Certificate entry)) = certificate_text entry
+printed (Done (answer.Certificate entry tenures)) = certificate_text entry tenures
 printed reply = reply_text reply
 
 abbrev pub outcome_of : Reply → Outcome

@@ -17,7 +17,9 @@ pub fn reply_text(alloc: Global, reply: &Reply) -> Result<String, AllocError>
 {
     match reply {
         Reply::Done(Answer::Report(report)) => report_text(alloc, report),
-        Reply::Done(Answer::Certificate(entry)) => certificate(alloc, entry),
+        Reply::Done(Answer::Certificate(entry, tenures)) => {
+            certificate(alloc, entry, tenures.as_slice())
+        }
         _ => reply_line(alloc, reply),
     }
 }

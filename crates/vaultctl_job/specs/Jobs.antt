@@ -10,6 +10,7 @@ use Rattle.vaultctl_job.specs.declared.job.Init.{Init}
 use Rattle.vaultctl_job.specs.declared.job.Dept.{Dept}
 use Rattle.vaultctl_job.specs.declared.job.Caller.{Caller}
 use Rattle.vaultctl_job.specs.declared.job.Bucket.{Bucket}
+use Rattle.vaultctl_job.specs.declared.job.Move.{Move}
 use Rattle.vaultctl_job.specs.declared.job.Intake.{Intake}
 use Rattle.vaultctl_job.specs.declared.job.Run.{Run}
 use Rattle.vaultctl_job.specs.declared.job.Report.{Report}
@@ -69,6 +70,9 @@ caller_of rows = record {
 unfoldable pub bucket_of : List Row → Bucket
 bucket_of rows = record { file = file_of rows; name = text_of (codes "NAME") rows; dept = text_of (codes "DEPT") rows; asking = asking_of rows }
 
+unfoldable pub move_of : List Row → Move
+move_of rows = record { file = file_of rows; bucket = text_of (codes "BUCKET") rows; dept = text_of (codes "DEPT") rows; asking = asking_of rows }
+
 unfoldable pub intake_of : List Row → Intake
 intake_of rows = record {
   file = file_of rows;
@@ -115,6 +119,7 @@ job_named name rows =
     else if bytes_eq name (codes "dept") then Some (job.Dept (dept_of rows))
     else if bytes_eq name (codes "caller") then Some (job.Caller (caller_of rows))
     else if bytes_eq name (codes "bucket") then Some (job.Bucket (bucket_of rows))
+    else if bytes_eq name (codes "move") then Some (job.Move (move_of rows))
     else if bytes_eq name (codes "intake") then Some (job.Intake (intake_of rows))
     else if bytes_eq name (codes "run") then Some (job.Run (run_of rows))
     else if bytes_eq name (codes "report") then Some (job.Report (report_of rows))

@@ -29,6 +29,10 @@ caller_app = with_rule (with_rule (asked (with_rule (with_rule (on_file (codes "
 abbrev pub bucket_app : App
 bucket_app = asked (with_rule (with_rule (on_file (codes "bucket")) (arg.place (codes "NAME"))) (arg.place (codes "DEPT")))
 
+-- move FILE BUCKET DEPT --as C [--at T]
+abbrev pub move_app : App
+move_app = asked (with_rule (with_rule (on_file (codes "move")) (arg.place (codes "BUCKET"))) (arg.place (codes "DEPT")))
+
 -- intake FILE BUCKET BATCH LIST FOLDER --as C [--at T]
 abbrev pub intake_app : App
 intake_app = asked (with_rule (with_rule (with_rule (with_rule (on_file (codes "intake")) (arg.place (codes "BUCKET"))) (arg.place (codes "BATCH"))) (arg.place (codes "LIST"))) (arg.place (codes "FOLDER")))
@@ -68,7 +72,7 @@ abbrev pub needing_subcommand : App → App
 needing_subcommand a = record a { top = record a.top { subcommand_required = true; disable_help_subcommand = true } }
 
 abbrev pub with_records : App → App
-with_records a = with_subcommand (with_subcommand (with_subcommand (with_subcommand a init_app.top) dept_app.top) caller_app.top) bucket_app.top
+with_records a = with_subcommand (with_subcommand (with_subcommand (with_subcommand (with_subcommand a init_app.top) dept_app.top) caller_app.top) bucket_app.top) move_app.top
 
 abbrev pub with_work : App → App
 with_work a = with_subcommand (with_subcommand (with_subcommand (with_subcommand a intake_app.top) run_app.top) report_app.top) certificate_app.top

@@ -42,6 +42,16 @@ pub struct Bucket {
     pub asking: Asking,
 }
 
+/// `move FILE BUCKET DEPT --as C [--at T]`
+#[derive(Drop)]
+pub struct Move {
+    pub file: Word,
+    pub bucket: Word,
+    /// The department that the bucket becomes.
+    pub dept: Word,
+    pub asking: Asking,
+}
+
 /// `intake FILE BUCKET BATCH LIST FOLDER --as C [--at T]`
 #[derive(Drop)]
 pub struct Intake {
@@ -121,6 +131,7 @@ pub enum Job {
     Dept(Dept),
     Caller(Caller),
     Bucket(Bucket),
+    Move(Move),
     Intake(Intake),
     Run(Run),
     Report(Report),

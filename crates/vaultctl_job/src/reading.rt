@@ -4,7 +4,7 @@ ghost use Rattle.clap.specs.Words.{all_of, found_of, rows_of, first_of};
 ghost use Rattle.vaultctl_job.specs.Jobs as spec;
 
 use crate::job::{
-    Asking, Bucket, Caller, Certificate, Dept, Init, Intake, Job, Migrate, Register, Replay,
+    Asking, Bucket, Caller, Certificate, Dept, Init, Intake, Job, Migrate, Move, Register, Replay,
     Report, Run, Serve, Verify,
 };
 use crate::word::{Word, Words};
@@ -142,6 +142,18 @@ fn bucket(alloc: Global, matches: &ArgMatches<'_>) -> Result<Bucket, AllocError>
     })
 }
 
+#[tactic(auto, unfolding(crate::specs::Jobs::move_of))]
+fn moving(alloc: Global, matches: &ArgMatches<'_>) -> Result<Move, AllocError>
+    ensures { IfOk result (λ job. job ≡ spec.move_of (rows_of (found_of matches.now))) }
+{
+    Ok(Move {
+        file: word(alloc, matches, "FILE")?,
+        bucket: word(alloc, matches, "BUCKET")?,
+        dept: word(alloc, matches, "DEPT")?,
+        asking: asking(alloc, matches)?,
+    })
+}
+
 #[tactic(auto, unfolding(crate::specs::Jobs::intake_of))]
 fn intake(alloc: Global, matches: &ArgMatches<'_>) -> Result<Intake, AllocError>
     ensures { IfOk result (λ job. job ≡ spec.intake_of (rows_of (found_of matches.now))) }
@@ -251,6 +263,7 @@ pub fn job_named(
         "dept" => Job::Dept(dept(alloc, matches)?),
         "caller" => Job::Caller(caller(alloc, matches)?),
         "bucket" => Job::Bucket(bucket(alloc, matches)?),
+        "move" => Job::Move(moving(alloc, matches)?),
         "intake" => Job::Intake(intake(alloc, matches)?),
         "run" => Job::Run(run(alloc, matches)?),
         "report" => Job::Report(report(alloc, matches)?),

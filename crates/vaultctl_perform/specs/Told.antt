@@ -28,6 +28,7 @@ IsTold (job.Init j) before after = ⊤
 IsTold (job.Dept j) before after = TellsReply Done before after
 IsTold (job.Caller j) before after = TellsReply Done before after
 IsTold (job.Bucket j) before after = TellsReply Done before after
+IsTold (job.Move j) before after = TellsReply Done before after
 IsTold (job.Intake j) before after = TellsIntake Done before after
 IsTold (job.Run j) before after = TellsReply Done before after
 IsTold (job.Report j) before after = TellsReply Done before after

@@ -80,6 +80,10 @@ fn carry_out<A: Start, B: Start, R: Read, W: Write, E: Write>(
             let asked = values::bucket(alloc, job);
             asked::ask(machine, "bucket", job.file.as_str(), start, asked, out, err)
         }
+        Job::Move(job) => {
+            let asked = values::move_bucket(alloc, job);
+            asked::ask(machine, "move", job.file.as_str(), start, asked, out, err)
+        }
         Job::Intake(job) => intake::take_in(
             machine,
             start,

@@ -11,6 +11,7 @@ use Rattle.vaultctl_job.specs.declared.job.Caller.{Caller}
 use Rattle.vaultctl_job.specs.declared.job.Certificate.{Certificate}
 use Rattle.vaultctl_job.specs.declared.job.Dept.{Dept}
 use Rattle.vaultctl_job.specs.declared.job.Intake.{Intake}
+use Rattle.vaultctl_job.specs.declared.job.Move.{Move}
 use Rattle.vaultctl_job.specs.declared.job.Report.{Report}
 use Rattle.vaultctl_job.specs.declared.job.Run.{Run}
 use Rattle.vaultctl_values.specs.Values.{optional_reading, optional_dept, version_named}
@@ -54,6 +55,14 @@ bucket_of job = do
   bucket ← bucket_named job.name
   dept ← name_of job.dept
   Ok (record { at = at; who = who; command = command.AddBucket (record { bucket = bucket; dept = dept }) })
+
+unfoldable pub move_bucket_of : Move → Result Asked Refusal
+move_bucket_of job = do
+  at ← optional_reading job.asking.at
+  who ← asker_named job.asking.who
+  bucket ← bucket_named job.bucket
+  dept ← name_of job.dept
+  Ok (record { at = at; who = who; command = command.MoveBucket (record { bucket = bucket; dept = dept }) })
 
 unfoldable pub run_of : Run → Result Asked Refusal
 run_of job = do

@@ -7,7 +7,7 @@ use std::alloc::Global;
 use vault_base::moment::Moment;
 use vault_base::name::{BatchName, BucketName, CallerName};
 use vault_core_model::command::{
-    AddBucket, AddCaller, AddDept, Certificate, CloseCaller, Command, Report, Run,
+    AddBucket, AddCaller, AddDept, Certificate, CloseCaller, Command, MoveBucket, Report, Run,
 };
 use vault_http_values::fault::LineFault;
 use vault_http_values::named::{asker_named, batch_named, bucket_named, caller_named, dept_named};
@@ -104,6 +104,22 @@ pub fn bucket(alloc: Global, job: &job::Bucket) -> Result<Asked, LineFault>
         at,
         who,
         command: Command::AddBucket(AddBucket { bucket, dept }),
+    })
+}
+
+/// The move of a bucket to another department.
+#[tactic(auto, unfolding(crate::specs::Asked::move_bucket_of))]
+pub fn move_bucket(alloc: Global, job: &job::Move) -> Result<Asked, LineFault>
+    ensures { Gives (λ x. x) result (spec.move_bucket_of job.now) }
+{
+    let at = optional_reading(&job.asking.at)?;
+    let who = asker_named(alloc, job.asking.who.as_str())?;
+    let bucket = bucket_named(alloc, job.bucket.as_str())?;
+    let dept = dept_named(alloc, job.dept.as_str())?;
+    Ok(Asked {
+        at,
+        who,
+        command: Command::MoveBucket(MoveBucket { bucket, dept }),
     })
 }
 

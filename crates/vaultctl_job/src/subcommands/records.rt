@@ -1,4 +1,4 @@
-//! Subcommands that make a vault and its records.
+//! Subcommands that make a vault and its records, and change who has them.
 ghost use Rattle.std.specs.Prelude.{◌≡◌, false, IfOk};
 ghost use Rattle.clap.specs.Words.{app_of};
 ghost use Rattle.clap.specs.declared.builder.command.Command.TheViews.{out-Command};
@@ -106,12 +106,34 @@ fn bucket<'a>(alloc: Global) -> Result<Command<'a>, AllocError>
     .arg(moment(alloc))
 }
 
-/// Adds the subcommands that make a vault and its records.
+fn move_bucket<'a>(alloc: Global) -> Result<Command<'a>, AllocError>
+    ensures app { IfOk result (λ c. app_of c ≡ spec.move_app) }
+    ensures local { IfOk result (λ c. (out-Command c).has_globals ≡ false) }
+{
+    named(
+        alloc,
+        "move",
+        "Moves a bucket with what it holds to another department",
+        below!(
+            "move",
+            "From then on the bucket is for callers of that department, and what it holds\ncounts for it. Answers with the bytes that moved.\n\nExample:\n  vaultctl move records.vault docs court --as registrar",
+            "0 done; 1 refused, with a line of JSON on standard output, as\n{\"error\":{\"code\":\"QuotaExceeded\",\"n\":19}}, or a fault, named on standard error,\nas 'open: Device'; 2 the words aren't understood, or ask for help."
+        ),
+    )
+    .arg(place(alloc, "FILE", "The vault's file"))?
+    .arg(place(alloc, "BUCKET", "The bucket's name"))?
+    .arg(place(alloc, "DEPT", "The department that gets it"))?
+    .arg(asker(alloc))?
+    .arg(moment(alloc))
+}
+
+/// Adds the subcommands that make a vault and its records, and change who has them.
 pub fn with_records<'a>(alloc: Global, parent: Command<'a>) -> Result<Command<'a>, AllocError>
     ensures { IfOk result (λ c. app_of c ≡ spec.with_records (app_of parent.entry)) }
 {
     let top = added(parent, init(alloc))?;
     let top = added(top, dept(alloc))?;
     let top = added(top, caller(alloc))?;
-    added(top, bucket(alloc))
+    let top = added(top, bucket(alloc))?;
+    added(top, move_bucket(alloc))
 }
