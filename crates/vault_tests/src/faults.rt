@@ -24,7 +24,7 @@ const REPLIES: [&str; 6] = [
     "{\"ok\":{}}\n",
     "{\"ok\":{\"version_id\":1}}\n",
     "{\"error\":{\"code\":\"ClockBack\",\"n\":1}}\n",
-    "{\"ok\":{\"admitted\":5,\"at\":\"2024-01-16T00:00:00Z\",\"byte_days\":5,\"dept\":\"d\",\"held\":5,\"removed\":0}}\n",
+    "{\"ok\":{\"admitted\":5,\"at\":\"2024-01-16T00:00:00Z\",\"byte_days\":5,\"dept\":\"d\",\"handed\":0,\"held\":5,\"received\":0,\"removed\":0}}\n",
 ];
 
 /// The first replies, so many.
@@ -221,7 +221,7 @@ fn a_device_that_fails_once(rt: HostRuntime) -> Result<(), Fail> {
 {"at":"2014-01-01T00:00:00Z","as":"ann","do":"get","bucket":"docs","key":"a"}
   {"error":{"code":"NoSuchKey","marker":false,"n":5}}
 {"at":"2014-01-01T00:00:00Z","as":"ann","do":"report","dept":"records"}
-  {"ok":{"admitted":0,"at":"2014-01-01T00:00:00Z","byte_days":0,"dept":"records","held":0,"removed":0}}
+  {"ok":{"admitted":0,"at":"2014-01-01T00:00:00Z","byte_days":0,"dept":"records","handed":0,"held":0,"received":0,"removed":0}}
 {"at":"2024-01-15T10:30:00Z","as":"ann","do":"put","bucket":"docs","key":"a","text":"hello"}
   {"ok":{"version_id":1}}
 "#,
@@ -244,9 +244,51 @@ fn a_device_that_fails_at_a_removal(rt: HostRuntime) -> Result<(), Fail> {
 {"at":"2024-01-16T00:00:00Z","as":"ann","do":"delete-version","bucket":"docs","key":"a","id":1}
   {"error":{"code":"Device","n":23}}
 {"at":"2024-01-15T10:30:00Z","as":"ann","do":"report","dept":"records"}
-  {"ok":{"admitted":5,"at":"2024-01-15T10:30:00Z","byte_days":0,"dept":"records","held":5,"removed":0}}
+  {"ok":{"admitted":5,"at":"2024-01-15T10:30:00Z","byte_days":0,"dept":"records","handed":0,"held":5,"received":0,"removed":0}}
 {"at":"2024-01-16T00:00:00Z","as":"ann","do":"delete-version","bucket":"docs","key":"a","id":1}
   {"ok":{"cause":"request","delete_marker":false,"version_id":1}}
+"#,
+    )?;
+    assert_eq!(rt; keeper.faults(), 1);
+    Ok(())
+}
+
+/// A bucket stays whose it was where the device refused its move, and the same line given again moves it.
+#[test]
+fn a_device_that_fails_at_a_move(rt: HostRuntime) -> Result<(), Fail> {
+    let alloc = rt.alloc();
+    let mut below = opened(alloc)?;
+    play(
+        alloc,
+        &mut below,
+        r#"
+{"at":"2014-01-01T00:00:00Z","as":"registrar","do":"add-dept","dept":"court"}
+  {"ok":{}}
+{"at":"2024-01-15T10:30:00Z","as":"ann","do":"put","bucket":"docs","key":"a","text":"hello"}
+  {"ok":{"version_id":1}}
+"#,
+    )?;
+    let mut keeper = FuseKeeper::new(below, 0);
+    play(
+        alloc,
+        &mut keeper,
+        r#"
+{"at":"2024-01-17T00:00:00Z","as":"registrar","do":"move-bucket","bucket":"docs","dept":"court"}
+  {"error":{"code":"Device","n":23}}
+{"at":"2024-01-15T10:30:00Z","as":"ann","do":"head","bucket":"docs","key":"a"}
+  {"ok":{"admitted":"2024-01-15T10:30:00Z","hold":"OFF","retention":null,"sha256":"2cf24dba5fb0a30e26e83b2ac5b9e29e1b161e5c1fa7425e73043362938b9824","size":5,"version_id":1}}
+{"at":"2024-01-17T00:00:00Z","as":"registrar","do":"report","dept":"records"}
+  {"ok":{"admitted":5,"at":"2024-01-17T00:00:00Z","byte_days":10,"dept":"records","handed":0,"held":5,"received":0,"removed":0}}
+{"at":"2024-01-17T00:00:00Z","as":"registrar","do":"report","dept":"court"}
+  {"ok":{"admitted":0,"at":"2024-01-17T00:00:00Z","byte_days":0,"dept":"court","handed":0,"held":0,"received":0,"removed":0}}
+{"at":"2024-01-17T00:00:00Z","as":"registrar","do":"move-bucket","bucket":"docs","dept":"court"}
+  {"ok":{"bytes":5}}
+{"at":"2024-01-17T00:00:00Z","as":"ann","do":"head","bucket":"docs","key":"a"}
+  {"error":{"code":"AccessDenied","n":3,"reason":"department"}}
+{"at":"2024-01-18T00:00:00Z","as":"registrar","do":"report","dept":"records"}
+  {"ok":{"admitted":5,"at":"2024-01-18T00:00:00Z","byte_days":10,"dept":"records","handed":5,"held":0,"received":0,"removed":0}}
+{"at":"2024-01-18T00:00:00Z","as":"registrar","do":"report","dept":"court"}
+  {"ok":{"admitted":0,"at":"2024-01-18T00:00:00Z","byte_days":5,"dept":"court","handed":0,"held":5,"received":5,"removed":0}}
 "#,
     )?;
     assert_eq!(rt; keeper.faults(), 1);

@@ -57,7 +57,7 @@ fn a_version_has_up_to_1048576_bytes(rt: HostRuntime) -> Result<(), Fail> {
         &mut keeper,
         r#"
 {"at":"2024-01-15T10:30:00Z","as":"ann","do":"report","dept":"records"}
-  {"ok":{"admitted":1048577,"at":"2024-01-15T10:30:00Z","byte_days":0,"dept":"records","held":1048577,"removed":0}}
+  {"ok":{"admitted":1048577,"at":"2024-01-15T10:30:00Z","byte_days":0,"dept":"records","handed":0,"held":1048577,"received":0,"removed":0}}
 "#,
     )
 }
@@ -92,7 +92,7 @@ fn a_run_has_room_for_its_replies(rt: HostRuntime) -> Result<(), Fail> {
 #[test]
 fn a_department_admits_up_to_1000000000000_bytes(rt: HostRuntime) -> Result<(), Fail> {
     let alloc = rt.alloc();
-    let mut keeper = RiggedKeeper::new(opened(alloc)?, 999_999_999_995, 1);
+    let mut keeper = RiggedKeeper::new(opened(alloc)?, 999_999_999_995, 1, 0);
     play(
         alloc,
         &mut keeper,
@@ -117,7 +117,7 @@ fn a_department_admits_up_to_1000000000000_bytes(rt: HostRuntime) -> Result<(), 
 #[test]
 fn a_full_department_admits_empty_versions(rt: HostRuntime) -> Result<(), Fail> {
     let alloc = rt.alloc();
-    let mut keeper = RiggedKeeper::new(opened(alloc)?, 1_000_000_000_000, 1);
+    let mut keeper = RiggedKeeper::new(opened(alloc)?, 1_000_000_000_000, 1, 0);
     play(
         alloc,
         &mut keeper,
@@ -160,10 +160,120 @@ fn ids_end_at_1000000000(rt: HostRuntime) -> Result<(), Fail> {
         ),
     ];
     for (admitted, next_id, want, asked) in limits {
-        let mut keeper = RiggedKeeper::new(opened(alloc)?, admitted, next_id);
+        let mut keeper = RiggedKeeper::new(opened(alloc)?, admitted, next_id, 0);
         let reply = replies(alloc, &mut keeper, line.as_bytes())?;
         assert_eq!(rt; reply.as_str(), want);
         assert_eq!(rt; keeper.asked(), asked);
     }
+    Ok(())
+}
+
+/// A department `court` beside the opening's, and five bytes in bucket `docs`.
+const FIVE_BYTES: &str = r#"
+{"at":"2014-01-01T00:00:00Z","as":"registrar","do":"add-dept","dept":"court"}
+  {"ok":{}}
+{"at":"2014-01-01T00:00:00Z","as":"registrar","do":"add-caller","caller":"cid","dept":"court","rights":["put"]}
+  {"ok":{}}
+{"at":"2024-01-15T10:30:00Z","as":"ann","do":"put","bucket":"docs","key":"a","text":"hello"}
+  {"ok":{"version_id":1}}
+"#;
+
+const MOVE: &str = r#"
+{"at":"2024-01-15T10:30:00Z","as":"registrar","do":"move-bucket","bucket":"docs","dept":"court"}
+"#;
+
+/// The quota is that of the department that receives, and it is looked at before the number of the move.
+#[test]
+fn a_move_has_its_limits(rt: HostRuntime) -> Result<(), Fail> {
+    let alloc = rt.alloc();
+    let limits = [
+        (
+            999_999_999_995,
+            999_999_999,
+            "{\"error\":{\"code\":\"Memory\",\"n\":22}}\n",
+            1,
+        ),
+        (
+            999_999_999_995,
+            1_000_000_000,
+            "{\"error\":{\"code\":\"VaultFull\",\"n\":20}}\n",
+            0,
+        ),
+        (
+            999_999_999_996,
+            1_000_000_000,
+            "{\"error\":{\"code\":\"QuotaExceeded\",\"n\":19}}\n",
+            0,
+        ),
+    ];
+    for (admitted, moves, want, asked) in limits {
+        let mut below = opened(alloc)?;
+        play(alloc, &mut below, FIVE_BYTES)?;
+        let mut keeper = RiggedKeeper::new(below, admitted, 2, moves);
+        let reply = replies(alloc, &mut keeper, MOVE.as_bytes())?;
+        assert_eq!(rt; reply.as_str(), want);
+        assert_eq!(rt; keeper.asked(), asked);
+    }
+    Ok(())
+}
+
+/// A bucket without bytes goes to a department that is full.
+#[test]
+fn a_full_department_receives_empty_buckets(rt: HostRuntime) -> Result<(), Fail> {
+    let alloc = rt.alloc();
+    let mut below = opened(alloc)?;
+    play(
+        alloc,
+        &mut below,
+        r#"
+{"at":"2014-01-01T00:00:00Z","as":"registrar","do":"add-dept","dept":"court"}
+  {"ok":{}}
+{"at":"2024-01-15T10:30:00Z","as":"ann","do":"put","bucket":"docs","key":"a","text":""}
+  {"ok":{"version_id":1}}
+"#,
+    )?;
+    let mut keeper = RiggedKeeper::new(below, 1_000_000_000_000, 2, 0);
+    let reply = replies(alloc, &mut keeper, MOVE.as_bytes())?;
+    assert_eq!(rt;
+        reply.as_str(),
+        "{\"error\":{\"code\":\"Memory\",\"n\":22}}\n"
+    );
+    assert_eq!(rt; keeper.asked(), 1);
+    Ok(())
+}
+
+/// What a department received counts like what was admitted to it, also after it has handed it over.
+#[test]
+fn received_bytes_count_for_the_quota(rt: HostRuntime) -> Result<(), Fail> {
+    let alloc = rt.alloc();
+    let mut below = opened(alloc)?;
+    play(alloc, &mut below, FIVE_BYTES)?;
+    play(
+        alloc,
+        &mut below,
+        r#"
+{"at":"2024-01-15T10:30:00Z","as":"registrar","do":"move-bucket","bucket":"docs","dept":"court"}
+  {"ok":{"bytes":5}}
+"#,
+    )?;
+    let mut keeper = RiggedKeeper::new(below, 999_999_999_990, 2, 1);
+    play(
+        alloc,
+        &mut keeper,
+        r#"
+{"at":"2024-01-15T10:30:00Z","as":"cid","do":"put","bucket":"docs","key":"b","text":"hello!"}
+  {"error":{"code":"QuotaExceeded","n":19}}
+"#,
+    )?;
+    assert_eq!(rt; keeper.asked(), 0);
+    play(
+        alloc,
+        &mut keeper,
+        r#"
+{"at":"2024-01-15T10:30:00Z","as":"cid","do":"put","bucket":"docs","key":"b","text":"hello"}
+  {"error":{"code":"Memory","n":22}}
+"#,
+    )?;
+    assert_eq!(rt; keeper.asked(), 1);
     Ok(())
 }

@@ -8,28 +8,31 @@ use vault_core_list::list_keeper::ListKeeper;
 use vault_core_model::change::Change;
 use vault_core_model::halt::Fault;
 use vault_core_model::keeper::{Keeper, Sink};
-use vault_core_model::records::{BucketConfig, Caller, Entry, Head, LastSetting, Note};
+use vault_core_model::records::{BucketConfig, Caller, Entry, Head, LastSetting, Note, Tenures};
 use vault_rules::plan::Held;
 use vault_rules::rule_set::RuleSet;
 use vault_tally::row::Row;
 
-/// Answers what a list keeper does, but for the bytes admitted and the next id, and refuses every change
-/// with `Memory`.
+/// Answers what a list keeper does, but for the bytes admitted, the next id and the number of moves, and
+/// refuses every change with `Memory`.
 #[derive(Drop)]
 pub struct RiggedKeeper {
     keeper: ListKeeper,
     admitted: u64,
     next_id: u64,
+    moves: u32,
     asked: u64,
 }
 
 impl RiggedKeeper {
-    /// A keeper that tells of so many bytes admitted to each department, and of this next id.
-    pub fn new(keeper: ListKeeper, admitted: u64, next_id: u64) -> RiggedKeeper {
+    /// A keeper that tells of so many bytes admitted to each department, of this next id, and of so many
+    /// moves made.
+    pub fn new(keeper: ListKeeper, admitted: u64, next_id: u64, moves: u32) -> RiggedKeeper {
         RiggedKeeper {
             keeper,
             admitted,
             next_id,
+            moves,
             asked: 0,
         }
     }
@@ -116,6 +119,18 @@ impl Keeper for RiggedKeeper {
 
     fn walk_removed<S: Sink>(&mut self, sink: &mut S) -> Result<bool, Fault> {
         self.keeper.walk_removed(sink)
+    }
+
+    fn moves(&mut self) -> Result<u32, Fault> {
+        Ok(self.moves)
+    }
+
+    fn tenures(&mut self, id: VersionId) -> Result<Tenures, Fault> {
+        self.keeper.tenures(id)
+    }
+
+    fn bucket_held(&mut self, bucket: &BucketName) -> Result<(u64, u64), Fault> {
+        self.keeper.bucket_held(bucket)
     }
 
     fn totals(&mut self, dept: &DeptName) -> Result<Row, Fault> {

@@ -9,7 +9,7 @@ use vault_core_list::list_keeper::ListKeeper;
 use vault_core_model::keeper::Keeper;
 use vault_store::sql_keeper::SqlKeeper;
 use vault_transcript::transcript::play;
-use vault_transcript::trial::Trial;
+use vault_transcript::trial::{Trial, try_on_new};
 
 fn failed_so_often<K: Keeper>(keeper: &K, faults: u64) -> Result<(), Fail> {
     if keeper.faults() == faults {
@@ -29,8 +29,8 @@ fn carry_out_unfailing<K: Keeper, T: Trial>(
 
 /// A trial on a new vault in the tables, whose device may not fail.
 #[derive(Drop)]
-pub struct OnNewVault<'a, T> {
-    pub trial: &'a T,
+struct OnNewVault<'a, T> {
+    trial: &'a T,
 }
 
 impl<T: Trial> StoreTrial for OnNewVault<'_, T> {
@@ -138,4 +138,29 @@ pub fn stop_over_both(alloc: Global, all: &[Stopped<'_>]) -> Result<(), Fail> {
         try_in_memory(alloc, stopped)?;
     }
     Ok(())
+}
+
+/// A trial behind the opening lines.
+#[derive(Drop)]
+struct BehindOpening<'a, T> {
+    trial: &'a T,
+}
+
+impl<T: Trial> Trial for BehindOpening<'_, T> {
+    fn carry_out<K: Keeper>(&self, alloc: Global, keeper: &mut K) -> Result<(), Fail> {
+        play(alloc, keeper, OPENING)?;
+        self.trial.carry_out(alloc, keeper)
+    }
+}
+
+/// Carries a trial out behind the opening lines, in tables in memory.
+pub fn try_in_tables<T: Trial>(alloc: Global, trial: &T) -> Result<(), Fail> {
+    let trial = &BehindOpening { trial };
+    try_in_memory(alloc, &OnNewVault { trial })
+}
+
+/// The same in a list, and in tables in memory.
+pub fn try_over_both<T: Trial>(alloc: Global, trial: &T) -> Result<(), Fail> {
+    try_on_new(alloc, trial)?;
+    try_in_tables(alloc, trial)
 }

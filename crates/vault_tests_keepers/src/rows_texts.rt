@@ -105,11 +105,11 @@ pub const LOCKS: [&str; 6] = [
 {"at":"2024-02-29T12:00:00Z","as":"ann","do":"set-default","bucket":"docs","mode":"GOVERNANCE","years":100}
   {"ok":{}}
 {"at":"2024-02-29T12:00:00Z","as":"ann","do":"report","dept":"records"}
-  {"ok":{"admitted":3,"at":"2024-02-29T12:00:00Z","byte_days":0,"dept":"records","held":3,"removed":0}}
+  {"ok":{"admitted":3,"at":"2024-02-29T12:00:00Z","byte_days":0,"dept":"records","handed":0,"held":3,"received":0,"removed":0}}
 {"at":"9950-01-01T00:00:00Z","as":"ann","do":"put","bucket":"docs","key":"o","text":"x"}
   {"error":{"code":"RetentionOutOfRange","n":11}}
 {"at":"2024-02-29T12:00:00Z","as":"ann","do":"report","dept":"records"}
-  {"ok":{"admitted":3,"at":"2024-02-29T12:00:00Z","byte_days":0,"dept":"records","held":3,"removed":0}}
+  {"ok":{"admitted":3,"at":"2024-02-29T12:00:00Z","byte_days":0,"dept":"records","handed":0,"held":3,"received":0,"removed":0}}
 "#,
 ];
 
@@ -221,9 +221,9 @@ pub const SUMS: [&str; 5] = [
     // report-of-new-department
     r#"
 {"at":"2014-01-01T00:00:00Z","as":"ann","do":"report","dept":"records"}
-  {"ok":{"admitted":0,"at":"2014-01-01T00:00:00Z","byte_days":0,"dept":"records","held":0,"removed":0}}
+  {"ok":{"admitted":0,"at":"2014-01-01T00:00:00Z","byte_days":0,"dept":"records","handed":0,"held":0,"received":0,"removed":0}}
 {"at":"2014-01-01T00:00:00Z","as":"registrar","do":"report","dept":"records"}
-  {"ok":{"admitted":0,"at":"2014-01-01T00:00:00Z","byte_days":0,"dept":"records","held":0,"removed":0}}
+  {"ok":{"admitted":0,"at":"2014-01-01T00:00:00Z","byte_days":0,"dept":"records","handed":0,"held":0,"received":0,"removed":0}}
 "#,
     // version-empty
     r#"
@@ -245,7 +245,7 @@ pub const SUMS: [&str; 5] = [
 {"at":"2024-01-16T00:00:00Z","as":"ann","do":"delete-version","bucket":"docs","key":"a","id":1}
   {"ok":{"cause":"request","delete_marker":false,"version_id":1}}
 {"at":"2024-01-16T00:00:00Z","as":"ann","do":"report","dept":"records"}
-  {"ok":{"admitted":100,"at":"2024-01-16T00:00:00Z","byte_days":100,"dept":"records","held":0,"removed":100}}
+  {"ok":{"admitted":100,"at":"2024-01-16T00:00:00Z","byte_days":100,"dept":"records","handed":0,"held":0,"received":0,"removed":100}}
 "#,
     // charge-within-a-day
     r#"
@@ -254,7 +254,7 @@ pub const SUMS: [&str; 5] = [
 {"at":"2024-01-15T23:59:59Z","as":"ann","do":"delete-version","bucket":"docs","key":"a","id":1}
   {"ok":{"cause":"request","delete_marker":false,"version_id":1}}
 {"at":"2024-01-15T23:59:59Z","as":"ann","do":"report","dept":"records"}
-  {"ok":{"admitted":100,"at":"2024-01-15T23:59:59Z","byte_days":0,"dept":"records","held":0,"removed":100}}
+  {"ok":{"admitted":100,"at":"2024-01-15T23:59:59Z","byte_days":0,"dept":"records","handed":0,"held":0,"received":0,"removed":100}}
 "#,
     // intake-once
     r#"
@@ -277,6 +277,163 @@ pub const SUMS: [&str; 5] = [
 {"at":"2024-01-15T10:30:00Z","as":"ann","do":"intake","bucket":"docs","batch":"b1","line":2,"key":"2024/b","text":"B","mode":"GOVERNANCE","until":"2030-01-01T00:00:00Z","hold":"ON"}
   {"ok":{"again":true,"version_id":4}}
 {"at":"2024-01-15T10:30:00Z","as":"ann","do":"report","dept":"records"}
-  {"ok":{"admitted":4,"at":"2024-01-15T10:30:00Z","byte_days":0,"dept":"records","held":4,"removed":0}}
+  {"ok":{"admitted":4,"at":"2024-01-15T10:30:00Z","byte_days":0,"dept":"records","handed":0,"held":4,"received":0,"removed":0}}
+"#,
+];
+
+pub const MOVES: [&str; 4] = [
+    // move-charges-each-department
+    r#"
+{"at":"2014-01-01T00:00:00Z","as":"registrar","do":"add-dept","dept":"court"}
+  {"ok":{}}
+{"at":"2014-01-01T00:00:00Z","as":"registrar","do":"add-caller","caller":"cid","dept":"court","rights":["get","delete-version","report"]}
+  {"ok":{}}
+{"at":"2024-01-15T10:30:00Z","as":"ann","do":"put","bucket":"docs","key":"a","text":"0123456789012345678901234567890123456789012345678901234567890123456789012345678901234567890123456789"}
+  {"ok":{"version_id":1}}
+{"at":"2024-01-17T00:00:00Z","as":"registrar","do":"move-bucket","bucket":"docs","dept":"court"}
+  {"ok":{"bytes":100}}
+{"at":"2024-01-17T00:00:00Z","as":"ann","do":"get","bucket":"docs","key":"a"}
+  {"error":{"code":"AccessDenied","n":3,"reason":"department"}}
+{"at":"2024-01-17T00:00:00Z","as":"cid","do":"get","bucket":"docs","key":"a"}
+  {"ok":{"admitted":"2024-01-15T10:30:00Z","hex":"30313233343536373839303132333435363738393031323334353637383930313233343536373839303132333435363738393031323334353637383930313233343536373839303132333435363738393031323334353637383930313233343536373839","hold":"OFF","retention":null,"sha256":"9cfe7faff7054298ca87557e15a10262de8d3eee77827417fbdfea1c41b9ec23","size":100,"version_id":1}}
+{"at":"2024-01-20T00:00:00Z","as":"registrar","do":"report","dept":"records"}
+  {"ok":{"admitted":100,"at":"2024-01-20T00:00:00Z","byte_days":200,"dept":"records","handed":100,"held":0,"received":0,"removed":0}}
+{"at":"2024-01-20T00:00:00Z","as":"registrar","do":"report","dept":"court"}
+  {"ok":{"admitted":0,"at":"2024-01-20T00:00:00Z","byte_days":300,"dept":"court","handed":0,"held":100,"received":100,"removed":0}}
+{"at":"2024-01-20T00:00:00Z","as":"cid","do":"delete-version","bucket":"docs","key":"a","id":1}
+  {"ok":{"cause":"request","delete_marker":false,"version_id":1}}
+{"at":"2024-01-20T00:00:00Z","as":"cid","do":"certificate","bucket":"docs","id":1}
+  {"ok":{"text":"CERTIFICATE OF DESTRUCTION\nversion: 1\nbucket: docs\nkey: a\nsize: 100\nsha256: 9cfe7faff7054298ca87557e15a10262de8d3eee77827417fbdfea1c41b9ec23\nadmitted: 2024-01-15T10:30:00Z by ann\nremoved: 2024-01-20T00:00:00Z\ncause: request cid\ndays held: 5\nof which records: 2\nof which court: 3\nseal: b0bf928ac215d0f6a6cd5e2e1f0a9ac7db1a1ca294e0a733461c277bb6ab9ad9\n"}}
+{"at":"2024-01-20T00:00:00Z","as":"ann","do":"certificate","bucket":"docs","id":1}
+  {"error":{"code":"AccessDenied","n":3,"reason":"department"}}
+{"at":"2024-01-20T00:00:00Z","as":"registrar","do":"report","dept":"records"}
+  {"ok":{"admitted":100,"at":"2024-01-20T00:00:00Z","byte_days":200,"dept":"records","handed":100,"held":0,"received":0,"removed":0}}
+{"at":"2024-01-20T00:00:00Z","as":"registrar","do":"report","dept":"court"}
+  {"ok":{"admitted":0,"at":"2024-01-20T00:00:00Z","byte_days":300,"dept":"court","handed":0,"held":0,"received":100,"removed":100}}
+{"at":"2024-03-01T00:00:00Z","as":"ann","do":"report","dept":"records"}
+  {"ok":{"admitted":100,"at":"2024-03-01T00:00:00Z","byte_days":200,"dept":"records","handed":100,"held":0,"received":0,"removed":0}}
+{"at":"2024-03-01T00:00:00Z","as":"cid","do":"report","dept":"court"}
+  {"ok":{"admitted":0,"at":"2024-03-01T00:00:00Z","byte_days":300,"dept":"court","handed":0,"held":0,"received":100,"removed":100}}
+"#,
+    // move-of-held-content-alone
+    r#"
+{"at":"2014-01-01T00:00:00Z","as":"registrar","do":"add-dept","dept":"court"}
+  {"ok":{}}
+{"at":"2014-01-01T00:00:00Z","as":"registrar","do":"add-caller","caller":"cid","dept":"court","rights":["get","delete-version","report"]}
+  {"ok":{}}
+{"at":"2024-01-15T10:30:00Z","as":"ann","do":"put","bucket":"docs","key":"p","text":"0123456789"}
+  {"ok":{"version_id":1}}
+{"at":"2024-01-15T10:30:00Z","as":"ann","do":"put","bucket":"docs","key":"q","text":"0123456789"}
+  {"ok":{"version_id":2}}
+{"at":"2024-01-17T00:00:00Z","as":"ann","do":"delete-version","bucket":"docs","key":"p","id":1}
+  {"ok":{"cause":"request","delete_marker":false,"version_id":1}}
+{"at":"2024-01-17T00:00:00Z","as":"registrar","do":"move-bucket","bucket":"docs","dept":"court"}
+  {"ok":{"bytes":10}}
+{"at":"2024-01-17T00:00:00Z","as":"ann","do":"report","dept":"records"}
+  {"ok":{"admitted":20,"at":"2024-01-17T00:00:00Z","byte_days":40,"dept":"records","handed":10,"held":0,"received":0,"removed":10}}
+{"at":"2024-01-17T00:00:00Z","as":"cid","do":"report","dept":"court"}
+  {"ok":{"admitted":0,"at":"2024-01-17T00:00:00Z","byte_days":0,"dept":"court","handed":0,"held":10,"received":10,"removed":0}}
+{"at":"2024-01-17T00:00:00Z","as":"cid","do":"certificate","bucket":"docs","id":1}
+  {"ok":{"text":"CERTIFICATE OF DESTRUCTION\nversion: 1\nbucket: docs\nkey: p\nsize: 10\nsha256: 84d89877f0d4041efb6bf91a16f0248f2fd573e6af05c19f96bedb9f882f7882\nadmitted: 2024-01-15T10:30:00Z by ann\nremoved: 2024-01-17T00:00:00Z\ncause: request ann\ndays held: 2\nseal: d34b621186d6e049610883220ade1491ab6cbe152ef21819d759398676aa9d60\n"}}
+{"at":"2024-01-20T00:00:00Z","as":"ann","do":"report","dept":"records"}
+  {"ok":{"admitted":20,"at":"2024-01-20T00:00:00Z","byte_days":40,"dept":"records","handed":10,"held":0,"received":0,"removed":10}}
+{"at":"2024-01-20T00:00:00Z","as":"cid","do":"report","dept":"court"}
+  {"ok":{"admitted":0,"at":"2024-01-20T00:00:00Z","byte_days":30,"dept":"court","handed":0,"held":10,"received":10,"removed":0}}
+"#,
+    // move-there-and-back
+    r#"
+{"at":"2014-01-01T00:00:00Z","as":"registrar","do":"add-dept","dept":"court"}
+  {"ok":{}}
+{"at":"2014-01-01T00:00:00Z","as":"registrar","do":"add-caller","caller":"cid","dept":"court","rights":["get","delete-version","report"]}
+  {"ok":{}}
+{"at":"2024-01-15T10:30:00Z","as":"ann","do":"put","bucket":"docs","key":"a","text":"hello"}
+  {"ok":{"version_id":1}}
+{"at":"2024-01-17T23:59:59Z","as":"registrar","do":"move-bucket","bucket":"docs","dept":"court"}
+  {"ok":{"bytes":5}}
+{"at":"2024-01-17T23:59:59Z","as":"ann","do":"report","dept":"records"}
+  {"ok":{"admitted":5,"at":"2024-01-17T23:59:59Z","byte_days":10,"dept":"records","handed":5,"held":0,"received":0,"removed":0}}
+{"at":"2024-01-17T23:59:59Z","as":"cid","do":"report","dept":"court"}
+  {"ok":{"admitted":0,"at":"2024-01-17T23:59:59Z","byte_days":0,"dept":"court","handed":0,"held":5,"received":5,"removed":0}}
+{"at":"2024-01-18T00:00:00Z","as":"registrar","do":"move-bucket","bucket":"docs","dept":"records"}
+  {"ok":{"bytes":5}}
+{"at":"2024-01-18T00:00:00Z","as":"cid","do":"get","bucket":"docs","key":"a"}
+  {"error":{"code":"AccessDenied","n":3,"reason":"department"}}
+{"at":"2024-01-18T00:00:00Z","as":"ann","do":"get","bucket":"docs","key":"a"}
+  {"ok":{"admitted":"2024-01-15T10:30:00Z","hex":"68656c6c6f","hold":"OFF","retention":null,"sha256":"2cf24dba5fb0a30e26e83b2ac5b9e29e1b161e5c1fa7425e73043362938b9824","size":5,"version_id":1}}
+{"at":"2024-01-18T00:00:00Z","as":"ann","do":"report","dept":"records"}
+  {"ok":{"admitted":5,"at":"2024-01-18T00:00:00Z","byte_days":10,"dept":"records","handed":5,"held":5,"received":5,"removed":0}}
+{"at":"2024-01-18T00:00:00Z","as":"cid","do":"report","dept":"court"}
+  {"ok":{"admitted":0,"at":"2024-01-18T00:00:00Z","byte_days":5,"dept":"court","handed":5,"held":0,"received":5,"removed":0}}
+{"at":"2024-01-20T12:00:00Z","as":"ann","do":"delete-version","bucket":"docs","key":"a","id":1}
+  {"ok":{"cause":"request","delete_marker":false,"version_id":1}}
+{"at":"2024-01-20T12:00:00Z","as":"ann","do":"certificate","bucket":"docs","id":1}
+  {"ok":{"text":"CERTIFICATE OF DESTRUCTION\nversion: 1\nbucket: docs\nkey: a\nsize: 5\nsha256: 2cf24dba5fb0a30e26e83b2ac5b9e29e1b161e5c1fa7425e73043362938b9824\nadmitted: 2024-01-15T10:30:00Z by ann\nremoved: 2024-01-20T12:00:00Z\ncause: request ann\ndays held: 5\nof which records: 2\nof which court: 1\nof which records: 2\nseal: 4f471f820465925fa75c2b89e5fceb80d40e0da254bfc2e7ca1314c87ecb650c\n"}}
+{"at":"2024-03-01T00:00:00Z","as":"ann","do":"report","dept":"records"}
+  {"ok":{"admitted":5,"at":"2024-03-01T00:00:00Z","byte_days":20,"dept":"records","handed":5,"held":0,"received":5,"removed":5}}
+{"at":"2024-03-01T00:00:00Z","as":"cid","do":"report","dept":"court"}
+  {"ok":{"admitted":0,"at":"2024-03-01T00:00:00Z","byte_days":5,"dept":"court","handed":5,"held":0,"received":5,"removed":0}}
+"#,
+    // move-refused
+    r#"
+{"at":"2014-01-01T00:00:00Z","as":"registrar","do":"add-dept","dept":"court"}
+  {"ok":{}}
+{"at":"2014-01-01T00:00:00Z","as":"registrar","do":"add-caller","caller":"cid","dept":"court","rights":["get","delete-version","report"]}
+  {"ok":{}}
+{"at":"2014-01-01T00:00:00Z","as":"registrar","do":"add-caller","caller":"eve","dept":"court","rights":["admin"]}
+  {"ok":{}}
+{"at":"2024-01-15T10:30:00Z","as":"ann","do":"put","bucket":"docs","key":"a","text":"hello"}
+  {"ok":{"version_id":1}}
+{"at":"2024-01-15T10:29:59Z","as":"bob","do":"move-bucket","bucket":"nope","dept":"nope"}
+  {"error":{"code":"ClockBack","n":1}}
+{"at":"2024-01-15T10:30:00Z","as":"bob","do":"move-bucket","bucket":"nope","dept":"nope"}
+  {"error":{"code":"AccessDenied","n":3,"reason":"unknown-caller"}}
+{"at":"2024-01-15T10:30:00Z","as":"ann","do":"move-bucket","bucket":"nope","dept":"court"}
+  {"error":{"code":"NoSuchBucket","n":4}}
+{"at":"2024-01-15T10:30:00Z","as":"ann","do":"move-bucket","bucket":"docs","dept":"nope"}
+  {"error":{"code":"AccessDenied","n":3,"reason":"right:admin"}}
+{"at":"2024-01-15T10:30:00Z","as":"cid","do":"move-bucket","bucket":"docs","dept":"court"}
+  {"error":{"code":"AccessDenied","n":3,"reason":"right:admin"}}
+{"at":"2024-01-15T10:30:00Z","as":"ann","do":"move-bucket","bucket":"docs","dept":"court"}
+  {"error":{"code":"AccessDenied","n":3,"reason":"right:admin"}}
+{"at":"2024-01-15T10:30:00Z","as":"registrar","do":"move-bucket","bucket":"nope","dept":"nope"}
+  {"error":{"code":"NoSuchBucket","n":4}}
+{"at":"2024-01-15T10:30:00Z","as":"registrar","do":"move-bucket","bucket":"docs","dept":"nope"}
+  {"error":{"code":"InvalidArgument","n":10}}
+{"at":"2024-01-15T10:30:00Z","as":"registrar","do":"move-bucket","bucket":"docs","dept":"records"}
+  {"error":{"code":"InvalidArgument","n":10}}
+{"at":"2024-01-15T10:29:59Z","as":"registrar","do":"move-bucket","bucket":"X","dept":""}
+  {"error":{"code":"InvalidBucketName","n":15}}
+{"at":"2024-01-15T10:29:59Z","as":"registrar","do":"move-bucket","bucket":"docs","dept":""}
+  {"error":{"code":"InvalidArgument","n":10}}
+{"at":"2024-01-15T10:29:59Z","as":"registrar","do":"move-bucket","bucket":"docs","dept":"Court"}
+  {"error":{"code":"InvalidArgument","n":10}}
+{"at":"2024-01-15T10:30:00Z","as":"registrar","do":"move-bucket","bucket":"docs"}
+  {"error":{"code":"MalformedBody","n":12}}
+{"at":"2024-01-15T10:30:00Z","as":"registrar","do":"move-bucket","dept":"court"}
+  {"error":{"code":"MalformedBody","n":12}}
+{"at":"2024-01-15T10:30:00Z","as":"registrar","do":"move-bucket","bucket":"docs","dept":null}
+  {"error":{"code":"MalformedBody","n":12}}
+{"at":"2024-01-15T10:30:00Z","as":"registrar","do":"move-bucket","bucket":"docs","dept":"court","key":"a"}
+  {"error":{"code":"MalformedBody","n":12}}
+{"at":"2024-01-15T10:30:00Z","as":"ann","do":"get","bucket":"docs","key":"a"}
+  {"ok":{"admitted":"2024-01-15T10:30:00Z","hex":"68656c6c6f","hold":"OFF","retention":null,"sha256":"2cf24dba5fb0a30e26e83b2ac5b9e29e1b161e5c1fa7425e73043362938b9824","size":5,"version_id":1}}
+{"at":"2024-01-17T00:00:00Z","as":"registrar","do":"report","dept":"records"}
+  {"ok":{"admitted":5,"at":"2024-01-17T00:00:00Z","byte_days":10,"dept":"records","handed":0,"held":5,"received":0,"removed":0}}
+{"at":"2024-01-17T00:00:00Z","as":"registrar","do":"report","dept":"court"}
+  {"ok":{"admitted":0,"at":"2024-01-17T00:00:00Z","byte_days":0,"dept":"court","handed":0,"held":0,"received":0,"removed":0}}
+{"at":"2024-01-15T10:30:00Z","as":"registrar","do":"close-caller","caller":"ann"}
+  {"ok":{}}
+{"at":"2024-01-15T10:30:00Z","as":"ann","do":"move-bucket","bucket":"docs","dept":"court"}
+  {"error":{"code":"AccessDenied","n":3,"reason":"unknown-caller"}}
+{"at":"2024-01-15T10:30:00Z","as":"eve","do":"move-bucket","bucket":"docs","dept":"court"}
+  {"ok":{"bytes":5}}
+{"at":"2024-01-15T10:30:00Z","as":"eve","do":"move-bucket","bucket":"docs","dept":"court"}
+  {"error":{"code":"InvalidArgument","n":10}}
+{"at":"2024-01-15T10:30:00Z","as":"registrar","do":"add-dept","dept":"nope"}
+  {"ok":{}}
+{"at":"2024-01-15T10:30:00Z","as":"eve","do":"move-bucket","bucket":"docs","dept":"nope"}
+  {"ok":{"bytes":5}}
+{"at":"2024-01-17T00:00:00Z","as":"registrar","do":"report","dept":"nope"}
+  {"ok":{"admitted":0,"at":"2024-01-17T00:00:00Z","byte_days":10,"dept":"nope","handed":0,"held":5,"received":5,"removed":0}}
 "#,
 ];

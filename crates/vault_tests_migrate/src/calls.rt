@@ -1,11 +1,16 @@
 //! What the tests call. None of these has a clause, so that the proof of a test does not carry the state of each
 //! call.
+use crate::earlier::{make_first, make_second};
+use crate::stores::Vault;
+use crate::third::{make_third, make_untenured};
 use sqlite::{Alter, Connection, Error};
 use std::alloc::Global;
+use std::test::Fail;
 use vault_audit::audit as audit_of;
 use vault_audit_model::schema::Edition;
 use vault_base::refusal::Refusal;
 use vault_store::sql_keeper::SqlKeeper;
+use vault_transcript::transcript::play;
 
 fn batch<S: Alter>(conn: &mut Connection<S>, sql: &str) -> Result<(), Error> {
     conn.execute_batch(sql)
@@ -19,13 +24,56 @@ pub fn batches<S: Alter>(conn: &mut Connection<S>, changes: &[&str]) -> Result<(
     Ok(())
 }
 
-pub fn number<S: Alter>(conn: &mut Connection<S>, sql: &str) -> Result<i64, Error> {
+fn number<S: Alter>(conn: &mut Connection<S>, sql: &str) -> Result<i64, Error> {
     conn.query_row(sql, &[])?.get(0)
 }
 
-/// Copies the vault of a store, of that edition, into another: why not, where it is refused, and the connection to the
-/// other.
-pub fn migrate_as<O: Alter, S: Alter>(
+/// The first query that doesn't tell its number.
+pub fn differing<'a, S: Alter>(
+    conn: &mut Connection<S>,
+    numbers: &[(&'a str, i64)],
+) -> Option<&'a str> {
+    for (sql, wanted) in numbers {
+        if number(conn, sql).ok() != Some(*wanted) {
+            return Some(*sql);
+        }
+    }
+    None
+}
+
+/// Makes a vault that statements make.
+pub fn make_by_statements<S: Alter>(
+    conn: &mut Connection<S>,
+    vault: Vault<'_>,
+) -> Result<(), Error> {
+    match vault {
+        Vault::First => make_first(conn),
+        Vault::Second => make_second(conn),
+        Vault::Third => make_third(conn),
+        Vault::Untenured => make_untenured(conn),
+        Vault::Played(_) => Ok(()),
+    }
+}
+
+/// Makes a vault by a keeper, and carries a transcript out in it.
+pub fn play_in<S: Alter>(
+    alloc: Global,
+    conn: Connection<S>,
+    transcript: &str,
+) -> (Result<(), Fail>, Connection<S>) {
+    match SqlKeeper::create(alloc, conn) {
+        Ok(keeper) => {
+            let mut keeper = keeper;
+            let played = play(alloc, &mut keeper, transcript);
+            (played, keeper.into_connection())
+        }
+        Err((refusal, conn)) => (Err(Fail::new(refusal.name())), conn),
+    }
+}
+
+/// Copies the vault of a store, as one of that edition, into another: why not, where it is refused, and the connection
+/// to the other.
+pub fn migrate<O: Alter, S: Alter>(
     alloc: Global,
     old: &mut Connection<O>,
     edition: Edition,
@@ -34,23 +82,6 @@ pub fn migrate_as<O: Alter, S: Alter>(
     match SqlKeeper::migrate(alloc, old, edition, new) {
         Ok(keeper) => (None, keeper.into_connection()),
         Err((refusal, new)) => (Some(refusal), new),
-    }
-}
-
-/// The same of the first edition.
-pub fn migrate<O: Alter, S: Alter>(
-    alloc: Global,
-    old: &mut Connection<O>,
-    new: Connection<S>,
-) -> (Option<Refusal>, Connection<S>) {
-    migrate_as(alloc, old, Edition::First, new)
-}
-
-/// Makes a vault in a store: why not, where it is refused, and the connection.
-pub fn create<S: Alter>(alloc: Global, conn: Connection<S>) -> (Option<Refusal>, Connection<S>) {
-    match SqlKeeper::create(alloc, conn) {
-        Ok(keeper) => (None, keeper.into_connection()),
-        Err((refusal, conn)) => (Some(refusal), conn),
     }
 }
 

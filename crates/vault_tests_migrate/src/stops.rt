@@ -1,12 +1,13 @@
 //! A copy that is stopped at each call of one of the new files: these hold no tables then, or the whole vault.
-use crate::calls::{migrate, number, open};
+use crate::calls::{differing, migrate, open};
 use crate::disks::{Left, VaultFiles, Which, fused, leave, sound};
 use crate::earlier::{COPIED, make_first};
-use sqlite::{Alter, Connection, FileStore, Files, MemStore, Options};
+use crate::stores::{StoreTrial, try_in_memory};
+use sqlite::{Alter, Connection, FileStore, Files, Options};
 use sqlite_disk::{Fuse, Memory};
 use std::alloc::Global;
-use std::process::Abort;
 use std::test::Fail;
+use vault_audit_model::schema::Edition;
 use vault_base::refusal::Refusal;
 
 type InFiles = FileStore<Fuse<Memory>>;
@@ -18,6 +19,12 @@ const OPTIONS: Options = Options {
     checkpoint_frames: 40,
     seed: 1,
 };
+
+/// What a store without tables tells.
+const NO_TABLES: (&str, i64) = ("SELECT count(*) FROM sqlite_schema", 0);
+
+/// What the vault that is copied goes on to tell.
+const STAYS: (&str, i64) = ("SELECT schema FROM meta", 1);
 
 /// Opens the files. They come back where that fails.
 fn connected(alloc: Global, files: VaultFiles) -> Result<Connection<InFiles>, VaultFiles> {
@@ -39,9 +46,9 @@ struct Ended {
 }
 
 /// Copies the vault into these files, and how they are left.
-fn copy_into(
+fn copy_into<O: Alter>(
     alloc: Global,
-    old: &mut Connection<MemStore>,
+    old: &mut Connection<O>,
     files: VaultFiles,
 ) -> (Ended, VaultFiles) {
     let conn = match connected(alloc, files) {
@@ -54,7 +61,7 @@ fn copy_into(
             return (ended, files);
         }
     };
-    let (refusal, conn) = migrate(alloc, old, conn);
+    let (refusal, conn) = migrate(alloc, old, Edition::First, conn);
     let ended = Ended {
         is_as_told: refusal.is_none() || refusal == Some(Refusal::Device),
         is_done: refusal.is_none(),
@@ -67,17 +74,6 @@ fn left_of(alloc: Global, files: VaultFiles) -> Result<(Left, Left), Fail> {
     Ok((leave(alloc, log)?, leave(alloc, db)?))
 }
 
-/// How many of the counts are those of the whole copy.
-fn copied_counts<S: Alter>(conn: &mut Connection<S>) -> usize {
-    let mut right = 0usize;
-    for (sql, rows) in COPIED {
-        if number(conn, sql).ok() == Some(*rows) {
-            right = right.saturating_add(1);
-        }
-    }
-    right
-}
-
 /// Whether the files hold no tables, and whether they hold the whole vault.
 fn found(alloc: Global, log: &[u8], database: &[u8]) -> Result<(bool, bool), Fail> {
     let conn = match connected(alloc, sound(alloc, log, database)?) {
@@ -88,22 +84,15 @@ fn found(alloc: Global, log: &[u8], database: &[u8]) -> Result<(bool, bool), Fai
         }
     };
     let mut conn = conn;
-    let tables = number(&mut conn, "SELECT count(*) FROM sqlite_schema");
-    let right = copied_counts(&mut conn);
+    let is_bare = differing(&mut conn, &[NO_TABLES]).is_none();
+    let is_copied = differing(&mut conn, COPIED).is_none();
     let (refusal, conn) = open(alloc, conn);
     drop(conn.into_store().close());
-    let is_whole = refusal.is_none() && right == COPIED.len();
-    Ok((tables? == 0, is_whole))
+    Ok((is_bare, refusal.is_none() && is_copied))
 }
 
 /// Fails where what may be left is neither nothing nor the whole vault, or was acknowledged and isn't there.
-fn look_at_left(
-    rt: &impl Abort,
-    alloc: Global,
-    is_done: bool,
-    log: &Left,
-    database: &Left,
-) -> Result<(), Fail> {
+fn look_at_left(alloc: Global, is_done: bool, log: &Left, database: &Left) -> Result<(), Fail> {
     let pairs = [
         (&log.standing, &database.standing),
         (&log.synced, &database.standing),
@@ -112,45 +101,83 @@ fn look_at_left(
     ];
     for (log, database) in &pairs {
         let (is_bare, is_whole) = found(alloc, log.as_slice(), database.as_slice())?;
-        assert!(rt; is_whole || (is_bare && !is_done));
+        if !is_whole && (is_done || !is_bare) {
+            return Err(Fail::new("a part of a vault is left"));
+        }
     }
     Ok(())
 }
 
-/// Copies the vault into files one of which fails behind so many calls, and looks at what is left.
-fn stop_behind(rt: &impl Abort, alloc: Global, which: Which, calls: u64) -> Result<bool, Fail> {
-    let mut old = Connection::open_in_memory(alloc)?;
-    let made = make_first(&mut old);
-    let (ended, files) = copy_into(alloc, &mut old, fused(alloc, which, calls));
-    let schema = number(&mut old, "SELECT schema FROM meta");
-    drop(old);
+/// Whether the copy into files one of which fails behind so many calls is done. Fails where what is left is neither
+/// nothing nor the whole vault.
+fn stop_behind<O: Alter>(
+    alloc: Global,
+    old: &mut Connection<O>,
+    which: Which,
+    calls: u64,
+) -> Result<bool, Fail> {
+    let (ended, files) = copy_into(alloc, old, fused(alloc, which, calls));
     let (log, database) = left_of(alloc, files)?;
-    made?;
-    assert!(rt; ended.is_as_told && schema.ok() == Some(1));
-    look_at_left(rt, alloc, ended.is_done, &log, &database)?;
+    if !ended.is_as_told || differing(old, &[STAYS]).is_some() {
+        return Err(Fail::new("a copy ends otherwise"));
+    }
+    look_at_left(alloc, ended.is_done, &log, &database)?;
     Ok(ended.is_done)
 }
 
-/// Stops the copy behind each of these calls of a file, up to the first that isn't stopped.
-fn stop_behind_each(rt: &impl Abort, alloc: Global, which: Which) -> Result<u64, Fail> {
+/// Stops the copy behind each number of calls of a file, up to the first that isn't stopped.
+fn stop_behind_each<O: Alter>(
+    alloc: Global,
+    old: &mut Connection<O>,
+    which: Which,
+) -> Result<u64, Fail> {
+    make_first(old)?;
     for calls in 0..400u64 {
-        if stop_behind(rt, alloc, which, calls)? {
+        if stop_behind(alloc, old, which, calls)? {
             return Ok(calls);
         }
     }
     Err(Fail::new("the copy was stopped each time"))
 }
 
+/// A vault that is copied into files of which this one fails.
+#[derive(Clone, Copy)]
+struct Stops {
+    which: Which,
+    /// So many calls a copy makes of it at least.
+    least: u64,
+}
+
+impl StoreTrial for Stops {
+    fn carry_out_in<S: Alter>(
+        &self,
+        alloc: Global,
+        conn: Connection<S>,
+    ) -> (Result<(), Fail>, Connection<S>) {
+        let mut conn = conn;
+        let tried = match stop_behind_each(alloc, &mut conn, self.which) {
+            Ok(calls) if calls >= self.least => Ok(()),
+            Ok(_) => Err(Fail::new("a copy makes too few calls")),
+            Err(fail) => Err(fail),
+        };
+        (tried, conn)
+    }
+}
+
 #[test]
 fn a_stop_of_the_log_leaves_nothing_or_the_whole_vault(rt: HostRuntime) -> Result<(), Fail> {
-    let calls = stop_behind_each(&rt, rt.alloc(), Which::Log)?;
-    assert!(rt; calls > 1);
-    Ok(())
+    let stops = Stops {
+        which: Which::Log,
+        least: 2,
+    };
+    try_in_memory(rt.alloc(), &stops)
 }
 
 #[test]
 fn a_stop_of_the_database_leaves_nothing_or_the_whole_vault(rt: HostRuntime) -> Result<(), Fail> {
-    let calls = stop_behind_each(&rt, rt.alloc(), Which::Database)?;
-    assert!(rt; calls > 0);
-    Ok(())
+    let stops = Stops {
+        which: Which::Database,
+        least: 1,
+    };
+    try_in_memory(rt.alloc(), &stops)
 }

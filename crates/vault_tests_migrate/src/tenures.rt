@@ -1,59 +1,30 @@
 //! The audit of a vault of the third edition, whose versions have tenures.
-use crate::calls::{audit, batches, open};
-use crate::earlier::make_first;
-use crate::third::{make_third, make_untenured};
-use sqlite::{Alter, Connection};
-use std::alloc::Global;
-use std::process::Abort;
+use crate::looks::{Look, Way, are_audited};
+use crate::stores::{Vault, try_in_memory};
 use std::test::Fail;
 use vault_audit_model::schema::Edition;
 use vault_base::refusal::{Refusal, Table};
 
-/// What the vault of the third edition is told as behind this change.
-fn told(alloc: Global, change: &str) -> Result<Option<Refusal>, Fail> {
-    let mut conn = Connection::open_in_memory(alloc)?;
-    let made = make_third(&mut conn);
-    let changed = batches(&mut conn, &[change]);
-    let told = audit(alloc, &mut conn, Edition::Third);
-    drop(conn);
-    made?;
-    changed?;
-    Ok(told)
-}
+const DEPARTMENTS: Option<Refusal> = Some(Refusal::Damaged(Table::Departments));
 
-/// Fails where one of these changes isn't told as damage of the table.
-fn are_told(rt: &impl Abort, alloc: Global, changes: &[&str], table: Table) -> Result<(), Fail> {
-    for change in changes {
-        let told = told(alloc, change)?;
-        assert!(rt; told == Some(Refusal::Damaged(table)), "with {change}");
-    }
-    Ok(())
-}
+const META: Option<Refusal> = Some(Refusal::Damaged(Table::Meta));
+
+const TENURES: Option<Refusal> = Some(Refusal::Damaged(Table::Tenures));
 
 #[test]
 fn a_vault_with_moved_buckets_is_sound(rt: HostRuntime) -> Result<(), Fail> {
-    assert!(rt; told(rt.alloc(), "")?.is_none());
-    Ok(())
-}
-
-/// What an opening tells of the same.
-fn told_at_opening<S: Alter + Drop>(
-    alloc: Global,
-    conn: Connection<S>,
-) -> Result<Option<Refusal>, Fail> {
-    let mut conn = conn;
-    let made = make_third(&mut conn);
-    let (opened, conn) = open(alloc, conn);
-    drop(conn);
-    made?;
-    Ok(opened)
+    are_audited(rt.alloc(), Vault::Third, &[""], None)
 }
 
 #[test]
 fn a_vault_with_moved_buckets_is_opened(rt: HostRuntime) -> Result<(), Fail> {
-    let conn = Connection::open_in_memory(rt.alloc())?;
-    assert!(rt; told_at_opening(rt.alloc(), conn)?.is_none());
-    Ok(())
+    let look = Look {
+        vault: Vault::Third,
+        change: "",
+        way: Way::Opening,
+        refusal: None,
+    };
+    try_in_memory(rt.alloc(), &look)
 }
 
 /// A number more, or less, in each of the seven sums.
@@ -68,7 +39,7 @@ fn a_raised_sum_is_told(rt: HostRuntime) -> Result<(), Fail> {
         "UPDATE departments SET weighted = weighted + 1 WHERE name = 'court'",
         "UPDATE departments SET closed = closed + 1 WHERE name = 'court'",
     ];
-    are_told(&rt, rt.alloc(), &changes, Table::Departments)
+    are_audited(rt.alloc(), Vault::Third, &changes, DEPARTMENTS)
 }
 
 #[test]
@@ -83,7 +54,7 @@ fn a_lowered_sum_is_told(rt: HostRuntime) -> Result<(), Fail> {
         "UPDATE departments SET closed = closed - 1 WHERE name = 'records'",
         "UPDATE departments SET admitted = -1 WHERE name = 'court'",
     ];
-    are_told(&rt, rt.alloc(), &changes, Table::Departments)
+    are_audited(rt.alloc(), Vault::Third, &changes, DEPARTMENTS)
 }
 
 /// Versions without bytes count in no sum, so what is wrong with their tenures alone is told of these. `rolls` is of
@@ -108,7 +79,7 @@ fn a_wrong_tenure_is_told(rt: HostRuntime) -> Result<(), Fail> {
         "INSERT INTO tenures VALUES (7, 3, 'records', 2500001)",
         "INSERT INTO tenures VALUES (7, 3, 'court', 2500001)",
     ];
-    are_told(&rt, rt.alloc(), &changes, Table::Tenures)
+    are_audited(rt.alloc(), Vault::Third, &changes, TENURES)
 }
 
 /// What is wrong by itself is told before the sums are taken.
@@ -120,12 +91,12 @@ fn a_row_out_of_its_limits_is_told(rt: HostRuntime) -> Result<(), Fail> {
         "UPDATE tenures SET moment = -1 WHERE id = 1 AND n = 1",
         "UPDATE tenures SET moment = 253402300800 WHERE id = 1 AND n = 1",
     ];
-    are_told(&rt, rt.alloc(), &changes, Table::Tenures)?;
+    are_audited(rt.alloc(), Vault::Third, &changes, TENURES)?;
     let moves = [
         "UPDATE meta SET moves = 1000000001",
         "UPDATE meta SET moves = -1",
     ];
-    are_told(&rt, rt.alloc(), &moves, Table::Meta)
+    are_audited(rt.alloc(), Vault::Third, &moves, META)
 }
 
 /// Tenures that may stand there.
@@ -137,38 +108,89 @@ fn further_tenures_are_sound(rt: HostRuntime) -> Result<(), Fail> {
         "INSERT INTO tenures VALUES (7, 3, 'court', 2500000); INSERT INTO tenures VALUES (7, 4, 'records', 2592000)",
         "UPDATE meta SET moves = 1000000000",
     ];
-    for change in &changes {
-        assert!(rt; told(rt.alloc(), change)?.is_none(), "with {change}");
-    }
-    Ok(())
+    are_audited(rt.alloc(), Vault::Third, &changes, None)
 }
 
 #[test]
 fn a_vault_without_the_table_is_told(rt: HostRuntime) -> Result<(), Fail> {
-    let mut conn = Connection::open_in_memory(rt.alloc())?;
-    let made = make_untenured(&mut conn);
-    let told = audit(rt.alloc(), &mut conn, Edition::Third);
-    drop(conn);
-    made?;
-    assert!(rt; told == Some(Refusal::Damaged(Table::Tenures)));
-    Ok(())
+    are_audited(rt.alloc(), Vault::Untenured, &[""], TENURES)
 }
 
 /// A vault of another edition than it is taken for differs at `meta`.
 #[test]
 fn a_vault_of_another_edition_is_told(rt: HostRuntime) -> Result<(), Fail> {
-    let mut first = Connection::open_in_memory(rt.alloc())?;
-    let made = make_first(&mut first);
-    let as_third = audit(rt.alloc(), &mut first, Edition::Third);
-    let as_first = audit(rt.alloc(), &mut first, Edition::First);
-    drop(first);
-    made?;
-    assert!(rt; as_third == Some(Refusal::Damaged(Table::Meta)) && as_first.is_none());
-    let mut third = Connection::open_in_memory(rt.alloc())?;
-    let made = make_third(&mut third);
-    let as_second = audit(rt.alloc(), &mut third, Edition::Second);
-    drop(third);
-    made?;
-    assert!(rt; as_second == Some(Refusal::Damaged(Table::Meta)));
+    for (vault, edition, refusal) in [
+        (Vault::First, Edition::Third, META),
+        (Vault::First, Edition::First, None),
+        (Vault::Third, Edition::Second, META),
+    ] {
+        let look = Look {
+            vault,
+            change: "",
+            way: Way::Audit(edition),
+            refusal,
+        };
+        try_in_memory(rt.alloc(), &look)?;
+    }
     Ok(())
+}
+
+/// A bucket goes to the court and back; a version is removed before, one between, and a marker stands on a third. The
+/// last version has no bytes.
+const THERE_AND_BACK: &str = r#"
+{"at":"2024-01-15T08:00:00Z","as":"registrar","do":"add-dept","dept":"records"}
+  {"ok":{}}
+{"at":"2024-01-15T08:00:00Z","as":"registrar","do":"add-dept","dept":"court"}
+  {"ok":{}}
+{"at":"2024-01-15T08:00:00Z","as":"registrar","do":"add-caller","caller":"ann","dept":"records","rights":["put","delete","delete-version"]}
+  {"ok":{}}
+{"at":"2024-01-15T08:00:00Z","as":"registrar","do":"add-caller","caller":"cid","dept":"court","rights":["put","delete-version"]}
+  {"ok":{}}
+{"at":"2024-01-15T08:00:00Z","as":"registrar","do":"add-bucket","bucket":"docs","dept":"records"}
+  {"ok":{}}
+{"at":"2024-01-15T10:30:00Z","as":"ann","do":"put","bucket":"docs","key":"a","text":"first"}
+  {"ok":{"version_id":1}}
+{"at":"2024-01-15T10:30:00Z","as":"ann","do":"put","bucket":"docs","key":"b","text":"second"}
+  {"ok":{"version_id":2}}
+{"at":"2024-01-15T10:30:00Z","as":"ann","do":"put","bucket":"docs","key":"c","text":"third"}
+  {"ok":{"version_id":3}}
+{"at":"2024-01-16T10:30:00Z","as":"ann","do":"delete-version","bucket":"docs","key":"a","id":1}
+  {"ok":{"cause":"request","delete_marker":false,"version_id":1}}
+{"at":"2024-01-16T10:30:00Z","as":"ann","do":"delete","bucket":"docs","key":"c"}
+  {"ok":{"delete_marker":true,"version_id":4}}
+{"at":"2024-01-17T00:00:00Z","as":"registrar","do":"move-bucket","bucket":"docs","dept":"court"}
+  {"ok":{"bytes":11}}
+{"at":"2024-01-18T00:00:00Z","as":"cid","do":"put","bucket":"docs","key":"d","text":""}
+  {"ok":{"version_id":5}}
+{"at":"2024-01-19T00:00:00Z","as":"cid","do":"delete-version","bucket":"docs","key":"b","id":2}
+  {"ok":{"cause":"request","delete_marker":false,"version_id":2}}
+{"at":"2024-01-20T00:00:00Z","as":"registrar","do":"move-bucket","bucket":"docs","dept":"records"}
+  {"ok":{"bytes":5}}
+"#;
+
+const MOVED: Vault<'static> = Vault::Played(THERE_AND_BACK);
+
+#[test]
+fn a_vault_whose_bucket_was_moved_is_sound(rt: HostRuntime) -> Result<(), Fail> {
+    are_audited(rt.alloc(), MOVED, &[""], None)
+}
+
+/// What the moves wrote is looked at: a sum each, the number of moves, the tenures and the bucket's department.
+#[test]
+fn what_a_move_wrote_is_audited(rt: HostRuntime) -> Result<(), Fail> {
+    let sums = [
+        "UPDATE departments SET received = received - 1 WHERE name = 'records'",
+        "UPDATE departments SET handed = handed + 1 WHERE name = 'court'",
+        "UPDATE departments SET weighted = weighted + 1 WHERE name = 'records'",
+        "UPDATE departments SET closed = closed - 1 WHERE name = 'court'",
+    ];
+    are_audited(rt.alloc(), MOVED, &sums, DEPARTMENTS)?;
+    let tenures = [
+        "UPDATE meta SET moves = 1",
+        "UPDATE buckets SET dept = 'court'",
+        "DELETE FROM tenures WHERE id = 5 AND n = 2",
+        "UPDATE tenures SET moment = moment + 1 WHERE id = 1",
+        "INSERT INTO tenures VALUES (4, 1, 'court', 1705449600)",
+    ];
+    are_audited(rt.alloc(), MOVED, &tenures, TENURES)
 }

@@ -1,5 +1,5 @@
 //! Certificates of destruction.
-use crate::texts::{EMPTY, HELLO, asking};
+use crate::texts::{EMPTY, HELLO, MOVED, asking};
 use sha2::{Digest, Sha256};
 use std::alloc::Global;
 use std::test::Fail;
@@ -22,7 +22,11 @@ fn command(alloc: Global, number: u32) -> Result<Certificate, Fail> {
 /// The certificate that is answered, or the name of the refusal.
 fn told(alloc: Global, answer: &Result<Answer, Halt>) -> Result<String, Fail> {
     match answer {
-        Ok(Answer::Certificate(entry)) => Ok(text::certificate(alloc, entry)?),
+        Ok(Answer::Certificate(entry, tenures)) => Ok(text::certificate(
+            alloc,
+            entry,
+            tenures.as_slice(),
+        )?),
         Ok(_) => Err(Fail::new("an answer to another command")),
         Err(Halt::Refused(refusal)) => Ok(String::from_str(alloc, refusal.name())?),
         Err(Halt::Fault(_)) => Err(Fail::new("a fault")),
@@ -93,6 +97,34 @@ days held: 1
 seal: babe1fbf67fe33f09a389d035a2f9f8d338e2a540880ba7c25bf8434d06237cb
 ",
             seal: Some("babe1fbf67fe33f09a389d035a2f9f8d338e2a540880ba7c25bf8434d06237cb"),
+        },
+    )
+}
+
+/// A department that had the version twice is named twice.
+#[test]
+fn a_version_of_moved_buckets_tells_each_department(rt: HostRuntime) -> Result<(), Fail> {
+    try_behind(
+        rt.alloc(),
+        MOVED,
+        &Certified {
+            number: 1,
+            wanted: "CERTIFICATE OF DESTRUCTION
+version: 1
+bucket: docs
+key: a
+size: 5
+sha256: 2cf24dba5fb0a30e26e83b2ac5b9e29e1b161e5c1fa7425e73043362938b9824
+admitted: 2024-01-15T10:30:00Z by ann
+removed: 2024-01-20T12:00:00Z
+cause: request ann
+days held: 5
+of which records: 2
+of which court: 1
+of which records: 2
+seal: 4f471f820465925fa75c2b89e5fceb80d40e0da254bfc2e7ca1314c87ecb650c
+",
+            seal: Some("4f471f820465925fa75c2b89e5fceb80d40e0da254bfc2e7ca1314c87ecb650c"),
         },
     )
 }

@@ -20,6 +20,24 @@ const HUNDRED: &str = r#"
   {"ok":{"cause":"request","delete_marker":false,"version_id":1}}
 "#;
 
+/// Two bytes that are removed at once, and five that come back with their bucket and go again on the next day.
+const HANDED: &str = r#"
+{"at":"2014-01-01T00:00:00Z","as":"registrar","do":"add-dept","dept":"court"}
+  {"ok":{}}
+{"at":"2024-01-15T10:30:00Z","as":"ann","do":"put","bucket":"docs","key":"a","text":"xx"}
+  {"ok":{"version_id":1}}
+{"at":"2024-01-15T10:30:00Z","as":"ann","do":"delete-version","bucket":"docs","key":"a","id":1}
+  {"ok":{"cause":"request","delete_marker":false,"version_id":1}}
+{"at":"2024-01-15T10:30:00Z","as":"ann","do":"put","bucket":"docs","key":"a","text":"hello"}
+  {"ok":{"version_id":2}}
+{"at":"2024-01-15T12:00:00Z","as":"registrar","do":"move-bucket","bucket":"docs","dept":"court"}
+  {"ok":{"bytes":5}}
+{"at":"2024-01-15T13:00:00Z","as":"registrar","do":"move-bucket","bucket":"docs","dept":"records"}
+  {"ok":{"bytes":5}}
+{"at":"2024-01-16T00:00:00Z","as":"registrar","do":"move-bucket","bucket":"docs","dept":"court"}
+  {"ok":{"bytes":5}}
+"#;
+
 fn told(alloc: Global, answer: &Result<Answer, Halt>) -> Result<String, Fail> {
     match answer {
         Ok(Answer::Report(sums)) => Ok(report_text(alloc, sums)?),
@@ -67,9 +85,30 @@ fn labels_stand_left_and_numbers_right(rt: HostRuntime) -> Result<(), Fail> {
             wanted: "department  records
 at          2024-01-16T00:00:00Z
 admitted                     100
+received                       0
 held                           0
 removed                      100
+handed                         0
 byte-days                    100
+",
+        },
+    )
+}
+
+#[test]
+fn a_report_tells_what_came_and_went_with_buckets(rt: HostRuntime) -> Result<(), Fail> {
+    try_behind(
+        rt.alloc(),
+        HANDED,
+        &Reported {
+            wanted: "department  records
+at          2024-01-16T00:00:00Z
+admitted                       7
+received                       5
+held                           0
+removed                        2
+handed                        10
+byte-days                      5
 ",
         },
     )

@@ -26,6 +26,20 @@ pub const EMPTY: &str = r#"
   {"ok":{"changes":1,"lone":1,"marked":0,"removed":0}}
 "#;
 
+/// A version whose bucket goes to another department for one midnight and comes back, and which is removed then.
+pub const MOVED: &str = r#"
+{"at":"2014-01-01T00:00:00Z","as":"registrar","do":"add-dept","dept":"court"}
+  {"ok":{}}
+{"at":"2024-01-15T10:30:00Z","as":"ann","do":"put","bucket":"docs","key":"a","text":"hello"}
+  {"ok":{"version_id":1}}
+{"at":"2024-01-17T23:59:59Z","as":"registrar","do":"move-bucket","bucket":"docs","dept":"court"}
+  {"ok":{"bytes":5}}
+{"at":"2024-01-18T00:00:00Z","as":"registrar","do":"move-bucket","bucket":"docs","dept":"records"}
+  {"ok":{"bytes":5}}
+{"at":"2024-01-20T12:00:00Z","as":"ann","do":"delete-version","bucket":"docs","key":"a","id":1}
+  {"ok":{"cause":"request","delete_marker":false,"version_id":1}}
+"#;
+
 /// A reading, and ann.
 pub fn asking(alloc: Global, at: &str) -> Result<(Moment, CallerName), Fail> {
     let at = Moment::read(at).ok().ok_or("at")?;

@@ -42,7 +42,7 @@ fn a_mark_that_finds_no_id_stops_the_run(rt: HostRuntime) -> Result<(), Fail> {
 {"at":"2024-03-03T00:00:00Z","as":"ann","do":"list-versions","bucket":"docs"}
   {"ok":{"entries":[{"admitted":"2024-03-03T00:00:00Z","current":true,"delete_marker":true,"key":"a","size":0,"version_id":6},{"admitted":"2024-03-01T08:00:00Z","current":false,"delete_marker":false,"key":"a","size":2,"version_id":2},{"admitted":"2024-03-01T08:00:00Z","current":true,"delete_marker":false,"key":"b","size":3,"version_id":3},{"admitted":"2024-03-01T08:00:00Z","current":true,"delete_marker":true,"key":"c","size":0,"version_id":5},{"admitted":"2024-03-01T08:00:00Z","current":false,"delete_marker":false,"key":"c","size":0,"version_id":4}],"more":false}}
 {"at":"2024-03-03T00:00:00Z","as":"ann","do":"report","dept":"records"}
-  {"ok":{"admitted":6,"at":"2024-03-03T00:00:00Z","byte_days":12,"dept":"records","held":5,"removed":1}}
+  {"ok":{"admitted":6,"at":"2024-03-03T00:00:00Z","byte_days":12,"dept":"records","handed":0,"held":5,"received":0,"removed":1}}
 "#,
     )?;
     let mut below = keeper.into_keeper();
@@ -70,7 +70,7 @@ fn a_first_mark_that_finds_no_id_leaves_the_vault_as_it_was(rt: HostRuntime) -> 
 {"at":"2024-03-03T00:00:00Z","as":"ann","do":"run","bucket":"docs"}
   {"stopped":{"changes":0,"fault":"VaultFull"}}
 {"at":"2024-03-01T08:00:00Z","as":"ann","do":"report","dept":"records"}
-  {"ok":{"admitted":6,"at":"2024-03-01T08:00:00Z","byte_days":0,"dept":"records","held":6,"removed":0}}
+  {"ok":{"admitted":6,"at":"2024-03-01T08:00:00Z","byte_days":0,"dept":"records","handed":0,"held":6,"received":0,"removed":0}}
 "#,
     )
 }
@@ -114,7 +114,7 @@ fn a_full_vault_admits_nothing(rt: HostRuntime) -> Result<(), Fail> {
 {"at":"2024-03-01T08:00:00Z","as":"ann","do":"list-versions","bucket":"docs","after_key":"a"}
   {"ok":{"entries":[{"admitted":"2024-03-01T08:00:00Z","current":true,"delete_marker":false,"key":"b","size":3,"version_id":3},{"admitted":"2024-03-01T08:00:00Z","current":true,"delete_marker":true,"key":"c","size":0,"version_id":5},{"admitted":"2024-03-01T08:00:00Z","current":false,"delete_marker":false,"key":"c","size":0,"version_id":4}],"more":false}}
 {"at":"2024-03-01T08:00:00Z","as":"ann","do":"report","dept":"records"}
-  {"ok":{"admitted":6,"at":"2024-03-01T08:00:00Z","byte_days":0,"dept":"records","held":6,"removed":0}}
+  {"ok":{"admitted":6,"at":"2024-03-01T08:00:00Z","byte_days":0,"dept":"records","handed":0,"held":6,"received":0,"removed":0}}
 "#,
     )
 }

@@ -8,7 +8,7 @@ use vault_core_list::list_keeper::ListKeeper;
 use vault_core_model::change::Change;
 use vault_core_model::halt::Fault;
 use vault_core_model::keeper::{Keeper, Sink};
-use vault_core_model::records::{BucketConfig, Caller, Entry, Head, LastSetting, Note};
+use vault_core_model::records::{BucketConfig, Caller, Entry, Head, LastSetting, Note, Tenures};
 use vault_rules::plan::Held;
 use vault_rules::rule_set::RuleSet;
 use vault_tally::row::Row;
@@ -125,6 +125,18 @@ impl Keeper for FullKeeper {
 
     fn walk_removed<S: Sink>(&mut self, sink: &mut S) -> Result<bool, Fault> {
         self.keeper.walk_removed(sink)
+    }
+
+    fn moves(&mut self) -> Result<u32, Fault> {
+        self.keeper.moves()
+    }
+
+    fn tenures(&mut self, id: VersionId) -> Result<Tenures, Fault> {
+        self.keeper.tenures(id)
+    }
+
+    fn bucket_held(&mut self, bucket: &BucketName) -> Result<(u64, u64), Fault> {
+        self.keeper.bucket_held(bucket)
     }
 
     fn totals(&mut self, dept: &DeptName) -> Result<Row, Fault> {

@@ -14,7 +14,7 @@ const SETUP: &str =
 "#;
 
 /// Puts of both departments, a removal, a lifecycle run that marks key `k` and removes version 1, a legal
-/// hold, a removal by a bypass, and an intake of two lines.
+/// hold, a bucket that moves, a removal by a bypass, an intake of two lines into the moved bucket, and its way back.
 const CHANGES: &str =
     r#"{"at":"2024-03-01T08:00:00Z","as":"ann","do":"put","bucket":"docs","key":"k","text":"first"}
 {"at":"2024-03-01T08:30:00Z","as":"ann","do":"put","bucket":"safe","key":"g","text":"guarded","mode":"GOVERNANCE","until":"2030-01-01T00:00:00Z"}
@@ -24,9 +24,11 @@ const CHANGES: &str =
 {"at":"2024-03-01T10:00:00Z","as":"cid","do":"delete-version","bucket":"rolls","key":"s","id":4}
 {"at":"2024-03-03T00:00:00Z","as":"ann","do":"run","bucket":"docs"}
 {"at":"2024-03-03T08:00:00Z","as":"cid","do":"set-hold","bucket":"rolls","key":"r","hold":"ON"}
+{"at":"2024-03-03T08:30:00Z","as":"registrar","do":"move-bucket","bucket":"rolls","dept":"records"}
 {"at":"2024-03-03T09:00:00Z","as":"gov","do":"delete-version","bucket":"safe","key":"g","id":2,"bypass":true}
-{"at":"2024-03-04T08:00:00Z","as":"cid","do":"intake","bucket":"rolls","batch":"b1","line":1,"key":"2024/a","text":"one"}
-{"at":"2024-03-04T08:00:00Z","as":"cid","do":"intake","bucket":"rolls","batch":"b1","line":2,"key":"2024/b","text":"two","mode":"GOVERNANCE","until":"2030-01-01T00:00:00Z","hold":"ON"}
+{"at":"2024-03-04T08:00:00Z","as":"ann","do":"intake","bucket":"rolls","batch":"b1","line":1,"key":"2024/a","text":"one"}
+{"at":"2024-03-04T08:00:00Z","as":"ann","do":"intake","bucket":"rolls","batch":"b1","line":2,"key":"2024/b","text":"two","mode":"GOVERNANCE","until":"2030-01-01T00:00:00Z","hold":"ON"}
+{"at":"2024-03-05T08:00:00Z","as":"registrar","do":"move-bucket","bucket":"rolls","dept":"court"}
 "#;
 
 const PUTS: &str =

@@ -1,46 +1,118 @@
 //! What is told of a vault, whatever keeps it.
 use std::alloc::Global;
 use std::test::Fail;
-use vault_base::name::DeptName;
+use vault_base::name::{DeptName, VersionId};
 use vault_core_model::keeper::Keeper;
+use vault_core_model::records::Tenure;
 use vault_files_register::register::export_register;
+use vault_tally::row::Row;
 use vault_transcript::transcript::replies;
 
-/// Listings, reports, locks, contents, certificates and rules. No line changes anything.
+/// Listings, reports, locks, contents, certificates and rules. Who works for the department that has `rolls` is told of
+/// it, and the other is refused. No line changes anything.
 const QUERIES: &str =
     r#"{"at":"2029-01-01T00:00:00Z","as":"ann","do":"list-versions","bucket":"docs"}
 {"at":"2029-01-01T00:00:00Z","as":"ann","do":"list-versions","bucket":"safe"}
 {"at":"2029-01-01T00:00:00Z","as":"cid","do":"list-versions","bucket":"rolls"}
+{"at":"2029-01-01T00:00:00Z","as":"ann","do":"list-versions","bucket":"rolls"}
 {"at":"2029-01-01T00:00:00Z","as":"ann","do":"report","dept":"records"}
 {"at":"2029-01-01T00:00:00Z","as":"cid","do":"report","dept":"court"}
 {"at":"2029-01-01T00:00:00Z","as":"ann","do":"get","bucket":"docs","key":"k","id":1}
 {"at":"2029-01-01T00:00:00Z","as":"ann","do":"get","bucket":"docs","key":"k","id":5}
 {"at":"2029-01-01T00:00:00Z","as":"ann","do":"get","bucket":"safe","key":"g","id":2}
 {"at":"2029-01-01T00:00:00Z","as":"cid","do":"get","bucket":"rolls","key":"r"}
+{"at":"2029-01-01T00:00:00Z","as":"ann","do":"get","bucket":"rolls","key":"r"}
 {"at":"2029-01-01T00:00:00Z","as":"cid","do":"get","bucket":"rolls","key":"s","id":4}
+{"at":"2029-01-01T00:00:00Z","as":"ann","do":"get","bucket":"rolls","key":"s","id":4}
 {"at":"2029-01-01T00:00:00Z","as":"cid","do":"get","bucket":"rolls","key":"2024/a"}
+{"at":"2029-01-01T00:00:00Z","as":"ann","do":"get","bucket":"rolls","key":"2024/a"}
 {"at":"2029-01-01T00:00:00Z","as":"cid","do":"get","bucket":"rolls","key":"2024/b"}
+{"at":"2029-01-01T00:00:00Z","as":"ann","do":"get","bucket":"rolls","key":"2024/b"}
 {"at":"2029-01-01T00:00:00Z","as":"cid","do":"get-hold","bucket":"rolls","key":"r"}
+{"at":"2029-01-01T00:00:00Z","as":"ann","do":"get-hold","bucket":"rolls","key":"r"}
 {"at":"2029-01-01T00:00:00Z","as":"ann","do":"get-retention","bucket":"safe","key":"g"}
 {"at":"2029-01-01T00:00:00Z","as":"ann","do":"certificate","bucket":"docs","id":1}
 {"at":"2029-01-01T00:00:00Z","as":"ann","do":"certificate","bucket":"safe","id":2}
 {"at":"2029-01-01T00:00:00Z","as":"cid","do":"certificate","bucket":"rolls","id":4}
+{"at":"2029-01-01T00:00:00Z","as":"ann","do":"certificate","bucket":"rolls","id":4}
 {"at":"2029-01-01T00:00:00Z","as":"ann","do":"get-rules","bucket":"docs"}
 "#;
 
-/// The last moment and the next id, the replies to the queries, and the register of removals.
+/// The last moment, the next id and the number of moves, the sums of both departments, the tenures of each version, the
+/// replies to the queries, and the register of removals.
 pub fn told<K: Keeper>(alloc: Global, keeper: &mut K) -> Result<String, Fail> {
-    let mut text = clock(alloc, keeper)?;
+    let mut text = counters(alloc, keeper)?;
+    for dept in ["records", "court"] {
+        text.push_str(sums(alloc, keeper, dept)?.as_str())?;
+    }
+    text.push_str(tenures(alloc, keeper)?.as_str())?;
     text.push_str(replies(alloc, keeper, QUERIES.as_bytes())?.as_str())?;
     text.push_str(register(alloc, keeper)?.as_str())?;
     Ok(text)
 }
 
-fn clock<K: Keeper>(alloc: Global, keeper: &mut K) -> Result<String, Fail> {
+fn next_id<K: Keeper>(keeper: &mut K) -> Result<u64, Fail> {
+    Ok(keeper.next_id().ok().ok_or("the next id isn't told")?)
+}
+
+fn counters<K: Keeper>(alloc: Global, keeper: &mut K) -> Result<String, Fail> {
     let last = keeper.last().ok().ok_or("the last moment isn't told")?;
-    let next = keeper.next_id().ok().ok_or("the next id isn't told")?;
+    let next = next_id(keeper)?;
+    let moves = keeper.moves().ok().ok_or("the number of moves isn't told")?;
     let seconds = last.secs();
-    Ok(format!(in alloc; "{seconds} {next}\n")?)
+    Ok(format!(in alloc; "{seconds} {next} {moves}\n")?)
+}
+
+fn row_of<K: Keeper>(alloc: Global, keeper: &mut K, dept: &str) -> Result<Row, Fail> {
+    let dept = DeptName::read(alloc, dept)?.ok().ok_or("no name")?;
+    Ok(keeper.totals(&dept).ok().ok_or("the sums aren't told")?)
+}
+
+/// The seven sums of a department.
+fn sums<K: Keeper>(alloc: Global, keeper: &mut K, dept: &str) -> Result<String, Fail> {
+    let row = row_of(alloc, keeper, dept)?;
+    Ok(format!(in alloc; "{dept} {row:?}\n")?)
+}
+
+/// A line for each tenure of each version.
+fn tenures<K: Keeper>(alloc: Global, keeper: &mut K) -> Result<String, Fail> {
+    let mut text = String::new(alloc);
+    for number in 1..next_id(keeper)? {
+        push_tenures(alloc, keeper, number, &mut text)?;
+    }
+    Ok(text)
+}
+
+fn push_tenures<K: Keeper>(
+    alloc: Global,
+    keeper: &mut K,
+    number: u64,
+    text: &mut String,
+) -> Result<(), Fail> {
+    let id = u32::try_from(number)
+        .ok()
+        .and_then(VersionId::new)
+        .ok_or("an id has another form")?;
+    let tenures = keeper.tenures(id).ok().ok_or("the tenures aren't told")?;
+    let pushed = push_each(alloc, number, tenures.as_slice(), text);
+    drop(tenures);
+    pushed
+}
+
+fn push_each(
+    alloc: Global,
+    number: u64,
+    tenures: &[Tenure],
+    text: &mut String,
+) -> Result<(), Fail> {
+    for tenure in tenures {
+        let dept = tenure.dept.as_str();
+        let seconds = tenure.from.secs();
+        let made = tenure.number;
+        let line = format!(in alloc; "{number} {dept} {seconds} {made}\n")?;
+        text.push_str(line.as_str())?;
+    }
+    Ok(())
 }
 
 fn register<K: Keeper>(alloc: Global, keeper: &mut K) -> Result<String, Fail> {
@@ -49,17 +121,24 @@ fn register<K: Keeper>(alloc: Global, keeper: &mut K) -> Result<String, Fail> {
     Ok(String::from_utf8(written)?)
 }
 
-/// Fails unless the bytes that each department ever admitted are those it holds and those removed.
+/// Fails unless the bytes that each department admitted and received are those it holds, those removed and those handed
+/// over, and as many were received as were handed over.
 pub fn is_conserved<K: Keeper>(alloc: Global, keeper: &mut K) -> Result<(), Fail> {
-    is_conserved_in(alloc, keeper, "records")?;
-    is_conserved_in(alloc, keeper, "court")
-}
-
-fn is_conserved_in<K: Keeper>(alloc: Global, keeper: &mut K, dept: &str) -> Result<(), Fail> {
-    let dept = DeptName::read(alloc, dept)?.ok().ok_or("no name")?;
-    let row = keeper.totals(&dept).ok().ok_or("the sums aren't told")?;
-    if row.held.checked_add(row.removed) == Some(row.admitted) {
+    let records = row_of(alloc, keeper, "records")?;
+    let court = row_of(alloc, keeper, "court")?;
+    let received = records.received.checked_add(court.received);
+    let handed = records.handed.checked_add(court.handed);
+    if is_balanced(&records) && is_balanced(&court) && received == handed {
         return Ok(());
     }
     Err(Fail::new("bytes were lost or made"))
+}
+
+fn is_balanced(row: &Row) -> bool {
+    let came = row.admitted.checked_add(row.received);
+    let went = row
+        .held
+        .checked_add(row.removed)
+        .and_then(|sum| sum.checked_add(row.handed));
+    came.is_some() && came == went
 }

@@ -12,7 +12,7 @@ const NEXT: &str =
 
 /// What a bad line is answered, and the line behind it.
 const ANSWERS: &str =
-    "{\"error\":{\"code\":\"MalformedBody\",\"n\":12}}\n{\"ok\":{\"admitted\":0,\"at\":\"2014-01-01T00:00:00Z\",\"byte_days\":0,\"dept\":\"records\",\"held\":0,\"removed\":0}}\n";
+    "{\"error\":{\"code\":\"MalformedBody\",\"n\":12}}\n{\"ok\":{\"admitted\":0,\"at\":\"2014-01-01T00:00:00Z\",\"byte_days\":0,\"dept\":\"records\",\"handed\":0,\"held\":0,\"received\":0,\"removed\":0}}\n";
 
 /// What stands in front of the text of a put, and what behind it.
 const FRONT: &str =

@@ -49,7 +49,7 @@ fn rows_given_again_keep_their_ids(rt: HostRuntime) -> Result<(), Fail> {
                 Step::Played(
                     r#"
 {"at":"2024-01-15T10:30:00Z","as":"registrar","do":"report","dept":"records"}
-  {"ok":{"admitted":8,"at":"2024-01-15T10:30:00Z","byte_days":0,"dept":"records","held":8,"removed":0}}
+  {"ok":{"admitted":8,"at":"2024-01-15T10:30:00Z","byte_days":0,"dept":"records","handed":0,"held":8,"received":0,"removed":0}}
 "#,
                 ),
             ),
@@ -84,7 +84,7 @@ fn a_removed_version_is_not_admitted_again(rt: HostRuntime) -> Result<(), Fail> 
                 Step::Played(
                     r#"
 {"at":"2024-01-15T10:30:00Z","as":"registrar","do":"report","dept":"records"}
-  {"ok":{"admitted":2,"at":"2024-01-15T10:30:00Z","byte_days":0,"dept":"records","held":1,"removed":1}}
+  {"ok":{"admitted":2,"at":"2024-01-15T10:30:00Z","byte_days":0,"dept":"records","handed":0,"held":1,"received":0,"removed":1}}
 "#,
                 ),
             ),

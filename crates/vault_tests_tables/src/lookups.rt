@@ -1,4 +1,5 @@
-//! What a report reads, and what is read of one key, takes as many steps in a large vault as in a small one.
+//! What a report reads, and what is read of one key, takes as many steps in a large vault as in a small one, and of a key with
+//! many removed versions as of a fresh one.
 use sqlite::{Alter, Connection, Error, params};
 use std::alloc::Global;
 use std::process::Abort;
@@ -138,6 +139,10 @@ const MORE_ENTRIES: &str =
 
 const MORE_HEADS: &str = "INSERT INTO heads SELECT bucket, key, id, 1 FROM entries WHERE id > ?1";
 
+/// As many versions of one key as there are entries, all removed.
+const REMOVED_VERSIONS: &str =
+    "INSERT INTO entries SELECT id + 10240, bucket, 'k7', marker, size, digest, admitted, by_rule, admitted_by, 1700000000, 0, 'ada' FROM entries";
+
 fn read_names(alloc: Global) -> Result<Names, Fail> {
     Ok(Names {
         dept: dept_name(alloc, "records")?,
@@ -184,7 +189,8 @@ fn read_in_small_and_large<S: Alter>(
     judged
 }
 
-/// The steps that are enough among ten versions are few, and are enough among 10,240.
+/// The steps that are enough among ten versions are few, and are enough among 10,240, and where the key has had as many
+/// that were removed.
 fn judge_steps<S: Alter>(
     rt: &impl Abort,
     alloc: Global,
@@ -197,5 +203,8 @@ fn judge_steps<S: Alter>(
     assert_eq!(rt; entries(conn)?, 10_240);
     assert_eq!(rt; enough_for_each(conn, alloc, names), among_ten);
     assert!(rt; entries(conn).is_err());
+    limit(conn, None);
+    batch(conn, REMOVED_VERSIONS)?;
+    assert_eq!(rt; enough_for_each(conn, alloc, names), among_ten);
     Ok(())
 }

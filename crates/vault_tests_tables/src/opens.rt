@@ -1,6 +1,6 @@
 //! Which stores are opened as a vault, what comes back with a refusal, and commands over those stores.
-use crate::connections::try_in_files;
-use crate::steps::{Step, Steps};
+use crate::files::take_in_files;
+use crate::steps::Step;
 use std::test::Fail;
 use vault_base::refusal::{Refusal, Table};
 
@@ -15,7 +15,7 @@ fn a_vault_that_was_made_is_opened_again(rt: HostRuntime) -> Result<(), Fail> {
             Some(1),
         ),
     ];
-    try_in_files(rt.alloc(), &Steps { steps })
+    take_in_files(rt.alloc(), steps)
 }
 
 #[test]
@@ -24,7 +24,7 @@ fn a_store_without_tables_is_no_vault(rt: HostRuntime) -> Result<(), Fail> {
         Step::Open(Some(Refusal::Damaged(Table::Meta))),
         Step::Number("SELECT count(*) FROM meta", None),
     ];
-    try_in_files(rt.alloc(), &Steps { steps })
+    take_in_files(rt.alloc(), steps)
 }
 
 #[test]
@@ -34,7 +34,7 @@ fn a_vault_is_not_made_over_another(rt: HostRuntime) -> Result<(), Fail> {
         Step::Make(Some(Refusal::NameTaken)),
         Step::Open(None),
     ];
-    try_in_files(rt.alloc(), &Steps { steps })
+    take_in_files(rt.alloc(), steps)
 }
 
 #[test]
@@ -45,7 +45,7 @@ fn a_vault_with_a_wrong_next_id_is_damaged(rt: HostRuntime) -> Result<(), Fail> 
         Step::Open(Some(Refusal::Damaged(Table::Meta))),
         Step::Number("SELECT next FROM meta", Some(2)),
     ];
-    try_in_files(rt.alloc(), &Steps { steps })
+    take_in_files(rt.alloc(), steps)
 }
 
 #[test]
@@ -56,7 +56,7 @@ fn a_vault_is_not_opened_inside_a_transaction(rt: HostRuntime) -> Result<(), Fai
         Step::Open(Some(Refusal::Device)),
         Step::StandsInside,
     ];
-    try_in_files(rt.alloc(), &Steps { steps })
+    take_in_files(rt.alloc(), steps)
 }
 
 #[test]
@@ -69,7 +69,7 @@ fn a_vault_with_another_table_is_damaged(rt: HostRuntime) -> Result<(), Fail> {
         Step::Open(Some(Refusal::Damaged(Table::Meta))),
         Step::Number("SELECT id FROM shelf", Some(7)),
     ];
-    try_in_files(rt.alloc(), &Steps { steps })
+    take_in_files(rt.alloc(), steps)
 }
 
 #[test]
@@ -83,7 +83,7 @@ fn commands_are_carried_out_one_after_another(rt: HostRuntime) -> Result<(), Fai
         ),
         Step::Number("SELECT last FROM meta", Some(1_705_309_200)),
     ];
-    try_in_files(rt.alloc(), &Steps { steps })
+    take_in_files(rt.alloc(), steps)
 }
 
 #[test]
@@ -94,5 +94,5 @@ fn no_command_is_carried_out_over_damaged_tables(rt: HostRuntime) -> Result<(), 
         Step::Commands("Damaged"),
         Step::Number("SELECT count(*) FROM departments", Some(0)),
     ];
-    try_in_files(rt.alloc(), &Steps { steps })
+    take_in_files(rt.alloc(), steps)
 }

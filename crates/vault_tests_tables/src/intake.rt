@@ -30,7 +30,7 @@ const PUTS: &str = r#"
 /// Each file counts once.
 const REPORT: &str = r#"
 {"at":"2024-01-15T10:30:00Z","as":"ann","do":"report","dept":"records"}
-  {"ok":{"admitted":4,"at":"2024-01-15T10:30:00Z","byte_days":0,"dept":"records","held":4,"removed":0}}
+  {"ok":{"admitted":4,"at":"2024-01-15T10:30:00Z","byte_days":0,"dept":"records","handed":0,"held":4,"received":0,"removed":0}}
 "#;
 
 fn file(alloc: Global, name: &str, bytes: &str) -> Result<File, Fail> {

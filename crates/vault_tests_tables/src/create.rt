@@ -1,6 +1,6 @@
 //! What a new vault's tables hold, and which stores are left as they are.
-use crate::connections::{try_in_closed_files, try_in_files};
-use crate::steps::{Step, Steps};
+use crate::files::{take_in_closed_files, take_in_files};
+use crate::steps::Step;
 use std::test::Fail;
 use vault_base::refusal::Refusal;
 
@@ -30,7 +30,7 @@ fn a_new_vault_has_two_rows(rt: HostRuntime) -> Result<(), Fail> {
             Some(0),
         ),
     ];
-    try_in_files(rt.alloc(), &Steps { steps })
+    take_in_files(rt.alloc(), steps)
 }
 
 #[test]
@@ -41,7 +41,7 @@ fn a_vault_is_not_made_twice(rt: HostRuntime) -> Result<(), Fail> {
         HAS_FIRST_ROWS,
         HAS_TWO_ROWS,
     ];
-    try_in_files(rt.alloc(), &Steps { steps })
+    take_in_files(rt.alloc(), steps)
 }
 
 #[test]
@@ -54,7 +54,7 @@ fn a_store_with_another_table_is_left_as_it_was(rt: HostRuntime) -> Result<(), F
         Step::Number("SELECT id FROM shelf", Some(7)),
         Step::Number("SELECT count(*) FROM meta", None),
     ];
-    try_in_files(rt.alloc(), &Steps { steps })
+    take_in_files(rt.alloc(), steps)
 }
 
 #[test]
@@ -65,7 +65,7 @@ fn a_begun_transaction_is_left_as_it_was(rt: HostRuntime) -> Result<(), Fail> {
         Step::Change("COMMIT"),
         Step::Fill(None),
     ];
-    try_in_files(rt.alloc(), &Steps { steps })
+    take_in_files(rt.alloc(), steps)
 }
 
 #[test]
@@ -76,5 +76,5 @@ fn a_new_vault_stands_in_its_file(rt: HostRuntime) -> Result<(), Fail> {
         HAS_TWO_ROWS,
         Step::Fill(Some(Refusal::NameTaken)),
     ];
-    try_in_closed_files(rt.alloc(), &Steps { steps: made }, &Steps { steps: found })
+    take_in_closed_files(rt.alloc(), made, found)
 }

@@ -1,6 +1,5 @@
 //! What is done to a store, step by step, with what is to come of each.
 use crate::commands::are_answered;
-use crate::connections::StoreTrial;
 use sqlite::{Alter, Connection, Error};
 use std::alloc::Global;
 use std::test::Fail;
@@ -25,22 +24,6 @@ pub enum Step<'a> {
     Commands(&'a str),
     /// A transaction is open.
     StandsInside,
-}
-
-/// Steps, one after another, up to the first that goes otherwise.
-#[derive(Clone, Copy)]
-pub struct Steps<'a> {
-    pub steps: &'a [Step<'a>],
-}
-
-impl StoreTrial for Steps<'_> {
-    fn carry_out_in<S: Alter>(
-        &self,
-        alloc: Global,
-        conn: Connection<S>,
-    ) -> (Result<(), Fail>, Connection<S>) {
-        take_all(alloc, conn, self.steps)
-    }
 }
 
 /// Takes steps. Fails with the number of the first that goes otherwise, counted from 1.

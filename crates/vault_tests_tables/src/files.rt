@@ -1,0 +1,67 @@
+//! Steps that are taken over the files of a vault in memory.
+use crate::steps::{Step, take_all};
+use sqlite::{Connection, Error, FileStore, Files, Options};
+use sqlite_disk::Memory;
+use std::alloc::Global;
+use std::test::Fail;
+
+type InFiles = FileStore<Memory>;
+
+fn empty_files(alloc: Global) -> Files<Memory> {
+    Files {
+        log: Memory::new(alloc),
+        db: Memory::new(alloc),
+    }
+}
+
+fn connected(alloc: Global, files: Files<Memory>) -> Result<Connection<InFiles>, Fail> {
+    if !files.may_be_used() {
+        return Err(Fail::new("the files can't be used"));
+    }
+    match Connection::open_files(alloc, files, Options::new(1)) {
+        Ok(conn) => Ok(conn),
+        Err((_, left)) => {
+            drop(left.into_files());
+            Err(Fail::new("the files can't be opened"))
+        }
+    }
+}
+
+fn closed(conn: Connection<InFiles>) -> Result<Files<Memory>, Error> {
+    match conn.close_files() {
+        Ok(files) => Ok(files),
+        Err((error, store)) => {
+            drop(store.close());
+            Err(error)
+        }
+    }
+}
+
+/// Takes steps over these files, and closes them.
+fn take_over(
+    alloc: Global,
+    files: Files<Memory>,
+    steps: &[Step<'_>],
+) -> Result<Files<Memory>, Fail> {
+    let (taken, conn) = take_all(alloc, connected(alloc, files)?, steps);
+    let left = closed(conn);
+    taken?;
+    Ok(left?)
+}
+
+/// Takes steps over empty files.
+pub fn take_in_files(alloc: Global, steps: &[Step<'_>]) -> Result<(), Fail> {
+    drop(take_over(alloc, empty_files(alloc), steps)?);
+    Ok(())
+}
+
+/// Takes steps over empty files, and the second ones over the same, closed and opened again.
+pub fn take_in_closed_files(
+    alloc: Global,
+    first: &[Step<'_>],
+    second: &[Step<'_>],
+) -> Result<(), Fail> {
+    let files = take_over(alloc, empty_files(alloc), first)?;
+    drop(take_over(alloc, files, second)?);
+    Ok(())
+}

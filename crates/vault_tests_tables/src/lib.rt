@@ -1,0 +1,22 @@
+//! Tests of tables: which stores are made and opened as a vault, commands over tables, contents, an intake and requests over
+//! tables in memory, and how much is read of them.
+#![tactic(auto)]
+
+#[cfg(test)]
+mod commands;
+#[cfg(test)]
+mod create;
+#[cfg(test)]
+mod exchange;
+#[cfg(test)]
+mod files;
+#[cfg(test)]
+mod intake;
+#[cfg(test)]
+mod lookups;
+#[cfg(test)]
+mod opens;
+#[cfg(test)]
+mod steps;
+#[cfg(test)]
+mod trials;

@@ -1,0 +1,177 @@
+//! Trials on a new vault in tables in memory, whose device doesn't fail: contents, an intake and requests.
+use crate::exchange::answer;
+use crate::intake::take_in_twice;
+use crate::steps::{Step, take_all};
+use sqlite::{Alter, Connection};
+use std::alloc::Global;
+use std::test::Fail;
+use vault_base::refusal::{Refusal, Table};
+use vault_core_model::keeper::Keeper;
+use vault_store::sql_keeper::SqlKeeper;
+use vault_transcript::transcript::{play, replies};
+use vault_transcript::trial::{Trial, compare};
+
+/// The lines that open a vault.
+const OPENING: &str = r#"
+{"at":"2014-01-01T00:00:00Z","as":"registrar","do":"add-dept","dept":"records"}
+  {"ok":{}}
+{"at":"2014-01-01T00:00:00Z","as":"registrar","do":"add-caller","caller":"ann","dept":"records","rights":["put","get","report"]}
+  {"ok":{}}
+{"at":"2014-01-01T00:00:00Z","as":"registrar","do":"add-bucket","bucket":"docs","dept":"records"}
+  {"ok":{}}
+"#;
+
+fn carry_out_unfailing<K: Keeper, T: Trial>(
+    alloc: Global,
+    keeper: &mut K,
+    trial: &T,
+) -> Result<(), Fail> {
+    trial.carry_out(alloc, keeper)?;
+    if keeper.faults() == 0 {
+        return Ok(());
+    }
+    Err(Fail::new("the device failed"))
+}
+
+/// A trial on a new vault in these tables.
+fn carry_out_in<S: Alter, T: Trial>(
+    alloc: Global,
+    conn: Connection<S>,
+    trial: &T,
+) -> (Result<(), Fail>, Connection<S>) {
+    match SqlKeeper::create(alloc, conn) {
+        Ok(keeper) => {
+            let mut keeper = keeper;
+            let tried = carry_out_unfailing(alloc, &mut keeper, trial);
+            (tried, keeper.into_connection())
+        }
+        Err((_, conn)) => (Err(Fail::new("a vault can't be made")), conn),
+    }
+}
+
+/// The same, and steps that are taken over the tables behind it.
+fn carry_out_and_take<S: Alter, T: Trial>(
+    alloc: Global,
+    conn: Connection<S>,
+    trial: &T,
+    steps: &[Step<'_>],
+) -> (Result<(), Fail>, Connection<S>) {
+    let (tried, conn) = carry_out_in(alloc, conn, trial);
+    match tried {
+        Ok(()) => take_all(alloc, conn, steps),
+        Err(fail) => (Err(fail), conn),
+    }
+}
+
+/// Carries a trial out on a new vault in tables in memory, and takes steps over these.
+fn try_in_memory<T: Trial>(alloc: Global, trial: &T, steps: &[Step<'_>]) -> Result<(), Fail> {
+    let conn = Connection::open_in_memory(alloc)?;
+    let (tried, conn) = carry_out_and_take(alloc, conn, trial, steps);
+    drop(conn);
+    tried
+}
+
+/// An empty script, over a vault without the opening lines.
+struct NoInput;
+
+impl Trial for NoInput {
+    fn carry_out<K: Keeper>(&self, alloc: Global, keeper: &mut K) -> Result<(), Fail> {
+        let written = replies(alloc, keeper, b"")?;
+        compare("no input", written.as_str(), "")
+    }
+}
+
+#[test]
+fn no_input_gets_no_output(rt: HostRuntime) -> Result<(), Fail> {
+    try_in_memory(rt.alloc(), &NoInput, &[])
+}
+
+/// Ann puts so many bytes, and the reply.
+fn put(alloc: Global, size: usize, reply: &str) -> Result<String, Fail> {
+    let text = "a".repeat(alloc, size)?;
+    Ok(format!(in alloc;
+        "{{\"at\":\"2024-01-15T10:30:00Z\",\"as\":\"ann\",\"do\":\"put\",\"bucket\":\"docs\",\"key\":\"a\",\"text\":\"{text}\"}}\n  {reply}\n"
+    )?)
+}
+
+/// Contents of the greatest size, of one byte more, and of one byte.
+struct Contents;
+
+impl Trial for Contents {
+    fn carry_out<K: Keeper>(&self, alloc: Global, keeper: &mut K) -> Result<(), Fail> {
+        play(alloc, keeper, OPENING)?;
+        for (size, reply) in [
+            (1_048_576, r#"{"ok":{"version_id":1}}"#),
+            (1_048_577, r#"{"error":{"code":"EntityTooLarge","n":13}}"#),
+            (1, r#"{"ok":{"version_id":2}}"#),
+        ] {
+            play(alloc, keeper, put(alloc, size, reply)?.as_str())?;
+        }
+        Ok(())
+    }
+}
+
+#[test]
+fn a_version_has_up_to_1048576_bytes(rt: HostRuntime) -> Result<(), Fail> {
+    try_in_memory(rt.alloc(), &Contents, &[])
+}
+
+/// A list that is taken in behind two versions, again, and again with other bytes in its first file.
+struct Intake;
+
+impl Trial for Intake {
+    fn carry_out<K: Keeper>(&self, alloc: Global, keeper: &mut K) -> Result<(), Fail> {
+        play(alloc, keeper, OPENING)?;
+        take_in_twice(alloc, keeper)
+    }
+}
+
+#[test]
+fn a_list_is_taken_in_once(rt: HostRuntime) -> Result<(), Fail> {
+    try_in_memory(rt.alloc(), &Intake, &[])
+}
+
+/// Requests and their answers; `|` stands for CR LF.
+const REQUESTS: [(&str, &str); 4] = [
+    (
+        "PUT /docs/a HTTP/1.1|host: x|x-vault-caller: ann|content-length: 5|expect: 100-continue||hello",
+        "HTTP/1.1 100 Continue||HTTP/1.1 200 OK|date: Mon, 15 Jan 2024 10:30:00 GMT|connection: close|content-length: 0|x-amz-version-id: 1||",
+    ),
+    (
+        "PUT /docs/a HTTP/1.1|host: x|x-vault-caller: ann|content-length: 5||hel",
+        "HTTP/1.1 400 Bad Request|date: Mon, 15 Jan 2024 10:30:00 GMT|connection: close|content-type: application/json|content-length: 31||{\"code\":\"MalformedBody\",\"n\":12}",
+    ),
+    (
+        "PUT /docs/a HTTP/1.1|host: x|x-vault-caller: ann|expect: 100-continue||hello",
+        "HTTP/1.1 411 Length Required|date: Mon, 15 Jan 2024 10:30:00 GMT|connection: close|content-type: application/json|content-length: 38||{\"code\":\"MissingContentLength\",\"n\":16}",
+    ),
+    (
+        "PUT /docs/a HTTP/1.1|host: x|x-vault-caller: ann|content-length: 5|expect: 100-continue|transfer-encoding: chunked||hello",
+        "HTTP/1.1 501 Not Implemented|date: Mon, 15 Jan 2024 10:30:00 GMT|connection: close|content-type: application/json|content-length: 32||{\"code\":\"NotImplemented\",\"n\":17}",
+    ),
+];
+
+/// Those requests, one after another.
+struct Requests;
+
+impl Trial for Requests {
+    fn carry_out<K: Keeper>(&self, alloc: Global, keeper: &mut K) -> Result<(), Fail> {
+        play(alloc, keeper, OPENING)?;
+        for (request, wanted) in REQUESTS {
+            answer(alloc, keeper, request, wanted)?;
+        }
+        Ok(())
+    }
+}
+
+/// The vault is opened behind them; and again, with one byte more in the department's row.
+const REOPENED: [Step<'static>; 3] = [
+    Step::Open(None),
+    Step::Change("UPDATE departments SET held = held + 1 WHERE name = 'records'"),
+    Step::Open(Some(Refusal::Damaged(Table::Departments))),
+];
+
+#[test]
+fn requests_are_answered(rt: HostRuntime) -> Result<(), Fail> {
+    try_in_memory(rt.alloc(), &Requests, &REOPENED)
+}
