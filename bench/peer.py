@@ -124,14 +124,16 @@ def get(db, asked, now):
 def report(db, asked, now):
     if allowed(db, asked, REPORT) != asked["dept"]:
         raise Refused
-    row = "SELECT admitted, held, removed, weighted, closed FROM departments WHERE name = ?"
-    admitted, held, removed, weighted, closed = one(db, row, asked["dept"])
+    row = "SELECT admitted, received, held, removed, handed, weighted, closed FROM departments WHERE name = ?"
+    admitted, received, held, removed, handed, weighted, closed = one(db, row, asked["dept"])
     return {
         "admitted": admitted,
         "at": text_of(now),
         "byte_days": closed + held * (now // 86_400) - weighted,
         "dept": asked["dept"],
+        "handed": handed,
         "held": held,
+        "received": received,
         "removed": removed,
     }
 
