@@ -15,7 +15,7 @@ use vault_transcript::trial::{Trial, compare};
 const OPENING: &str = r#"
 {"at":"2014-01-01T00:00:00Z","as":"registrar","do":"add-dept","dept":"records"}
   {"ok":{}}
-{"at":"2014-01-01T00:00:00Z","as":"registrar","do":"add-caller","caller":"ann","dept":"records","rights":["put","get","report"]}
+{"at":"2014-01-01T00:00:00Z","as":"registrar","do":"add-caller","caller":"ann","dept":"records","rights":["put","get","retain","hold","report"]}
   {"ok":{}}
 {"at":"2014-01-01T00:00:00Z","as":"registrar","do":"add-bucket","bucket":"docs","dept":"records"}
   {"ok":{}}
