@@ -1,1 +1,8 @@
 pub mod SoundLemmas
+pub mod NameLemmas
+pub mod WithinLemmas
+pub mod FoundLemmas
+pub mod EditionLemmas
+pub mod MetaLemmas
+pub mod OrderLemmas
+pub mod TextLemmas

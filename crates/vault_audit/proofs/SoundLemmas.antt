@@ -16,15 +16,15 @@ use Rattle.vault_audit_model.specs.Rows.{entry_row, entry_columns}
 use Rattle.vault_audit_model.specs.Spells.{AreSoundAs, entries_in}
 use Rattle.vault_audit_model.specs.Tables.{schema_of, entries_tree}
 use Rattle.vault_audit_model.proofs.SameRows.{same_entry}
-use Rattle.vault_audit_tables.specs.Entries.{IsEntryBy}
-use Rattle.vault_audit_tables.specs.Meta.{IsMetaOf}
+use Rattle.vault_audit_records.specs.Entries.{IsEntryBy}
+use Rattle.vault_audit_records.specs.Meta.{IsMetaOf}
 use Rattle.vault_audit_laws.specs.Ties.{AreTied}
 use Rattle.vault_audit_laws.proofs.RecordTies.{entries_placed}
-use Rattle.vault_audit_parts.specs.Parts.{versions_at}
-use Rattle.vault_audit_parts.proofs.JoinLemmas.{joined_entries}
-use Rattle.vault_audit_found.specs.Found.{AreFound, found_vault}
-use Rattle.vault_audit_found.proofs.FoundLemmas.{found_spelled, found_sums}
-use Rattle.vault_audit_looks.specs.Looks.{ArePast}
+use Rattle.vault_audit_laws.specs.Parts.{versions_at}
+use Rattle.vault_audit_laws.proofs.JoinLemmas.{joined_entries}
+use Rattle.vault_audit.specs.Found.{AreFound, found_vault}
+use Rattle.vault_audit.proofs.FoundLemmas.{found_spelled, found_sums}
+use Rattle.vault_audit.specs.Looks.{ArePast}
 use Rattle.vault_audit.specs.Whole.{AllFound}
 
 -- the row tells an entry that is past

@@ -1,1 +1,6 @@
 pub mod Whole
+pub mod Looks
+pub mod Found
+pub mod InOrder
+pub mod MetaQuery
+pub mod RulesText

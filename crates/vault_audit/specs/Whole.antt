@@ -10,8 +10,8 @@ use Rattle.vault_audit_model.specs.declared.schema.Edition.{Edition}
 use Rattle.vault_audit_model.specs.declared.rows.MetaRow.{MetaRow}
 use Rattle.vault_audit_model.specs.Relations.{AreEntries, AreHeads}
 use Rattle.vault_audit_model.specs.Spells.{AreSoundAs}
-use Rattle.vault_audit_keys.specs.Keys.{entries_of}
-use Rattle.vault_audit_looks.specs.Looks.{DepartmentsFound, NamesFound, TenuresFound, VersionsFound}
+use Rattle.vault_audit_entries.specs.Keys.{entries_of}
+use Rattle.vault_audit.specs.Looks.{DepartmentsFound, NamesFound, TenuresFound, VersionsFound}
 
 -- the entries, what stands beside them, and the heads of their keys
 pub record VersionsAndHeads (db : Database) : Type 0 where

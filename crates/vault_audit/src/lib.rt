@@ -1,7 +1,10 @@
 //! The audit of a vault's tables.
 #![tactic(auto)]
 
+pub mod found;
+pub mod looks;
+pub mod order;
 mod second_pass;
 mod whole;
 
-pub use whole::audit;
+pub use crate::whole::audit;

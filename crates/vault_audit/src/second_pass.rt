@@ -3,20 +3,20 @@ ghost use Rattle.std.specs.Prelude.{◌≡◌, IfOk, IfErr, OnOk};
 ghost use Rattle.sqlite.specs.State.{HasCleanDisk, IsUnchanged, Survives};
 ghost use Rattle.sqlite.specs.Held.{state};
 ghost use Rattle.vault_audit_model.specs.Tables.{schema_of};
-ghost use Rattle.vault_audit_looks.specs.Looks.{Told, ToldOf};
+ghost use Rattle.vault_audit.specs.Looks.{Told, ToldOf};
 ghost use Rattle.vault_audit.specs.Whole.{VersionsAndHeads, AllFound};
 ghost use Rattle.vault_audit_walk.specs.Health.{IsHealthy, IsMemory};
 
+use crate::looks::departments::look_at_departments;
+use crate::looks::names::look_at_names;
+use crate::looks::tenures::look_at_tenures;
+use crate::looks::versions::look_at_versions;
 use sqlite::{Alter, Connection, Error};
 use std::alloc::Global;
-use vault_audit_keys::check_heads;
-use vault_audit_looks::departments::look_at_departments;
-use vault_audit_looks::names::look_at_names;
-use vault_audit_looks::tenures::look_at_tenures;
-use vault_audit_looks::versions::look_at_versions;
+use vault_audit_entries::keys::check_heads;
 use vault_audit_model::rows::MetaRow;
 use vault_audit_model::schema::Edition;
-use vault_audit_tables::numbers::check_numbers;
+use vault_audit_records::numbers::check_numbers;
 use vault_base::refusal::Table;
 
 /// The first of entries, contents, settings, intake and heads that is damaged.

@@ -6,18 +6,18 @@ ghost use Rattle.vault_base.specs.declared.refusal.Table.{Table};
 ghost use Rattle.vault_core_model.specs.Vault.{Vault};
 ghost use Rattle.vault_audit_model.specs.Spells.{AreSoundAs};
 ghost use Rattle.vault_audit_model.specs.Faults.{refusal_of};
-ghost use Rattle.vault_audit_order.specs.InOrder.{IsToldInOrder};
+ghost use Rattle.vault_audit.specs.InOrder.{IsToldInOrder};
 ghost use Rattle.vault_audit.specs.Whole.{IsAudited, IsJudged, IsTold};
 ghost use Rattle.vault_audit_walk.specs.Health.{IsHealthy, IsMemory};
 
+use crate::order::in_order::{is_at, look_at_tables};
+use crate::order::meta::check_meta;
 use crate::second_pass::look_again;
 use sqlite::{Alter, Connection, Error, ErrorCode};
 use std::alloc::Global;
+use vault_audit_laws::ties::check_ties;
 use vault_audit_model::schema::Edition;
-use vault_audit_order::in_order::{is_at, look_at_tables};
-use vault_audit_order::meta::check_meta;
 use vault_audit_schema::check_schema;
-use vault_audit_ties::check_ties;
 use vault_base::refusal::{Refusal, Table};
 
 /// What an error of the store is told as.

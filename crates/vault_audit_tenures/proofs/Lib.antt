@@ -9,3 +9,13 @@ pub mod PresenceLemmas
 pub mod TellLemmas
 pub mod UnmovedLemmas
 pub mod SoundLemmas
+pub mod SumsJoinLemmas
+pub mod TotalLemmas
+pub mod SumsRowLemmas
+pub mod SumsTextLemmas
+pub mod SumsOwnedLemmas
+pub mod WalkLemmas
+pub mod ShareLemmas
+pub mod ToldLemmas
+pub mod TenureLemmas
+pub mod TableLemmas

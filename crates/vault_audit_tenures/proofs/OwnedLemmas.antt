@@ -31,7 +31,7 @@ use Rattle.vault_audit_model.specs.Tables.{buckets_tree, entries_tree, tenures_t
 use Rattle.vault_audit_model.specs.Values.{number, text_or_null}
 use Rattle.vault_audit_model.proofs.SameRows.{cell, number_same}
 use Rattle.vault_audit_model.proofs.ValueLemmas.{agrees, same_text}
-use Rattle.vault_audit_contents.proofs.BesideLemmas.{is_of, is_id, is_id_number, row_beside, beside_is}
+use Rattle.vault_audit_entries.proofs.BesideLemmas.{is_of, is_id, is_id_number, row_beside, beside_is}
 use Rattle.vault_audit_tenures.specs.declared.owned.OwnedTenure.{OwnedTenure}
 use Rattle.vault_audit_tenures.specs.Owned.{owned_row, owned_in}
 use Rattle.vault_audit_tenures.specs.Chain.{shown_beside, shown_in}

@@ -14,8 +14,8 @@ use Rattle.vault_audit_model.specs.Tables.{schema_of, entries_tree, tenures_tree
 use Rattle.vault_audit_model.specs.Values.{number}
 use Rattle.vault_audit_model.proofs.ValueLemmas.{agrees}
 use Rattle.vault_audit_walk.specs.Records.{Checked}
-use Rattle.vault_audit_beside.specs.Beside.{TellsAbsence}
-use Rattle.vault_audit_beside.proofs.BesideLemmas.{agree_numbers, beside_row, beside_yes, beside_no, met_yes, met_no, met_as, of_records, of_stored, each}
+use Rattle.vault_audit_walk.specs.Beside.{TellsAbsence}
+use Rattle.vault_audit_walk.proofs.BesideLemmas.{agree_numbers, beside_row, beside_yes, beside_no, met_yes, met_no, met_as, of_records, of_stored, each}
 use Rattle.vault_audit_tenures.specs.Presence.{AreRowsOf, HasSome, TellPresence}
 use Rattle.vault_audit_tenures.proofs.TextLemmas.{tenures_beside, tenures_beside_is}
 

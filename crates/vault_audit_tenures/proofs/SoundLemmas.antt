@@ -14,9 +14,9 @@ use Rattle.vault_audit_model.specs.Relations.{AreBuckets, AreEntries, AreTenures
 use Rattle.vault_audit_model.specs.Rows.{meta_row}
 use Rattle.vault_audit_model.specs.Spells.{AreSoundAs, entries_in, meta_told}
 use Rattle.vault_audit_model.proofs.SameRows.{same_meta}
-use Rattle.vault_audit_tables.specs.Meta.{IsMetaOf}
-use Rattle.vault_audit_tables.proofs.TenureLemmas.{sound_tenures}
-use Rattle.vault_audit_contents.proofs.SoundLemmas.{sound_entries}
+use Rattle.vault_audit_records.specs.Meta.{IsMetaOf}
+use Rattle.vault_audit_records.proofs.TenureLemmas.{sound_tenures}
+use Rattle.vault_audit_entries.proofs.SoundLemmas.{sound_entries}
 use Rattle.vault_audit_tenures.proofs.TellLemmas.{IsTold}
 use Rattle.vault_audit_tenures.proofs.UnmovedLemmas.{no_moves_of_first, no_moves_of_second, told_of_first, told_of_second}
 

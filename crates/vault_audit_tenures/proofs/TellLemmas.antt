@@ -21,7 +21,7 @@ use Rattle.vault_audit_walk.specs.Records.{Checked}
 use Rattle.vault_audit_walk.specs.Walk.{Walked}
 use Rattle.vault_audit_walk.proofs.PairLemmas.{pair_cmp, pair_cmp_total}
 use Rattle.vault_audit_walk.proofs.PassLemmas.{pass_yes, pass_no}
-use Rattle.vault_audit_beside.specs.Beside.{TellsAbsence}
+use Rattle.vault_audit_walk.specs.Beside.{TellsAbsence}
 use Rattle.vault_audit_tenures.specs.declared.owned.OwnedTenure.{OwnedTenure}
 use Rattle.vault_audit_tenures.specs.declared.chain.TenurePass.{TenurePass}
 use Rattle.vault_audit_tenures.specs.Owned.{owned_row}

@@ -7,7 +7,7 @@ use Rattle.sqlite.proofs.Callers.{IsPlain, command_of}
 use Rattle.sqlite_sql.specs.Term.{col}
 use Rattle.vault_audit_model.specs.declared.schema.Edition.TheVariants.{Third}
 use Rattle.vault_audit_model.specs.Tables.{schema_of, entries_tree, tenures_tree}
-use Rattle.vault_audit_beside.proofs.BesideLemmas.{LooksBeside}
+use Rattle.vault_audit_walk.proofs.BesideLemmas.{LooksBeside}
 use Rattle.vault_audit_tenures.proofs.JoinLemmas.{chain_query}
 use Rattle.vault_audit_walk.specs.Health.{Asks}
 

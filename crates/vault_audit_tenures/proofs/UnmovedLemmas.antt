@@ -23,7 +23,7 @@ use Rattle.vault_audit_model.specs.Spells.{entries_in}
 use Rattle.vault_audit_model.specs.Tables.{meta_tree}
 use Rattle.vault_audit_model.specs.Tenures.{HasFirstTenures, IsUnmoved, first_tenures, tenured_in}
 use Rattle.vault_audit_model.proofs.SameRows.{cell, number_same}
-use Rattle.vault_audit_tables.specs.Meta.{IsMetaOf}
+use Rattle.vault_audit_records.specs.Meta.{IsMetaOf}
 use Rattle.vault_audit_tenures.proofs.HistoryLemmas.{tenured_alike}
 use Rattle.vault_audit_tenures.proofs.FitLemmas.{first_holds}
 

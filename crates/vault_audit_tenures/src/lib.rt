@@ -6,4 +6,5 @@
 pub mod chain;
 pub mod owned;
 pub mod present;
+pub mod sums;
 pub mod tenures;

@@ -8,7 +8,7 @@ ghost use Rattle.vault_audit_tenures.specs.Presence.{TellPresence};
 ghost use Rattle.vault_audit_walk.specs.Health.{IsHealthy, IsMemory};
 
 use sqlite::{Alter, Connection, Error};
-use vault_audit_beside::absence::AbsenceCheck;
+use vault_audit_walk::absence::AbsenceCheck;
 use vault_audit_walk::check::check_rows;
 
 /// Whether each version has a tenure, and no marker has one.

@@ -9,7 +9,7 @@ ghost use Rattle.vault_audit_model.specs.Spells.{AreSoundAs, entries_in};
 ghost use Rattle.vault_audit_model.specs.Tables.{schema_of};
 ghost use Rattle.vault_audit_model.specs.declared.schema.Edition.TheVariants.{Third};
 ghost use Rattle.vault_audit_model.specs.Relations.{AreBuckets, AreEntries, IsPast, TellTenures};
-ghost use Rattle.vault_audit_tables.specs.Meta.{IsMetaOf};
+ghost use Rattle.vault_audit_records.specs.Meta.{IsMetaOf};
 ghost use Rattle.vault_audit_walk.specs.Health.{IsHealthy, IsMemory};
 
 use crate::chain::are_chains;

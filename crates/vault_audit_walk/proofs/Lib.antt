@@ -4,3 +4,4 @@ pub mod PassLemmas
 pub mod RecordLemmas
 pub mod PairLemmas
 pub mod CauseLemmas
+pub mod BesideLemmas

@@ -2,3 +2,4 @@ pub mod Walk
 pub mod Pass
 pub mod Records
 pub mod Health
+pub mod Beside

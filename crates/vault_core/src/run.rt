@@ -4,11 +4,11 @@ ghost use Rattle.std.specs.List.{list_any};
 ghost use Rattle.vault_core_model.specs.Halts.{is_device_reply, Rose};
 ghost use Rattle.vault_core_model.specs.Sound.{Sound};
 ghost use Rattle.vault_core_model.specs.Step.{Run, Reached};
-ghost use Rattle.vault_worm_laws.specs.Once.{Extends};
-ghost use Rattle.vault_worm_laws.specs.Removals.{RemovalsWerePermitted};
-ghost use Rattle.vault_worm_laws.specs.Repeated.{BeginRun, CompleteRun};
-ghost use Rattle.vault_worm_laws.specs.Stored.{EachStandsOnce, stored_bytes, all_stored_bytes};
-ghost use Rattle.vault_worm_laws.specs.Worm.{Worm};
+ghost use Rattle.vault_core_worm_laws.specs.Once.{Extends};
+ghost use Rattle.vault_core_worm_laws.specs.Removals.{RemovalsWerePermitted};
+ghost use Rattle.vault_core_worm_laws.specs.Repeated.{BeginRun, CompleteRun};
+ghost use Rattle.vault_core_worm_laws.specs.Stored.{EachStandsOnce, stored_bytes, all_stored_bytes};
+ghost use Rattle.vault_core_worm_laws.specs.Worm.{Worm};
 ghost use Rattle.vault_core_model.specs.Totals.{admitted_bytes, received_bytes, held_bytes, removed_bytes, handed_bytes, byte_days_at, over_departments, vault_byte_days};
 
 use crate::step::step;

@@ -6,17 +6,19 @@ ghost use Rattle.vault_core_model.specs.Halts.{Meets, is_device, is_device_reply
 ghost use Rattle.vault_core_model.specs.Sound.{Sound};
 ghost use Rattle.vault_core_model.specs.Step.{Answers, Step, Reached};
 ghost use Rattle.vault_core_model.specs.Vault.{Vault};
-ghost use Rattle.vault_worm_laws.specs.Once.{Extends};
-ghost use Rattle.vault_worm_laws.specs.Removals.{RemovalsWerePermitted};
-ghost use Rattle.vault_worm_laws.specs.Repeated.{BeginRun, CompleteRun, one_command};
-ghost use Rattle.vault_worm_laws.specs.Worm.{Worm};
+ghost use Rattle.vault_core_worm_laws.specs.Once.{Extends};
+ghost use Rattle.vault_core_worm_laws.specs.Removals.{RemovalsWerePermitted};
+ghost use Rattle.vault_core_worm_laws.specs.Repeated.{BeginRun, CompleteRun, one_command};
+ghost use Rattle.vault_core_worm_laws.specs.Worm.{Worm};
 
 use std::alloc::Global;
 use vault_base::moment::Moment;
 use vault_base::name::CallerName;
 use vault_base::refusal::Refusal;
-use vault_core_admission::intake::intake;
-use vault_core_admission::put::put;
+use vault_core_entries::entries::{delete, delete_version, get, head};
+use vault_core_entries::intake::intake;
+use vault_core_entries::locks::{get_hold, get_retention, set_hold, set_retention};
+use vault_core_entries::put::put;
 use vault_core_listing::certificates::certificate;
 use vault_core_listing::listings::list_versions;
 use vault_core_model::command::Command;
@@ -27,8 +29,6 @@ use vault_core_records::config::{drop_rules, get_default, get_rules, set_default
 use vault_core_records::moves::move_bucket;
 use vault_core_records::records::{add_bucket, add_caller, add_dept, close_caller, report};
 use vault_core_runs::run::run_rules;
-use vault_core_steps::entries::{delete, delete_version, get, head};
-use vault_core_steps::locks::{get_hold, get_retention, set_hold, set_retention};
 
 /// One step of the history machine: what a command of a caller, given at a reading, answers and changes.
 ///

@@ -8,8 +8,8 @@ use std::alloc::{AllocError, Global};
 use std::path::{Path, PathBuf};
 use std::rt::Files;
 use vault_core_model::halt::Fault;
+use vault_files_intake::file_name::FileName;
 use vault_files_intake::folder::{Folder, MOST_CONTENT};
-use vault_files_rows::file_name::FileName;
 
 /// One byte more than a version may have.
 const MOST_READ: u64 = MOST_CONTENT as u64 + 1;

@@ -4,7 +4,7 @@ use crate::reading::read_at_most;
 use std::alloc::Global;
 use std::rt::Files;
 use vault_core_model::halt::Fault;
-use vault_files_rows::list::MOST_LIST;
+use vault_files_intake::list::MOST_LIST;
 
 /// One byte more than a list may have.
 const MOST_READ: u64 = MOST_LIST as u64 + 1;

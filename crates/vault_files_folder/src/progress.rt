@@ -3,8 +3,8 @@ ghost use Rattle.std.specs.Prelude.{◌≡◌};
 
 use std::io::{Stderr, Write};
 use vault_core_model::halt::Fault;
+use vault_files_intake::file_name::FileName;
 use vault_files_intake::folder::Folder;
-use vault_files_rows::file_name::FileName;
 
 /// After how many files a line is written.
 const FILES_A_LINE: u64 = 1_000;

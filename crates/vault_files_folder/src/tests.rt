@@ -7,8 +7,8 @@ use std::rt::Files;
 use std::test::Fail;
 use std::{fs, io};
 use vault_core_model::halt::Fault;
+use vault_files_intake::file_name::FileName;
 use vault_files_intake::folder::Folder;
-use vault_files_rows::file_name::FileName;
 
 const FOLDER: &str = "intake_of_a_test";
 

@@ -9,8 +9,8 @@ use Rattle.vault_core_model.specs.declared.reply.Reply.{Reply}
 use Rattle.vault_core_model.specs.Halts.{Fails}
 use Rattle.vault_core_model.specs.Step.{Step}
 use Rattle.vault_core_model.specs.Vault.{Vault}
-use Rattle.vault_files_rows.specs.Row.{row_of}
-use Rattle.vault_files_rows.specs.declared.row.Row.{Row}
+use Rattle.vault_files_intake.specs.Row.{row_of}
+use Rattle.vault_files_intake.specs.declared.row.Row.{Row}
 use Rattle.vault_files_intake.specs.declared.folder.File.{File}
 use Rattle.vault_files_intake.specs.Folder.{Holds, file_in}
 use Rattle.vault_files_intake.specs.TakenIn.{content_of, command_of, intake_of, is_fault_reply, AnswersRow, Asks, MayAnswer}

@@ -1,5 +1,9 @@
+pub mod FileName
+pub mod List
+pub mod Row
+pub use Rattle.csv.specs.Records
+pub use Rattle.vault_http_values.specs.Fault
+pub use Rattle.vault_http_values.specs.declared.fault.LineFault
 pub mod Folder
 pub mod TakenIn
-pub use Rattle.vault_files_rows.specs.FileName
-pub use Rattle.vault_files_rows.specs.List
-pub use Rattle.vault_files_rows.specs.Row
+pub mod Lines

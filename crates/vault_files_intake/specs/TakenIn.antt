@@ -16,9 +16,9 @@ use Rattle.vault_core_model.specs.Halts.{is_device_fault, is_device_refusal, is_
 use Rattle.vault_core_model.specs.Step.{Step, is_fault}
 use Rattle.vault_core_model.specs.Vault.{Vault}
 use Rattle.vault_http_values.specs.Fault.{◌>>=◌}
-use Rattle.vault_files_rows.specs.List.{most_list, AreRecordsOf, is_of_five, below_header}
-use Rattle.vault_files_rows.specs.Row.{row_of}
-use Rattle.vault_files_rows.specs.declared.row.Row.{Row}
+use Rattle.vault_files_intake.specs.List.{most_list, AreRecordsOf, is_of_five, below_header}
+use Rattle.vault_files_intake.specs.Row.{row_of}
+use Rattle.vault_files_intake.specs.declared.row.Row.{Row}
 use Rattle.vault_files_intake.specs.declared.folder.File.{File}
 use Rattle.vault_files_intake.specs.Folder.{Holds}
 use Rattle.vault_files_intake.specs.declared.report.RowReply.{RowReply}

@@ -4,9 +4,9 @@ ghost use Rattle.vault_core_model.specs.Halts.{Rose};
 ghost use Rattle.vault_files_intake.specs.Folder.{Holds};
 ghost use Rattle.vault_files_intake.specs.declared.folder.File.{File as KnownFile};
 
+use crate::file_name::FileName;
 use vault_base::content::Content;
 use vault_core_model::halt::Fault;
-use vault_files_rows::file_name::FileName;
 
 /// The bytes that a version has at most.
 pub const MOST_CONTENT: usize = 1_048_576;

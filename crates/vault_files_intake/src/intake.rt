@@ -5,9 +5,10 @@ ghost use Rattle.csv.specs.Records.{fields_of};
 ghost use Rattle.vault_core_model.specs.Halts.{Rose};
 ghost use Rattle.vault_core_model.specs.Step.{Reached};
 ghost use Rattle.vault_files_intake.specs.TakenIn as spec;
-ghost use Rattle.vault_files_rows.specs.List.{below_header, is_of_five};
+ghost use Rattle.vault_files_intake.specs.List.{below_header, is_of_five};
 
 use crate::folder::Folder;
+use crate::list::{MOST_LIST, is_header, records};
 use crate::report::{IntakeReport, RowReply};
 use crate::take_row::take_row;
 use csv::ByteRecord;
@@ -17,7 +18,6 @@ use vault_base::name::{BatchName, BucketName, CallerName};
 use vault_base::refusal::Refusal;
 use vault_core_model::halt::Fault;
 use vault_core_model::keeper::Keeper;
-use vault_files_rows::list::{MOST_LIST, is_header, records};
 
 fn refusal_of(fault: Fault) -> Refusal
     ensures { result ≡ spec.refusal_of fault }

@@ -4,10 +4,10 @@ ghost use Rattle.std.specs.Option.{option_copied};
 ghost use Rattle.std.specs.Str.{bytes_eq};
 ghost use Rattle.vault_files_intake.specs.Folder.{file_in};
 
+use crate::file_name::FileName;
 use crate::folder::{File, Folder};
 use std::alloc::{AllocError, Global};
 use vault_core_model::halt::Fault;
-use vault_files_rows::file_name::FileName;
 
 fn named<'a>(files: &'a [File], name: &FileName) -> Option<&'a File>
     ensures { option_copied result ≡ find (λ f. bytes_eq f.name name.now) files.now }

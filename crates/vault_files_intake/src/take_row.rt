@@ -7,9 +7,10 @@ ghost use Rattle.vault_core_model.specs.declared.halt.Fault.TheVariants as fault
 ghost use Rattle.vault_core_model.specs.declared.halt.Halt.TheVariants as halts;
 ghost use Rattle.vault_core_model.specs.Step.{Step, Reached};
 ghost use Rattle.vault_files_intake.specs.TakenIn as spec;
-ghost use Rattle.vault_files_rows.specs.Row.{row_of};
+ghost use Rattle.vault_files_intake.specs.Row.{row_of};
 
 use crate::folder::{Folder, MOST_CONTENT};
+use crate::row::{Row, read_row};
 use csv::ByteRecord;
 use std::alloc::{AllocError, Global};
 use vault_base::content::Content;
@@ -21,7 +22,6 @@ use vault_core_model::command::{Command, Intake, Put};
 use vault_core_model::halt::{Fault, Halt};
 use vault_core_model::keeper::Keeper;
 use vault_core_model::reply::Reply;
-use vault_files_rows::row::{Row, read_row};
 use vault_http_values::fault::LineFault;
 
 /// What a record asks for.

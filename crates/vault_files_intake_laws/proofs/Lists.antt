@@ -5,7 +5,7 @@ use Rattle.vault_base.specs.Days.{last_moment}
 use Rattle.vault_base.specs.declared.refusal.Refusal.{Refusal}
 use Rattle.vault_base.specs.declared.refusal.Refusal.TheVariants as refusal
 use Rattle.vault_core_model.specs.Vault.{Vault}
-use Rattle.vault_files_rows.specs.List.{most_list, below_header}
+use Rattle.vault_files_intake.specs.List.{most_list, below_header}
 use Rattle.vault_files_intake.specs.declared.folder.File.{File}
 use Rattle.vault_files_intake.specs.declared.report.RowReply.{RowReply}
 use Rattle.vault_files_intake.specs.TakenIn.{StopsAtOnce, TakesBelow, TakesList}

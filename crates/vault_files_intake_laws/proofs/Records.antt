@@ -5,7 +5,7 @@ use Rattle.csv.specs.Reading.{Reached, default_config, strip_bom}
 use Rattle.csv.specs.declared.parser.Config.{Config}
 use Rattle.csv.specs.declared.parser.State.{State}
 use Rattle.csv.specs.declared.parser.State.TheVariants.{StartRecord}
-use Rattle.vault_files_rows.specs.List.{AreRecordsOf}
+use Rattle.vault_files_intake.specs.List.{AreRecordsOf}
 
 -- what is read next from one place is read next from the same place
 read-same : (cfg : Config) (s t : State) (xs ys : List ℕ) → s ≡ t → xs ≡ ys → next_record cfg s [] [] xs ≡ next_record cfg t [] [] ys

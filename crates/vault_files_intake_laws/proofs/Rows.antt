@@ -13,8 +13,8 @@ use Rattle.vault_core_model.specs.IntakeOutcome.{intake}
 use Rattle.vault_core_model.specs.Step.{Answers, is_fault}
 use Rattle.vault_core_model.specs.Vault.{Vault, note_of}
 use Rattle.vault_http_values.specs.Fault.{◌>>=◌}
-use Rattle.vault_files_rows.specs.Row.{row_of}
-use Rattle.vault_files_rows.specs.declared.row.Row.{Row}
+use Rattle.vault_files_intake.specs.Row.{row_of}
+use Rattle.vault_files_intake.specs.declared.row.Row.{Row}
 use Rattle.vault_files_intake.specs.declared.folder.File.{File}
 use Rattle.vault_files_intake.specs.declared.report.RowReply.{RowReply}
 use Rattle.vault_files_intake.specs.Folder.{file_in}

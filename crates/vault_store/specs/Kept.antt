@@ -9,7 +9,7 @@ use Rattle.vault_core_model.specs.Vault.{Vault}
 use Rattle.vault_core_model.specs.Sound.{Sound}
 use Rattle.vault_audit_model.specs.Spells.{AreSound}
 use Rattle.vault_store_model.specs.Keeping.{Keeps}
-use Rattle.vault_store_opening.specs.Opening.{IsKnown, noted_vault}
+use Rattle.vault_store.specs.Opening.{IsKnown, noted_vault}
 
 -- the vault after these changes, each with its moment
 abbrev pub after : Vault → List (ℕ × Change) → Vault

@@ -1,3 +1,4 @@
+pub mod Opening
 pub mod Blame
 pub mod Kept
 pub mod Acknowledged

@@ -21,7 +21,7 @@ use std::alloc::Global;
 use vault_audit::audit;
 use vault_audit_model::schema::{Edition, NEWEST};
 use vault_base::refusal::Refusal;
-use vault_store_copy::begin::begin_copy;
+use vault_store_create::copy::begin::begin_copy;
 use vault_store_create::create::refusal_of;
 
 /// Ends the transaction that is open, if there is one.

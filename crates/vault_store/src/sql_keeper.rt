@@ -18,6 +18,7 @@ ghost use Rattle.vault_store.specs.Tables.{HasTablesOf};
 
 use crate::blame::blame;
 use crate::look::look;
+use crate::opening::{Opening, remember};
 use http_server::Log;
 use sqlite::{Alter, Connection};
 use std::alloc::Global;
@@ -33,18 +34,17 @@ use vault_core_model::keeper::{Keeper, Sink};
 use vault_core_model::records::{BucketConfig, Caller, Entry, Head, LastSetting, Note, Tenures};
 use vault_rules::plan::Held;
 use vault_rules::rule_set::RuleSet;
-use vault_store_apply_change::apply::apply_change;
+use vault_store_apply::apply::apply_change;
 use vault_store_create::create::fill;
-use vault_store_opening::{Opening, remember};
-use vault_store_ordered::reads::{
-    read_bucket_held, read_entries, read_keys, read_rules, read_setting, read_tenures,
-};
 use vault_store_reads::entries::{read_content, read_entry};
 use vault_store_reads::heads::read_head;
 use vault_store_reads::meta::{read_last, read_moves, read_next_id};
 use vault_store_reads::names::{has_department, read_bucket, read_caller, read_totals};
 use vault_store_reads::notes::read_note;
-use vault_store_removed::removed::walk_removed;
+use vault_store_reads::ordered::reads::{
+    read_bucket_held, read_entries, read_keys, read_rules, read_setting, read_tenures,
+};
+use vault_store_reads::removed::walk_removed;
 use vault_tally::row::Row;
 
 /// A vault in tables.

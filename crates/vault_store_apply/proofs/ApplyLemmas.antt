@@ -14,10 +14,10 @@ use Rattle.vault_store_model.specs.Rows.{Rows, AreSameRows, rows_in}
 use Rattle.vault_audit_model.specs.Spells.{AreSound}
 use Rattle.vault_store_model.specs.Keeping.{Keeps}
 use Rattle.vault_store_model.proofs.RowsLemmas.{sound_is_rows}
-use Rattle.vault_store_changes.specs.Edits.{edit_of}
-use Rattle.vault_store_changes.specs.Limits.{IsChangeInLimits}
-use Rattle.vault_store_head_changes.proofs.ChangeLemmas.{rows_told}
-use Rattle.vault_store_transaction.specs.Commits.{Commits, MayCommit}
+use Rattle.vault_store_model.specs.ChangesEdits.{edit_of}
+use Rattle.vault_store_model.specs.Limits.{IsChangeInLimits}
+use Rattle.vault_store_model.proofs.ChangeLemmas.{rows_told}
+use Rattle.vault_store_edits.specs.Commits.{Commits, MayCommit}
 use Rattle.vault_store_apply.specs.Left.{IsFoundIn}
 use Rattle.vault_store_apply.specs.Applies.{IsEditOf, ChangesBy, AreChangedBy, IsChanged}
 

@@ -1,2 +1,8 @@
+pub mod PartLemmas
 pub mod ApplyLemmas
 pub mod RulesLemmas
+pub mod AdmissionLemmas
+pub mod ReadLemmas
+pub mod RemovalLemmas
+pub mod MoveLemmas
+pub mod ChangeLemmas

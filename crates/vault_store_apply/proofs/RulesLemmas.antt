@@ -9,7 +9,7 @@ use Rattle.vault_audit_model.specs.Rows.{rule_row}
 use Rattle.vault_audit_model.specs.Spells.{rules_from, rules_if_given}
 use Rattle.vault_store_model.specs.Tests.{is_named}
 use Rattle.vault_store_model.specs.Edits.{pushed}
-use Rattle.vault_store_parts.specs.Parts.{rules_set}
+use Rattle.vault_store_apply.specs.Parts.{rules_set}
 use Rattle.vault_store_apply.specs.Applies.{IsEditOf}
 
 pub edits_rules : (v : Vault) (t : ℕ) (name : List ℕ) (given : List Rule) (rules : Option (List Rule)) → rules_from name 1 given ≡ rules_if_given name rules

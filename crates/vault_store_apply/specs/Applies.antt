@@ -9,8 +9,8 @@ use Rattle.vault_core_model.specs.Change.{changed}
 use Rattle.vault_core_model.specs.Vault.{Vault}
 use Rattle.vault_store_model.specs.Rows.{Rows}
 use Rattle.vault_store_model.specs.Keeping.{Keeps}
-use Rattle.vault_store_changes.specs.Edits.{edit_of}
-use Rattle.vault_store_changes.specs.Limits.{IsChangeInLimits}
+use Rattle.vault_store_model.specs.ChangesEdits.{edit_of}
+use Rattle.vault_store_model.specs.Limits.{IsChangeInLimits}
 use Rattle.vault_store_apply.specs.Left.{IsFoundIn, LeavesAlone}
 
 -- the edit is that of a change of this vault at t

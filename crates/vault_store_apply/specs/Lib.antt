@@ -1,2 +1,5 @@
+pub mod Parts
+pub mod EntryPartsParts
 pub mod Left
 pub mod Applies
+pub mod Heads

@@ -8,7 +8,7 @@ ghost use Rattle.vault_store_apply.specs.Applies.{ChangesBy, AreChangedBy};
 
 use sqlite::{Alter, Connection, Error};
 use vault_base::moment::Moment;
-use vault_store_transaction::transaction::{Part, transact};
+use vault_store_edits::transaction::{Part, transact};
 
 /// Makes each change at a moment whose edit of the tables the part makes, if what it brings is in its
 /// limits; where that fails, nothing.

@@ -9,10 +9,13 @@ ghost use Rattle.vault_core_model.specs.declared.change.Change.TheVariants as ch
 ghost use Rattle.vault_core_model.specs.Vault.{Vault};
 ghost use Rattle.vault_audit_model.specs.Spells.{rules_from, rules_if_given};
 ghost use Rattle.vault_store_model.specs.Keeping.{Keeps};
-ghost use Rattle.vault_store_changes.specs.Limits.{IsChangeInLimits};
+ghost use Rattle.vault_store_model.specs.Limits.{IsChangeInLimits};
 ghost use Rattle.vault_store_apply.specs.Applies.{Changes, AreChanged};
 
 use crate::commit::commit_part;
+use crate::parts::bucket::{NewBucket, NewDefault, NewRules};
+use crate::parts::caller::{ClosedCaller, NewCaller};
+use crate::parts::department::NewDepartment;
 use sqlite::{Alter, Connection, Error};
 use vault_base::moment::Moment;
 use vault_base::name::{BucketName, CallerName, DeptName};
@@ -20,9 +23,6 @@ use vault_core_model::records::Caller;
 use vault_lock::retention::Default;
 use vault_rules::rule::Rule;
 use vault_rules::rule_set::RuleSet;
-use vault_store_parts::bucket::{NewBucket, NewDefault, NewRules};
-use vault_store_parts::caller::{ClosedCaller, NewCaller};
-use vault_store_parts::department::NewDepartment;
 
 /// Adds a department.
 pub fn add_department<S: Alter>(

@@ -2,3 +2,10 @@ mod TextLemmas
 mod CreateLemmas
 mod InsertLemmas
 mod OpeningLemmas
+mod CopyTextLemmas
+mod RowLemmas
+mod TenureLemmas
+mod ShownLemmas
+mod CopyLemmas
+mod FillLemmas
+mod PartLemmas

@@ -1,1 +1,4 @@
 pub mod Create
+pub mod Listings
+pub mod Told
+pub mod Copied

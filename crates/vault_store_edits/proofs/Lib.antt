@@ -1,3 +1,5 @@
+pub mod TransactionLemmas
+pub mod ReadyLemmas
 pub mod TableLemmas
 pub mod TestLemmas
 pub mod ListLemmas
@@ -10,3 +12,6 @@ pub mod CopyLemmas
 mod TextLemmas
 mod RowLemmas
 mod RulesLemmas
+mod BoundLemmas
+mod EntryEditsTextLemmas
+mod EntryEditsRowLemmas

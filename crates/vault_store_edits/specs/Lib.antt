@@ -1,3 +1,6 @@
+pub mod Ready
+pub mod Commits
 pub mod Trees
 pub mod Apart
 pub mod Queries
+pub mod Author

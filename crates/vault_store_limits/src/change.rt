@@ -1,7 +1,7 @@
 //! A change. The error is want of memory.
 ghost use Rattle.std.specs.Prelude.{◌↔◌, IsTrue, IfOk, IfSome};
 ghost use Rattle.vault_audit_model.specs.Limits.{IsPlainName, IsBucketName, IsHistory, IsNote};
-ghost use Rattle.vault_store_changes.specs.Limits.{IsChangeInLimits};
+ghost use Rattle.vault_store_model.specs.Limits.{IsChangeInLimits};
 
 use crate::name::{is_bucket, is_plain};
 use crate::record::{

@@ -4,3 +4,7 @@ pub mod Edits
 pub mod Copies
 pub mod Keeping
 pub mod Scans
+pub mod ChangesEdits
+pub mod Beside
+pub mod Limits
+pub mod Sums

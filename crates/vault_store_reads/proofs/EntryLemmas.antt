@@ -28,8 +28,8 @@ use Rattle.vault_audit_model.specs.Values.{number}
 use Rattle.vault_audit_model.proofs.SameRows.{same_entry, same_content, same_note}
 use Rattle.vault_audit_laws.proofs.Members.{ascending_numbered}
 use Rattle.vault_audit_laws.proofs.Uniqueness.{ids_numbered}
-use Rattle.vault_store_query.specs.Queries.{Finds}
-use Rattle.vault_store_query.proofs.FindLemmas.{records_found, at_most_one, first_found, none_found, read_found}
+use Rattle.vault_store_reads.specs.Queries.{Finds}
+use Rattle.vault_store_reads.proofs.FindLemmas.{records_found, at_most_one, first_found, none_found, read_found}
 use Rattle.vault_store_reads.proofs.ListLemmas.{filter_parts}
 use Rattle.vault_store_reads.proofs.TextLemmas.{where_is, entry_text, entry_shown, entry_selects, content_text, content_shown, content_selects, note_text, note_shown, note_selects}
 use Rattle.vault_audit_model.proofs.ValueLemmas.{same_text, same_number}

@@ -30,8 +30,8 @@ use Rattle.vault_audit_model.specs.Rows.{head_row, head_columns}
 use Rattle.vault_audit_model.specs.Spells.{head_in}
 use Rattle.vault_audit_model.specs.Tables.{heads_tree}
 use Rattle.vault_audit_model.proofs.SameRows.{number_same}
-use Rattle.vault_store_query.specs.Queries.{Finds}
-use Rattle.vault_store_query.proofs.FindLemmas.{records_found}
+use Rattle.vault_store_reads.specs.Queries.{Finds}
+use Rattle.vault_store_reads.proofs.FindLemmas.{records_found}
 use Rattle.vault_store_reads.proofs.EntryLemmas.{id_of, ascending_ids, same_if}
 use Rattle.vault_store_reads.proofs.ListLemmas.{has_filtered, filtered_has, found_has, first_of, none_of}
 use Rattle.vault_store_reads.proofs.TextLemmas.{where_is, head_text, head_shown, head_selects}

@@ -8,8 +8,8 @@ use Rattle.vault_audit_model.specs.Rows.{meta_row, meta_columns}
 use Rattle.vault_audit_model.specs.Spells.{meta_of}
 use Rattle.vault_audit_model.specs.Tables.{meta_tree}
 use Rattle.vault_audit_model.proofs.SameRows.{same_meta}
-use Rattle.vault_store_query.specs.Queries.{Finds}
-use Rattle.vault_store_query.proofs.FindLemmas.{records_found, read_found}
+use Rattle.vault_store_reads.specs.Queries.{Finds}
+use Rattle.vault_store_reads.proofs.FindLemmas.{records_found, read_found}
 use Rattle.vault_store_reads.proofs.TextLemmas.{meta_text, meta_shown, meta_selects}
 
 module _ (v : Vault) (rows : List Row) (finds : Finds v meta_text [] rows) where

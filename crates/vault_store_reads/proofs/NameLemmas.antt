@@ -28,8 +28,8 @@ use Rattle.vault_audit_model.specs.Spells.{department_in, bucket_of}
 use Rattle.vault_audit_model.specs.Tables.{departments_tree, callers_tree, buckets_tree}
 use Rattle.vault_audit_model.proofs.SameRows.{number_same, same_caller, same_bucket}
 use Rattle.vault_store_model.proofs.DepartmentLemmas.{no_items}
-use Rattle.vault_store_query.specs.Queries.{Finds}
-use Rattle.vault_store_query.proofs.FindLemmas.{records_found, at_most_one, first_found, none_found, read_found}
+use Rattle.vault_store_reads.specs.Queries.{Finds}
+use Rattle.vault_store_reads.proofs.FindLemmas.{records_found, at_most_one, first_found, none_found, read_found}
 use Rattle.vault_store_reads.proofs.ListLemmas.{has_filtered, first_of, none_of}
 use Rattle.vault_store_reads.proofs.TextLemmas.{where_is, department_text, department_shown, department_selects, caller_text, caller_shown, caller_selects, bucket_text, bucket_shown, bucket_selects}
 use Rattle.vault_audit_model.proofs.ValueLemmas.{same_text}

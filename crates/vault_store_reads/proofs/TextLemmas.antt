@@ -7,7 +7,7 @@ use Rattle.sqlite_sql.specs.declared.ops.BinaryOp.TheVariants.{Compare}
 use Rattle.sqlite_sql.specs.declared.ops.CompareOp.TheVariants.{Eq}
 use Rattle.sqlite.specs.Listing.{understood}
 use Rattle.vault_audit_model.specs.Tables.{meta_tree, departments_tree, callers_tree, buckets_tree, entries_tree, contents_tree, intake_tree, heads_tree}
-use Rattle.vault_store_query.specs.Queries.{Selects, select_from}
+use Rattle.vault_store_reads.specs.Queries.{Selects, select_from}
 
 -- the column at this place is the parameter at that one, each counted from 0
 abbrev pub where_is : ℕ → ℕ → Term

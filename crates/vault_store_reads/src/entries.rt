@@ -6,12 +6,12 @@ ghost use Rattle.vault_core_model.specs.Reads.{content_of, entry_of};
 ghost use Rattle.vault_core_model.specs.Vault.{Vault};
 ghost use Rattle.vault_store_model.specs.Keeping.{Keeps};
 
+use crate::query::{query_rows, unread};
 use sqlite::{Alter, Connection, Error, params};
 use vault_audit_rows::records;
 use vault_base::content::Content;
 use vault_base::name::VersionId;
 use vault_core_model::records::Entry;
-use vault_store_query::{query_rows, unread};
 
 /// The entry of an id, held or removed.
 pub fn read_entry<S: Alter>(conn: &mut Connection<S>, id: VersionId) -> Result<Option<Entry>, Error>

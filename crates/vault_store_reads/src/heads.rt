@@ -6,11 +6,11 @@ ghost use Rattle.vault_core_model.specs.Reads.{head_of};
 ghost use Rattle.vault_core_model.specs.Vault.{Vault};
 ghost use Rattle.vault_store_model.specs.Keeping.{Keeps};
 
+use crate::query::{query_rows, unread};
 use sqlite::{Alter, Connection, Error, params};
 use vault_audit_rows::records;
 use vault_base::name::{BucketName, ObjectKey};
 use vault_core_model::records::Head;
-use vault_store_query::{query_rows, unread};
 
 /// The newest held entry of a key and how many are held; none where none is.
 pub fn read_head<S: Alter>(

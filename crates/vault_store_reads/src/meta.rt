@@ -7,12 +7,12 @@ ghost use Rattle.vault_core_model.specs.Vault.{Vault, next_id};
 ghost use Rattle.vault_audit_model.specs.Spells.{meta_of};
 ghost use Rattle.vault_store_model.specs.Keeping.{Keeps};
 
+use crate::query::{query_rows, unread};
 use sqlite::{Alter, Connection, Error};
 use vault_audit_model::rows::MetaRow;
 use vault_audit_rows::misread::Misread;
 use vault_audit_rows::records;
 use vault_base::moment::Moment;
-use vault_store_query::{query_rows, unread};
 
 /// The last moment, the next id and the number of moves.
 fn read_meta<S: Alter>(conn: &mut Connection<S>) -> Result<MetaRow, Error>

@@ -6,11 +6,11 @@ ghost use Rattle.vault_core_model.specs.Totals.{IsRowFor};
 ghost use Rattle.vault_core_model.specs.Vault.{Vault, caller_of, config_of, has_department};
 ghost use Rattle.vault_store_model.specs.Keeping.{Keeps};
 
+use crate::query::{query_rows, unread};
 use sqlite::{Alter, Connection, Error, params};
 use vault_audit_rows::records;
 use vault_base::name::{BucketName, CallerName, DeptName};
 use vault_core_model::records::{BucketConfig, Caller};
-use vault_store_query::{query_rows, unread};
 use vault_tally::row::Row as Sums;
 
 /// Whether there is such a department.

@@ -5,11 +5,11 @@ ghost use Rattle.sqlite.specs.State.{HasCleanDisk, Survives};
 ghost use Rattle.vault_core_model.specs.Vault.{Vault, note_of};
 ghost use Rattle.vault_store_model.specs.Keeping.{Keeps};
 
+use crate::query::{query_rows, unread};
 use sqlite::{Alter, Connection, Error, params};
 use vault_audit_rows::records;
 use vault_base::name::{BatchName, BucketName};
 use vault_core_model::records::Note;
-use vault_store_query::{query_rows, unread};
 
 /// The note of an accepted line of an intake batch.
 pub fn read_note<S: Alter>(

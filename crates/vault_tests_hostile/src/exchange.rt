@@ -4,7 +4,7 @@ use std::alloc::Global;
 use std::io::{Read, Write};
 use std::test::Fail;
 use vault_core_model::keeper::Keeper;
-use vault_http_exchange::{ServeFault, serve_one};
+use vault_http::{ServeFault, serve_one};
 
 /// 2024-01-15T10:30:00Z, a minute after the last change of the vault.
 const READING: i64 = 1_705_314_600;

@@ -6,8 +6,8 @@ use std::alloc::Global;
 use std::test::Fail;
 use vault_core_list::list_keeper::ListKeeper;
 use vault_core_model::keeper::Keeper;
-use vault_failing::{FailingReader, FailingWriter};
-use vault_http_exchange::ServeFault;
+use vault_failing::failing::failing::{FailingReader, FailingWriter};
+use vault_http::ServeFault;
 
 /// Serves what a reader gives before it fails: what is written, and what is answered.
 fn serve_from<K: Keeper>(

@@ -5,7 +5,7 @@ use crate::vault::{Filled, told};
 use std::alloc::Global;
 use std::test::Fail;
 use vault_core_list::list_keeper::ListKeeper;
-use vault_http_exchange::ServeFault;
+use vault_http::ServeFault;
 
 /// How a request ended.
 #[derive(Clone, Copy, PartialEq, Eq)]

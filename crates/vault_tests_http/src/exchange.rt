@@ -3,7 +3,7 @@ use std::alloc::{AllocError, Global};
 use std::io::{Read, Write};
 use std::test::Fail;
 use vault_core_model::keeper::Keeper;
-use vault_http_exchange::{ServeFault, serve_one};
+use vault_http::{ServeFault, serve_one};
 use vault_transcript::transcript::opened;
 
 /// 2024-01-15T10:30:00Z.

@@ -5,8 +5,8 @@ use std::io::BufWriter;
 use std::test::Fail;
 use vault_core::fuse_keeper::FuseKeeper;
 use vault_core_model::keeper::Keeper;
-use vault_failing::{FailingReader, FailingWriter};
-use vault_http_exchange::ServeFault;
+use vault_failing::failing::failing::{FailingReader, FailingWriter};
+use vault_http::ServeFault;
 use vault_transcript::transcript::opened;
 
 const PUT: &str =

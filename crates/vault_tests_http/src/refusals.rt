@@ -5,7 +5,7 @@ use std::test::Fail;
 use vault_base::refusal::{Reason, Refusal, Table};
 use vault_base::right::Right;
 use vault_core_model::keeper::Keeper;
-use vault_http_answer::reply::refusal_bytes;
+use vault_http::answer::reply::refusal_bytes;
 use vault_transcript::transcript::opened;
 
 const INVALID: &str = "{\"code\":\"InvalidArgument\",\"n\":10}";

@@ -6,7 +6,7 @@ use crate::stopped::{Phase, Stop};
 use crate::visit::{Resumed, Visit};
 use std::alloc::Global;
 use std::test::Fail;
-use vault_crashing::Crash;
+use vault_failing::device::Crash;
 
 /// A day, the files that it begins with, and what is to be found.
 #[derive(Drop)]

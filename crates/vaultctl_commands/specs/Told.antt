@@ -8,7 +8,7 @@ use Rattle.vault_core_model.specs.Vault.{Vault}
 use Rattle.vault_files_intake.specs.TakenIn.{report_tells_device, TakesIn}
 use Rattle.vault_files_intake.specs.declared.folder.File.{File}
 use Rattle.vault_files_intake.specs.declared.report.RowReply.{RowReply}
-use Rattle.vault_files_lines.specs.Lines.{lines, is_accepted}
+use Rattle.vault_files_intake.specs.Lines.{lines, is_accepted}
 use Rattle.vaultctl_commands.specs.declared.fault.JobFault.{JobFault}
 use Rattle.vaultctl_commands.specs.declared.outcome.Outcome.{Outcome}
 use Rattle.vaultctl_commands.specs.declared.outcome.Outcome.TheVariants.{Done, Refused}

@@ -3,7 +3,7 @@ ghost use Rattle.std.specs.Prelude.{◌≡◌, ◌≢◌, ◌≤◌, IfOk, OnErr
 ghost use Rattle.std.specs.Io.KnownBytes.{Appends};
 ghost use Rattle.vault_base.specs.declared.refusal.Refusal.TheVariants.{Device as DeviceFailed};
 ghost use Rattle.vault_core_model.specs.Step.{Reached};
-ghost use Rattle.vault_files_lines.specs.Lines.{lines, stopped_line as stop_line};
+ghost use Rattle.vault_files_intake.specs.Lines.{lines, stopped_line as stop_line};
 ghost use Rattle.vaultctl_commands.specs.Told as spec;
 
 use crate::fault::JobFault;
@@ -17,8 +17,8 @@ use vault_base::refusal::Refusal;
 use vault_core_model::keeper::Keeper;
 use vault_files_intake::folder::Folder;
 use vault_files_intake::intake::take_in;
+use vault_files_intake::lines::{intake_lines, is_accepted, stopped_line};
 use vault_files_intake::report::IntakeReport;
-use vault_files_lines::lines::{intake_lines, is_accepted, stopped_line};
 
 /// What came of an intake: refused where a row was, or it stopped.
 fn outcome(report: &IntakeReport) -> Outcome

@@ -12,3 +12,4 @@ mod tests;
 pub mod text;
 pub mod told_keeper;
 pub mod told_writer;
+pub mod values;

@@ -3,7 +3,7 @@ use Rattle.std.specs.Prelude.{◌≡◌, Err}
 use Rattle.vault_base.specs.declared.refusal.Refusal.{Refusal}
 use Rattle.vaultctl_job.specs.declared.job.Job.{Job}
 use Rattle.vaultctl_job.specs.declared.job.Job.TheVariants as job
-use Rattle.vaultctl_values.specs.Asked.{dept_of, caller_of, bucket_of, move_bucket_of, intake_of, run_of, report_of, certificate_of}
+use Rattle.vaultctl_commands.specs.Asked.{dept_of, caller_of, bucket_of, move_bucket_of, intake_of, run_of, report_of, certificate_of}
 
 -- it is the refusal of the first value of the job's words that isn't such
 abbrev pub IsValueFault : Job → Refusal → Type 0

@@ -6,7 +6,7 @@ ghost use Rattle.vault_core_model.specs.Step.{Reached};
 ghost use Rattle.vault_http_values.specs.Fault.{Gives};
 ghost use Rattle.vaultctl_commands.specs.Printed.{TellsReply};
 ghost use Rattle.vaultctl_perform.specs.Asked as spec;
-ghost use Rattle.vaultctl_values.specs.declared.asked.Asked.{Asked as AskedOf};
+ghost use Rattle.vaultctl_commands.specs.declared.values.asked.Asked.{Asked as AskedOf};
 
 use crate::telling::{status, tell_cause, tell_fault, tell_value};
 use sqlite::Start;
@@ -21,10 +21,10 @@ use vaultctl_commands::carrying::{carry_out, tell_refusal};
 use vaultctl_commands::fault::JobFault;
 use vaultctl_commands::outcome::Outcome;
 use vaultctl_commands::told_keeper::ToldKeeper;
+use vaultctl_commands::values::asked::Asked;
 use vaultctl_machine::terminal::terminal;
 use vaultctl_machine::vaults::{FileVault, Machine, close_vault};
 use vaultctl_serve::clock::now;
-use vaultctl_values::asked::Asked;
 
 /// The reading that is given, or else the machine's clock.
 pub fn reading<C: Clock>(clock: &C, given: Option<Moment>) -> Option<Moment>

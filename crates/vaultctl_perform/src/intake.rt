@@ -4,7 +4,7 @@ ghost use Rattle.vault_base.specs.declared.refusal.Refusal.{Refusal as AnyRefusa
 ghost use Rattle.vault_core_model.specs.Step.{Reached};
 ghost use Rattle.vault_http_values.specs.Fault.{Gives};
 ghost use Rattle.vaultctl_commands.specs.Told.{IsIntakeSteady, TellsIntake};
-ghost use Rattle.vaultctl_values.specs.declared.asked.AskedIntake.{AskedIntake as AskedOf};
+ghost use Rattle.vaultctl_commands.specs.declared.values.asked.AskedIntake.{AskedIntake as AskedOf};
 
 use crate::asked::reading;
 use crate::telling::{status, tell_cause, tell_fault, tell_value};
@@ -22,10 +22,10 @@ use vaultctl_commands::carrying::tell_refusal;
 use vaultctl_commands::fault::JobFault;
 use vaultctl_commands::intake::{take_in_and_tell, tell_unread_list};
 use vaultctl_commands::outcome::Outcome;
+use vaultctl_commands::values::asked::AskedIntake;
 use vaultctl_job::job::Intake;
 use vaultctl_machine::terminal::terminal;
 use vaultctl_machine::vaults::{FileVault, Machine, close_vault};
-use vaultctl_values::asked::AskedIntake;
 
 /// Takes in a list whose bytes were read, at the reading that is given or else at the clock's; on a terminal
 /// it tells how far it has come.

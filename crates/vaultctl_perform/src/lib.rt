@@ -22,12 +22,12 @@ use crate::telling::tell_fault;
 use sqlite::Start;
 use std::io::{Read, Write};
 use vaultctl_commands::fault::JobFault;
+use vaultctl_commands::values::asked as values;
 use vaultctl_job::fault::WordsFault;
 use vaultctl_job::job::{Job, Replay};
 use vaultctl_job::words::job_of;
 use vaultctl_machine::starts::Starts;
 use vaultctl_machine::vaults::Machine;
-use vaultctl_values::asked as values;
 
 fn replay_script<S: Start, R: Read, W: Write, E: Write>(
     machine: &mut Machine<'_>,

@@ -9,7 +9,7 @@ use std::alloc::Global;
 use std::io::BufReader;
 use std::time::Clock;
 use vault_core_model::keeper::Keeper;
-use vault_http_exchange::{ServeFault, serve_one};
+use vault_http::{ServeFault, serve_one};
 
 /// Reads the one request of a connection, and answers it.
 fn exchange<C: Clock, P: Peer, K: Keeper>(

@@ -8,10 +8,10 @@ use Rattle.vault_core_model.specs.Step.{Run}
 use Rattle.vault_core_laws.proofs.Runs.{Run-push, Run-append}
 use Rattle.vault_core_laws.proofs.Balance.{conserved, moved, one_place}
 use Rattle.vault_core_laws.proofs.Telescope.{days_joined}
-use Rattle.vault_worm_laws.proofs.Once.{extends_itself}
-use Rattle.vault_worm_laws.proofs.Repeated.{run-begins, run-completes}
-use Rattle.vault_worm_laws.proofs.Reached.{reached-permitted, reached-Worm, run-Sound, run-extends}
-use Rattle.vault_worm_laws.proofs.Stored.{Sound-stands_once, Sound-conserved, Sound-all_conserved}
+use Rattle.vault_core_worm_laws.proofs.Once.{extends_itself}
+use Rattle.vault_core_worm_laws.proofs.Repeated.{run-begins, run-completes}
+use Rattle.vault_core_worm_laws.proofs.Reached.{reached-permitted, reached-Worm, run-Sound, run-extends}
+use Rattle.vault_core_worm_laws.proofs.Stored.{Sound-stands_once, Sound-conserved, Sound-all_conserved}
 use Rattle.vault_core.proofs.Device.{any_last, none_last, Rose-before, Rose-after}
 use Rattle.vault_core.proofs.run.run.Goals as goal
 

@@ -4,7 +4,7 @@ use Rattle.sqlite.specs.Held.{state}
 use Rattle.vault_core_laws.proofs.Soundness.{Sound-changed}
 use Rattle.vault_store_apply.specs.Left.{LeavesAlone}
 use Rattle.vault_store.specs.Kept.{after, StandsFor}
-use Rattle.vault_store_opening.specs.Opening.{noted_vault}
+use Rattle.vault_store.specs.Opening.{noted_vault}
 use Rattle.vault_store.proofs.KeptLemmas.{after_push}
 use Rattle.vault_store.proofs.sql_keeper.SqlKeeper.make.Goals as goal
 

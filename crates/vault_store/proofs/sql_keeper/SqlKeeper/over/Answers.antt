@@ -2,7 +2,7 @@ use Rattle.std.proofs.Common.{sym, ap, subst, ◌∙◌}
 use Rattle.sqlite.specs.Held.{state}
 use Rattle.vault_audit_model.specs.Spells.{AreSound}
 use Rattle.vault_store.specs.Kept.{after}
-use Rattle.vault_store_opening.specs.Opening.{noted_vault}
+use Rattle.vault_store.specs.Opening.{noted_vault}
 use Rattle.vault_store.proofs.sql_keeper.SqlKeeper.over.Goals as goal
 
 pub invariant_of-result : goal.invariant_of-result

@@ -3,7 +3,7 @@ use Rattle.std.proofs.Math.Logic.{∥∥₁_map}
 use Rattle.vault_core_model.specs.Handing.{Hands}
 use Rattle.vault_core_model.specs.Reads.{removed_entries}
 use Rattle.vault_store.specs.Kept.{kept_vault}
-use Rattle.vault_store_removed.specs.Handed.{as_fault}
+use Rattle.vault_store_reads.specs.Handed.{as_fault}
 use Rattle.vault_store.proofs.sql_keeper.SqlKeeperKeeper.walk_removed.Goals as goal
 
 pub invariant_of-self : goal.invariant_of-self

@@ -1,8 +1,0 @@
-//! The bytes of the held versions, beside their entries.
-//!
-//! An error is want of memory, told as `ErrorCode::OutOfMemory`, or a failure of the store.
-#![tactic(auto)]
-
-pub mod contents;
-pub mod held;
-pub mod kept;

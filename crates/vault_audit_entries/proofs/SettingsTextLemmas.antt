@@ -1,0 +1,51 @@
+-- What the second look at settings reads.
+use Rattle.std.proofs.Common.{◌≡◌, List, ℕ, [], ◌∷◌, codes, pos, false, refl, arith}
+use Rattle.sqlite_tied.specs.Compute.{everything}
+use Rattle.sqlite.specs.Command.TheVariants.{Select}
+use Rattle.sqlite.specs.Listing.{understood, reads_listing}
+use Rattle.sqlite.proofs.Callers.{IsPlain, command_of}
+use Rattle.sqlite_sql.specs.Term.{col, lit}
+use Rattle.sqlite_value.specs.declared.value.Value.TheVariants.{Int}
+use Rattle.vault_audit_model.specs.Tables.{schema_of, settings_tree}
+use Rattle.vault_audit_walk.proofs.PairLemmas.{pair_walk_of}
+use Rattle.vault_audit_walk.proofs.BesideLemmas.{LooksBeside}
+use Rattle.vault_audit_walk.specs.Health.{Asks}
+use Rattle.vault_audit_model.specs.declared.schema.Edition.{Edition}
+
+abbrev pub placed_walk : List ℕ
+placed_walk = codes "SELECT id, n, moment, caller, mode, until, hold, bypass FROM settings ORDER BY id, n"
+
+pub placed_walk_is : (n : Edition) → (command_of (understood (schema_of n) placed_walk) ≡ Select (record { lets = []; body = pair_walk_of settings_tree 1 2 (col 1 3 ∷ col 1 4 ∷ col 1 5 ∷ col 1 6 ∷ col 1 7 ∷ col 1 8 ∷ []) }) (codes "id" ∷ codes "n" ∷ codes "moment" ∷ codes "caller" ∷ codes "mode" ∷ codes "until" ∷ codes "hold" ∷ codes "bypass" ∷ []))
+    × (reads_listing (schema_of n) placed_walk ≡ false)
+unfolding understood everything
+placed_walk_is n = (refl, refl)
+
+pub placed_walk_plain : (n : Edition) → IsPlain (understood (schema_of n) placed_walk)
+unfolding understood everything
+placed_walk_plain n = (refl, refl)
+
+pub placed_walk_asks : (n : Edition) → Asks (schema_of n) placed_walk
+unfolding understood everything
+placed_walk_asks n = record { is = (omega (arith), refl, (refl, refl, refl, refl)); unlisted = refl }
+
+abbrev pub settings_beside : List ℕ
+settings_beside = codes "SELECT e.marker, s.id FROM entries AS e LEFT JOIN settings AS s ON s.id = e.id"
+
+pub settings_beside_is : (n : Edition) → LooksBeside (schema_of n) settings_beside 9 settings_tree (col 1 4) 1 0 (codes "marker" ∷ codes "id" ∷ [])
+unfolding understood everything
+settings_beside_is n = record { command = refl; unlisted = refl; plain = (refl, refl) }
+
+pub settings_beside_asks : (n : Edition) → Asks (schema_of n) settings_beside
+unfolding understood everything
+settings_beside_asks n = record { is = (omega (arith), refl, (refl, refl, refl, refl)); unlisted = refl }
+
+abbrev pub entries_beside : List ℕ
+entries_beside = codes "SELECT 0, e.id FROM settings AS s LEFT JOIN entries AS e ON e.id = s.id"
+
+pub entries_beside_is : (n : Edition) → LooksBeside (schema_of n) entries_beside settings_tree 9 (lit (Int (pos 0))) 0 1 (codes "0" ∷ codes "id" ∷ [])
+unfolding understood everything
+entries_beside_is n = record { command = refl; unlisted = refl; plain = (refl, refl) }
+
+pub entries_beside_asks : (n : Edition) → Asks (schema_of n) entries_beside
+unfolding understood everything
+entries_beside_asks n = record { is = (omega (arith), refl, (refl, refl, refl, refl)); unlisted = refl }

@@ -1,0 +1,20 @@
+use Rattle.std.proofs.Common.{sym, subst, arith}
+use Rattle.sqlite.specs.Held.{state}
+use Rattle.sqlite.specs.State.{HasCleanDisk}
+use Rattle.vault_audit_walk.specs.Health.{Asks}
+use Rattle.sqlite.specs.Given.{IsPlain}
+use Rattle.sqlite.specs.Listing.{understood}
+use Rattle.vault_audit_entries.proofs.TellLemmas.{presence_if_ok}
+use Rattle.vault_audit_entries.proofs.SettingsTextLemmas.{settings_beside, settings_beside_is, settings_beside_asks}
+use Rattle.vault_audit_entries.proofs.settings.present.have_settings.Goals as goal
+
+pub check_rows-requires : goal.check_rows-requires
+check_rows-requires g c clean = subst (λ s. IsPlain (understood s settings_beside)) (sym (c.requires clean)) (settings_beside_is c.args.edition).plain
+
+pub returns-clause-told : goal.returns-clause-told
+returns-clause-told g c clean =
+    let early : HasCleanDisk (state g.S.Store c.args.conn.now) = omega (arith, c.check_rows.ensures.crash.clean) in
+    (presence_if_ok c.args.edition) (state g.S.Store c.args.conn.now) (state g.S.Store c.check_rows.new.conn) (c.requires early) c.check_rows.result (c.check_rows.ensures.same clean) (c.check_rows.ensures.checked clean)
+
+pub returns-clause-err : goal.returns-clause-err
+returns-clause-err g c well = c.check_rows.ensures.err well (λ clean. subst (λ s. Asks s settings_beside) (sym (c.requires clean)) (settings_beside_asks c.args.edition))

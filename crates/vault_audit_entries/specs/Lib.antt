@@ -1,0 +1,10 @@
+pub mod Contents
+pub mod Passes
+pub mod Notes
+pub mod IntakePasses
+pub mod Places
+pub mod Heads
+pub mod HeadsPasses
+pub mod Newest
+pub mod Counts
+pub mod Keys

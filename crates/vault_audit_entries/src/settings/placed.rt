@@ -1,0 +1,81 @@
+//! Whether the settings of each id stand at the places 1, 2, 3 ..
+ghost use Rattle.std.specs.Prelude.{◌≡◌, ◌↔◌, IsTrue, IfOk, IfErr, OnOk};
+ghost use Rattle.sqlite.specs.State.{HasCleanDisk, IsUnchanged, Survives};
+ghost use Rattle.sqlite.specs.Held.{state};
+ghost use Rattle.vault_audit_model.specs.Tables.{schema_of};
+ghost use Rattle.vault_audit_entries.specs.Places.{IsNext, TellPlaces};
+ghost use Rattle.vault_audit_walk.specs.Health.{IsHealthy, IsMemory};
+
+use sqlite::{Alter, Connection, Error, ErrorCode, Row};
+use vault_audit_model::rows::SettingRow;
+use vault_audit_model::schema::Edition;
+use vault_audit_rows::misread::Misread;
+use vault_audit_rows::records::read_setting;
+use vault_audit_walk::walk::{Pass, walk};
+
+/// The check of settings by rising id and place.
+#[derive(Drop)]
+pub struct SettingPass {
+    /// The id of the last setting.
+    pub id: u64,
+    /// The place that comes next under that id.
+    pub next: u64,
+}
+
+impl SettingPass {
+    /// Whether the setting may come now.
+    fn fits(&self, setting: &SettingRow) -> bool
+        ensures { IsTrue result ↔ IsNext self.now setting.now }
+    {
+        let id = u64::from(setting.id.number());
+        let place = u64::from(setting.place);
+        (id == self.id && place == self.next) || (self.id < id && place == 1)
+    }
+}
+
+impl Pass for SettingPass {
+    ghost use Rattle.vault_audit_walk.specs.Pass.{Takes, Refuses};
+    ghost use Rattle.vault_audit_model.specs.Rows.{setting_row};
+    ghost use Rattle.vault_audit_entries.specs.Places.{ComesNext, with_setting};
+
+    ghost goes = { λ p row q. Takes setting_row ComesNext with_setting p row q };
+
+    ghost stops = { λ p row. Refuses setting_row ComesNext with_setting p row };
+
+    #[tactic(auto, using(crate::proofs::SettingsRowLemmas::one_setting))]
+    fn take(&mut self, row: &Row) -> Result<bool, Error> {
+        let setting = match read_setting(row) {
+            Ok(setting) => setting,
+            Err(Misread::Wrong) => return Ok(false),
+            Err(Misread::Memory) => return Err(Error::SqliteFailure(ErrorCode::OutOfMemory)),
+        };
+        if !self.fits(&setting) {
+            drop(setting);
+            return Ok(false);
+        }
+        self.id = u64::from(setting.id.number());
+        self.next = u64::from(setting.place) + 1;
+        drop(setting);
+        Ok(true)
+    }
+}
+
+/// Whether the rows of `settings` tell settings in their limits, which stand at the places
+/// 1, 2, 3 .. of each id that has any.
+pub(crate) fn are_placed<S: Alter>(
+    conn: &mut Connection<S>,
+    edition: Edition,
+) -> Result<bool, Error>
+    requires { HasCleanDisk (state S.Store conn.old) → (state S.Store conn.old).now.schema ≡ schema_of edition }
+    ensures told { HasCleanDisk (state S.Store conn.new) → IfOk result (TellPlaces (state S.Store conn.new).now) }
+    ensures same { HasCleanDisk (state S.Store conn.new) → OnOk result (IsUnchanged (state S.Store conn.old) (state S.Store conn.new)) }
+    ensures err { IsHealthy (state S.Store conn.new) → IfErr result IsMemory }
+    ensures crash { Survives (state S.Store conn.old) (state S.Store conn.new) (λ _. ⊥) }
+{
+    let mut pass = SettingPass { id: 0, next: 0 };
+    walk(
+        conn,
+        "SELECT id, n, moment, caller, mode, until, hold, bypass FROM settings ORDER BY id, n",
+        &mut pass,
+    )
+}

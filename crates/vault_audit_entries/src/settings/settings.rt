@@ -1,0 +1,40 @@
+//! The second look at `settings`.
+ghost use Rattle.std.specs.Prelude.{◌≡◌, false, List, IfOk, IfErr, OnOk};
+ghost use Rattle.sqlite.specs.State.{HasCleanDisk, IsUnchanged, Survives};
+ghost use Rattle.sqlite.specs.Held.{state};
+ghost use Rattle.vault_core_model.specs.declared.records.Entry.{Entry};
+ghost use Rattle.vault_core_model.specs.Vault.{Vault};
+ghost use Rattle.vault_audit_model.specs.Spells.{AreSoundAs};
+ghost use Rattle.vault_audit_model.specs.Tables.{schema_of};
+ghost use Rattle.vault_audit_model.specs.Relations.{AreEntries, TellSettings};
+ghost use Rattle.vault_audit_walk.specs.Health.{IsHealthy, IsMemory};
+
+use crate::settings::placed::are_placed;
+use crate::settings::present::{have_entries, have_settings};
+use sqlite::{Alter, Connection, Error};
+use vault_audit_model::schema::Edition;
+
+/// Whether each version has settings at the places 1, 2, 3 .., at least one and as many as it may
+/// have, and a marker none, and whether no other setting is there. The entries are to have the
+/// ids 1, 2, 3 ..
+pub fn check_history_of_settings<S: Alter>(
+    conn: &mut Connection<S>,
+    edition: Edition,
+) -> Result<bool, Error>
+    requires { HasCleanDisk (state S.Store conn.old) → (state S.Store conn.old).now.schema ≡ schema_of edition }
+    ensures told { HasCleanDisk (state S.Store conn.new) → IfOk result (λ found. (es : List Entry) → AreEntries (state S.Store conn.new).now es → TellSettings (state S.Store conn.new).now es found) }
+    ensures damaged { HasCleanDisk (state S.Store conn.new) → IfOk result (λ found. found ≡ false → (v : Vault) → ¬ AreSoundAs edition (state S.Store conn.new).now v) }
+    ensures same { HasCleanDisk (state S.Store conn.new) → OnOk result (IsUnchanged (state S.Store conn.old) (state S.Store conn.new)) }
+    ensures err { IsHealthy (state S.Store conn.new) → IfErr result IsMemory }
+    ensures crash { Survives (state S.Store conn.old) (state S.Store conn.new) (λ _. ⊥) }
+{
+    let placed = are_placed(conn, edition)?;
+    if !placed {
+        return Ok(false);
+    }
+    let present = have_settings(conn, edition)?;
+    if !present {
+        return Ok(false);
+    }
+    have_entries(conn, edition)
+}

@@ -1,3 +1,0 @@
-pub mod NameLemmas
-pub mod WithinLemmas
-pub mod FoundLemmas

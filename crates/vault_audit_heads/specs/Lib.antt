@@ -1,3 +1,0 @@
-pub mod Heads
-pub mod Passes
-pub mod Newest

@@ -1,7 +1,0 @@
-//! The heads of the rows of `heads`, beside the entries that they tell of.
-//!
-//! An error is want of memory, told as `ErrorCode::OutOfMemory`, or a failure of the store.
-#![tactic(auto)]
-
-pub mod by_key;
-pub mod newest;

@@ -1,3 +1,0 @@
-pub mod RowLemmas
-pub mod TextLemmas
-pub mod NoteLemmas

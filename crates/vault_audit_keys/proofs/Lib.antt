@@ -1,2 +1,0 @@
-pub mod MemberLemmas
-pub mod WholeLemmas

@@ -1,4 +1,0 @@
-pub mod TextLemmas
-pub mod RowLemmas
-pub mod RiseLemmas
-pub mod TellLemmas

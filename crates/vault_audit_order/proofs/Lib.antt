@@ -1,4 +1,0 @@
-pub mod EditionLemmas
-pub mod MetaLemmas
-pub mod OrderLemmas
-pub mod TextLemmas

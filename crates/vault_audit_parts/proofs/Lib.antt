@@ -1,3 +1,0 @@
-pub mod JoinLemmas
-pub mod TenureLemmas
-pub mod PartLemmas

@@ -1,0 +1,16 @@
+pub mod DamageLemmas
+pub mod EntryLemmas
+pub mod NumberLemmas
+pub mod TenureLemmas
+pub mod TextLemmas
+pub mod CountLemmas
+pub mod NamesTextLemmas
+pub mod RowLemmas
+pub mod RiseLemmas
+pub mod TellLemmas
+pub mod RulesTextLemmas
+pub mod RulesRowLemmas
+pub mod RulesRiseLemmas
+pub mod GroupLemmas
+pub mod OnlyLemmas
+pub mod RulesTellLemmas

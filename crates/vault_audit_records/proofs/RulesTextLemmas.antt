@@ -1,0 +1,73 @@
+-- What the second look at buckets and rules reads.
+use Rattle.std.proofs.Common.{◌≡◌, List, ℕ, [], ◌∷◌, codes, pos, false, refl, arith}
+use Rattle.sqlite_tied.specs.Compute.{everything}
+use Rattle.sqlite.specs.Command.TheVariants.{Select}
+use Rattle.sqlite.specs.Listing.{understood, reads_listing}
+use Rattle.sqlite.proofs.Callers.{IsPlain, command_of}
+use Rattle.sqlite_sql.specs.Term.{Term, col, lit}
+use Rattle.sqlite_value.specs.declared.value.Value.TheVariants.{Null, Int}
+use Rattle.vault_audit_model.specs.declared.schema.Edition.{Edition}
+use Rattle.vault_audit_model.specs.declared.schema.Edition.TheVariants.{First, Second, Third}
+use Rattle.vault_audit_records.specs.RulesWalk.{rules_walk}
+use Rattle.vault_audit_model.specs.Tables.{schema_of}
+use Rattle.vault_audit_walk.proofs.ScanLemmas.{walk_of}
+use Rattle.vault_audit_walk.proofs.PairLemmas.{pair_walk_of}
+use Rattle.vault_audit_walk.proofs.BesideLemmas.{LooksBeside}
+use Rattle.vault_audit_walk.specs.Health.{Asks}
+
+abbrev pub buckets_walk : List ℕ
+buckets_walk = codes "SELECT name, dept, mode, days, years FROM buckets ORDER BY name"
+
+pub buckets_walk_is : (n : Edition) → (command_of (understood (schema_of n) buckets_walk) ≡ Select (record { lets = []; body = walk_of 5 1 (col 1 2 ∷ col 1 3 ∷ col 1 4 ∷ col 1 5 ∷ []) }) (codes "name" ∷ codes "dept" ∷ codes "mode" ∷ codes "days" ∷ codes "years" ∷ []))
+    × (reads_listing (schema_of n) buckets_walk ≡ false)
+unfolding understood everything
+buckets_walk_is n = (refl, refl)
+
+pub buckets_walk_plain : (n : Edition) → IsPlain (understood (schema_of n) buckets_walk)
+unfolding understood everything
+buckets_walk_plain n = (refl, refl)
+
+pub buckets_walk_asks : (n : Edition) → Asks (schema_of n) buckets_walk
+unfolding understood everything
+buckets_walk_asks n = record { is = (omega (arith), refl, (refl, refl, refl, refl)); unlisted = refl }
+
+-- what is shown of the bounds of sizes
+abbrev pub bounds_shown : Edition → List Term
+bounds_shown First = lit Null ∷ lit Null ∷ []
+bounds_shown Second = col 1 10 ∷ col 1 11 ∷ []
+bounds_shown Third = col 1 10 ∷ col 1 11 ∷ []
+
+abbrev pub bound_names : Edition → List (List ℕ)
+bound_names First = codes "NULL" ∷ codes "NULL" ∷ []
+bound_names Second = codes "larger" ∷ codes "smaller" ∷ []
+bound_names Third = codes "larger" ∷ codes "smaller" ∷ []
+
+pub rules_walk_is : (n : Edition) → (command_of (understood (schema_of n) (rules_walk n)) ≡ Select (record { lets = []; body = pair_walk_of 7 1 2 (col 1 3 ∷ col 1 4 ∷ col 1 5 ∷ col 1 6 ∷ col 1 7 ∷ col 1 8 ∷ col 1 9 ∷ bounds_shown n) }) (codes "bucket" ∷ codes "n" ∷ codes "id" ∷ codes "prefix" ∷ codes "enabled" ∷ codes "days" ∷ codes "lone" ∷ codes "nc_days" ∷ codes "nc_keep" ∷ bound_names n))
+    × (reads_listing (schema_of n) (rules_walk n) ≡ false)
+unfolding understood everything
+rules_walk_is First = (refl, refl)
+rules_walk_is Second = (refl, refl)
+rules_walk_is Third = (refl, refl)
+
+pub rules_walk_plain : (n : Edition) → IsPlain (understood (schema_of n) (rules_walk n))
+unfolding understood everything
+rules_walk_plain First = (refl, refl)
+rules_walk_plain Second = (refl, refl)
+rules_walk_plain Third = (refl, refl)
+
+pub rules_walk_asks : (n : Edition) → Asks (schema_of n) (rules_walk n)
+unfolding understood everything
+rules_walk_asks First = record { is = (omega (arith), refl, (refl, refl, refl, refl)); unlisted = refl }
+rules_walk_asks Second = record { is = (omega (arith), refl, (refl, refl, refl, refl)); unlisted = refl }
+rules_walk_asks Third = record { is = (omega (arith), refl, (refl, refl, refl, refl)); unlisted = refl }
+
+abbrev pub buckets_beside : List ℕ
+buckets_beside = codes "SELECT 0, b.name FROM rules AS r LEFT JOIN buckets AS b ON b.name = r.bucket"
+
+pub buckets_beside_is : (n : Edition) → LooksBeside (schema_of n) buckets_beside 7 5 (lit (Int (pos 0))) 1 1 (codes "0" ∷ codes "name" ∷ [])
+unfolding understood everything
+buckets_beside_is n = record { command = refl; unlisted = refl; plain = (refl, refl) }
+
+pub buckets_beside_asks : (n : Edition) → Asks (schema_of n) buckets_beside
+unfolding understood everything
+buckets_beside_asks n = record { is = (omega (arith), refl, (refl, refl, refl, refl)); unlisted = refl }

@@ -1,0 +1,9 @@
+pub mod Entries
+pub mod Meta
+pub mod Numbers
+pub mod Queries
+pub mod Count
+pub mod DepartmentsWalk
+pub mod Names
+pub mod Runs
+pub mod RulesWalk

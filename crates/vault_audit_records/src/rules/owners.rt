@@ -1,0 +1,30 @@
+//! Whether each rule has its bucket.
+ghost use Rattle.std.specs.Prelude.{◌≡◌, IfOk, IfErr, OnOk};
+ghost use Rattle.sqlite.specs.State.{HasCleanDisk, IsUnchanged, Survives};
+ghost use Rattle.sqlite.specs.Held.{state};
+ghost use Rattle.vault_audit_model.specs.Tables.{schema_of};
+ghost use Rattle.vault_audit_records.specs.Runs.{TellOwners};
+ghost use Rattle.vault_audit_walk.specs.Health.{IsHealthy, IsMemory};
+
+use sqlite::{Alter, Connection, Error};
+use vault_audit_model::schema::Edition;
+use vault_audit_walk::absence::AbsenceCheck;
+use vault_audit_walk::check::check_rows;
+
+/// Whether each rule is of a bucket.
+pub(crate) fn have_buckets<S: Alter>(
+    conn: &mut Connection<S>,
+    edition: Edition,
+) -> Result<bool, Error>
+    requires { HasCleanDisk (state S.Store conn.old) → (state S.Store conn.old).now.schema ≡ schema_of edition }
+    ensures told { HasCleanDisk (state S.Store conn.new) → IfOk result (TellOwners edition (state S.Store conn.new).now) }
+    ensures same { HasCleanDisk (state S.Store conn.new) → OnOk result (IsUnchanged (state S.Store conn.old) (state S.Store conn.new)) }
+    ensures err { IsHealthy (state S.Store conn.new) → IfErr result IsMemory }
+    ensures crash { Survives (state S.Store conn.old) (state S.Store conn.new) (λ _. ⊥) }
+{
+    check_rows(
+        conn,
+        "SELECT 0, b.name FROM rules AS r LEFT JOIN buckets AS b ON b.name = r.bucket",
+        &AbsenceCheck {},
+    )
+}

@@ -1,6 +1,0 @@
-pub mod TextLemmas
-pub mod RowLemmas
-pub mod RiseLemmas
-pub mod GroupLemmas
-pub mod OnlyLemmas
-pub mod TellLemmas

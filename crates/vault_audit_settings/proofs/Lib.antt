@@ -1,6 +1,0 @@
-pub mod TextLemmas
-pub mod RowLemmas
-pub mod PlaceLemmas
-pub mod HistoryLemmas
-pub mod PresenceLemmas
-pub mod TellLemmas

@@ -1,5 +1,0 @@
-pub mod DamageLemmas
-pub mod EntryLemmas
-pub mod NumberLemmas
-pub mod TenureLemmas
-pub mod TextLemmas

@@ -1,4 +1,0 @@
-pub mod Entries
-pub mod Meta
-pub mod Numbers
-pub mod Queries

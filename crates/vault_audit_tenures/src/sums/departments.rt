@@ -1,0 +1,66 @@
+//! The rows of the departments beside the sums that were taken.
+ghost use Rattle.std.specs.Prelude.{◌≡◌, ◌↔◌, map, Some, IsTrue, IfOk, IfErr, OnOk};
+ghost use Rattle.sqlite.specs.State.{HasCleanDisk, IsUnchanged, Survives};
+ghost use Rattle.sqlite.specs.Held.{state};
+ghost use Rattle.vault_audit_model.specs.Rows.{department_row, department_columns_as};
+ghost use Rattle.vault_audit_model.specs.Tables.{schema_of, departments_tree};
+ghost use Rattle.vault_audit_tenures.specs.Departments.{HasTotal};
+ghost use Rattle.vault_audit_tenures.specs.Totals.{total_of};
+ghost use Rattle.vault_audit_walk.specs.Health.{IsHealthy, IsMemory};
+ghost use Rattle.vault_audit_walk.specs.Records.{AreRecords};
+
+use crate::sums::totals::Totals;
+use sqlite::{Alter, Connection, Error, Row};
+use vault_audit_model::rows::DepartmentRow;
+use vault_audit_model::schema::Edition;
+use vault_audit_records::departments::departments_query;
+use vault_audit_records::row_check::refused;
+use vault_audit_rows::records::read_department;
+use vault_audit_walk::check::{Check, check_rows};
+
+/// The check that a row of `departments` has these sums.
+#[derive(Drop)]
+pub struct SumsCheck {
+    pub totals: Totals,
+}
+
+/// Whether the department's row has the sums that were taken.
+fn has_total(totals: &Totals, department: &DepartmentRow) -> bool
+    ensures { IsTrue result ↔ (total_of totals.now department.now.name ≡ Some department.now.sums) }
+{
+    match totals.total(&department.name) {
+        Some(sums) => sums == department.sums,
+        None => false,
+    }
+}
+
+impl Check for SumsCheck {
+    ghost use Rattle.vault_audit_model.specs.Rows.{department_row};
+    ghost use Rattle.vault_audit_tenures.specs.Departments.{HasTotal};
+    ghost use Rattle.vault_audit_walk.specs.Records.{TellsOne};
+
+    ghost takes = { λ c. TellsOne department_row (HasTotal c.totals) };
+
+    #[tactic(auto, using(crate::proofs::SumsRowLemmas::one_department))]
+    fn is_passed_by(&self, row: &Row) -> Result<bool, Error> {
+        match read_department(row) {
+            Ok(department) => Ok(has_total(&self.totals, &department)),
+            Err(misread) => refused(misread),
+        }
+    }
+}
+
+/// Whether each row of `departments` tells a department in its limits that has these sums.
+pub fn check_totals<S: Alter>(
+    conn: &mut Connection<S>,
+    edition: Edition,
+    check: &SumsCheck,
+) -> Result<bool, Error>
+    requires { HasCleanDisk (state S.Store conn.old) → (state S.Store conn.old).now.schema ≡ schema_of edition }
+    ensures told { HasCleanDisk (state S.Store conn.new) → IfOk result (AreRecords department_row (HasTotal check.now.totals) (map (department_columns_as edition) ((state S.Store conn.new).now.trees departments_tree))) }
+    ensures same { HasCleanDisk (state S.Store conn.new) → OnOk result (IsUnchanged (state S.Store conn.old) (state S.Store conn.new)) }
+    ensures err { IsHealthy (state S.Store conn.new) → IfErr result IsMemory }
+    ensures crash { Survives (state S.Store conn.old) (state S.Store conn.new) (λ _. ⊥) }
+{
+    check_rows(conn, departments_query(edition), check)
+}

@@ -1,0 +1,64 @@
+//! Entries beside the departments of their buckets.
+ghost use Rattle.std.specs.Prelude.{◌≡◌, ◌≢◌, ◌≤◌, ℕ, Option, IfSome, IfOk, IfErr, MatchOption};
+ghost use Rattle.sqlite_value.specs.Order.{column};
+ghost use Rattle.vault_base.specs.Days.{last_moment};
+ghost use Rattle.vault_audit_model.specs.Values.{number_or_null};
+ghost use Rattle.vault_audit_tenures.specs.declared.sums.owned.OwnedEntry.{OwnedEntry as Told};
+ghost use Rattle.vault_audit_tenures.specs.SumsOwned.{owned_row, IsOwned};
+
+use sqlite::Row;
+use vault_audit_rows::cell::{flag, is_null, moment, number, version_id};
+use vault_audit_rows::misread::Misread;
+use vault_audit_rows::name::dept_name_or_null;
+use vault_base::moment::Moment;
+use vault_base::name::{DeptName, VersionId};
+
+/// What counts of an entry, and whose it is.
+#[derive(Drop)]
+pub struct OwnedEntry {
+    pub id: VersionId,
+    /// Whether it is a marker, which counts nowhere.
+    pub marker: bool,
+    pub size: u64,
+    pub admitted: Moment,
+    /// The moment of its removal, if it was removed.
+    pub removed: Option<Moment>,
+    /// The department of its bucket; none where there is no such bucket.
+    pub dept: Option<DeptName>,
+}
+
+/// The moment in a column, or NULL.
+pub fn moment_or_null(row: &Row, at: usize) -> Option<Option<Moment>>
+    ensures { MatchOption result ((o : Option ℕ) → IfSome o (λ t. t ≤ last_moment) → column row.now at ≢ number_or_null o) (λ o. (column row.now at ≡ number_or_null o) × IfSome o (λ t. t ≤ last_moment)) }
+{
+    if is_null(row, at) {
+        return Some(None);
+    }
+    let moment = moment(row, at)?;
+    Some(Some(moment))
+}
+
+/// The entry that a row tells.
+#[tactic(auto, using(crate::proofs::SumsRowLemmas::row_of_6))]
+pub fn read_owned(row: &Row) -> Result<OwnedEntry, Misread>
+    ensures ok { IfOk result (λ e. row.now ≡ owned_row e) }
+    ensures wrong { IfErr result (λ e. e ≡ Misread.Wrong → (x : Told) → IsOwned x → row.now ≢ owned_row x) }
+{
+    if row.column_count() != 6 {
+        return Err(Misread::Wrong);
+    }
+    let id = version_id(row, 0).ok_or(Misread::Wrong)?;
+    let marker = flag(row, 1).ok_or(Misread::Wrong)?;
+    let size = number(row, 2).ok_or(Misread::Wrong)?;
+    let admitted = moment(row, 3).ok_or(Misread::Wrong)?;
+    let removed = moment_or_null(row, 4).ok_or(Misread::Wrong)?;
+    let dept = dept_name_or_null(row, 5)?;
+    Ok(OwnedEntry {
+        id,
+        marker,
+        size,
+        admitted,
+        removed,
+        dept,
+    })
+}

@@ -1,0 +1,192 @@
+//! The sums over the tenures of all departments, taken in one pass over the rows of `tenures`.
+ghost use Rattle.std.specs.Prelude.{◌≡◌, ◌≢◌, IfOk, IfErr, IsSomeAnd, OnOk};
+ghost use Rattle.sqlite.specs.State.{HasCleanDisk, IsUnchanged, Survives};
+ghost use Rattle.sqlite.specs.Held.{state};
+ghost use Rattle.vault_core_model.specs.Vault.{Vault};
+ghost use Rattle.vault_audit_model.specs.Relations.{AreEntries, AreTenuresOf};
+ghost use Rattle.vault_audit_model.specs.Spells.{entries_in};
+ghost use Rattle.vault_audit_model.specs.Tables.{schema_of};
+ghost use Rattle.vault_audit_tenures.specs.declared.sums.tenures.ToldTenure.{ToldTenure as Told};
+ghost use Rattle.vault_audit_tenures.specs.Tenures.{told_row, IsTold, share_as, last_share, share_before, CountsShare, CountsPending, CountsLast};
+ghost use Rattle.vault_audit_tenures.specs.Totals.{AreTotals};
+ghost use Rattle.vault_audit_walk.specs.Health.{IsHealthy, IsMemory};
+
+use crate::sums::owned::moment_or_null;
+use crate::sums::totals::{Span, Totals};
+use sqlite::{Alter, Connection, Error, Row};
+use std::alloc::Global;
+use vault_audit_model::schema::Edition;
+use vault_audit_records::row_check::refused;
+use vault_audit_rows::cell::{MOST_MOVES, moment, number, number_within, version_id};
+use vault_audit_rows::misread::Misread;
+use vault_audit_rows::name::dept_name;
+use vault_audit_walk::walk::{Pass, walk};
+use vault_base::moment::Moment;
+use vault_base::name::VersionId;
+use vault_core_model::records::Tenure;
+
+/// A tenure, and what counts of its version.
+#[derive(Drop)]
+pub struct ToldTenure {
+    pub id: VersionId,
+    pub tenure: Tenure,
+    /// The size of the version.
+    pub size: u64,
+    /// The moment of the version's removal, if it was removed.
+    pub removed: Option<Moment>,
+}
+
+/// The sums of the departments, taken over the tenures one by one.
+#[derive(Drop)]
+pub struct TenurePass {
+    pub totals: Totals,
+    /// The tenure that came last. It isn't counted yet, since the row behind it tells its end.
+    pub pending: Option<ToldTenure>,
+}
+
+/// The tenure that a row tells.
+#[tactic(auto, using(crate::proofs::SumsRowLemmas::row_of_6))]
+pub fn read_told(row: &Row) -> Result<ToldTenure, Misread>
+    ensures ok { IfOk result (λ t. row.now ≡ told_row t) }
+    ensures wrong { IfErr result (λ e. e ≡ Misread.Wrong → (x : Told) → IsTold x → row.now ≢ told_row x) }
+{
+    if row.column_count() != 6 {
+        return Err(Misread::Wrong);
+    }
+    let id = version_id(row, 0).ok_or(Misread::Wrong)?;
+    let size = number(row, 4).ok_or(Misread::Wrong)?;
+    let number = number_within(row, 1, 0, MOST_MOVES).ok_or(Misread::Wrong)?;
+    let from = moment(row, 3).ok_or(Misread::Wrong)?;
+    let removed = moment_or_null(row, 5).ok_or(Misread::Wrong)?;
+    let dept = dept_name(row, 2)?;
+    Ok(ToldTenure {
+        id,
+        tenure: Tenure { dept, from, number },
+        size,
+        removed,
+    })
+}
+
+/// Counts a tenure in, with the moment of its end and whether it is its version's last.
+fn count_as(
+    totals: &mut Totals,
+    told: ToldTenure,
+    ended: Option<Moment>,
+    last: bool,
+) -> Result<(), Error>
+    ensures ok { OnOk result (CountsShare totals.old (share_as told ended last) totals.new) }
+    ensures err { IfErr result IsMemory }
+{
+    let ToldTenure { tenure, size, .. } = told;
+    let Tenure { dept, from, number } = tenure;
+    let first = number == 0;
+    let span = Span {
+        size,
+        first,
+        from,
+        ended,
+        last,
+    };
+    totals.count(dept, span)
+}
+
+/// Counts a version's last tenure in: it ends with the removal.
+fn count_last(totals: &mut Totals, told: ToldTenure) -> Result<(), Error>
+    ensures ok { OnOk result (CountsShare totals.old (last_share told) totals.new) }
+    ensures err { IfErr result IsMemory }
+{
+    let removed = told.removed;
+    count_as(totals, told, removed, true)
+}
+
+/// Counts a tenure in as the next row is met: one of the same version ends it.
+fn count_before(totals: &mut Totals, told: ToldTenure, next: &ToldTenure) -> Result<(), Error>
+    ensures ok { OnOk result (CountsShare totals.old (share_before told next.now) totals.new) }
+    ensures err { IfErr result IsMemory }
+{
+    if told.id == next.id {
+        return count_as(totals, told, Some(next.tenure.from), false);
+    }
+    count_last(totals, told)
+}
+
+/// Counts the pending tenure in as the next row is met.
+fn count_pending(
+    totals: &mut Totals,
+    pending: Option<ToldTenure>,
+    next: &ToldTenure,
+) -> Result<(), Error>
+    ensures ok { OnOk result (CountsPending totals.old pending next.now totals.new) }
+    ensures err { IfErr result IsMemory }
+{
+    let Some(told) = pending else {
+        return Ok(());
+    };
+    count_before(totals, told, next)
+}
+
+/// Counts the pending tenure in as no row is left.
+fn count_left(totals: &mut Totals, pending: Option<ToldTenure>) -> Result<(), Error>
+    ensures ok { OnOk result (CountsLast totals.old pending totals.new) }
+    ensures err { IfErr result IsMemory }
+{
+    let Some(told) = pending else {
+        return Ok(());
+    };
+    count_last(totals, told)
+}
+
+impl Pass for TenurePass {
+    ghost use Rattle.vault_audit_tenures.specs.Tenures.{GoesIn, TellsNone};
+
+    ghost goes = { λ p row q. GoesIn p row q };
+
+    ghost stops = { λ p row. TellsNone p row };
+
+    fn take(&mut self, row: &Row) -> Result<bool, Error> {
+        match read_told(row) {
+            Ok(told) => {
+                let before = self.pending.take();
+                count_pending(&mut self.totals, before, &told)?;
+                self.pending = Some(told);
+                Ok(true)
+            }
+            Err(misread) => refused(misread),
+        }
+    }
+}
+
+/// The sums over the tenures of each department, ended ones included; none where a row of the tenures beside their
+/// versions tells nothing. It keeps a row of sums for each department.
+pub fn sum_tenures<S: Alter>(
+    alloc: Global,
+    conn: &mut Connection<S>,
+) -> Result<Option<Totals>, Error>
+    requires { HasCleanDisk (state S.Store conn.old) → (state S.Store conn.old).now.schema ≡ schema_of Edition.Third }
+    ensures told { HasCleanDisk (state S.Store conn.new) → IfOk result (λ found. (v : Vault) →
+        AreEntries (state S.Store conn.new).now (entries_in v.histories) → AreTenuresOf Edition.Third (state S.Store conn.new).now v →
+        IsSomeAnd found (AreTotals v.histories)) }
+    ensures same { HasCleanDisk (state S.Store conn.new) → OnOk result (IsUnchanged (state S.Store conn.old) (state S.Store conn.new)) }
+    ensures err { IsHealthy (state S.Store conn.new) → IfErr result IsMemory }
+    ensures crash { Survives (state S.Store conn.old) (state S.Store conn.new) (λ _. ⊥) }
+{
+    let mut pass = TenurePass {
+        totals: Totals::new(alloc),
+        pending: None,
+    };
+    let whole = walk(
+        conn,
+        "SELECT t.id, t.n, t.dept, t.moment, e.size, e.removed FROM tenures AS t LEFT JOIN entries AS e ON e.id = t.id ORDER BY t.id, t.n",
+        &mut pass,
+    )?;
+    if !whole {
+        drop(pass);
+        return Ok(None);
+    }
+    let TenurePass {
+        mut totals,
+        pending,
+    } = pass;
+    count_left(&mut totals, pending)?;
+    Ok(Some(totals))
+}

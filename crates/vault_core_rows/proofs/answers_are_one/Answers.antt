@@ -1,5 +1,0 @@
-use Rattle.vault_core_rows.proofs.Machine.{Step-is_outcome}
-use Rattle.vault_core_rows.proofs.answers_are_one.Goals as goal
-
-pub returns : goal.returns
-returns c = Step-is_outcome

@@ -1,8 +1,0 @@
-use Rattle.std.proofs.Common.{◌≡◌, ◌++◌}
-use Rattle.std.specs.Prelude.{string_bytes}
-use Rattle.vault_files_certificate.specs.ReportText.{blanks}
-use Rattle.vault_files_certificate.proofs.report_text.push_blanks.Given as goal
-
--- the blanks so far
-abbrev pub invariant-loop : goal.invariant-loop
-invariant-loop l = string_bytes l.out ≡ string_bytes l.initial.out ++ blanks l.counter

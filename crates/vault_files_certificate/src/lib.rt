@@ -1,6 +1,0 @@
-//! Texts for the office: certificates of destruction and reports.
-#![tactic(auto)]
-
-pub mod certificate;
-pub mod removed;
-pub mod report_text;

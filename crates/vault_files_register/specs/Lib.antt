@@ -1,6 +1,0 @@
-pub mod Faults
-pub mod Register
-pub mod Rows
-pub use Rattle.csv.specs.Records
-pub use Rattle.csv.specs.Writing
-pub use Rattle.vault_files_certificate.specs.Removed

@@ -1,0 +1,15 @@
+//! Texts for the office: certificates of destruction and reports.
+//!
+//! The register of removals: a record of each removed entry, as CSV.
+#![tactic(auto)]
+
+pub mod certificate;
+mod fault;
+mod record;
+pub mod register;
+pub mod removed;
+pub mod report_text;
+mod rows;
+mod writing;
+
+pub use crate::fault::ExportFault;

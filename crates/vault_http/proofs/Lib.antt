@@ -1,0 +1,6 @@
+pub mod Heads
+pub mod Prompt
+pub mod TextLemmas
+pub mod Counted
+pub mod Serves
+pub mod Taken

@@ -1,0 +1,121 @@
+-- Which bytes are the answer to which request, and what the request does with the vault.
+use Rattle.std.specs.Prelude.{ℕ, ◌≡◌, ◌<◌, ◌⊎◌, List, [], ◌∷◌, ◌++◌, length, map, take, codes, Bool, true, false, not, IsTrue, Option, Some, None, Result, Ok, Err, if◌then◌else◌}
+use Rattle.httparse.specs.Grammar.{RequestHead}
+use Rattle.httparse.specs.Spans.{name_and_value, span_bytes, header_bytes}
+use Rattle.httparse.specs.declared.spans.HeaderSpan.{HeaderSpan}
+use Rattle.httparse.specs.declared.spans.RequestSpans.{RequestSpans}
+use Rattle.vault_base.specs.declared.refusal.Refusal.{Refusal}
+use Rattle.vault_base.specs.declared.refusal.Refusal.TheVariants as refusal
+use Rattle.vault_core_model.specs.Halts.{is_device_reply}
+use Rattle.vault_core_model.specs.Step.{Step}
+use Rattle.vault_core_model.specs.Vault.{Vault}
+use Rattle.vault_core_model.specs.declared.command.Command.{Command}
+use Rattle.vault_core_model.specs.declared.command.Command.TheVariants as command
+use Rattle.vault_core_model.specs.declared.reply.Reply.{Reply}
+use Rattle.vault_http.specs.Reply.{AnswersRefusal, AnswersReply}
+use Rattle.vault_http.specs.declared.answer.head.Allow.{Allow}
+use Rattle.vault_http.specs.declared.answer.head.Allow.TheVariants as allow
+use Rattle.vault_http.specs.Head.{IsHead, HasNoHead}
+use Rattle.vault_http_request.specs.Order.{is_head}
+use Rattle.vault_http_request.specs.Plan.{asked_of}
+use Rattle.vault_http_request.specs.declared.order.Order.{Order}
+use Rattle.vault_http_request.specs.declared.order.Resource.{Resource}
+use Rattle.vault_http_request.specs.declared.order.Resource.TheVariants as resource
+use Rattle.vault_http_request.specs.declared.plan.Asked.{Asked}
+use Rattle.vault_http_request.specs.declared.plan.Asked.TheVariants as asked
+use Rattle.vault_http_request.specs.declared.plan.Plan.{Plan}
+use Rattle.vault_http_request.specs.declared.terms.Locks.{Locks}
+use Rattle.vault_http.specs.ExchangeBody.{command_after}
+
+-- ---- commands and refusals
+
+-- the rules of a bucket go, and there is nothing to tell
+abbrev pub drops : Command → Bool
+drops (command.DropRules c) = true
+drops _ = false
+
+-- A command is carried out, and its reply answered. Here and below Failed says that the device failed: a reply
+-- that it did is answered only then.
+abbrev pub Done : Type 0 → ℕ → Bool → List ℕ → Command → Vault → List ℕ → Vault → Type 0
+Done Failed at shown who c old out new =
+    (reply : Reply) × Step old at who c reply new × AnswersReply (Some at) (drops c) reply shown out × (IsTrue (is_device_reply reply) → Failed)
+
+-- a refusal is answered, and nothing is carried out
+abbrev pub Denied : Option ℕ → Bool → Refusal → Option Allow → Vault → List ℕ → Vault → Type 0
+Denied moment shown r a old out new = (new ≡ old) × AnswersRefusal moment r a shown out
+
+abbrev pub Judged : Type 0 → ℕ → Bool → List ℕ → Result Command Refusal → Vault → List ℕ → Vault → Type 0
+Judged Failed at shown who (Ok c) old out new = Done Failed at shown who c old out new
+Judged Failed at shown who (Err r) old out new = Denied (Some at) shown r None old out new
+
+-- ---- a head, and what comes behind it
+
+-- HTTP/1.1 100 Continue and a blank line
+abbrev pub go_on : List ℕ
+go_on = codes "HTTP/1.1 100 Continue" ++ (13 ∷ 10 ∷ 13 ∷ 10 ∷ [])
+
+-- what is written before the body is read
+abbrev pub told : Bool → List ℕ
+told waits = if waits then go_on else []
+
+-- a plan by its parts
+abbrev pub plan_of : ℕ → Order → Option ℕ → List ℕ → Locks → Bool → Plan
+plan_of at order size caller locks waits =
+    record { at = at; order = order; terms = record { length = size; caller = caller; locks = locks; waits = waits } }
+
+-- the command of a plan and of what comes behind its head
+abbrev pub planned_command : Plan → List ℕ → Result Command Refusal
+planned_command plan rest = command_after plan.order plan.terms.locks plan.terms.length rest
+
+-- what is written for a plan and what comes behind its head
+abbrev pub PlanServed : Type 0 → Bool → Plan → List ℕ → Vault → List ℕ → Vault → Type 0
+PlanServed Failed shown plan rest old out new =
+    (answer : List ℕ) × (out ≡ told plan.terms.waits ++ answer) × Judged Failed plan.at shown plan.terms.caller (planned_command plan rest) old answer new
+
+-- which methods a target has
+abbrev pub allow_of : Resource → Allow
+allow_of resource.Object = allow.Object
+allow_of resource.Setting = allow.Setting
+allow_of resource.Bucket = allow.Bucket
+allow_of resource.Versions = allow.Versions
+allow_of resource.Lifecycle = allow.Lifecycle
+
+-- what a head asks for, or why it is refused
+abbrev pub Said : Type 0
+Said = Result Asked Refusal
+
+-- what is written for what a head asks for
+abbrev pub AskedServed : Type 0 → Option ℕ → Bool → Asked → List ℕ → Vault → List ℕ → Vault → Type 0
+AskedServed Failed moment shown (asked.Plan plan) rest old out new = PlanServed Failed shown plan rest old out new
+AskedServed Failed moment shown (asked.NotAllowed r) rest old out new =
+    Denied moment shown refusal.MethodNotAllowed (Some (allow_of r)) old out new
+
+abbrev pub HeadJudged : Type 0 → Option ℕ → Bool → Result Asked Refusal → List ℕ → Vault → List ℕ → Vault → Type 0
+HeadJudged Failed moment shown (Ok a) rest old out new = AskedServed Failed moment shown a rest old out new
+HeadJudged Failed moment shown (Err r) rest old out new = Denied moment shown r None old out new
+
+-- an answer to HEAD shows no body
+abbrev pub is_shown : List ℕ → Bool
+is_shown method = not (is_head method)
+
+-- what a head asks for
+abbrev pub head_asked : Option ℕ → RequestHead → Result Asked Refusal
+head_asked moment h = asked_of moment h.method h.target h.minor (map name_and_value h.fields)
+
+-- what is written for a head and what comes behind it
+abbrev pub HeadServed : Type 0 → Option ℕ → RequestHead → List ℕ → Vault → List ℕ → Vault → Type 0
+HeadServed Failed moment h rest old out new = HeadJudged Failed moment (is_shown h.method) (head_asked moment h) rest old out new
+
+-- ---- requests
+
+-- what is written for an input: nothing for nothing, a refusal where there is no head, else the answer of its head
+abbrev pub Served : Type 0 → Option ℕ → List ℕ → Vault → List ℕ → Vault → Type 0
+Served Failed moment input old out new =
+    ((input ≡ []) × (out ≡ []) × (new ≡ old))
+    ⊎ (((0 < length input) × HasNoHead input × Denied moment true refusal.InvalidArgument None old out new)
+    ⊎ ((h : RequestHead) × (rest : List ℕ) × IsHead input h rest × HeadServed Failed moment h rest old out new))
+
+-- the parts of a head where they lie in a buffer
+abbrev pub spans_asked : Option ℕ → List ℕ → List HeaderSpan → RequestSpans → Result Asked Refusal
+spans_asked moment buf headers spans =
+    asked_of moment (span_bytes buf spans.method) (span_bytes buf spans.path) spans.version (map (header_bytes buf) (take spans.headers headers))

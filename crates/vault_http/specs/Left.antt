@@ -1,0 +1,106 @@
+-- What stands after a fault, and what was read.
+use Rattle.std.specs.Prelude.{ℕ, ◌≡◌, ◌≤◌, ◌<◌, ◌⊎◌, List, [], ◌++◌, length, Bool, true, Option, Some, None, Result, Ok, Err}
+use Rattle.std.specs.Io.KnownBytes.{Appends}
+use Rattle.httparse.specs.Grammar.{RequestHead, print_request}
+use Rattle.vault_base.specs.declared.refusal.Refusal.{Refusal}
+use Rattle.vault_base.specs.declared.refusal.Refusal.TheVariants as refusal
+use Rattle.vault_core_model.specs.Step.{Step}
+use Rattle.vault_core_model.specs.Vault.{Vault}
+use Rattle.vault_core_model.specs.declared.command.Command.{Command}
+use Rattle.vault_core_model.specs.declared.reply.Reply.{Reply}
+use Rattle.vault_http.specs.Reply.{AnswersRefusal}
+use Rattle.vault_http.specs.declared.answer.head.Allow.{Allow}
+use Rattle.vault_http.specs.Head.{IsHead, HasNoHead}
+use Rattle.vault_http.specs.declared.head.bytes.ReadFault.{ReadFault}
+use Rattle.vault_http.specs.declared.head.bytes.ReadFault.TheVariants as reads
+use Rattle.vault_io.specs.Begins.{Begins}
+use Rattle.vault_http_request.specs.declared.plan.Asked.{Asked}
+use Rattle.vault_http_request.specs.declared.plan.Asked.TheVariants as asked
+use Rattle.vault_http_request.specs.declared.plan.Plan.{Plan}
+use Rattle.vault_http.specs.ExchangeBody.{IsWithinLength}
+use Rattle.vault_http.specs.Exchange.{Denied, Judged, allow_of, go_on, head_asked, is_shown, planned_command, told}
+use Rattle.vault_http.specs.declared.fault.ServeFault.{ServeFault}
+use Rattle.vault_http.specs.declared.fault.ServeFault.TheVariants as faults
+
+abbrev pub FromRead : ReadFault → ServeFault → Type 0
+FromRead reads.Read e = e ≡ faults.Read
+FromRead reads.Memory e = e ≡ faults.Memory
+
+-- at most one step was made, at the reading
+abbrev pub AtMostOne : Option ℕ → Vault → Vault → Type 0
+AtMostOne moment old new =
+    (new ≡ old) ⊎ ((at : ℕ) × (who : List ℕ) × (c : Command) × (reply : Reply) × (moment ≡ Some at) × Step old at who c reply new)
+
+-- ---- what stands after a fault
+
+-- the vault after the step of a command, if there is one
+abbrev pub Stepped : ℕ → List ℕ → Result Command Refusal → Vault → Vault → Type 0
+Stepped at who (Ok c) old new = (reply : Reply) × Step old at who c reply new
+Stepped at who (Err r) old new = ⊥
+
+-- Behind the body nothing is read any more. Where the answer found no room nothing is written, and at most that step was made; where writing it failed a beginning of it is written, and the vault is as it says.
+-- Failed says that the device failed, as in Exchange.
+abbrev pub JudgedLeft : Type 0 → ServeFault → ℕ → Bool → List ℕ → Result Command Refusal → Vault → Vault → Option (List ℕ) → Option (List ℕ) → Type 0
+JudgedLeft Failed faults.Read at shown who judged old new before after = ⊥
+JudgedLeft Failed faults.Memory at shown who judged old new before after = ((new ≡ old) ⊎ Stepped at who judged old new) × (after ≡ before)
+JudgedLeft Failed faults.Write at shown who judged old new before after = (out : List ℕ) × Judged Failed at shown who judged old out new × Begins before after out
+
+abbrev pub DenyLeft : ServeFault → Option ℕ → Refusal → Option Allow → Bool → Option (List ℕ) → Option (List ℕ) → Type 0
+DenyLeft faults.Read moment r a shown before after = ⊥
+DenyLeft faults.Memory moment r a shown before after = after ≡ before
+DenyLeft faults.Write moment r a shown before after = (out : List ℕ) × AnswersRefusal moment r a shown out × Begins before after out
+
+-- After Read and Memory no byte of an answer is written, only that a client that waits is to go on; or, where the head found no room, nothing, and no step was made. After Read none was made, after Memory at most that one. After Write 100 Continue failed, nothing of the body was read and no step was made, or the answer failed behind a 100 Continue that was written whole, where the client waits, and the vault is as the answer says; what is written is a beginning of that.
+abbrev pub PlanLeft : Type 0 → ServeFault → Bool → Plan → List ℕ → Option (List ℕ) → Vault → Vault → Option (List ℕ) → Option (List ℕ) → Type 0
+PlanLeft Failed faults.Read shown plan rest unread old new before after = (new ≡ old) × Appends before after (told plan.terms.waits)
+PlanLeft Failed faults.Memory shown plan rest unread old new before after =
+    ((new ≡ old) × (after ≡ before))
+    ⊎ (((new ≡ old) ⊎ Stepped plan.at plan.terms.caller (planned_command plan rest) old new) × Appends before after (told plan.terms.waits))
+PlanLeft Failed faults.Write shown plan rest unread old new before after =
+    ((plan.terms.waits ≡ true) × (unread ≡ Some rest) × (new ≡ old) × Begins before after go_on)
+    ⊎ ((answer : List ℕ) × (mid : Option (List ℕ)) × Judged Failed plan.at shown plan.terms.caller (planned_command plan rest) old answer new × Appends before mid (told plan.terms.waits) × Begins mid after answer)
+
+abbrev pub DeniedLeft : ServeFault → Option ℕ → Bool → Refusal → Option Allow → Vault → Vault → Option (List ℕ) → Option (List ℕ) → Type 0
+DeniedLeft faults.Read moment shown r a old new before after = (new ≡ old) × (after ≡ before)
+DeniedLeft faults.Memory moment shown r a old new before after = (new ≡ old) × (after ≡ before)
+DeniedLeft faults.Write moment shown r a old new before after = (out : List ℕ) × Denied moment shown r a old out new × Begins before after out
+
+abbrev pub AskedLeft : Type 0 → ServeFault → Option ℕ → Bool → Asked → List ℕ → Option (List ℕ) → Vault → Vault → Option (List ℕ) → Option (List ℕ) → Type 0
+AskedLeft Failed e moment shown (asked.Plan plan) rest unread old new before after = PlanLeft Failed e shown plan rest unread old new before after
+AskedLeft Failed e moment shown (asked.NotAllowed r) rest unread old new before after =
+    DeniedLeft e moment shown refusal.MethodNotAllowed (Some (allow_of r)) old new before after
+
+abbrev pub HeadLeft : Type 0 → ServeFault → Option ℕ → Bool → Result Asked Refusal → List ℕ → Option (List ℕ) → Vault → Vault → Option (List ℕ) → Option (List ℕ) → Type 0
+HeadLeft Failed e moment shown (Ok a) rest unread old new before after = AskedLeft Failed e moment shown a rest unread old new before after
+HeadLeft Failed e moment shown (Err r) rest unread old new before after = DeniedLeft e moment shown r None old new before after
+
+-- before a head was judged: writing fails only where there is none
+abbrev pub Early : ServeFault → Option ℕ → List ℕ → Vault → Vault → Option (List ℕ) → Option (List ℕ) → Type 0
+Early faults.Read moment input old new before after = (new ≡ old) × (after ≡ before)
+Early faults.Memory moment input old new before after = (new ≡ old) × (after ≡ before)
+Early faults.Write moment input old new before after =
+    (0 < length input) × HasNoHead input × DeniedLeft faults.Write moment true refusal.InvalidArgument None old new before after
+
+-- of an input, of which this is unread after it, and of what was written before it and is after it
+abbrev pub Left : Type 0 → ServeFault → Option ℕ → List ℕ → Option (List ℕ) → Vault → Vault → Option (List ℕ) → Option (List ℕ) → Type 0
+Left Failed e moment input unread old new before after =
+    Early e moment input old new before after
+    ⊎ ((h : RequestHead) × (rest : List ℕ) × IsHead input h rest × HeadLeft Failed e moment (is_shown h.method) (head_asked moment h) rest unread old new before after)
+
+-- ---- what was read
+
+-- behind a head: nothing where no body belongs to it, else no more than the length of the body
+abbrev pub IsAskedTaken : Asked → List ℕ → Type 0
+IsAskedTaken (asked.Plan plan) taken = IsWithinLength plan.terms.length taken
+IsAskedTaken (asked.NotAllowed r) taken = taken ≡ []
+
+abbrev pub IsBodyTaken : Result Asked Refusal → List ℕ → Type 0
+IsBodyTaken (Ok a) taken = IsAskedTaken a taken
+IsBodyTaken (Err r) taken = taken ≡ []
+
+-- of an input: nothing where there is nothing; without a head no more than a head may have; else the head and what of its body
+abbrev pub IsTaken : Option ℕ → List ℕ → List ℕ → Type 0
+IsTaken moment input taken =
+    ((input ≡ []) × (taken ≡ []))
+    ⊎ ((HasNoHead input × (length taken ≤ 16384))
+    ⊎ ((h : RequestHead) × (rest : List ℕ) × (body : List ℕ) × IsHead input h rest × (taken ≡ print_request h ++ body) × IsBodyTaken (head_asked moment h) body))

@@ -1,0 +1,9 @@
+pub mod Body
+pub mod Bytes
+pub mod Head
+pub mod Answer
+pub mod Reply
+pub mod ExchangeBody
+pub mod Exchange
+pub mod Left
+pub mod Steady

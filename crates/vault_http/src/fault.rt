@@ -1,0 +1,30 @@
+//! Why a request was not served to its end.
+ghost use Rattle.vault_http.specs.Left.{FromRead};
+
+use crate::head::bytes::ReadFault;
+use thiserror::Error;
+
+/// Why a request was not served to its end.
+#[derive(Clone, Copy, Debug, PartialEq, Eq, Error)]
+pub enum ServeFault {
+    /// The reader failed.
+    #[error("Read")]
+    Read,
+    /// The writer failed.
+    #[error("Write")]
+    Write,
+    /// Room for the request or for its answer was refused.
+    #[error("Memory")]
+    Memory,
+}
+
+impl From<ReadFault> for ServeFault {
+    ghost from_gives = { FromRead };
+
+    fn from(fault: ReadFault) -> ServeFault {
+        match fault {
+            ReadFault::Read => ServeFault::Read,
+            ReadFault::Memory => ServeFault::Memory,
+        }
+    }
+}

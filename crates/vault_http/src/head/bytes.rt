@@ -1,0 +1,29 @@
+//! A reader's bytes, one by one.
+ghost use Rattle.std.specs.Prelude.{◌≢◌, IfErr, IfOk};
+ghost use Rattle.std.specs.IoError.{error_kind};
+ghost use Rattle.vault_http.specs.Bytes.{NextByte};
+
+use std::io::{ErrorKind, Read, Result};
+use vault_io::retry::read_retrying;
+
+/// Why a request couldn't be read.
+#[derive(Clone, Copy, PartialEq, Eq, Debug)]
+pub enum ReadFault {
+    /// The reader failed.
+    Read,
+    /// No memory was left for what it gave.
+    Memory,
+}
+
+/// The next byte, or none at the end. A read that a signal interrupts is tried again, and never told.
+pub fn next_byte<R: Read>(reader: &mut R) -> Result<Option<u8>>
+    ensures next { IfOk result (λ next. NextByte (R.remaining reader.old) (R.remaining reader.new) next) }
+    ensures retried { IfErr result (λ e. error_kind e ≢ ErrorKind.Interrupted) }
+{
+    let mut one = [0u8; 1];
+    match read_retrying(reader, &mut one) {
+        Ok(0) => Ok(None),
+        Ok(_) => Ok(Some(one[0])),
+        Err(error) => Err(error),
+    }
+}

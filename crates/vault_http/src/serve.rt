@@ -1,0 +1,296 @@
+//! One request, served.
+ghost use Rattle.std.specs.Prelude.{◌≡◌, ◌≤◌, ℕ, List, IfErr, IfOk, IfSome, OnOk, Err, Some, length};
+ghost use Rattle.std.specs.Io.KnownBytes.{Appends, Consumes};
+ghost use Rattle.httparse.specs.Spans.{IsRequestWithin, span_bytes};
+ghost use Rattle.vault_base.specs.Days.{moment_at};
+ghost use Rattle.vault_core_model.specs.Halts.{Rose};
+ghost use Rattle.vault_http_request.specs.Plan.{IsAt};
+ghost use Rattle.vault_http_values.specs.Fault.{Gives};
+ghost use Rattle.vault_http.specs.ExchangeBody.{IsWithinLength};
+ghost use Rattle.vault_http.specs.Exchange as spec;
+ghost use Rattle.vault_http.specs.Left as left;
+ghost use Rattle.vault_http.specs.Steady.{Steady};
+ghost use Rattle.vault_http.specs.declared.fault.ServeFault.TheVariants as faults;
+
+use crate::answer::head::Allow;
+use crate::body::command_after;
+use crate::fault::ServeFault;
+use crate::head::head::{Front, read_head};
+use crate::reply::{conclude, deny};
+use crate::send::tell;
+use httparse::spans::{EMPTY_HEADER_SPAN, HeaderSpan, RequestSpans};
+use std::alloc::Global;
+use std::io::{Read, Write};
+use vault_base::moment::Moment;
+use vault_base::name::CallerName;
+use vault_base::refusal::Refusal;
+use vault_core_model::keeper::Keeper;
+use vault_http_request::order::{Order, Resource};
+use vault_http_request::plan::{Asked, Plan, asked_of};
+use vault_http_request::terms::{Locks, Terms};
+use vault_http_values::fault::LineFault;
+
+/// Serves the parts of a plan, with what comes behind its head.
+fn serve_parts<R: Read, W: Write, K: Keeper>(
+    alloc: Global,
+    reader: &mut R,
+    writer: &mut W,
+    keeper: &mut K,
+    at: Moment,
+    order: Order,
+    size: Option<u64>,
+    caller: CallerName,
+    locks: Locks,
+    waits: bool,
+    shown: bool,
+) -> Result<(), ServeFault>
+    ensures ok { K.is_honest keeper.new → OnOk result (IfSome (R.remaining reader.old) (λ rest. (out : List ℕ) × spec.PlanServed (Rose (K.count keeper.old) (K.count keeper.new)) shown (spec.plan_of at order size caller locks waits) rest (K.vault keeper.old) out (K.vault keeper.new) × Appends (W.contents writer.old) (W.contents writer.new) out)) }
+    ensures err { K.is_honest keeper.new → IfErr result (λ e. IfSome (R.remaining reader.old) (λ rest. left.PlanLeft (Rose (K.count keeper.old) (K.count keeper.new)) e shown (spec.plan_of at order size caller locks waits) rest (R.remaining reader.new) (K.vault keeper.old) (K.vault keeper.new) (W.contents writer.old) (W.contents writer.new))) }
+    ensures once { K.is_honest keeper.new → left.AtMostOne (Some at) (K.vault keeper.old) (K.vault keeper.new) }
+    ensures unread { result ≡ Err faults.Read → K.vault keeper.new ≡ K.vault keeper.old }
+    ensures taken { OnOk result ((taken : List ℕ) × Consumes (R.remaining reader.old) (R.remaining reader.new) taken × IsWithinLength size taken) }
+    ensures honest { K.is_honest keeper.new → K.is_honest keeper.old }
+    ensures counted { K.count keeper.old ≤ K.count keeper.new }
+    ensures steady { Steady (K.is_honest keeper.new) result (Some at) (K.vault keeper.old) (K.vault keeper.new) (K.count keeper.old) (K.count keeper.new) (W.contents writer.old) (W.contents writer.new) }
+{
+    let told = tell(writer, waits);
+    let judged = command_after(alloc, reader, order, locks, size, told)?;
+    conclude(alloc, writer, keeper, at, caller, judged, shown)
+}
+
+/// Serves a plan, with what comes behind its head.
+fn serve_plan<R: Read, W: Write, K: Keeper>(
+    alloc: Global,
+    reader: &mut R,
+    writer: &mut W,
+    keeper: &mut K,
+    plan: Plan,
+    shown: bool,
+) -> Result<(), ServeFault>
+    ensures ok { K.is_honest keeper.new → OnOk result (IfSome (R.remaining reader.old) (λ rest. (out : List ℕ) × spec.PlanServed (Rose (K.count keeper.old) (K.count keeper.new)) shown plan rest (K.vault keeper.old) out (K.vault keeper.new) × Appends (W.contents writer.old) (W.contents writer.new) out)) }
+    ensures err { K.is_honest keeper.new → IfErr result (λ e. IfSome (R.remaining reader.old) (λ rest. left.PlanLeft (Rose (K.count keeper.old) (K.count keeper.new)) e shown plan rest (R.remaining reader.new) (K.vault keeper.old) (K.vault keeper.new) (W.contents writer.old) (W.contents writer.new))) }
+    ensures once { K.is_honest keeper.new → left.AtMostOne (Some plan.at) (K.vault keeper.old) (K.vault keeper.new) }
+    ensures unread { result ≡ Err faults.Read → K.vault keeper.new ≡ K.vault keeper.old }
+    ensures taken { OnOk result ((taken : List ℕ) × Consumes (R.remaining reader.old) (R.remaining reader.new) taken × IsWithinLength plan.terms.length taken) }
+    ensures honest { K.is_honest keeper.new → K.is_honest keeper.old }
+    ensures counted { K.count keeper.old ≤ K.count keeper.new }
+    ensures steady { Steady (K.is_honest keeper.new) result (Some plan.at) (K.vault keeper.old) (K.vault keeper.new) (K.count keeper.old) (K.count keeper.new) (W.contents writer.old) (W.contents writer.new) }
+{
+    let Plan { at, order, terms } = plan;
+    let Terms {
+        length,
+        caller,
+        locks,
+        waits,
+    } = terms;
+    serve_parts(
+        alloc, reader, writer, keeper, at, order, length, caller, locks, waits, shown,
+    )
+}
+
+/// Whether an answer to the method shows its body.
+fn is_shown(method: &[u8]) -> bool
+    ensures { result ≡ spec.is_shown method.now }
+{
+    method != b"HEAD".as_slice()
+}
+
+fn allow_of(resource: Resource) -> Allow
+    ensures { result ≡ spec.allow_of resource }
+{
+    match resource {
+        Resource::Object => Allow::Object,
+        Resource::Setting => Allow::Setting,
+        Resource::Bucket => Allow::Bucket,
+        Resource::Versions => Allow::Versions,
+        Resource::Lifecycle => Allow::Lifecycle,
+    }
+}
+
+/// What a head asks for, its parts where they lie in the buffer.
+fn spans_asked(
+    alloc: Global,
+    moment: &Option<Moment>,
+    buf: &[u8],
+    headers: &[HeaderSpan],
+    spans: RequestSpans,
+) -> Result<Asked, LineFault>
+    requires within { IsRequestWithin buf.now headers.now spans }
+    requires room { length headers.now ≡ 64 }
+    ensures value { Gives (λ x. x) result (spec.spans_asked moment.now buf.now headers.now spans) }
+    ensures at { IfOk result (IsAt moment.now) }
+{
+    asked_of(
+        alloc,
+        *moment,
+        spans.method.of(buf),
+        spans.path.of(buf),
+        spans.version,
+        buf,
+        &headers[..spans.headers],
+    )
+}
+
+/// Serves what a head asks for, with what comes behind it.
+fn serve_asked<R: Read, W: Write, K: Keeper>(
+    alloc: Global,
+    reader: &mut R,
+    writer: &mut W,
+    keeper: &mut K,
+    moment: &Option<Moment>,
+    asked: Asked,
+    shown: bool,
+) -> Result<(), ServeFault>
+    requires { IsAt moment.now asked }
+    ensures ok { K.is_honest keeper.new → OnOk result (IfSome (R.remaining reader.old) (λ rest. (out : List ℕ) × spec.AskedServed (Rose (K.count keeper.old) (K.count keeper.new)) moment.now shown asked rest (K.vault keeper.old) out (K.vault keeper.new) × Appends (W.contents writer.old) (W.contents writer.new) out)) }
+    ensures err { K.is_honest keeper.new → IfErr result (λ e. IfSome (R.remaining reader.old) (λ rest. left.AskedLeft (Rose (K.count keeper.old) (K.count keeper.new)) e moment.now shown asked rest (R.remaining reader.new) (K.vault keeper.old) (K.vault keeper.new) (W.contents writer.old) (W.contents writer.new))) }
+    ensures once { K.is_honest keeper.new → left.AtMostOne moment.now (K.vault keeper.old) (K.vault keeper.new) }
+    ensures unread { result ≡ Err faults.Read → K.vault keeper.new ≡ K.vault keeper.old }
+    ensures taken { OnOk result ((taken : List ℕ) × Consumes (R.remaining reader.old) (R.remaining reader.new) taken × left.IsAskedTaken asked taken) }
+    ensures honest { K.is_honest keeper.new → K.is_honest keeper.old }
+    ensures counted { K.count keeper.old ≤ K.count keeper.new }
+    ensures steady { Steady (K.is_honest keeper.new) result moment.now (K.vault keeper.old) (K.vault keeper.new) (K.count keeper.old) (K.count keeper.new) (W.contents writer.old) (W.contents writer.new) }
+{
+    match asked {
+        Asked::Plan(plan) => serve_plan(alloc, reader, writer, keeper, plan, shown),
+        Asked::NotAllowed(resource) => deny(
+            alloc,
+            writer,
+            *moment,
+            Refusal::MethodNotAllowed,
+            Some(allow_of(resource)),
+            shown,
+        ),
+    }
+}
+
+/// Serves what was judged of a head, with what comes behind it.
+fn serve_judged<R: Read, W: Write, K: Keeper>(
+    alloc: Global,
+    reader: &mut R,
+    writer: &mut W,
+    keeper: &mut K,
+    moment: &Option<Moment>,
+    judged: Result<Asked, LineFault>,
+    shown: bool,
+) -> Result<(), ServeFault>
+    requires { IfOk judged (IsAt moment.now) }
+    ensures ok { K.is_honest keeper.new → (said : spec.Said) → Gives (λ x. x) judged said → OnOk result (IfSome (R.remaining reader.old) (λ rest. (out : List ℕ) × spec.HeadJudged (Rose (K.count keeper.old) (K.count keeper.new)) moment.now shown said rest (K.vault keeper.old) out (K.vault keeper.new) × Appends (W.contents writer.old) (W.contents writer.new) out)) }
+    ensures err { K.is_honest keeper.new → (said : spec.Said) → Gives (λ x. x) judged said → IfErr result (λ e. IfSome (R.remaining reader.old) (λ rest. left.HeadLeft (Rose (K.count keeper.old) (K.count keeper.new)) e moment.now shown said rest (R.remaining reader.new) (K.vault keeper.old) (K.vault keeper.new) (W.contents writer.old) (W.contents writer.new))) }
+    ensures once { K.is_honest keeper.new → left.AtMostOne moment.now (K.vault keeper.old) (K.vault keeper.new) }
+    ensures unread { result ≡ Err faults.Read → K.vault keeper.new ≡ K.vault keeper.old }
+    ensures taken { (said : spec.Said) → Gives (λ x. x) judged said → OnOk result ((taken : List ℕ) × Consumes (R.remaining reader.old) (R.remaining reader.new) taken × left.IsBodyTaken said taken) }
+    ensures honest { K.is_honest keeper.new → K.is_honest keeper.old }
+    ensures counted { K.count keeper.old ≤ K.count keeper.new }
+    ensures steady { Steady (K.is_honest keeper.new) result moment.now (K.vault keeper.old) (K.vault keeper.new) (K.count keeper.old) (K.count keeper.new) (W.contents writer.old) (W.contents writer.new) }
+{
+    match judged {
+        Ok(asked) => serve_asked(alloc, reader, writer, keeper, moment, asked, shown),
+        Err(LineFault::Memory) => Err(ServeFault::Memory),
+        Err(LineFault::Refused(refusal)) => deny(alloc, writer, *moment, refusal, None, shown),
+    }
+}
+
+/// Serves a head, with what comes behind it.
+fn serve_head<R: Read, W: Write, K: Keeper>(
+    alloc: Global,
+    reader: &mut R,
+    writer: &mut W,
+    keeper: &mut K,
+    moment: &Option<Moment>,
+    buf: &[u8],
+    headers: &[HeaderSpan],
+    spans: RequestSpans,
+) -> Result<(), ServeFault>
+    requires within { IsRequestWithin buf.now headers.now spans }
+    requires room { length headers.now ≡ 64 }
+    ensures ok { K.is_honest keeper.new → OnOk result (IfSome (R.remaining reader.old) (λ rest. (out : List ℕ) × spec.HeadJudged (Rose (K.count keeper.old) (K.count keeper.new)) moment.now (spec.is_shown (span_bytes buf.now spans.method)) (spec.spans_asked moment.now buf.now headers.now spans) rest (K.vault keeper.old) out (K.vault keeper.new) × Appends (W.contents writer.old) (W.contents writer.new) out)) }
+    ensures err { K.is_honest keeper.new → IfErr result (λ e. IfSome (R.remaining reader.old) (λ rest. left.HeadLeft (Rose (K.count keeper.old) (K.count keeper.new)) e moment.now (spec.is_shown (span_bytes buf.now spans.method)) (spec.spans_asked moment.now buf.now headers.now spans) rest (R.remaining reader.new) (K.vault keeper.old) (K.vault keeper.new) (W.contents writer.old) (W.contents writer.new))) }
+    ensures once { K.is_honest keeper.new → left.AtMostOne moment.now (K.vault keeper.old) (K.vault keeper.new) }
+    ensures unread { result ≡ Err faults.Read → K.vault keeper.new ≡ K.vault keeper.old }
+    ensures taken { OnOk result ((taken : List ℕ) × Consumes (R.remaining reader.old) (R.remaining reader.new) taken × left.IsBodyTaken (spec.spans_asked moment.now buf.now headers.now spans) taken) }
+    ensures honest { K.is_honest keeper.new → K.is_honest keeper.old }
+    ensures counted { K.count keeper.old ≤ K.count keeper.new }
+    ensures steady { Steady (K.is_honest keeper.new) result moment.now (K.vault keeper.old) (K.vault keeper.new) (K.count keeper.old) (K.count keeper.new) (W.contents writer.old) (W.contents writer.new) }
+{
+    serve_judged(
+        alloc,
+        reader,
+        writer,
+        keeper,
+        moment,
+        spans_asked(alloc, moment, buf, headers, spans),
+        is_shown(spans.method.of(buf)),
+    )
+}
+
+/// Serves one request at a moment, where the reading is one.
+fn serve_at<R: Read, W: Write, K: Keeper>(
+    alloc: Global,
+    reader: &mut R,
+    writer: &mut W,
+    keeper: &mut K,
+    moment: Option<Moment>,
+) -> Result<(), ServeFault>
+    ensures ok { K.is_honest keeper.new → OnOk result (IfSome (R.remaining reader.old) (λ input. (out : List ℕ) × spec.Served (Rose (K.count keeper.old) (K.count keeper.new)) moment input (K.vault keeper.old) out (K.vault keeper.new) × Appends (W.contents writer.old) (W.contents writer.new) out)) }
+    ensures err { K.is_honest keeper.new → IfErr result (λ e. IfSome (R.remaining reader.old) (λ input. left.Left (Rose (K.count keeper.old) (K.count keeper.new)) e moment input (R.remaining reader.new) (K.vault keeper.old) (K.vault keeper.new) (W.contents writer.old) (W.contents writer.new))) }
+    ensures once { K.is_honest keeper.new → left.AtMostOne moment (K.vault keeper.old) (K.vault keeper.new) }
+    ensures unread { result ≡ Err faults.Read → K.vault keeper.new ≡ K.vault keeper.old }
+    ensures taken { OnOk result (IfSome (R.remaining reader.old) (λ input. (taken : List ℕ) × Consumes (R.remaining reader.old) (R.remaining reader.new) taken × left.IsTaken moment input taken)) }
+    ensures honest { K.is_honest keeper.new → K.is_honest keeper.old }
+    ensures counted { K.count keeper.old ≤ K.count keeper.new }
+    ensures steady { Steady (K.is_honest keeper.new) result moment (K.vault keeper.old) (K.vault keeper.new) (K.count keeper.old) (K.count keeper.new) (W.contents writer.old) (W.contents writer.new) }
+{
+    let mut buf = Vec::new(alloc);
+    let mut headers = [EMPTY_HEADER_SPAN; 64];
+    match read_head(reader, &mut buf, &mut headers)? {
+        Front::Nothing => Ok(()),
+        Front::NoHead => deny(alloc, writer, moment, Refusal::InvalidArgument, None, true),
+        Front::Head(spans) => serve_head(
+            alloc,
+            reader,
+            writer,
+            keeper,
+            &moment,
+            buf.as_slice(),
+            &headers,
+            spans,
+        ),
+    }
+}
+
+/// Serves one request: what is written is the answer to what is read, by at most one step at the reading,
+/// which is in seconds since 1970. Not one byte is answered by none.
+///
+/// Nothing behind the head is read where no body belongs to the request, and of a body no more than
+/// its `content-length`; the reader is asked for one byte at a time, so give a `BufReader` over a
+/// file or a socket.
+///
+/// `Read` comes where the reader failed: no step was made. `Write` comes where the writer failed, and
+/// `Memory` where a growth was refused: the vault is as before, or as after the one step. Where it was the
+/// answer that could not be written, the vault is as the answer says, and a client that waits was told to go
+/// on; where it was `100 Continue`, nothing of the body was read and the vault is as before. With `Read` and
+/// `Memory` no byte of an answer is written, with `Write` a beginning of it.
+///
+/// That the device failed is answered only where the keeper's count of failures rose in the call, or stands at
+/// its greatest value; and where the count rose, that is what is answered.
+pub fn serve_one<R: Read, W: Write, K: Keeper>(
+    alloc: Global,
+    reader: &mut R,
+    writer: &mut W,
+    keeper: &mut K,
+    reading: i64,
+) -> Result<(), ServeFault>
+    ensures ok { K.is_honest keeper.new → OnOk result (IfSome (R.remaining reader.old) (λ input. (out : List ℕ) × spec.Served (Rose (K.count keeper.old) (K.count keeper.new)) (moment_at reading) input (K.vault keeper.old) out (K.vault keeper.new) × Appends (W.contents writer.old) (W.contents writer.new) out)) }
+    ensures err { K.is_honest keeper.new → IfErr result (λ e. IfSome (R.remaining reader.old) (λ input. left.Left (Rose (K.count keeper.old) (K.count keeper.new)) e (moment_at reading) input (R.remaining reader.new) (K.vault keeper.old) (K.vault keeper.new) (W.contents writer.old) (W.contents writer.new))) }
+    ensures once { K.is_honest keeper.new → left.AtMostOne (moment_at reading) (K.vault keeper.old) (K.vault keeper.new) }
+    ensures unread { result ≡ Err faults.Read → K.vault keeper.new ≡ K.vault keeper.old }
+    ensures taken { OnOk result (IfSome (R.remaining reader.old) (λ input. (taken : List ℕ) × Consumes (R.remaining reader.old) (R.remaining reader.new) taken × left.IsTaken (moment_at reading) input taken)) }
+    ensures honest { K.is_honest keeper.new → K.is_honest keeper.old }
+    ensures counted { K.count keeper.old ≤ K.count keeper.new }
+    // Where the count rose, the reply of the one step tells that the device failed, and what is written is its
+    // answer, or a beginning of that.
+    ensures steady { Steady (K.is_honest keeper.new) result (moment_at reading) (K.vault keeper.old) (K.vault keeper.new) (K.count keeper.old) (K.count keeper.new) (W.contents writer.old) (W.contents writer.new) }
+{
+    serve_at(alloc, reader, writer, keeper, Moment::from_secs(reading))
+}

@@ -1,4 +1,0 @@
-pub mod Body
-pub mod Exchange
-pub mod Left
-pub mod Steady

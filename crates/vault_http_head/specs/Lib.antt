@@ -1,3 +1,0 @@
-pub mod Body
-pub mod Bytes
-pub mod Head

@@ -1,6 +1,0 @@
-//! What a request begins with, and its body: bytes that are taken from a reader, and not one more.
-#![tactic(auto)]
-
-pub mod body;
-pub mod bytes;
-pub mod head;

@@ -1,0 +1,6 @@
+pub mod ReplyLemmas
+mod RuleLemmas
+pub mod CommandLemmas
+pub mod GrammarLemmas
+pub mod LineLemmas
+pub mod SpelledLemmas

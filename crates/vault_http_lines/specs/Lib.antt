@@ -1,0 +1,10 @@
+pub mod ReplyLine
+pub mod Putting
+pub mod ConfigLines
+pub mod EntryLines
+pub mod Grammar
+pub mod ListLine
+pub mod LockLines
+pub mod ReadLine
+pub mod RecordLines
+pub mod Verb

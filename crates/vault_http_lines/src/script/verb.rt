@@ -1,0 +1,259 @@
+//! The lines that there are: the `do` of each, and its members.
+ghost use Rattle.std.specs.Prelude.{◌≡◌, map};
+ghost use Rattle.serde_json.specs.View.{view};
+ghost use Rattle.vault_http_values.specs.Shape.{has_members as are_members};
+ghost use Rattle.vault_http_lines.specs.Verb as spec;
+
+use serde_json::Value;
+use vault_http_values::shape::{Kind, has_members, has_one_content};
+
+/// What a line asks to be done.
+#[derive(Clone, Copy, Debug, PartialEq, Eq)]
+pub enum Verb {
+    AddDept,
+    AddCaller,
+    CloseCaller,
+    AddBucket,
+    MoveBucket,
+    SetDefault,
+    GetDefault,
+    SetRules,
+    GetRules,
+    DropRules,
+    Put,
+    Get,
+    Head,
+    ListVersions,
+    Delete,
+    DeleteVersion,
+    SetRetention,
+    GetRetention,
+    SetHold,
+    GetHold,
+    Run,
+    Report,
+    Certificate,
+    Intake,
+}
+
+const AT: (&str, Kind) = ("at", Kind::Text);
+
+const WHO: (&str, Kind) = ("as", Kind::Text);
+
+const VERB: (&str, Kind) = ("do", Kind::Text);
+
+const OF_DEPT: [(&str, Kind); 4] = [AT, WHO, VERB, ("dept", Kind::Text)];
+
+const OF_CALLER: [(&str, Kind); 4] = [AT, WHO, VERB, ("caller", Kind::Text)];
+
+const ADD_CALLER: [(&str, Kind); 6] = [
+    AT,
+    WHO,
+    VERB,
+    ("caller", Kind::Text),
+    ("dept", Kind::OptionalText),
+    ("rights", Kind::Texts),
+];
+
+const OF_BUCKET: [(&str, Kind); 4] = [AT, WHO, VERB, ("bucket", Kind::Text)];
+
+const OF_BUCKET_AND_DEPT: [(&str, Kind); 5] = [
+    AT,
+    WHO,
+    VERB,
+    ("bucket", Kind::Text),
+    ("dept", Kind::Text),
+];
+
+const SET_DEFAULT: [(&str, Kind); 7] = [
+    AT,
+    WHO,
+    VERB,
+    ("bucket", Kind::Text),
+    ("mode", Kind::OptionalText),
+    ("days", Kind::OptionalNumber),
+    ("years", Kind::OptionalNumber),
+];
+
+const SET_RULES: [(&str, Kind); 5] = [
+    AT,
+    WHO,
+    VERB,
+    ("bucket", Kind::Text),
+    ("rules", Kind::Rules),
+];
+
+/// Without an id the current entry is meant.
+const OF_ENTRY: [(&str, Kind); 6] = [
+    AT,
+    WHO,
+    VERB,
+    ("bucket", Kind::Text),
+    ("key", Kind::Text),
+    ("id", Kind::OptionalNumber),
+];
+
+const PUT: [(&str, Kind); 10] = [
+    AT,
+    WHO,
+    VERB,
+    ("bucket", Kind::Text),
+    ("key", Kind::Text),
+    ("text", Kind::OptionalText),
+    ("hex", Kind::OptionalText),
+    ("mode", Kind::OptionalText),
+    ("until", Kind::OptionalText),
+    ("hold", Kind::OptionalText),
+];
+
+const LIST_VERSIONS: [(&str, Kind); 8] = [
+    AT,
+    WHO,
+    VERB,
+    ("bucket", Kind::Text),
+    ("prefix", Kind::OptionalText),
+    ("after_key", Kind::OptionalText),
+    ("after_id", Kind::OptionalNumber),
+    ("most", Kind::OptionalNumber),
+];
+
+const DELETE: [(&str, Kind); 5] = [AT, WHO, VERB, ("bucket", Kind::Text), ("key", Kind::Text)];
+
+const DELETE_VERSION: [(&str, Kind); 7] = [
+    AT,
+    WHO,
+    VERB,
+    ("bucket", Kind::Text),
+    ("key", Kind::Text),
+    ("id", Kind::Number),
+    ("bypass", Kind::OptionalFlag),
+];
+
+const SET_RETENTION: [(&str, Kind); 9] = [
+    AT,
+    WHO,
+    VERB,
+    ("bucket", Kind::Text),
+    ("key", Kind::Text),
+    ("id", Kind::OptionalNumber),
+    ("mode", Kind::Text),
+    ("until", Kind::Text),
+    ("bypass", Kind::OptionalFlag),
+];
+
+const SET_HOLD: [(&str, Kind); 7] = [
+    AT,
+    WHO,
+    VERB,
+    ("bucket", Kind::Text),
+    ("key", Kind::Text),
+    ("id", Kind::OptionalNumber),
+    ("hold", Kind::Text),
+];
+
+const CERTIFICATE: [(&str, Kind); 5] = [
+    AT,
+    WHO,
+    VERB,
+    ("bucket", Kind::Text),
+    ("id", Kind::Number),
+];
+
+const INTAKE: [(&str, Kind); 12] = [
+    AT,
+    WHO,
+    VERB,
+    ("bucket", Kind::Text),
+    ("batch", Kind::Text),
+    ("line", Kind::Number),
+    ("key", Kind::Text),
+    ("text", Kind::OptionalText),
+    ("hex", Kind::OptionalText),
+    ("mode", Kind::OptionalText),
+    ("until", Kind::OptionalText),
+    ("hold", Kind::OptionalText),
+];
+
+impl Verb {
+    /// The verb of that name, as `delete-version`.
+    pub fn read(text: &str) -> Option<Verb>
+        ensures { result ≡ spec.verb_named text.now }
+    {
+        match text {
+            "add-dept" => Some(Verb::AddDept),
+            "add-caller" => Some(Verb::AddCaller),
+            "close-caller" => Some(Verb::CloseCaller),
+            "add-bucket" => Some(Verb::AddBucket),
+            "move-bucket" => Some(Verb::MoveBucket),
+            "set-default" => Some(Verb::SetDefault),
+            "get-default" => Some(Verb::GetDefault),
+            "set-rules" => Some(Verb::SetRules),
+            "get-rules" => Some(Verb::GetRules),
+            "drop-rules" => Some(Verb::DropRules),
+            "put" => Some(Verb::Put),
+            "get" => Some(Verb::Get),
+            "head" => Some(Verb::Head),
+            "list-versions" => Some(Verb::ListVersions),
+            "delete" => Some(Verb::Delete),
+            "delete-version" => Some(Verb::DeleteVersion),
+            "set-retention" => Some(Verb::SetRetention),
+            "get-retention" => Some(Verb::GetRetention),
+            "set-hold" => Some(Verb::SetHold),
+            "get-hold" => Some(Verb::GetHold),
+            "run" => Some(Verb::Run),
+            "report" => Some(Verb::Report),
+            "certificate" => Some(Verb::Certificate),
+            "intake" => Some(Verb::Intake),
+            _ => None,
+        }
+    }
+
+    /// The value is an object of just the members of this verb's line, each of its kind.
+    pub fn is_shaped(self, value: &Value) -> bool
+        ensures { result ≡ spec.is_shaped self (view value.now) }
+    {
+        match self {
+            Verb::Put => self.has_members(value) && has_one_content(value),
+            Verb::Intake => self.has_members(value) && has_one_content(value),
+            _ => self.has_members(value),
+        }
+    }
+
+    fn has_members(self, value: &Value) -> bool
+        ensures { result ≡ are_members (spec.members_of self) (view value.now) }
+    {
+        has_members(value, self.members())
+    }
+
+    /// The members of this verb's line.
+    fn members(self) -> &'static [(&'static str, Kind)]
+        ensures { map (λ m. (m.0.now, m.1)) result.now ≡ spec.members_of self }
+    {
+        match self {
+            Verb::AddDept => &OF_DEPT,
+            Verb::AddCaller => &ADD_CALLER,
+            Verb::CloseCaller => &OF_CALLER,
+            Verb::AddBucket => &OF_BUCKET_AND_DEPT,
+            Verb::MoveBucket => &OF_BUCKET_AND_DEPT,
+            Verb::SetDefault => &SET_DEFAULT,
+            Verb::GetDefault => &OF_BUCKET,
+            Verb::SetRules => &SET_RULES,
+            Verb::GetRules => &OF_BUCKET,
+            Verb::DropRules => &OF_BUCKET,
+            Verb::Put => &PUT,
+            Verb::Get => &OF_ENTRY,
+            Verb::Head => &OF_ENTRY,
+            Verb::ListVersions => &LIST_VERSIONS,
+            Verb::Delete => &DELETE,
+            Verb::DeleteVersion => &DELETE_VERSION,
+            Verb::SetRetention => &SET_RETENTION,
+            Verb::GetRetention => &OF_ENTRY,
+            Verb::SetHold => &SET_HOLD,
+            Verb::GetHold => &OF_ENTRY,
+            Verb::Run => &OF_BUCKET,
+            Verb::Report => &OF_DEPT,
+            Verb::Certificate => &CERTIFICATE,
+            Verb::Intake => &INTAKE,
+        }
+    }
+}

@@ -1,2 +1,0 @@
-pub mod ReplyLemmas
-mod RuleLemmas

@@ -1,2 +1,0 @@
-pub mod ReplyLine
-pub mod Putting

@@ -1,5 +1,0 @@
-//! Replies printed as lines of JSON.
-#![tactic(auto)]
-
-pub mod reply_line;
-mod rule_value;

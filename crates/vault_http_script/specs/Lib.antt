@@ -1,9 +1,0 @@
-pub mod ConfigLines
-pub mod EntryLines
-pub mod Grammar
-pub mod ListLine
-pub mod LockLines
-pub mod ReadLine
-pub mod RecordLines
-pub mod Verb
-pub use Rattle.vault_http_reply.specs.ReplyLine

@@ -1,0 +1,3 @@
+//! Commands carried out over a vault in tables, from tables to tables.
+
+pub mod run;

@@ -1,0 +1,28 @@
+use Rattle.sqlite.specs.Held.{state}
+use Rattle.vault_store_apply.proofs.ReadLemmas.{keeps_now, read_then}
+use Rattle.vault_store_apply.proofs.entries.moves.read_load.Goals as goal
+
+pub returns-clause-value : goal.returns-clause-value
+returns-clause-value g c clean v was =
+    let clean1 = c.in_ok-number.ensures.honest clean in
+    let held = c.in_ok-held.ensures.value clean1 v was in
+    (held.0, held.1, c.in_ok-number.ensures.value clean v (c.in_ok-held.ensures.same clean1 v was))
+
+pub returns-clause-same : goal.returns-clause-same
+returns-clause-same g c clean v was = c.in_ok-number.ensures.same clean v (c.in_ok-held.ensures.same (c.in_ok-number.ensures.honest clean) v was)
+
+pub returns-clause-crash : goal.returns-clause-crash
+returns-clause-crash g c v was =
+    let h1 = c.find_held.new.conn in
+    let was1 = keeps_now g.S.Store h1 v (g.met.S.Store.shut_if_dirty h1.store) (λ clean. c.in_ok-held.ensures.same clean v was) in
+    read_then (state g.S.Store c.args.conn.now) (state g.S.Store h1) (state g.S.Store c.find_number.new.conn) c.in_ok-held.ensures.open (c.in_ok-held.ensures.crash v was) (c.in_ok-number.ensures.crash v was1)
+
+pub returns-in_err-number-clause-same : goal.returns-in_err-number-clause-same
+returns-in_err-number-clause-same g c clean v was =
+    c.in_err-number.ensures.same clean v (c.in_ok-held.ensures.same (c.in_err-number.ensures.honest clean) v was)
+
+pub returns-in_err-number-clause-crash : goal.returns-in_err-number-clause-crash
+returns-in_err-number-clause-crash g c v was =
+    let h1 = c.find_held.new.conn in
+    let was1 = keeps_now g.S.Store h1 v (g.met.S.Store.shut_if_dirty h1.store) (λ clean. c.in_ok-held.ensures.same clean v was) in
+    read_then (state g.S.Store c.args.conn.now) (state g.S.Store h1) (state g.S.Store c.find_number.new.conn) c.in_ok-held.ensures.open (c.in_ok-held.ensures.crash v was) (c.in_err-number.ensures.crash v was1)

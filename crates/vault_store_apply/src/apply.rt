@@ -1,0 +1,83 @@
+//! A change of any kind.
+ghost use Rattle.std.specs.Prelude.{◌≡◌, ◌≤◌, false, IsTrue, OnOk, OnErr};
+ghost use Rattle.sqlite.specs.Held.{state};
+ghost use Rattle.sqlite.specs.State.{HasCleanDisk, Survives};
+ghost use Rattle.vault_core_model.specs.Allowed.{Allows};
+ghost use Rattle.vault_core_model.specs.Change.{changed};
+ghost use Rattle.vault_core_model.specs.Vault.{Vault};
+ghost use Rattle.vault_store_model.specs.Keeping.{Keeps};
+ghost use Rattle.vault_store_model.specs.Limits.{IsChangeInLimits};
+ghost use Rattle.vault_store_apply.specs.Applies.{Changes, IsChanged};
+ghost use Rattle.vault_store_apply.specs.Left.{IsFoundIn};
+
+use crate::entries::entries::admit;
+use crate::entries::moves::move_bucket;
+use crate::entries::open::check_open;
+use crate::entries::removal::remove;
+use crate::entries::settings::add_setting;
+use crate::records::{
+    add_bucket, add_caller, add_department, close_caller, set_default, set_rules,
+};
+use sqlite::{Alter, Connection, Error, ErrorCode};
+use std::alloc::Global;
+use vault_base::moment::Moment;
+use vault_core_model::change::Change;
+use vault_store_limits::change::is_in_limits;
+
+/// Makes a change that is in its limits.
+fn make<S: Alter>(
+    conn: &mut Connection<S>,
+    alloc: Global,
+    at: Moment,
+    change: &Change,
+) -> Result<(), Error>
+    requires settled { conn.old.in_transaction ≡ false }
+    requires limits { IsChangeInLimits change.now }
+    ensures mode { conn.new.in_transaction ≡ false }
+    ensures open { HasCleanDisk (state S.Store conn.new) → OnOk result (IsTrue (state S.Store conn.new).is_open) }
+    ensures done { HasCleanDisk (state S.Store conn.new) → OnOk result (Changes (state S.Store conn.old) (state S.Store conn.new) at change.now) }
+    ensures nothing { HasCleanDisk (state S.Store conn.new) → OnErr result ((v : Vault) → Keeps (state S.Store conn.old) v → Keeps (state S.Store conn.new) v) }
+    ensures honest { HasCleanDisk (state S.Store conn.new) → HasCleanDisk (state S.Store conn.old) }
+    ensures crash { (v : Vault) → Keeps (state S.Store conn.old) v → Survives (state S.Store conn.old) (state S.Store conn.new) (IsChanged (state S.Store conn.old) v at change.now) }
+{
+    match change {
+        Change::AddDept(name) => add_department(conn, at, name),
+        Change::AddCaller(caller) => add_caller(conn, at, caller),
+        Change::CloseCaller(name) => close_caller(conn, at, name),
+        Change::AddBucket(name, dept) => add_bucket(conn, at, name, dept),
+        Change::MoveBucket(name, dept) => move_bucket(conn, alloc, at, name, dept),
+        Change::SetDefault(name, default) => set_default(conn, at, name, *default),
+        Change::SetRules(name, rules) => set_rules(conn, at, name, rules),
+        Change::Admit(admission) => admit(conn, at, admission),
+        Change::AddSetting(id, setting) => add_setting(conn, at, *id, setting),
+        Change::Remove(id, removal) => remove(conn, at, *id, removal),
+    }
+}
+
+/// Makes a change at a moment, which becomes the last one; or changes nothing.
+///
+/// `TooBig` where what the change brings isn't in the limits of what a vault keeps. Want of memory is
+/// `OutOfMemory`.
+pub fn apply_change<S: Alter>(
+    conn: &mut Connection<S>,
+    alloc: Global,
+    at: Moment,
+    change: &Change,
+) -> Result<(), Error>
+    requires { conn.old.in_transaction ≡ false }
+    ensures mode { conn.new.in_transaction ≡ false }
+    ensures open { HasCleanDisk (state S.Store conn.new) → OnOk result (IsTrue (state S.Store conn.new).is_open) }
+    // The change is made, and a crash leaves the changed vault alone.
+    ensures done { HasCleanDisk (state S.Store conn.new) → OnOk result (Changes (state S.Store conn.old) (state S.Store conn.new) at change.now) }
+    ensures nothing { HasCleanDisk (state S.Store conn.new) → OnErr result ((v : Vault) → Keeps (state S.Store conn.old) v → Keeps (state S.Store conn.new) v) }
+    ensures honest { HasCleanDisk (state S.Store conn.new) → HasCleanDisk (state S.Store conn.old) }
+    // What a crash may leave, at any moment of the call: what it could leave before, or the changed vault.
+    ensures crash { (v : Vault) → Keeps (state S.Store conn.old) v → v.last ≤ at → Allows v at change.now → Survives (state S.Store conn.old) (state S.Store conn.new) (IsFoundIn (changed v at change.now)) }
+{
+    if !is_in_limits(alloc, change)? {
+        return Err(Error::SqliteFailure(ErrorCode::TooBig));
+    }
+    // What a read of a connection that a failure has shut leaves is told by no clause.
+    check_open(conn)?;
+    make(conn, alloc, at, change)
+}

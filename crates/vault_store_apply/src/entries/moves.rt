@@ -1,0 +1,183 @@
+//! A bucket that moves to another department.
+ghost use Rattle.std.specs.Prelude.{◌≡◌, ◌+◌, false, Some, IsTrue, IfOk, OnOk, OnErr};
+ghost use Rattle.sqlite.specs.Held.{state};
+ghost use Rattle.sqlite.specs.State.{HasCleanDisk, Survives};
+ghost use Rattle.vault_base.specs.Days.{day};
+ghost use Rattle.vault_core_model.specs.declared.change.Change.TheVariants as change;
+ghost use Rattle.vault_core_model.specs.Totals.{IsRowFor, bucket_bytes, bucket_weight};
+ghost use Rattle.vault_core_model.specs.Vault.{Vault, config_of};
+ghost use Rattle.vault_store_model.specs.Keeping.{Keeps};
+ghost use Rattle.vault_store_model.specs.Limits.{IsChangeInLimits};
+ghost use Rattle.vault_store_model.specs.Sums.{HandsOver, Receives};
+ghost use Rattle.vault_store_apply.specs.Applies.{Changes, IsChanged};
+
+use crate::commit::commit_part;
+use crate::entries::open::check_open;
+use crate::entries::place::{read_config, read_sums};
+use crate::parts::moves::MovedBucket;
+use sqlite::{Alter, Connection, Error, ErrorCode};
+use std::alloc::Global;
+use vault_base::moment::Moment;
+use vault_base::name::{BucketName, DeptName};
+use vault_core_model::records::BucketConfig;
+use vault_store_reads::meta::read_moves;
+use vault_store_reads::ordered::reads::read_bucket_held;
+use vault_tally::row::Row;
+
+/// The bytes of the held versions of a bucket, and their weight.
+fn find_held<S: Alter>(
+    conn: &mut Connection<S>,
+    alloc: Global,
+    bucket: &BucketName,
+) -> Result<(u64, u64), Error>
+    ensures value { HasCleanDisk (state S.Store conn.new) → IfOk result (λ held. (v : Vault) → Keeps (state S.Store conn.old) v → (held.0 ≡ bucket_bytes v bucket.now) × (held.1 ≡ bucket_weight v bucket.now)) }
+    ensures open { HasCleanDisk (state S.Store conn.new) → OnOk result (IsTrue (state S.Store conn.new).is_open) }
+    ensures same { HasCleanDisk (state S.Store conn.new) → (v : Vault) → Keeps (state S.Store conn.old) v → Keeps (state S.Store conn.new) v }
+    ensures honest { HasCleanDisk (state S.Store conn.new) → HasCleanDisk (state S.Store conn.old) }
+    ensures mode { conn.old.in_transaction ≡ false → conn.new.in_transaction ≡ false }
+    ensures crash { (v : Vault) → Keeps (state S.Store conn.old) v → Survives (state S.Store conn.old) (state S.Store conn.new) (λ _. ¬ IsTrue (state S.Store conn.old).is_open) }
+{
+    let held = read_bucket_held(conn, alloc, bucket)?;
+    check_open(conn)?;
+    Ok(held)
+}
+
+/// The number behind so many moves. `TooBig` beyond 32 bits.
+fn next_number(moves: u32) -> Result<u32, Error>
+    ensures { IfOk result (λ number. number ≡ moves + 1) }
+{
+    if moves == u32::MAX {
+        return Err(Error::SqliteFailure(ErrorCode::TooBig));
+    }
+    Ok(moves + 1)
+}
+
+/// The number of the next move.
+fn find_number<S: Alter>(conn: &mut Connection<S>) -> Result<u32, Error>
+    ensures value { HasCleanDisk (state S.Store conn.new) → IfOk result (λ number. (v : Vault) → Keeps (state S.Store conn.old) v → number ≡ v.moves + 1) }
+    ensures open { HasCleanDisk (state S.Store conn.new) → OnOk result (IsTrue (state S.Store conn.new).is_open) }
+    ensures same { HasCleanDisk (state S.Store conn.new) → (v : Vault) → Keeps (state S.Store conn.old) v → Keeps (state S.Store conn.new) v }
+    ensures honest { HasCleanDisk (state S.Store conn.new) → HasCleanDisk (state S.Store conn.old) }
+    ensures mode { conn.old.in_transaction ≡ false → conn.new.in_transaction ≡ false }
+    ensures crash { (v : Vault) → Keeps (state S.Store conn.old) v → Survives (state S.Store conn.old) (state S.Store conn.new) (λ _. ¬ IsTrue (state S.Store conn.old).is_open) }
+{
+    let moves = read_moves(conn)?;
+    check_open(conn)?;
+    next_number(moves)
+}
+
+/// What moves: the bytes of the bucket's held versions, their weight, and the number of the move.
+#[derive(Clone, Copy)]
+struct Load {
+    bytes: u64,
+    weight: u64,
+    number: u32,
+}
+
+/// Reads that.
+fn read_load<S: Alter>(
+    conn: &mut Connection<S>,
+    alloc: Global,
+    bucket: &BucketName,
+) -> Result<Load, Error>
+    ensures value { HasCleanDisk (state S.Store conn.new) → IfOk result (λ load. (v : Vault) → Keeps (state S.Store conn.old) v
+        → (load.bytes ≡ bucket_bytes v bucket.now) × (load.weight ≡ bucket_weight v bucket.now) × (load.number ≡ v.moves + 1)) }
+    ensures open { HasCleanDisk (state S.Store conn.new) → OnOk result (IsTrue (state S.Store conn.new).is_open) }
+    ensures same { HasCleanDisk (state S.Store conn.new) → (v : Vault) → Keeps (state S.Store conn.old) v → Keeps (state S.Store conn.new) v }
+    ensures honest { HasCleanDisk (state S.Store conn.new) → HasCleanDisk (state S.Store conn.old) }
+    ensures mode { conn.old.in_transaction ≡ false → conn.new.in_transaction ≡ false }
+    ensures crash { (v : Vault) → Keeps (state S.Store conn.old) v → Survives (state S.Store conn.old) (state S.Store conn.new) (λ _. ¬ IsTrue (state S.Store conn.old).is_open) }
+{
+    let held = find_held(conn, alloc, bucket)?;
+    let number = find_number(conn)?;
+    Ok(Load {
+        bytes: held.0,
+        weight: held.1,
+        number,
+    })
+}
+
+/// The configuration of the bucket, the sums of the department that it names, and those of the one that
+/// gets the bucket.
+#[derive(Drop)]
+struct Hands {
+    config: BucketConfig,
+    giver: Row,
+    taker: Row,
+}
+
+/// Reads that; an error where there is no such bucket.
+fn read_hands<S: Alter>(
+    conn: &mut Connection<S>,
+    bucket: &BucketName,
+    dept: &DeptName,
+) -> Result<Hands, Error>
+    ensures value { HasCleanDisk (state S.Store conn.new) → IfOk result (λ hands. (v : Vault) → Keeps (state S.Store conn.old) v
+        → (Some hands.config ≡ config_of v bucket.now) × IsRowFor v hands.config.dept hands.giver × IsRowFor v dept.now hands.taker) }
+    ensures same { HasCleanDisk (state S.Store conn.new) → (v : Vault) → Keeps (state S.Store conn.old) v → Keeps (state S.Store conn.new) v }
+    ensures honest { HasCleanDisk (state S.Store conn.new) → HasCleanDisk (state S.Store conn.old) }
+    ensures mode { conn.old.in_transaction ≡ false → conn.new.in_transaction ≡ false }
+    ensures crash { (v : Vault) → Keeps (state S.Store conn.old) v → Survives (state S.Store conn.old) (state S.Store conn.new) (λ _. ¬ IsTrue (state S.Store conn.old).is_open) }
+{
+    let config = read_config(conn, bucket)?;
+    let giver = read_sums(conn, &config.dept)?;
+    let taker = read_sums(conn, dept)?;
+    Ok(Hands {
+        config,
+        giver,
+        taker,
+    })
+}
+
+/// The sums of a department that hands so much over at a moment.
+fn without_load(sums: Row, load: Load, at: Moment) -> Row
+    ensures { HandsOver sums load.bytes load.weight (day at) result }
+{
+    let mut sums = sums;
+    sums.hand_over(load.bytes, load.weight, at.day());
+    sums
+}
+
+/// The sums of a department that receives so much at a moment.
+fn with_load(sums: Row, load: Load, at: Moment) -> Row
+    ensures { Receives sums load.bytes (day at) result }
+{
+    let mut sums = sums;
+    sums.receive(load.bytes, at.day());
+    sums
+}
+
+/// Moves a bucket to another department: its held versions get a tenure, and both departments their sums.
+pub fn move_bucket<S: Alter>(
+    conn: &mut Connection<S>,
+    alloc: Global,
+    at: Moment,
+    name: &BucketName,
+    dept: &DeptName,
+) -> Result<(), Error>
+    requires { conn.old.in_transaction ≡ false }
+    ensures mode { conn.new.in_transaction ≡ false }
+    ensures open { HasCleanDisk (state S.Store conn.new) → OnOk result (IsTrue (state S.Store conn.new).is_open) }
+    ensures done { HasCleanDisk (state S.Store conn.new) → IsChangeInLimits (change.MoveBucket name.now dept.now) → OnOk result (Changes (state S.Store conn.old) (state S.Store conn.new) at (change.MoveBucket name.now dept.now)) }
+    ensures nothing { HasCleanDisk (state S.Store conn.new) → OnErr result ((v : Vault) → Keeps (state S.Store conn.old) v → Keeps (state S.Store conn.new) v) }
+    ensures honest { HasCleanDisk (state S.Store conn.new) → HasCleanDisk (state S.Store conn.old) }
+    ensures crash { IsChangeInLimits (change.MoveBucket name.now dept.now) → (v : Vault) → Keeps (state S.Store conn.old) v → Survives (state S.Store conn.old) (state S.Store conn.new) (IsChanged (state S.Store conn.old) v at (change.MoveBucket name.now dept.now)) }
+{
+    let load = read_load(conn, alloc, name)?;
+    let hands = read_hands(conn, name, dept)?;
+    let handed = without_load(hands.giver, load, at);
+    let received = with_load(hands.taker, load, at);
+    let _in_range = at.secs();
+    let part = MovedBucket {
+        at,
+        name,
+        number: load.number,
+        owner: &hands.config.dept,
+        handed,
+        dept,
+        received,
+    };
+    let moved = commit_part(conn, at, &part);
+    drop(hands);
+    moved
+}

@@ -1,0 +1,74 @@
+//! What changes read of the vault beside their entry.
+ghost use Rattle.std.specs.Prelude.{◌≡◌, false, Some, IsTrue, IfOk, OnOk};
+ghost use Rattle.sqlite.specs.Held.{state};
+ghost use Rattle.sqlite.specs.State.{HasCleanDisk, Survives};
+ghost use Rattle.vault_core_model.specs.Reads.{head_of};
+ghost use Rattle.vault_core_model.specs.Totals.{IsRowFor};
+ghost use Rattle.vault_core_model.specs.Vault.{Vault, config_of};
+ghost use Rattle.vault_store_model.specs.Keeping.{Keeps};
+
+use crate::entries::open::check_open;
+use sqlite::{Alter, Connection, Error};
+use vault_base::name::{BucketName, DeptName, ObjectKey};
+use vault_core_model::records::{BucketConfig, Head};
+use vault_store_reads::heads::read_head;
+use vault_store_reads::names::{read_bucket, read_totals};
+use vault_tally::row::Row;
+
+/// The configuration of a bucket; an error where there is no such bucket.
+pub fn read_config<S: Alter>(
+    conn: &mut Connection<S>,
+    bucket: &BucketName,
+) -> Result<BucketConfig, Error>
+    ensures value { HasCleanDisk (state S.Store conn.new) → IfOk result (λ config. (v : Vault) → Keeps (state S.Store conn.old) v → Some config ≡ config_of v bucket.now) }
+    ensures open { HasCleanDisk (state S.Store conn.new) → OnOk result (IsTrue (state S.Store conn.new).is_open) }
+    ensures same { HasCleanDisk (state S.Store conn.new) → (v : Vault) → Keeps (state S.Store conn.old) v → Keeps (state S.Store conn.new) v }
+    ensures honest { HasCleanDisk (state S.Store conn.new) → HasCleanDisk (state S.Store conn.old) }
+    ensures mode { conn.old.in_transaction ≡ false → conn.new.in_transaction ≡ false }
+    ensures crash { (v : Vault) → Keeps (state S.Store conn.old) v → Survives (state S.Store conn.old) (state S.Store conn.new) (λ _. ¬ IsTrue (state S.Store conn.old).is_open) }
+{
+    let found = read_bucket(conn, bucket)?;
+    check_open(conn)?;
+    found.ok_or(Error::QueryReturnedNoRows)
+}
+
+/// The sums of a department.
+pub fn read_sums<S: Alter>(conn: &mut Connection<S>, dept: &DeptName) -> Result<Row, Error>
+    ensures value { HasCleanDisk (state S.Store conn.new) → IfOk result (λ sums. (v : Vault) → Keeps (state S.Store conn.old) v → IsRowFor v dept.now sums) }
+    ensures open { HasCleanDisk (state S.Store conn.new) → OnOk result (IsTrue (state S.Store conn.new).is_open) }
+    ensures same { HasCleanDisk (state S.Store conn.new) → (v : Vault) → Keeps (state S.Store conn.old) v → Keeps (state S.Store conn.new) v }
+    ensures honest { HasCleanDisk (state S.Store conn.new) → HasCleanDisk (state S.Store conn.old) }
+    ensures mode { conn.old.in_transaction ≡ false → conn.new.in_transaction ≡ false }
+    ensures crash { (v : Vault) → Keeps (state S.Store conn.old) v → Survives (state S.Store conn.old) (state S.Store conn.new) (λ _. ¬ IsTrue (state S.Store conn.old).is_open) }
+{
+    let sums = read_totals(conn, dept)?;
+    check_open(conn)?;
+    Ok(sums)
+}
+
+/// The configuration of an entry's bucket, the sums of its department, and the head of its key.
+#[derive(Drop)]
+pub struct Place {
+    pub config: BucketConfig,
+    pub sums: Row,
+    pub head: Option<Head>,
+}
+
+/// Reads that; an error where there is no such bucket.
+pub fn read_place<S: Alter>(
+    conn: &mut Connection<S>,
+    bucket: &BucketName,
+    key: &ObjectKey,
+) -> Result<Place, Error>
+    ensures value { HasCleanDisk (state S.Store conn.new) → IfOk result (λ place. (v : Vault) → Keeps (state S.Store conn.old) v
+        → (Some place.config ≡ config_of v bucket.now) × IsRowFor v place.config.dept place.sums × (place.head ≡ head_of v bucket.now key.now)) }
+    ensures same { HasCleanDisk (state S.Store conn.new) → (v : Vault) → Keeps (state S.Store conn.old) v → Keeps (state S.Store conn.new) v }
+    ensures honest { HasCleanDisk (state S.Store conn.new) → HasCleanDisk (state S.Store conn.old) }
+    ensures mode { conn.old.in_transaction ≡ false → conn.new.in_transaction ≡ false }
+    ensures crash { (v : Vault) → Keeps (state S.Store conn.old) v → Survives (state S.Store conn.old) (state S.Store conn.new) (λ _. ¬ IsTrue (state S.Store conn.old).is_open) }
+{
+    let config = read_config(conn, bucket)?;
+    let sums = read_sums(conn, &config.dept)?;
+    let head = read_head(conn, bucket, key)?;
+    Ok(Place { config, sums, head })
+}

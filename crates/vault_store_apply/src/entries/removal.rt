@@ -1,0 +1,109 @@
+//! An entry that is removed.
+ghost use Rattle.std.specs.Prelude.{◌≡◌, false, Some, IsTrue, IfOk, OnOk, OnErr};
+ghost use Rattle.sqlite.specs.Held.{state};
+ghost use Rattle.sqlite.specs.State.{HasCleanDisk, Survives};
+ghost use Rattle.vault_base.specs.Days.{day};
+ghost use Rattle.vault_core_model.specs.declared.change.Change.TheVariants as change;
+ghost use Rattle.vault_core_model.specs.Reads.{entry_of};
+ghost use Rattle.vault_core_model.specs.Vault.{Vault};
+ghost use Rattle.vault_store_model.specs.Keeping.{Keeps};
+ghost use Rattle.vault_store_model.specs.Limits.{IsChangeInLimits};
+ghost use Rattle.vault_store_model.specs.Sums.{CountsOut};
+ghost use Rattle.vault_store_apply.specs.Applies.{Changes, IsChanged};
+ghost use Rattle.vault_store_apply.specs.Heads.{head_without};
+
+use crate::commit::commit_part;
+use crate::entries::beside::read_beside;
+use crate::entries::open::check_open;
+use crate::entries::place::read_place;
+use crate::entry_parts::entry::RemovedEntry;
+use sqlite::{Alter, Connection, Error};
+use vault_base::moment::Moment;
+use vault_base::name::VersionId;
+use vault_core_model::records::{Entry, Head, Removal};
+use vault_store_reads::entries::read_entry;
+use vault_tally::row::Row;
+
+/// The entry of an id; an error where there is none.
+fn find_entry<S: Alter>(conn: &mut Connection<S>, id: VersionId) -> Result<Entry, Error>
+    ensures value { HasCleanDisk (state S.Store conn.new) → IfOk result (λ entry. (v : Vault) → Keeps (state S.Store conn.old) v → Some entry ≡ entry_of v id) }
+    ensures open { HasCleanDisk (state S.Store conn.new) → OnOk result (IsTrue (state S.Store conn.new).is_open) }
+    ensures same { HasCleanDisk (state S.Store conn.new) → (v : Vault) → Keeps (state S.Store conn.old) v → Keeps (state S.Store conn.new) v }
+    ensures honest { HasCleanDisk (state S.Store conn.new) → HasCleanDisk (state S.Store conn.old) }
+    ensures mode { conn.old.in_transaction ≡ false → conn.new.in_transaction ≡ false }
+    ensures crash { (v : Vault) → Keeps (state S.Store conn.old) v → Survives (state S.Store conn.old) (state S.Store conn.new) (λ _. ¬ IsTrue (state S.Store conn.old).is_open) }
+{
+    let found = read_entry(conn, id)?;
+    check_open(conn)?;
+    found.ok_or(Error::QueryReturnedNoRows)
+}
+
+/// The head of a key with one entry fewer, the newest of which is that one.
+fn left_head(newest: Option<VersionId>, head: Option<Head>) -> Option<Head>
+    ensures { result ≡ head_without newest head }
+{
+    let newest = newest?;
+    let head = head?;
+    Some(Head {
+        newest,
+        count: head.count.saturating_sub(1),
+    })
+}
+
+/// The sums with a version's removal at a moment counted in, which its department has had since another.
+fn without_version(sums: Row, entry: &Entry, since: Moment, at: Moment) -> Row
+    ensures { CountsOut sums entry.now.size (day since) (day at) result }
+{
+    let mut sums = sums;
+    sums.remove(entry.size, since.day(), at.day());
+    sums
+}
+
+/// Removes a held entry: its bytes go, and the entry keeps the removal.
+pub fn remove<S: Alter>(
+    conn: &mut Connection<S>,
+    at: Moment,
+    id: VersionId,
+    removal: &Removal,
+) -> Result<(), Error>
+    requires { conn.old.in_transaction ≡ false }
+    ensures mode { conn.new.in_transaction ≡ false }
+    ensures open { HasCleanDisk (state S.Store conn.new) → OnOk result (IsTrue (state S.Store conn.new).is_open) }
+    ensures done { HasCleanDisk (state S.Store conn.new) → IsChangeInLimits (change.Remove id removal.now) → OnOk result (Changes (state S.Store conn.old) (state S.Store conn.new) at (change.Remove id removal.now)) }
+    ensures nothing { HasCleanDisk (state S.Store conn.new) → OnErr result ((v : Vault) → Keeps (state S.Store conn.old) v → Keeps (state S.Store conn.new) v) }
+    ensures honest { HasCleanDisk (state S.Store conn.new) → HasCleanDisk (state S.Store conn.old) }
+    ensures crash { IsChangeInLimits (change.Remove id removal.now) → (v : Vault) → Keeps (state S.Store conn.old) v → Survives (state S.Store conn.old) (state S.Store conn.new) (IsChanged (state S.Store conn.old) v at (change.Remove id removal.now)) }
+{
+    let entry = find_entry(conn, id)?;
+    let place = match read_place(conn, &entry.bucket, &entry.key) {
+        Ok(place) => place,
+        Err(error) => {
+            drop(entry);
+            return Err(error);
+        }
+    };
+    let beside = match read_beside(conn, &entry, id, place.head) {
+        Ok(beside) => beside,
+        Err(error) => {
+            drop(place);
+            drop(entry);
+            return Err(error);
+        }
+    };
+    let left = left_head(beside.newest, place.head);
+    let sums = without_version(place.sums, &entry, beside.since, at);
+    let _in_range = at.secs();
+    let part = RemovedEntry {
+        at,
+        id,
+        entry: &entry,
+        removal,
+        left,
+        dept: &place.config.dept,
+        sums,
+    };
+    let removed = commit_part(conn, at, &part);
+    drop(place);
+    drop(entry);
+    removed
+}

@@ -1,0 +1,6 @@
+//! Changes of records and of configurations, each as a part of a transaction that edits the tables.
+
+pub mod bucket;
+pub mod caller;
+pub mod department;
+pub mod moves;

@@ -1,4 +1,0 @@
-pub mod AdmissionLemmas
-pub mod ReadLemmas
-pub mod RemovalLemmas
-pub mod MoveLemmas

@@ -1,4 +1,0 @@
-pub mod Edits
-pub mod Beside
-pub mod Limits
-pub mod Sums

@@ -1,7 +1,0 @@
-mod TextLemmas
-mod RowLemmas
-mod TenureLemmas
-mod ShownLemmas
-mod CopyLemmas
-mod FillLemmas
-mod PartLemmas

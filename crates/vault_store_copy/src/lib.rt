@@ -1,7 +1,0 @@
-//! The vault of a file of an earlier edition, copied into the tables of the newest.
-#![tactic(auto)]
-
-pub mod begin;
-mod listing;
-mod row;
-mod tables;

@@ -1,0 +1,196 @@
+-- Rows that are put into a table one after another, and tables one after another.
+use Rattle.std.proofs.Common.{◌≡◌, ◌⊎◌, inl, inr, ◌==◌, ◌+◌, ◌<◌, ◌≤◌, ℕ, nat_lt, List, [], ◌∷◌, ◌++◌, length, map, true, false, cond, get_or, lit≤, append-nil, refl, sym, ap, subst, ◌∙◌, arith}
+use Rattle.std.specs.Prelude.{IsPermutation}
+use Rattle.std.specs.List.{AllByRecursion}
+use Rattle.std.proofs.lemmas.Bool.{cases_Bool}
+use Rattle.std.proofs.lemmas.Bool.Decides.{nat_tests}
+use Rattle.std.proofs.lemmas.List.Elements.{All-from_recursion, recursion_from_All}
+use Rattle.std.proofs.lemmas.List.Sorted.{IsPermutation-refl, IsPermutation-sym, IsPermutation-trans, IsPermutation-middle, IsPermutation-append_right, All-permutation, length_permutation}
+use Rattle.sqlite_value.specs.Order.{Row}
+use Rattle.sqlite.specs.Effect.{Database, IsDatabase}
+use Rattle.sqlite.specs.State.{State}
+use Rattle.vault_base.specs.declared.refusal.Table.{Table}
+use Rattle.vault_base.specs.declared.refusal.Table.TheVariants as table
+use Rattle.vault_core_model.specs.Vault.{Vault}
+use Rattle.vault_audit_model.specs.declared.schema.Edition.{Edition}
+use Rattle.vault_audit_model.specs.Rows.{department_row, caller_row, bucket_row, rule_row, entry_row, content_row, setting_row, note_row, head_row, tenure_row}
+use Rattle.vault_audit_model.specs.Spells.{AreSoundAs, meta_of, department_in, bucket_of, heads_in}
+use Rattle.vault_audit_model.specs.Tables.{vault_schema}
+use Rattle.vault_audit_walk.specs.Walk.{Goes}
+use Rattle.vault_store_create.specs.Create.{Moves}
+use Rattle.vault_store_model.specs.Edits.{number_of, with_row}
+use Rattle.vault_store_model.specs.Rows.{Rows, AreSameRows, rows_in, rows_of}
+use Rattle.vault_store_create.specs.Copied.{PutsRow, HasFirstRows, HasCopied, first_rows}
+use Rattle.vault_store_create.specs.Told.{IsOf, IsRowOf}
+
+-- ---- the rows of a vault tell records
+
+all_of : {A X : Type 0} (row_of : X → Row) (f : A → X) (xs : List A) → AllByRecursion (IsOf row_of) (map (λ a. row_of (f a)) xs)
+all_of row_of f [] = tt
+all_of row_of f (x ∷ xs) = ((f x, refl), all_of row_of f xs)
+
+all_told : (v : Vault) (t : Table) → AllByRecursion (IsRowOf t) (rows_of v t)
+all_told v table.Meta = ((meta_of v, refl), tt)
+all_told v table.Departments = all_of department_row (department_in v) v.departments
+all_told v table.Callers = all_of caller_row (λ c. c) v.callers
+all_told v table.Buckets = all_of bucket_row bucket_of v.buckets
+all_told v table.Rules = all_of rule_row (λ r. r) _
+all_told v table.Entries = all_of entry_row (λ h. h.entry) v.histories
+all_told v table.Contents = all_of content_row (λ c. c) _
+all_told v table.Settings = all_of setting_row (λ s. s) _
+all_told v table.Intake = all_of note_row (λ n. n) v.notes
+all_told v table.Heads = all_of head_row (λ h. h) (heads_in v)
+all_told v table.Tenures = all_of tenure_row (λ t. t) _
+
+-- in any order
+rows_told : (v : Vault) (t : Table) (rows : List Row) → IsPermutation (rows_of v t) rows → AllByRecursion (IsRowOf t) rows
+rows_told v t rows same =
+    recursion_from_All (IsRowOf t) rows (All-permutation (IsRowOf t) (rows_of v t) rows same (All-from_recursion (IsRowOf t) (rows_of v t) (all_told v t)))
+
+-- ---- one row after the other
+
+module _ (t : Table) where
+  -- the rows are added to those of this table, and the others have theirs
+  pub record Adds (rows : List Row) (x y : Database) : Type 0 where
+    pub schema : y.schema ≡ vault_schema
+    pub here : IsPermutation (rows ++ rows_in x t) (rows_in y t)
+    pub beside : (s : Table) → (number_of t == number_of s) ≡ false → IsPermutation (rows_in x s) (rows_in y s)
+    pub listed : (IsDatabase x ⊎ (1 ≤ length rows)) → IsDatabase y
+
+  own_number : (number_of t == number_of t) ≡ true
+  own_number = grind (arith, nat_tests)
+
+  row_here : (r : Row) (xs ys : Rows) → AreSameRows (with_row t r xs) ys → IsPermutation (r ∷ xs t) (ys t)
+  row_here r xs ys same = subst (λ b. IsPermutation (cond b (r ∷ xs t) (xs t)) (ys t)) own_number (same t)
+
+  row_beside : (r : Row) (xs ys : Rows) (s : Table) → (number_of t == number_of s) ≡ false → AreSameRows (with_row t r xs) ys → IsPermutation (xs s) (ys s)
+  row_beside r xs ys s other same = subst (λ b. IsPermutation (cond b (r ∷ xs s) (xs s)) (ys s)) other (same s)
+
+  adds : (rows : List Row) (x y : Database) → AllByRecursion (IsRowOf t) rows → Goes (λ a row b. PutsRow t row a b) x rows y → x.schema ≡ vault_schema → Adds rows x y
+  adds [] x y all same has =
+      subst (Adds [] x) same (record {
+        schema = has;
+        here = IsPermutation-refl (rows_in x t);
+        beside = λ s other. IsPermutation-refl (rows_in x s);
+        listed = λ h. elim h [ inl is ↦ is | inr some ↦ absurd (omega (arith, some)) ];
+      })
+  adds (r ∷ rows) x y all gone has =
+      let put = gone.1 has all.0 in
+      let more = adds rows gone.0 y all.1 gone.2 put.schema in
+      record {
+        schema = more.schema;
+        here = IsPermutation-trans _ _ _ (IsPermutation-sym _ _ (IsPermutation-middle rows r (rows_in x t)))
+            (IsPermutation-trans _ _ _ (IsPermutation-append_right rows _ _ (row_here r (rows_in x) (rows_in gone.0) put.rows)) more.here);
+        beside = λ s other. IsPermutation-trans _ _ _ (row_beside r (rows_in x) (rows_in gone.0) s other put.rows) (more.beside s other);
+        listed = λ h. more.listed (inl put.listed);
+      }
+
+-- ---- one table after the other
+
+-- the tables by their numbers
+abbrev table_at : ℕ → Table
+table_at n =
+    get_or
+    (table.Meta ∷ table.Departments ∷ table.Callers ∷ table.Buckets ∷ table.Rules ∷ table.Entries ∷ table.Contents ∷ table.Settings
+    ∷ table.Intake ∷ table.Heads ∷ table.Tenures ∷ []) n table.Meta
+
+numbered_back : (t : Table) → table_at (number_of t) ≡ t
+numbered_back table.Meta = refl
+numbered_back table.Departments = refl
+numbered_back table.Callers = refl
+numbered_back table.Buckets = refl
+numbered_back table.Rules = refl
+numbered_back table.Entries = refl
+numbered_back table.Contents = refl
+numbered_back table.Settings = refl
+numbered_back table.Intake = refl
+numbered_back table.Heads = refl
+numbered_back table.Tenures = refl
+
+one_table : (t s : Table) → number_of t ≡ number_of s → t ≡ s
+one_table t s same = sym (numbered_back t) ∙ ap table_at same ∙ numbered_back s
+
+below_if : (a b : ℕ) → nat_lt a b ≡ true → a < b
+below_if a b is = grind (arith, nat_tests, is)
+
+if_below : (a b : ℕ) → a < b → nat_lt a b ≡ true
+if_below a b less = grind (arith, nat_tests, less)
+
+low_unless : (a b : ℕ) → nat_lt a b ≡ false → b ≤ a
+low_unless a b fails = grind (arith, nat_tests, fails)
+
+unless_low : (a b : ℕ) → b ≤ a → nat_lt a b ≡ false
+unless_low a b low = grind (arith, nat_tests, low)
+
+below_next : (a b : ℕ) → b ≤ a → (b == a) ≡ false → b + 1 ≤ a
+below_next a b low other = grind (arith, nat_tests, low, other)
+
+below_more : (n : ℕ) → nat_lt n (n + 1) ≡ true
+below_more n = if_below n (n + 1) (omega arith)
+
+not_below : (n : ℕ) → nat_lt n n ≡ false
+not_below n = unless_low n n (omega arith)
+
+below_as_before : (n m : ℕ) → (m == n) ≡ false → nat_lt n (m + 1) ≡ nat_lt n m
+below_as_before n m other = elim (cases_Bool (nat_lt n m)) [
+  | inl passes ↦ let less = below_if n m passes in if_below n (m + 1) (omega (arith, less)) ∙ sym passes
+  | inr fails ↦ unless_low n (m + 1) (below_next n m (low_unless n m fails) other) ∙ sym fails
+]
+
+-- meta has a row, and the other tables come after it
+not_alone : (v : Vault) (t : Table) → (1 ≤ number_of t) ⊎ (1 ≤ length (rows_of v t))
+not_alone v table.Meta = inr (lit≤ tt)
+not_alone v table.Departments = inl (lit≤ tt)
+not_alone v table.Callers = inl (lit≤ tt)
+not_alone v table.Buckets = inl (lit≤ tt)
+not_alone v table.Rules = inl (lit≤ tt)
+not_alone v table.Entries = inl (lit≤ tt)
+not_alone v table.Contents = inl (lit≤ tt)
+not_alone v table.Settings = inl (lit≤ tt)
+not_alone v table.Intake = inl (lit≤ tt)
+not_alone v table.Heads = inl (lit≤ tt)
+not_alone v table.Tenures = inl (lit≤ tt)
+
+module _ (v : Vault) (t : Table) (rows : List Row) (x y : Database) (was : HasFirstRows v (number_of t) x) (shown : IsPermutation (rows_of v t) rows) (added : Adds t rows x y) where
+  here_more : IsPermutation (first_rows v (number_of t + 1) t) (rows_in y t)
+  here_more =
+      let none : IsPermutation [] (rows_in x t) = subst (λ b. IsPermutation (cond b (rows_of v t) []) (rows_in x t)) (not_below (number_of t)) (was.rows t) in
+      let put : IsPermutation rows (rows_in y t) = subst (λ rs. IsPermutation rs (rows_in y t)) (append-nil rows) (IsPermutation-trans _ _ _ (IsPermutation-append_right rows _ _ none) added.here) in
+      subst (λ b. IsPermutation (cond b (rows_of v t) []) (rows_in y t)) (sym (below_more (number_of t))) (IsPermutation-trans _ _ _ shown put)
+
+  rows_more : AreSameRows (first_rows v (number_of t + 1)) (rows_in y)
+  rows_more s = elim (cases_Bool (number_of t == number_of s)) [
+    | inl same ↦
+        let is : t ≡ s = one_table t s (grind (arith, nat_tests, same)) in
+        subst (λ u. IsPermutation (first_rows v (number_of t + 1) u) (rows_in y u)) is here_more
+    | inr other ↦
+        subst (λ b. IsPermutation (cond b (rows_of v s) []) (rows_in y s)) (sym (below_as_before (number_of s) (number_of t) other))
+        (IsPermutation-trans _ _ _ (was.rows s) (added.beside s other))
+  ]
+
+  listed_more : IsDatabase y
+  listed_more = elim (not_alone v t) [
+    | inl later ↦ added.listed (inl (was.listed later))
+    | inr some ↦ added.listed (inr (let as_long = length_permutation _ _ shown in omega (arith, some, as_long)))
+  ]
+
+  table_more : HasFirstRows v (number_of t + 1) y
+  table_more = record { schema = added.schema; rows = rows_more; listed = λ h. listed_more }
+
+pub copies_table : (n : Edition) (from x y : Database) (t : Table) (rows : List Row) → ((v : Vault) → AreSoundAs n from v → IsPermutation (rows_of v t) rows)
+    → Goes (λ a row b. PutsRow t row a b) x rows y → HasCopied n from (number_of t) x → HasCopied n from (number_of t + 1) y
+copies_table n from x y t rows shown gone was v is =
+    let before = was v is in
+    let told = shown v is in
+    table_more v t rows x y before told (adds t rows x y (rows_told v t rows told) gone before.schema)
+
+-- one part of the copy after the other
+pub copies_on : (n : Edition) (from later : Database) (old mid new : State) (From : Database → Type 0) (b c : ℕ) → later ≡ from → Moves old mid From (HasCopied n from b) → Moves mid new (HasCopied n later b) (HasCopied n later c)
+    → Moves old new From (HasCopied n from c)
+copies_on n from later old mid new From b c same one two = record {
+  was_open = one.was_open;
+  is_open = two.is_open;
+  inside = two.inside;
+  committed = two.committed ∙ one.committed;
+  goes = λ was. subst (λ d. HasCopied n d c new.now) same (two.goes (subst (λ d. HasCopied n d b mid.now) (sym same) (one.goes was)));
+}

@@ -1,0 +1,15 @@
+use Rattle.std.proofs.Common.{◌≡◌, rules}
+use Rattle.sqlite.specs.Held.{state}
+use Rattle.vault_audit_model.specs.Tables.{no_schema}
+use Rattle.vault_store_create.specs.Create.{HasFirst}
+use Rattle.vault_store_create.proofs.FillLemmas.{all_copied}
+use Rattle.vault_store_create.proofs.copy.begin.begin_copy.Goals as goal
+
+pub returns-in-Ok-clause-copied : goal.returns-in-Ok-clause-copied
+returns-in-Ok-clause-copied g c clean after v is =
+    let from = (state g.O.Store c.args.old.now).now in
+    let start = (state g.S.Store c.args.new.now).now in
+    let none : start.schema ≡ no_schema = search rules in
+    let bare : HasFirst 0 start = record { schema = none; rows = tt } in
+    let moved = c.in-Ok.ensures.copied clean after in
+    all_copied c.args.edition from (state g.S.Store c.write_copy.new.new).now (moved.goes bare) v is

@@ -1,0 +1,19 @@
+use Rattle.std.proofs.Common.{◌∙◌, arith}
+use Rattle.sqlite.specs.Held.{state}
+use Rattle.sqlite.specs.State.{HasCleanDisk}
+use Rattle.vault_audit_model.proofs.OutcomeLemmas.{on_ok_then}
+use Rattle.vault_store_create.proofs.FillLemmas.{none_copied}
+use Rattle.vault_store_create.proofs.copy.begin.put_copy.Goals as goal
+
+pub returns-clause-copied : goal.returns-clause-copied
+returns-clause-copied g c clean after inside =
+    let mid = state g.S.Store c.make_tables.new.tx.conn.now in
+    let early : HasCleanDisk mid = omega (arith, after, c.copy_tables.ensures.survives.clean) in
+    let made = c.in_ok-make_tables.ensures.made early inside in
+    on_ok_then c.copy_tables.result (c.copy_tables.ensures.copied clean after made.inside made.is_open) (λ part. record {
+      was_open = made.was_open;
+      is_open = part.is_open;
+      inside = part.inside;
+      committed = part.committed ∙ made.committed;
+      goes = λ bare. part.goes (none_copied c.args.edition (state g.O.Store c.args.old.now).now mid.now (made.goes bare));
+    })

@@ -1,0 +1,77 @@
+use Rattle.std.proofs.Common.{◌≡◌, List, [], ◌∷◌, ◌++◌, IsTrue, refl, ◌∙◌, subst, rules, arith}
+use Rattle.sqlite_value.specs.Order.{Row}
+use Rattle.sqlite.specs.Effect.{Database}
+use Rattle.sqlite.specs.State.{HasCleanDisk, IsUnchanged, Survives, Shown, CommitsShowing}
+use Rattle.sqlite.specs.Held.{Held, state}
+use Rattle.sqlite.specs.Given.{HasGiven}
+use Rattle.sqlite.proofs.Callers.{begun_plain, unchanged_then}
+use Rattle.vault_audit_walk.specs.Walk.{Goes}
+use Rattle.vault_audit_walk.proofs.WalkLemmas.{commits_nothing, shown_from, goes_on}
+use Rattle.vault_store_create.specs.Copied.{PutsRow}
+use Rattle.vault_store_edits.proofs.QueryLemmas.{survives_itself}
+use Rattle.vault_store_create.proofs.PartLemmas.{survives_more}
+use Rattle.vault_store_create.proofs.copy.tables.copy_rows.Goals as goal
+
+pub returns-in_err-rows-clause-crash : goal.returns-in_err-rows-clause-crash
+returns-in_err-rows-clause-crash g c =
+    let old = state g.O.Store c.args.old.now in
+    let new = state g.O.Store c.query.follows.lender-at-none in
+    let held = c.query.follows.holds-at-none in
+    let kept : Survives old new (CommitsShowing c.args.select.now [] old) = search rules in
+    commits_nothing c.args.select.now [] old new c.requires kept
+
+pub rows-init : goal.rows-init
+rows-init g c =
+    let made = c.in_ok-rows.ensures in (
+      refl,
+      refl,
+      commits_nothing _ _ _ _ c.requires made.survives,
+      survives_itself (state g.S.Store c.args.tx.now.conn.now),
+      λ clean inside is_open. (inside, is_open, refl),
+      λ clean.
+          let early : HasCleanDisk (state g.O.Store c.args.old.now) = omega (arith, made.survives.clean) in
+          let it = begun_plain g.O.Store _ _ c.args.old.now _ (c.requires early) (made.begun clean) in ([], it.0, it.1, λ late inside is_open. refl),
+    )
+
+pub returns-in_default-clause-copied : goal.returns-in_default-clause-copied
+returns-in_default-clause-copied g c clean after inside is_open =
+    let moved = c.next.follows.holds-at-none in
+    let now = c.next.follows.lender-at-none.conn.now in
+    let end = c.old-in_default-1.given.0 in
+    let same : now ≡ end = search rules in
+    let late : HasCleanDisk (state g.O.Store now) = search rules in
+    let was = c.rows.invariant.5 (omega (arith, moved.survives.clean)) in
+    let shown = (rw (c.in_ok-row.was, c.in_default.is) at (moved.ok late)) c.args.select.now [] was.0 was.1 in
+    let early : HasCleanDisk (state g.O.Store c.args.old.now) = omega (arith, c.rows.invariant.2.clean, moved.survives.clean) in
+    let first = shown_from c.args.select.now [] (state g.O.Store c.args.old.now) _ (state g.O.Store now) was.0 (c.requires early) was.2 shown in
+    let frame = c.rows.invariant.4 after inside is_open in (
+      was.0,
+      subst (λ (h : Held g.row.O.Denot). Shown c.args.select.now [] (state g.O.Store c.args.old.now) (state g.O.Store h) was.0) same first,
+      record { was_open = is_open; is_open = frame.1; inside = frame.0; committed = frame.2; goes = was.3 after inside is_open },
+    )
+
+pub rows-preserved : goal.rows-preserved
+rows-preserved g c =
+    let moved = c.next.follows.holds-at-none in
+    let now = c.next.follows.lender-at-none.conn.now in
+    let before = state g.S.Store c.args.tx.now.conn.now in
+    let mid = state g.S.Store c.rows.tx.conn.now in
+    let after = state g.S.Store c.put_row.new.tx.conn.now in
+    let put = c.in_ok-put_row.ensures in
+    let frame = λ (clean : HasCleanDisk after) (inside : IsTrue c.args.tx.now.conn.now.in_transaction) (is_open : IsTrue before.is_open).
+    let was = c.rows.invariant.4 (omega (arith, put.survives.clean)) inside is_open in
+    let it = put.put clean was.0 in
+    let all : IsTrue c.put_row.new.tx.conn.now.in_transaction × IsTrue after.is_open × (after.committed ≡ before.committed) = (it.inside, it.is_open, it.committed ∙ was.2) in all in
+    let fact = λ (late : HasCleanDisk (state g.O.Store now)).
+    let was = c.rows.invariant.5 (omega (arith, moved.survives.clean)) in
+    let given = (rw (c.in_ok-row.was, c.in-Some.is) at (moved.ok late)) c.args.select.now [] was.0 was.1 in
+    let same = rw c.in_ok-row.was at (moved.same late) in
+    let gone = λ (clean : HasCleanDisk after) (inside : IsTrue c.args.tx.now.conn.now.in_transaction) (is_open : IsTrue before.is_open).
+    let soon : HasCleanDisk mid = omega (arith, put.survives.clean) in
+    let there = c.rows.invariant.4 soon inside is_open in
+    let step : Goes {P = Database} (λ x row y. PutsRow c.args.table row x y) before.now (was.0 ++ c.in-Some.row.now ∷ []) after.now =
+    goes_on {P = Database} (λ x row y. PutsRow c.args.table row x y) before.now mid.now after.now was.0 c.in-Some.row.now (was.3 soon inside is_open) (put.put clean there.0).goes in step in
+    let all : (rows : List Row) × HasGiven g.O.Store c.args.select.now [] now rows × IsUnchanged (state g.O.Store c.args.old.now) (state g.O.Store now)
+    × (HasCleanDisk after → IsTrue c.args.tx.now.conn.now.in_transaction → IsTrue before.is_open → Goes {P = Database} (λ x row y. PutsRow c.args.table row x y) before.now rows after.now) =
+    (was.0 ++ c.in-Some.row.now ∷ [], given, unchanged_then _ _ _ was.2 same, gone) in all in
+    (search rules, put.same_reference ∙ c.rows.invariant.1, search rules, survives_more before mid after c.rows.invariant.3 put.survives, frame, fact)

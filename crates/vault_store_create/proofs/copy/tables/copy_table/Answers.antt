@@ -1,0 +1,29 @@
+use Rattle.std.proofs.Common.{sym, subst}
+use Rattle.sqlite.specs.Given.{IsPlain}
+use Rattle.sqlite.specs.Held.{state}
+use Rattle.sqlite.specs.Listing.{understood}
+use Rattle.vault_audit_model.proofs.OutcomeLemmas.{on_ok_then}
+use Rattle.vault_store_create.specs.Listings.{listing_of}
+use Rattle.vault_store_create.proofs.CopyLemmas.{copies_table}
+use Rattle.vault_store_create.proofs.ShownLemmas.{shown_told}
+use Rattle.vault_store_create.proofs.CopyTextLemmas.{reads_only}
+use Rattle.vault_store_create.proofs.copy.tables.copy_table.Goals as goal
+
+pub copy_rows-requires : goal.copy_rows-requires
+copy_rows-requires g c clean = rw c.listing.ensures (subst (λ s. IsPlain (understood s (listing_of c.args.edition c.args.table))) (sym (c.requires clean)) (reads_only c.args.edition c.args.table))
+
+pub returns-clause-copied : goal.returns-clause-copied
+returns-clause-copied g c clean after inside is_open =
+    let n = c.args.edition in
+    let t = c.args.table in
+    let from = state g.O.Store c.args.old.now in
+    let to = state g.O.Store c.copy_rows.new.old in
+    let old = state g.S.Store c.args.tx.now.conn.now in
+    let new = state g.S.Store c.copy_rows.new.tx.conn.now in
+    on_ok_then c.copy_rows.result (rw c.listing.ensures at (c.copy_rows.ensures.copied clean after inside is_open)) (λ it. record {
+      was_open = it.2.was_open;
+      is_open = it.2.is_open;
+      inside = it.2.inside;
+      committed = it.2.committed;
+      goes = copies_table n from.now old.now new.now t it.0 (λ v is. shown_told n t from to v is it.0 it.1) it.2.goes;
+    })

@@ -1,0 +1,6 @@
+//! The vault of a file of an earlier edition, copied into the tables of the newest.
+
+pub mod begin;
+mod listing;
+mod row;
+mod tables;

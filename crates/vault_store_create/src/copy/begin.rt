@@ -1,0 +1,92 @@
+//! The vault of a file of an earlier edition, copied into a store that is empty.
+ghost use Rattle.std.specs.Prelude.{◌≡◌, ◌≢◌, ◌↔◌, Err, false, IsTrue, OnOk, IfErr};
+ghost use Rattle.sqlite.specs.Effect.{IsDatabase};
+ghost use Rattle.sqlite.specs.Held.{state};
+ghost use Rattle.sqlite.specs.State.{HasCleanDisk, IsUnchanged, Survives};
+ghost use Rattle.vault_core_model.specs.Vault.{Vault};
+ghost use Rattle.vault_audit_model.specs.Spells.{AreSound, AreSoundAs};
+ghost use Rattle.vault_audit_model.specs.Tables.{no_schema, schema_of};
+ghost use Rattle.vault_store_create.specs.Create.{Moves, HasFirst, IsFault};
+ghost use Rattle.vault_store_create.specs.Copied.{HasCopied};
+
+use crate::copy::tables::copy_tables;
+use crate::create::{is_blank, refusal_of};
+use crate::tables::make_tables;
+use sqlite::{Alter, Connection, Error, Transaction};
+use std::alloc::Global;
+use std::mem::ManuallyDrop;
+use vault_audit_model::schema::Edition;
+use vault_base::refusal::Refusal;
+
+/// Makes the tables, and copies their rows.
+fn put_copy<O: Alter, S: Alter>(
+    alloc: Global,
+    old: &mut Connection<O>,
+    tx: &mut Transaction<'_, S>,
+    edition: Edition,
+) -> Result<(), Error>
+    requires { HasCleanDisk (state O.Store old.old) → (state O.Store old.old).now.schema ≡ schema_of edition }
+    ensures same_reference { tx.new.conn.ghost_name ≡ tx.old.conn.ghost_name }
+    ensures copied { HasCleanDisk (state O.Store old.new) → HasCleanDisk (state S.Store tx.new.conn.now) → IsTrue tx.old.conn.now.in_transaction
+        → OnOk result (Moves (state S.Store tx.old.conn.now) (state S.Store tx.new.conn.now) (HasFirst 0) (HasCopied edition (state O.Store old.old).now 11)) }
+    ensures survives { Survives (state S.Store tx.old.conn.now) (state S.Store tx.new.conn.now) (λ _. ⊥) }
+    ensures same { HasCleanDisk (state O.Store old.new) → OnOk result (IsUnchanged (state O.Store old.old) (state O.Store old.new)) }
+    ensures crash { Survives (state O.Store old.old) (state O.Store old.new) (λ _. ⊥) }
+{
+    make_tables(tx)?;
+    copy_tables(alloc, old, tx, edition)
+}
+
+/// The same in a transaction of its own, which stays open. Where it is refused, the transaction is undone.
+fn write_copy<O: Alter, S: Alter>(
+    alloc: Global,
+    old: &mut Connection<O>,
+    new: &mut Connection<S>,
+    edition: Edition,
+) -> Result<(), Error>
+    requires outside { new.old.in_transaction ≡ false }
+    requires known { HasCleanDisk (state O.Store old.old) → (state O.Store old.old).now.schema ≡ schema_of edition }
+    ensures copied { HasCleanDisk (state O.Store old.new) → HasCleanDisk (state S.Store new.new)
+        → OnOk result (Moves (state S.Store new.old) (state S.Store new.new) (HasFirst 0) (HasCopied edition (state O.Store old.old).now 11)) }
+    ensures crash { Survives (state S.Store new.old) (state S.Store new.new) (λ _. ⊥) }
+    ensures same { HasCleanDisk (state O.Store old.new) → OnOk result (IsUnchanged (state O.Store old.old) (state O.Store old.new)) }
+    ensures old_crash { Survives (state O.Store old.old) (state O.Store old.new) (λ _. ⊥) }
+{
+    let mut tx = new.transaction();
+    put_copy(alloc, old, &mut tx, edition)?;
+    // Let go of without its rollback.
+    let _open = ManuallyDrop::new(tx);
+    Ok(())
+}
+
+/// Copies the vault of a file of that edition into the tables of an empty store, inside a transaction that
+/// is left open: nothing is committed. No table of the file is changed.
+///
+/// `NameTaken` where the store has a table, an index or a view. `Memory` where a store wanted memory.
+/// `Device` where one refused for another cause. A transaction may be left open then too.
+pub fn begin_copy<O: Alter, S: Alter>(
+    alloc: Global,
+    old: &mut Connection<O>,
+    new: &mut Connection<S>,
+    edition: Edition,
+) -> Result<(), Refusal>
+    requires known { HasCleanDisk (state O.Store old.old) → (state O.Store old.old).now.schema ≡ schema_of edition }
+    requires outside { new.old.in_transaction ≡ false }
+    // The tables are sound for each vault that those of the file are sound for.
+    ensures copied { HasCleanDisk (state O.Store old.new) → HasCleanDisk (state S.Store new.new)
+        → OnOk result ((v : Vault) → AreSoundAs edition (state O.Store old.old).now v → AreSound (state S.Store new.new).now v × IsDatabase (state S.Store new.new).now) }
+    ensures free { OnOk result ((state S.Store new.old).now.schema ≡ no_schema) }
+    ensures taken { (result ≡ Err Refusal.NameTaken) ↔ ((state S.Store new.old).now.schema ≢ no_schema) }
+    ensures faults { IfErr result (λ r. r ≢ Refusal.NameTaken → IsFault r) }
+    ensures crash { Survives (state S.Store new.old) (state S.Store new.new) (λ _. ⊥) }
+    ensures same { HasCleanDisk (state O.Store old.new) → OnOk result (IsUnchanged (state O.Store old.old) (state O.Store old.new)) }
+    ensures old_crash { Survives (state O.Store old.old) (state O.Store old.new) (λ _. ⊥) }
+{
+    if !is_blank(new.schema()) {
+        return Err(Refusal::NameTaken);
+    }
+    match write_copy(alloc, old, new, edition) {
+        Ok(()) => Ok(()),
+        Err(error) => Err(refusal_of(error)),
+    }
+}

@@ -1,0 +1,42 @@
+//! A row, put into its table as it is.
+ghost use Rattle.std.specs.Prelude.{◌≡◌, IsTrue, IfOk, OnOk, map};
+ghost use Rattle.sqlite_value.specs.Value.{owned};
+ghost use Rattle.sqlite.specs.Held.{state};
+ghost use Rattle.sqlite.specs.State.{HasCleanDisk, Survives};
+ghost use Rattle.vault_store_create.specs.Copied.{Steps, PutsRow};
+
+use crate::copy::listing::putting;
+use sqlite::types::ValueRef;
+use sqlite::{Alter, Error, ErrorCode, Row, Transaction};
+use std::alloc::Global;
+use vault_base::refusal::Table;
+
+/// The values of a row, as parameters of a statement.
+fn values_of(alloc: Global, row: &Row) -> Result<Vec<ValueRef<'_>>, Error>
+    ensures { IfOk result (λ values. map (λ v. owned v) values.items ≡ row.now) }
+{
+    let mut values = Vec::new(alloc);
+    for at in 0..row.column_count() {
+        let value = row.get_ref(at)?;
+        if values.push(value).is_err() {
+            return Err(Error::SqliteFailure(ErrorCode::OutOfMemory));
+        }
+    }
+    Ok(values)
+}
+
+/// Puts a row into its table, as it is where it tells a record of the table.
+pub(crate) fn put_row<S: Alter>(
+    alloc: Global,
+    tx: &mut Transaction<'_, S>,
+    table: Table,
+    row: &Row,
+) -> Result<usize, Error>
+    ensures same_reference { tx.new.conn.ghost_name ≡ tx.old.conn.ghost_name }
+    ensures put { HasCleanDisk (state S.Store tx.new.conn.now) → IsTrue tx.old.conn.now.in_transaction
+        → OnOk result (Steps (state S.Store tx.old.conn.now) (state S.Store tx.new.conn.now) (PutsRow table row.now)) }
+    ensures survives { Survives (state S.Store tx.old.conn.now) (state S.Store tx.new.conn.now) (λ _. ⊥) }
+{
+    let values = values_of(alloc, row)?;
+    tx.execute(putting(table), &values)
+}

@@ -1,0 +1,152 @@
+//! The rows of the tables of an earlier edition, copied one table after the other.
+ghost use Rattle.std.specs.Prelude.{◌≡◌, ◌+◌, [], List, IsTrue, OnOk};
+ghost use Rattle.sqlite_value.specs.Order.{Row as Values};
+ghost use Rattle.sqlite.specs.Held.{state};
+ghost use Rattle.sqlite.specs.State.{HasCleanDisk, IsUnchanged, Survives, Shown};
+ghost use Rattle.sqlite.specs.Given.{IsPlain};
+ghost use Rattle.sqlite.specs.Listing.{understood};
+ghost use Rattle.vault_audit_model.specs.Tables.{schema_of};
+ghost use Rattle.vault_audit_walk.specs.Walk.{Goes};
+ghost use Rattle.vault_store_create.specs.Create.{Moves};
+ghost use Rattle.vault_store_model.specs.Edits.{number_of};
+ghost use Rattle.vault_store_create.specs.Copied.{Steps, PutsRow, HasCopied};
+
+use crate::copy::listing::listing;
+use crate::copy::row::put_row;
+use sqlite::{Alter, Connection, Error, ErrorCode, Transaction};
+use std::alloc::Global;
+use vault_audit_model::schema::Edition;
+use vault_base::refusal::Table;
+
+/// Puts each row in that the query shows.
+fn copy_rows<O: Alter, S: Alter>(
+    alloc: Global,
+    old: &mut Connection<O>,
+    tx: &mut Transaction<'_, S>,
+    select: &str,
+    table: Table,
+) -> Result<(), Error>
+    requires { HasCleanDisk (state O.Store old.old) → IsPlain (understood old.old.schema select.now) }
+    ensures same_reference { tx.new.conn.ghost_name ≡ tx.old.conn.ghost_name }
+    ensures copied { HasCleanDisk (state O.Store old.new) → HasCleanDisk (state S.Store tx.new.conn.now) → IsTrue tx.old.conn.now.in_transaction → IsTrue (state S.Store tx.old.conn.now).is_open
+        → OnOk result ((rows : List Values) × Shown select.now [] (state O.Store old.old) (state O.Store old.new) rows
+        × Steps (state S.Store tx.old.conn.now) (state S.Store tx.new.conn.now) (λ d e. Goes (λ x row y. PutsRow table row x y) d rows e)) }
+    ensures survives { Survives (state S.Store tx.old.conn.now) (state S.Store tx.new.conn.now) (λ _. ⊥) }
+    ensures same { HasCleanDisk (state O.Store old.new) → OnOk result (IsUnchanged (state O.Store old.old) (state O.Store old.new)) }
+    ensures crash { Survives (state O.Store old.old) (state O.Store old.new) (λ _. ⊥) }
+{
+    let mut rows = old.query(select, &[])?;
+    'rows: for _ in 0..u64::MAX {
+        let Some(row) = rows.next()? else {
+            return Ok(());
+        };
+        put_row(alloc, tx, table, row)?;
+    }
+    Err(Error::SqliteFailure(ErrorCode::OutOfMemory))
+}
+
+/// Copies a table out of a file of that edition, all those before it being copied.
+fn copy_table<O: Alter, S: Alter>(
+    alloc: Global,
+    old: &mut Connection<O>,
+    tx: &mut Transaction<'_, S>,
+    edition: Edition,
+    table: Table,
+) -> Result<(), Error>
+    requires { HasCleanDisk (state O.Store old.old) → (state O.Store old.old).now.schema ≡ schema_of edition }
+    ensures same_reference { tx.new.conn.ghost_name ≡ tx.old.conn.ghost_name }
+    ensures copied { HasCleanDisk (state O.Store old.new) → HasCleanDisk (state S.Store tx.new.conn.now) → IsTrue tx.old.conn.now.in_transaction → IsTrue (state S.Store tx.old.conn.now).is_open
+        → OnOk result (Moves (state S.Store tx.old.conn.now) (state S.Store tx.new.conn.now)
+        (HasCopied edition (state O.Store old.old).now (number_of table)) (HasCopied edition (state O.Store old.old).now (number_of table + 1))) }
+    ensures survives { Survives (state S.Store tx.old.conn.now) (state S.Store tx.new.conn.now) (λ _. ⊥) }
+    ensures same { HasCleanDisk (state O.Store old.new) → OnOk result (IsUnchanged (state O.Store old.old) (state O.Store old.new)) }
+    ensures crash { Survives (state O.Store old.old) (state O.Store old.new) (λ _. ⊥) }
+{
+    copy_rows(alloc, old, tx, listing(edition, table), table)
+}
+
+fn copy_first<O: Alter, S: Alter>(
+    alloc: Global,
+    old: &mut Connection<O>,
+    tx: &mut Transaction<'_, S>,
+    edition: Edition,
+) -> Result<(), Error>
+    requires { HasCleanDisk (state O.Store old.old) → (state O.Store old.old).now.schema ≡ schema_of edition }
+    ensures same_reference { tx.new.conn.ghost_name ≡ tx.old.conn.ghost_name }
+    ensures copied { HasCleanDisk (state O.Store old.new) → HasCleanDisk (state S.Store tx.new.conn.now) → IsTrue tx.old.conn.now.in_transaction → IsTrue (state S.Store tx.old.conn.now).is_open
+        → OnOk result (Moves (state S.Store tx.old.conn.now) (state S.Store tx.new.conn.now)
+        (HasCopied edition (state O.Store old.old).now 0) (HasCopied edition (state O.Store old.old).now 4)) }
+    ensures survives { Survives (state S.Store tx.old.conn.now) (state S.Store tx.new.conn.now) (λ _. ⊥) }
+    ensures same { HasCleanDisk (state O.Store old.new) → OnOk result (IsUnchanged (state O.Store old.old) (state O.Store old.new)) }
+    ensures crash { Survives (state O.Store old.old) (state O.Store old.new) (λ _. ⊥) }
+{
+    copy_table(alloc, old, tx, edition, Table::Meta)?;
+    copy_table(alloc, old, tx, edition, Table::Departments)?;
+    copy_table(alloc, old, tx, edition, Table::Callers)?;
+    copy_table(alloc, old, tx, edition, Table::Buckets)?;
+    Ok(())
+}
+
+fn copy_second<O: Alter, S: Alter>(
+    alloc: Global,
+    old: &mut Connection<O>,
+    tx: &mut Transaction<'_, S>,
+    edition: Edition,
+) -> Result<(), Error>
+    requires { HasCleanDisk (state O.Store old.old) → (state O.Store old.old).now.schema ≡ schema_of edition }
+    ensures same_reference { tx.new.conn.ghost_name ≡ tx.old.conn.ghost_name }
+    ensures copied { HasCleanDisk (state O.Store old.new) → HasCleanDisk (state S.Store tx.new.conn.now) → IsTrue tx.old.conn.now.in_transaction → IsTrue (state S.Store tx.old.conn.now).is_open
+        → OnOk result (Moves (state S.Store tx.old.conn.now) (state S.Store tx.new.conn.now)
+        (HasCopied edition (state O.Store old.old).now 4) (HasCopied edition (state O.Store old.old).now 8)) }
+    ensures survives { Survives (state S.Store tx.old.conn.now) (state S.Store tx.new.conn.now) (λ _. ⊥) }
+    ensures same { HasCleanDisk (state O.Store old.new) → OnOk result (IsUnchanged (state O.Store old.old) (state O.Store old.new)) }
+    ensures crash { Survives (state O.Store old.old) (state O.Store old.new) (λ _. ⊥) }
+{
+    copy_table(alloc, old, tx, edition, Table::Rules)?;
+    copy_table(alloc, old, tx, edition, Table::Entries)?;
+    copy_table(alloc, old, tx, edition, Table::Contents)?;
+    copy_table(alloc, old, tx, edition, Table::Settings)?;
+    Ok(())
+}
+
+fn copy_last<O: Alter, S: Alter>(
+    alloc: Global,
+    old: &mut Connection<O>,
+    tx: &mut Transaction<'_, S>,
+    edition: Edition,
+) -> Result<(), Error>
+    requires { HasCleanDisk (state O.Store old.old) → (state O.Store old.old).now.schema ≡ schema_of edition }
+    ensures same_reference { tx.new.conn.ghost_name ≡ tx.old.conn.ghost_name }
+    ensures copied { HasCleanDisk (state O.Store old.new) → HasCleanDisk (state S.Store tx.new.conn.now) → IsTrue tx.old.conn.now.in_transaction → IsTrue (state S.Store tx.old.conn.now).is_open
+        → OnOk result (Moves (state S.Store tx.old.conn.now) (state S.Store tx.new.conn.now)
+        (HasCopied edition (state O.Store old.old).now 8) (HasCopied edition (state O.Store old.old).now 11)) }
+    ensures survives { Survives (state S.Store tx.old.conn.now) (state S.Store tx.new.conn.now) (λ _. ⊥) }
+    ensures same { HasCleanDisk (state O.Store old.new) → OnOk result (IsUnchanged (state O.Store old.old) (state O.Store old.new)) }
+    ensures crash { Survives (state O.Store old.old) (state O.Store old.new) (λ _. ⊥) }
+{
+    copy_table(alloc, old, tx, edition, Table::Intake)?;
+    copy_table(alloc, old, tx, edition, Table::Heads)?;
+    copy_table(alloc, old, tx, edition, Table::Tenures)?;
+    Ok(())
+}
+
+/// Copies all tables of a file of that edition into empty tables of the newest, inside a transaction.
+pub(crate) fn copy_tables<O: Alter, S: Alter>(
+    alloc: Global,
+    old: &mut Connection<O>,
+    tx: &mut Transaction<'_, S>,
+    edition: Edition,
+) -> Result<(), Error>
+    requires { HasCleanDisk (state O.Store old.old) → (state O.Store old.old).now.schema ≡ schema_of edition }
+    ensures same_reference { tx.new.conn.ghost_name ≡ tx.old.conn.ghost_name }
+    ensures copied { HasCleanDisk (state O.Store old.new) → HasCleanDisk (state S.Store tx.new.conn.now) → IsTrue tx.old.conn.now.in_transaction → IsTrue (state S.Store tx.old.conn.now).is_open
+        → OnOk result (Moves (state S.Store tx.old.conn.now) (state S.Store tx.new.conn.now)
+        (HasCopied edition (state O.Store old.old).now 0) (HasCopied edition (state O.Store old.old).now 11)) }
+    ensures survives { Survives (state S.Store tx.old.conn.now) (state S.Store tx.new.conn.now) (λ _. ⊥) }
+    ensures same { HasCleanDisk (state O.Store old.new) → OnOk result (IsUnchanged (state O.Store old.old) (state O.Store old.new)) }
+    ensures crash { Survives (state O.Store old.old) (state O.Store old.new) (λ _. ⊥) }
+{
+    copy_first(alloc, old, tx, edition)?;
+    copy_second(alloc, old, tx, edition)?;
+    copy_last(alloc, old, tx, edition)
+}

@@ -1,0 +1,20 @@
+use Rattle.sqlite.specs.Held.{state}
+use Rattle.vault_base.specs.declared.refusal.Table.TheVariants as table
+use Rattle.vault_store_model.proofs.EditLemmas.{with_row_ignores}
+use Rattle.vault_store_edits.proofs.StatementLemmas.{edits_if, sound_if}
+use Rattle.vault_audit_model.specs.Rows.{content_row}
+use Rattle.vault_store_edits.proofs.EntryEditsRowLemmas.{puts_content}
+use Rattle.vault_store_edits.proofs.contents.put_content.Goals as goal
+
+pub returns-clause-edits : goal.returns-clause-edits
+returns-clause-edits g c clean inside =
+    let old = state g.S.Store c.args.tx.now.conn.now in
+    let new = state g.S.Store c.execute.new.self.conn.now in
+    edits_if _ _ old new _ c.execute.result (with_row_ignores table.Contents (content_row (record { id = c.args.id; content = c.args.content.now }))) (puts_content (record { id = c.args.id; content = c.args.content.now }) old new)
+    (rw (c.params-to_sql.ensures, c.number.ensures.value, c.params-to_sql-2.ensures, c.as_slice.ensures) at (c.execute.ensures.runs clean inside))
+
+pub returns-clause-sound : goal.returns-clause-sound
+returns-clause-sound g c clean inside has =
+    let old = state g.S.Store c.args.tx.now.conn.now in
+    let new = state g.S.Store c.execute.new.self.conn.now in
+    sound_if _ _ old new _ c.execute.result has (puts_content (record { id = c.args.id; content = c.args.content.now }) old new) (rw (c.params-to_sql.ensures, c.number.ensures.value, c.params-to_sql-2.ensures, c.as_slice.ensures) at (c.execute.ensures.runs clean inside))

@@ -1,0 +1,24 @@
+use Rattle.sqlite.specs.Held.{state}
+use Rattle.vault_base.specs.declared.refusal.Table.TheVariants as table
+use Rattle.vault_store_model.proofs.EditLemmas.{with_row_ignores}
+use Rattle.vault_store_edits.proofs.StatementLemmas.{edits_if, sound_if}
+use Rattle.std.proofs.Common.{FitsSigned, w64, rules, to_z-of_z}
+use Rattle.vault_audit_model.specs.Rows.{tenure_row}
+use Rattle.vault_store_edits.proofs.EntryEditsRowLemmas.{puts_tenure}
+use Rattle.vault_store_edits.proofs.tenures.put_tenure.Goals as goal
+
+pub returns-clause-edits : goal.returns-clause-edits
+returns-clause-edits g c clean inside =
+    let old = state g.S.Store c.args.tx.now.conn.now in
+    let new = state g.S.Store c.execute.new.self.conn.now in
+    let fits0 : FitsSigned w64 c.seconds.result = search rules in
+    edits_if _ _ old new _ c.execute.result (with_row_ignores table.Tenures (tenure_row (record { id = c.args.id; tenure = c.args.tenure.now }))) (puts_tenure (record { id = c.args.id; tenure = c.args.tenure.now }) old new)
+    (rw (c.params-to_sql.ensures, c.number.ensures.value, c.params-to_sql-2.ensures, c.params-to_sql-3.ensures, c.as_str.ensures, c.params-to_sql-4.ensures, to_z-of_z fits0, c.seconds.ensures) at (c.execute.ensures.runs clean inside))
+
+pub returns-clause-sound : goal.returns-clause-sound
+returns-clause-sound g c clean inside has =
+    let old = state g.S.Store c.args.tx.now.conn.now in
+    let new = state g.S.Store c.execute.new.self.conn.now in
+    let fits0 : FitsSigned w64 c.seconds.result = search rules in
+    sound_if _ _ old new _ c.execute.result has (puts_tenure (record { id = c.args.id; tenure = c.args.tenure.now }) old new)
+    (rw (c.params-to_sql.ensures, c.number.ensures.value, c.params-to_sql-2.ensures, c.params-to_sql-3.ensures, c.as_str.ensures, c.params-to_sql-4.ensures, to_z-of_z fits0, c.seconds.ensures) at (c.execute.ensures.runs clean inside))

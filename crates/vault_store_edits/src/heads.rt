@@ -1,0 +1,96 @@
+//! Rows of `heads`.
+ghost use Rattle.std.specs.Prelude.{◌≡◌, IsTrue, OnOk, OnErr};
+ghost use Rattle.sqlite.specs.Effect.{IsDatabase};
+ghost use Rattle.sqlite.specs.State.{HasCleanDisk, KeepsCommit, Survives};
+ghost use Rattle.sqlite.specs.Held.{state};
+ghost use Rattle.vault_base.specs.declared.refusal.Table.TheVariants as table;
+ghost use Rattle.vault_audit_model.specs.Rows.{head_row};
+ghost use Rattle.vault_audit_model.specs.Tables.{vault_schema};
+ghost use Rattle.vault_store_model.specs.Edits.{with_row, with_changed, without, Edits};
+ghost use Rattle.vault_store_model.specs.Tests.{is_of_key, with_head_columns};
+
+use crate::apart::check_apart;
+use crate::value::whole;
+use sqlite::{Alter, Error, Transaction, params};
+use vault_base::name::{BucketName, ObjectKey};
+use vault_base::refusal::Table;
+use vault_core_model::records::Head;
+
+/// Puts in the head of a key. `TooBig` where its count is 2^63 or more.
+pub fn put_head<S: Alter>(
+    tx: &mut Transaction<'_, S>,
+    bucket: &BucketName,
+    key: &ObjectKey,
+    head: &Head,
+) -> Result<usize, Error>
+    ensures same_reference { tx.new.conn.ghost_name ≡ tx.old.conn.ghost_name }
+    ensures edits { HasCleanDisk (state S.Store tx.new.conn.now) → IsTrue tx.old.conn.now.in_transaction
+        → OnOk result (Edits (state S.Store tx.old.conn.now) (state S.Store tx.new.conn.now) (with_row table.Heads (head_row (record { bucket = bucket.now; key = key.now; head = head.now })))) }
+    ensures sound { HasCleanDisk (state S.Store tx.new.conn.now) → IsTrue tx.old.conn.now.in_transaction
+        → (state S.Store tx.old.conn.now).now.schema ≡ vault_schema → OnOk result (IsDatabase (state S.Store tx.new.conn.now).now) }
+    ensures kept { HasCleanDisk (state S.Store tx.new.conn.now) → IsTrue tx.old.conn.now.in_transaction
+        → OnErr result (KeepsCommit (state S.Store tx.old.conn.now) (state S.Store tx.new.conn.now)) }
+    ensures survives { Survives (state S.Store tx.old.conn.now) (state S.Store tx.new.conn.now) (λ _. ⊥) }
+{
+    let count = whole(head.count)?;
+    tx.execute(
+        "INSERT INTO heads (bucket, key, newest, count) VALUES (?1, ?2, ?3, ?4)",
+        params![bucket.as_str(), key.as_str(), head.newest.number(), count],
+    )
+}
+
+/// Writes this head into the row of its key. `TooBig` where its count is 2^63 or more.
+pub fn set_head<S: Alter>(
+    tx: &mut Transaction<'_, S>,
+    bucket: &BucketName,
+    key: &ObjectKey,
+    head: &Head,
+) -> Result<usize, Error>
+    ensures same_reference { tx.new.conn.ghost_name ≡ tx.old.conn.ghost_name }
+    ensures edits { HasCleanDisk (state S.Store tx.new.conn.now) → IsTrue tx.old.conn.now.in_transaction → IsDatabase (state S.Store tx.old.conn.now).now
+        → OnOk result (Edits (state S.Store tx.old.conn.now) (state S.Store tx.new.conn.now) (with_changed table.Heads (is_of_key bucket.now key.now) (with_head_columns head.now))) }
+    ensures sound { HasCleanDisk (state S.Store tx.new.conn.now) → IsTrue tx.old.conn.now.in_transaction → IsDatabase (state S.Store tx.old.conn.now).now
+        → (state S.Store tx.old.conn.now).now.schema ≡ vault_schema → OnOk result (IsDatabase (state S.Store tx.new.conn.now).now) }
+    ensures kept { HasCleanDisk (state S.Store tx.new.conn.now) → IsTrue tx.old.conn.now.in_transaction
+        → OnErr result (KeepsCommit (state S.Store tx.old.conn.now) (state S.Store tx.new.conn.now)) }
+    ensures survives { Survives (state S.Store tx.old.conn.now) (state S.Store tx.new.conn.now) (λ _. ⊥) }
+{
+    let count = whole(head.count)?;
+    check_apart(
+        tx,
+        Table::Heads,
+        "SELECT rowid FROM heads WHERE bucket = ?1 AND key = ?2",
+        params![bucket.as_str(), key.as_str()],
+    )?;
+    tx.execute(
+        "UPDATE heads SET newest = ?3, count = ?4 WHERE bucket = ?1 AND key = ?2",
+        params![bucket.as_str(), key.as_str(), head.newest.number(), count],
+    )
+}
+
+/// Deletes the head of a key.
+pub fn delete_head<S: Alter>(
+    tx: &mut Transaction<'_, S>,
+    bucket: &BucketName,
+    key: &ObjectKey,
+) -> Result<usize, Error>
+    ensures same_reference { tx.new.conn.ghost_name ≡ tx.old.conn.ghost_name }
+    ensures edits { HasCleanDisk (state S.Store tx.new.conn.now) → IsTrue tx.old.conn.now.in_transaction
+        → OnOk result (Edits (state S.Store tx.old.conn.now) (state S.Store tx.new.conn.now) (without table.Heads (is_of_key bucket.now key.now))) }
+    ensures sound { HasCleanDisk (state S.Store tx.new.conn.now) → IsTrue tx.old.conn.now.in_transaction
+        → (state S.Store tx.old.conn.now).now.schema ≡ vault_schema → OnOk result (IsDatabase (state S.Store tx.new.conn.now).now) }
+    ensures kept { HasCleanDisk (state S.Store tx.new.conn.now) → IsTrue tx.old.conn.now.in_transaction
+        → OnErr result (KeepsCommit (state S.Store tx.old.conn.now) (state S.Store tx.new.conn.now)) }
+    ensures survives { Survives (state S.Store tx.old.conn.now) (state S.Store tx.new.conn.now) (λ _. ⊥) }
+{
+    check_apart(
+        tx,
+        Table::Heads,
+        "SELECT rowid FROM heads WHERE bucket = ?1 AND key = ?2",
+        params![bucket.as_str(), key.as_str()],
+    )?;
+    tx.execute(
+        "DELETE FROM heads WHERE bucket = ?1 AND key = ?2",
+        params![bucket.as_str(), key.as_str()],
+    )
+}

@@ -1,0 +1,73 @@
+//! An edit of the tables, made as a whole or not at all.
+ghost use Rattle.std.specs.Prelude.{◌≡◌, false, IsTrue, OnOk, OnErr};
+ghost use Rattle.sqlite_trees.specs.Tree.{Trees};
+ghost use Rattle.sqlite.specs.Effect.{IsDatabase};
+ghost use Rattle.sqlite.specs.Held.{state};
+ghost use Rattle.sqlite.specs.State.{HasCleanDisk, IsLive, IsUnchanged, KeepsCommit, Survives};
+ghost use Rattle.vault_core_model.specs.Vault.{Vault};
+ghost use Rattle.vault_audit_model.specs.Tables.{vault_schema};
+ghost use Rattle.vault_store_model.specs.Edits.{Edits};
+ghost use Rattle.vault_store_model.specs.Keeping.{Keeps};
+ghost use Rattle.vault_store_edits.specs.Commits.{Commits, MayCommit};
+ghost use Rattle.vault_store_edits.specs.Ready.{IsReady};
+
+use sqlite::{Alter, Connection, Error, Transaction};
+
+/// What is done inside a transaction.
+pub trait Part<S: Alter> {
+    ghost use Rattle.vault_store_model.specs.Rows.{Rows};
+
+    /// What it makes of the rows of the tables.
+    ghost edit: { Self → Rows → Rows };
+
+    fn make(&self, tx: &mut Transaction<'_, S>) -> Result<(), Error>
+        ensures same_reference { tx.new.conn.ghost_name ≡ tx.old.conn.ghost_name }
+        ensures edits { HasCleanDisk (state S.Store tx.new.conn.now) → IsTrue tx.old.conn.now.in_transaction → IsReady (state S.Store tx.old.conn.now)
+            → OnOk result (Edits (state S.Store tx.old.conn.now) (state S.Store tx.new.conn.now) (edit self.now) × IsDatabase (state S.Store tx.new.conn.now).now) }
+        ensures kept { HasCleanDisk (state S.Store tx.new.conn.now) → IsTrue tx.old.conn.now.in_transaction → IsReady (state S.Store tx.old.conn.now)
+            → OnErr result (KeepsCommit (state S.Store tx.old.conn.now) (state S.Store tx.new.conn.now)) }
+        ensures survives { Survives (state S.Store tx.old.conn.now) (state S.Store tx.new.conn.now) (λ _. ⊥) };
+}
+
+/// Refuses a connection that a failure has shut; else nothing is changed.
+fn check_open<S: Alter>(tx: &mut Transaction<'_, S>) -> Result<(), Error>
+    ensures same_reference { tx.new.conn.ghost_name ≡ tx.old.conn.ghost_name }
+    ensures open { HasCleanDisk (state S.Store tx.new.conn.now) → OnOk result (IsUnchanged (state S.Store tx.old.conn.now) (state S.Store tx.new.conn.now)) }
+    ensures kept { HasCleanDisk (state S.Store tx.new.conn.now) → OnErr result (KeepsCommit (state S.Store tx.old.conn.now) (state S.Store tx.new.conn.now)) }
+    ensures survives { Survives (state S.Store tx.old.conn.now) (state S.Store tx.new.conn.now) (λ _. ⊥) }
+{
+    let _statement = tx.prepare("SELECT last FROM meta")?;
+    Ok(())
+}
+
+/// Makes the part where the connection is open.
+fn make_open<S: Alter, P: Part<S>>(tx: &mut Transaction<'_, S>, part: &P) -> Result<(), Error>
+    ensures same_reference { tx.new.conn.ghost_name ≡ tx.old.conn.ghost_name }
+    ensures edits { HasCleanDisk (state S.Store tx.new.conn.now) → IsTrue tx.old.conn.now.in_transaction → IsLive (state S.Store tx.old.conn.now)
+        → OnOk result (IsTrue (state S.Store tx.old.conn.now).is_open × ((state S.Store tx.old.conn.now).now.schema ≡ vault_schema → Edits (state S.Store tx.old.conn.now) (state S.Store tx.new.conn.now) (P.edit part.now) × IsDatabase (state S.Store tx.new.conn.now).now)) }
+    ensures kept { HasCleanDisk (state S.Store tx.new.conn.now) → IsTrue tx.old.conn.now.in_transaction → IsLive (state S.Store tx.old.conn.now)
+        → OnErr result ((IsTrue (state S.Store tx.old.conn.now).is_open → (state S.Store tx.old.conn.now).now.schema ≡ vault_schema) → KeepsCommit (state S.Store tx.old.conn.now) (state S.Store tx.new.conn.now)) }
+    ensures survives { Survives (state S.Store tx.old.conn.now) (state S.Store tx.new.conn.now) (λ _. ⊥) }
+{
+    check_open(tx)?;
+    part.make(tx)
+}
+
+/// Does it in a transaction of its own, which is committed; where that fails, the tables are as before.
+pub fn transact<S: Alter, P: Part<S>>(conn: &mut Connection<S>, part: &P) -> Result<(), Error>
+    requires { conn.old.in_transaction ≡ false }
+    ensures mode { conn.new.in_transaction ≡ false }
+    ensures open { HasCleanDisk (state S.Store conn.new) → OnOk result (IsTrue (state S.Store conn.old).is_open × IsTrue (state S.Store conn.new).is_open) }
+    ensures done { HasCleanDisk (state S.Store conn.new) → OnOk result ((state S.Store conn.old).now.schema ≡ vault_schema → Commits (state S.Store conn.old) (state S.Store conn.new) (P.edit part.now)) }
+    ensures nothing { HasCleanDisk (state S.Store conn.new) → OnErr result ((v : Vault) → Keeps (state S.Store conn.old) v → Keeps (state S.Store conn.new) v) }
+    // What a crash may leave after that are these tables alone.
+    ensures alone { HasCleanDisk (state S.Store conn.new) → OnOk result ((trees : Trees) → (state S.Store conn.new).may_leave trees → trees ≡ (state S.Store conn.new).now.trees) }
+    // What a crash may leave, at any moment of the call: what it could leave before, or the edited tables.
+    ensures crash { Survives (state S.Store conn.old) (state S.Store conn.new) (λ trees. IsTrue (state S.Store conn.old).is_open × ((state S.Store conn.old).now.schema ≡ vault_schema → MayCommit (state S.Store conn.old) (P.edit part.now) trees)) }
+{
+    // Its clause says that the tables of an open connection obey their schema.
+    let _schema = conn.schema();
+    let mut tx = conn.transaction();
+    make_open(&mut tx, part)?;
+    tx.commit()
+}

@@ -1,3 +1,0 @@
-mod BoundLemmas
-mod TextLemmas
-mod RowLemmas

@@ -1,0 +1,122 @@
+-- The edits that remove an entry.
+use Rattle.std.proofs.Common.{◌≡◌, ℕ, ◌==◌, List, [], ◌∷◌, ◌++◌, map, filter, flat_map, cond, not, Bool, true, false, Option, Some, None, IsSome, refl, sym, ap, subst, ◌∙◌, eqb}
+use Rattle.std.specs.Prelude.{find, if◌then◌else◌}
+use Rattle.std.specs.List.{AllByRecursion}
+use Rattle.std.proofs.lemmas.List.{map-append}
+use Rattle.std.proofs.lemmas.List.Sorted.{IsPermutation-refl}
+use Rattle.sqlite_trees.proofs.ListLemmas.{IsPermutation-same, all_weaker}
+use Rattle.sqlite_value.specs.Order.{Row}
+use Rattle.vault_base.specs.declared.refusal.Table.TheVariants as table
+use Rattle.vault_core_model.specs.declared.records.BucketConfig.{BucketConfig}
+use Rattle.vault_core_model.specs.declared.records.Entry.{Entry}
+use Rattle.vault_core_model.specs.declared.records.History.{History}
+use Rattle.vault_core_model.specs.declared.records.Removal.{Removal}
+use Rattle.vault_core_model.specs.declared.change.Change.TheVariants.{Remove}
+use Rattle.vault_core_model.specs.Allowed.{IsRemoval}
+use Rattle.vault_core_model.specs.Change.{changed, removed_by, removed_if}
+use Rattle.vault_core_model.specs.Reads.{entry_of}
+use Rattle.vault_core_model.specs.Sound.{Sound, HasTenures, IsPlaced}
+use Rattle.vault_core_model.specs.Totals.{items_by, items_of, shares_of}
+use Rattle.vault_core_model.specs.Vault.{Vault, config_of, history_of}
+use Rattle.vault_audit_model.specs.Rows.{entry_row, content_row, setting_row, tenure_row}
+use Rattle.vault_audit_model.specs.Spells.{contents_in, settings_in, tenures_in, content_if_given}
+use Rattle.vault_store_model.specs.Rows.{rows_of}
+use Rattle.vault_store_model.specs.Edits.{changed_if, and_then, at_moment}
+use Rattle.vault_store_model.specs.Tests.{is_numbered, removed_row}
+use Rattle.vault_store_model.specs.ChangesEdits.{edit_of, without_entry}
+use Rattle.vault_store_model.specs.Beside.{AreSameBesideHeads}
+use Rattle.vault_store_model.proofs.AdmissionLemmas.{sums_changed}
+use Rattle.vault_store_model.proofs.EntryLemmas.{found_history, each_is, items_mapped, texts_turned}
+use Rattle.vault_store_model.proofs.ListLemmas.{map_rows, flat_map_untold, filter-append}
+use Rattle.vault_store_model.proofs.SettingLemmas.{next_kept}
+use Rattle.vault_store_model.proofs.TenureLemmas.{other_removed, marker_removed}
+
+-- ---- rows of one entry
+
+entry_row_removed : (id : ℕ) (r : Removal) (h : History) → entry_row (removed_if id r h).entry ≡ changed_if (is_numbered id) (removed_row r) (entry_row h.entry)
+entry_row_removed id r h =
+    elim (eqb h.entry.id id) as (λ b. entry_row (if b then removed_by r h else h).entry ≡ cond b (removed_row r (entry_row h.entry)) (entry_row h.entry)) [ true ↦ refl | false ↦ refl ]
+
+settings_kept : (id : ℕ) (r : Removal) (h : History) → settings_in (removed_if id r h) ≡ settings_in h
+settings_kept id r h = elim (eqb h.entry.id id) as (λ b. settings_in (if b then removed_by r h else h) ≡ settings_in h) [ true ↦ refl | false ↦ refl ]
+
+tenures_kept : (id : ℕ) (r : Removal) (h : History) → tenures_in (removed_if id r h) ≡ tenures_in h
+tenures_kept id r h = elim (eqb h.entry.id id) as (λ b. tenures_in (if b then removed_by r h else h) ≡ tenures_in h) [ true ↦ refl | false ↦ refl ]
+
+-- the bytes that bear an id
+dropped_content : (id own : ℕ) (content : Option (List ℕ)) → filter (λ row. not (is_numbered id row)) (map content_row (content_if_given own content)) ≡ cond (own == id) [] (map content_row (content_if_given own content))
+dropped_content id own None = elim (eqb own id) as (λ b. ◌≡◌ {A = List Row} [] (cond b [] [])) [ true ↦ refl | false ↦ refl ]
+dropped_content id own (Some bytes) =
+    let row = content_row (record { id = own; content = bytes }) in
+    elim (eqb own id) as (λ b. cond (not b) (row ∷ []) [] ≡ cond b [] (row ∷ [])) [ true ↦ refl | false ↦ refl ]
+
+contents_removed : (id : ℕ) (r : Removal) (h : History) → map content_row (contents_in (removed_if id r h)) ≡ cond (h.entry.id == id) [] (map content_row (contents_in h))
+contents_removed id r h = elim (eqb h.entry.id id) as (λ b. map content_row (contents_in (if b then removed_by r h else h)) ≡ cond b [] (map content_row (contents_in h))) [ true ↦ refl | false ↦ refl ]
+
+contents_dropped : (id : ℕ) (r : Removal) (hs : List History) → map content_row (flat_map contents_in (map (removed_if id r) hs)) ≡ filter (λ row. not (is_numbered id row)) (map content_row (flat_map contents_in hs))
+contents_dropped id r [] = refl
+contents_dropped id r (h ∷ hs) =
+    let kept = λ (row : Row). not (is_numbered id row) in
+    map-append content_row (contents_in (removed_if id r h)) (flat_map contents_in (map (removed_if id r) hs))
+    ∙ ap (λ l. map content_row (contents_in (removed_if id r h)) ++ l) (contents_dropped id r hs)
+    ∙ ap (λ l. l ++ filter kept (map content_row (flat_map contents_in hs))) (contents_removed id r h ∙ sym (dropped_content id h.entry.id h.content))
+    ∙ sym (filter-append kept (map content_row (contents_in h)) (map content_row (flat_map contents_in hs)))
+    ∙ ap (filter kept) (sym (map-append content_row (contents_in h) (flat_map contents_in hs)))
+
+-- ---- sums
+
+-- a history that isn't the removed one counts as before, and so does that one where its tenures do
+history_kept : (d : List ℕ) (id : ℕ) (r : Removal) (g : History) → items_by d (shares_of (removed_by r g)) ≡ items_by d (shares_of g) → (h : History) → ((h.entry.id == id) ≡ true → h ≡ g)
+    → items_by d (shares_of (removed_if id r h)) ≡ items_by d (shares_of h)
+history_kept d id r g same h is =
+    elim (eqb h.entry.id id) as (λ b. eqb h.entry.id id ≡ b → items_by d (shares_of (if b then removed_by r h else h)) ≡ items_by d (shares_of h)) [
+      | true ↦ λ here. subst (λ (x : History). items_by d (shares_of (removed_by r x)) ≡ items_by d (shares_of x)) (sym (is here)) same
+      | false ↦ λ _. refl
+    ] refl
+
+items_kept : (v : Vault) (t id : ℕ) (r : Removal) (g : History) (d : List ℕ) → Sound v → history_of v id ≡ Some g → items_by d (shares_of (removed_by r g)) ≡ items_by d (shares_of g)
+    → items_of (changed v t (Remove id r)) d ≡ items_of v d
+items_kept v t id r g d sound found same =
+    items_mapped d (removed_if id r) v.histories
+    (all_weaker (λ h. (h.entry.id == id) ≡ true → h ≡ g) (λ h. items_by d (shares_of (removed_if id r h)) ≡ items_by d (shares_of h))
+    (λ h is. history_kept d id r g same h is) v.histories (each_is v.histories id g sound.ids found))
+
+-- ---- the history that was found
+
+pub found_all : (P : History → Type 0) (p : History → Bool) (hs : List History) (g : History) → AllByRecursion P hs → find p hs ≡ Some g → P g
+found_all P p [] g all found = absurd (cc found)
+found_all P p (h ∷ hs) g all found =
+    elim (p h) as (λ b. (if b then Some h else find p hs) ≡ Some g → P g) [
+      | true ↦ λ e. let same : h ≡ g = cc e in subst P same all.0
+      | false ↦ λ e. found_all P p hs g all.1 e
+    ] found
+
+some_is : {A : Type 0} (o : Option A) → IsSome o → (x : A) × (o ≡ Some x)
+some_is None there = absurd (cc there)
+some_is (Some x) there = (x, refl)
+
+-- ---- the change
+
+removed : (v : Vault) (t id : ℕ) (r : Removal) (g : History) (config : BucketConfig) → Sound v → history_of v id ≡ Some g → HasTenures v g → g.entry.removal ≡ None → config_of v g.entry.bucket ≡ Some config
+    → AreSameBesideHeads (rows_of (changed v t (Remove id r))) (and_then (without_entry v (changed v t (Remove id r)) id r (Some g.entry)) (at_moment t) (rows_of v))
+removed v t id r g config sound found tenured held placed table.Meta beside = IsPermutation-same _ _ (ap (λ row. row ∷ []) (next_kept t v.moves (removed_if id r) v.histories))
+removed v t id r g config sound found tenured held placed table.Entries beside = IsPermutation-same _ _ (map_rows (λ h. entry_row h.entry) (removed_if id r) (changed_if (is_numbered id) (removed_row r)) (entry_row_removed id r) v.histories)
+removed v t id r g config sound found tenured held placed table.Contents beside = IsPermutation-same _ _ (contents_dropped id r v.histories)
+removed v t id r g config sound found tenured held placed table.Settings beside = IsPermutation-same _ _ (ap (map setting_row) (flat_map_untold settings_in (removed_if id r) (settings_kept id r) v.histories))
+removed v t id r g config sound found tenured held placed table.Tenures beside = IsPermutation-same _ _ (ap (map tenure_row) (flat_map_untold tenures_in (removed_if id r) (tenures_kept id r) v.histories))
+removed v t id r g config sound found tenured held placed table.Departments beside =
+    IsPermutation-same _ _ (sums_changed v (changed v t (Remove id r)) g.entry.marker (config_of v g.entry.bucket) config placed
+    (λ marker d. items_kept v t id r g d sound found (marker_removed v g.entry.marker g r d tenured marker))
+    (λ d other. items_kept v t id r g d sound found (other_removed v g.entry.marker g r config d tenured held placed (texts_turned d config.dept false other))))
+removed v t id r g config sound found tenured held placed table.Heads beside = absurd (cc beside)
+removed v t id r g config sound found tenured held placed _ beside = IsPermutation-refl _
+
+pub entry_removed : (v : Vault) (t id : ℕ) (r : Removal) → Sound v → IsRemoval v t id r → AreSameBesideHeads (rows_of (changed v t (Remove id r))) (edit_of v t (Remove id r) (rows_of v))
+entry_removed v t id r sound is =
+    let held = is.held in
+    let found = found_history (history_of v id) held.0 held.1 in
+    let g = found.0 in
+    let config = some_is (config_of v g.entry.bucket) (found_all (IsPlaced v) (λ h. h.entry.id == id) v.histories g sound.placed found.1) in
+    let there : entry_of v id ≡ Some g.entry = held.1 ∙ ap Some (sym found.2) in
+    subst (λ (o : Option Entry). AreSameBesideHeads (rows_of (changed v t (Remove id r))) (and_then (without_entry v (changed v t (Remove id r)) id r o) (at_moment t) (rows_of v))) (sym there)
+    (removed v t id r g config.0 sound found.1 (found_all (HasTenures v) (λ h. h.entry.id == id) v.histories g sound.tenured found.1) (ap (λ (e : Entry). e.removal) found.2 ∙ held.2) config.1)

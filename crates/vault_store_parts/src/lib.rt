@@ -1,7 +1,0 @@
-//! Changes of records and of configurations, each as a part of a transaction that edits the tables.
-#![tactic(auto)]
-
-pub mod bucket;
-pub mod caller;
-pub mod department;
-pub mod moves;

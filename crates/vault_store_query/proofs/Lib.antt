@@ -1,2 +1,0 @@
-pub mod QueryLemmas
-pub mod FindLemmas

@@ -1,0 +1,180 @@
+-- What the statements mean.
+use Rattle.std.proofs.Common.{◌≡◌, ℕ, pos, negsuc, List, [], ◌∷◌, codes, true, refl}
+use Rattle.sqlite_tied.specs.Compute.{everything}
+use Rattle.sqlite_value.specs.declared.value.Value.TheVariants.{Null, Int}
+use Rattle.sqlite_value.specs.declared.keys.Collation.TheVariants.{Binary}
+use Rattle.sqlite_value.specs.declared.keys.Key.{Key}
+use Rattle.sqlite_value.specs.Keys.{ascending}
+use Rattle.sqlite_sql.specs.declared.ops.BinaryOp.TheVariants.{Compare, Is}
+use Rattle.sqlite_sql.specs.declared.ops.UnaryOp.TheVariants.{Not}
+use Rattle.sqlite_sql.specs.declared.ops.CompareOp.TheVariants.{Eq, Ne, Gt}
+use Rattle.sqlite_sql.specs.Term.{Term, lit, col, op1, op2}
+use Rattle.sqlite_schema.specs.declared.command.Command.TheVariants.{Select}
+use Rattle.sqlite.specs.Listing.{understood}
+use Rattle.sqlite.proofs.Callers.{IsPlain, command_of}
+use Rattle.vault_audit_model.specs.Tables.{vault_schema, entries_tree, heads_tree, rules_tree, settings_tree, tenures_tree}
+use Rattle.vault_store_reads.specs.Queries.{Selects}
+use Rattle.vault_store_reads.proofs.SelectLemmas.{select_of}
+
+abbrev pub no_limit : Term
+no_limit = lit (Int (negsuc 0))
+
+abbrev pub descending : Key
+descending = record { collation = Binary; descending = true }
+
+-- ---- the last setting of a version
+
+abbrev pub setting_text : List ℕ
+setting_text = codes "SELECT n, mode, until, hold FROM settings WHERE id = ?1 ORDER BY n DESC LIMIT 1"
+
+abbrev pub setting_tests : List Term
+setting_tests = op2 (Compare Eq Binary) (col 1 1) (col 0 0) ∷ []
+
+abbrev pub setting_shown : List Term
+setting_shown = col 1 2 ∷ col 1 5 ∷ col 1 6 ∷ col 1 7 ∷ []
+
+abbrev pub setting_order : List (Term × Key)
+setting_order = (col 1 2, descending) ∷ []
+
+pub setting_is : Selects setting_text (select_of settings_tree setting_tests setting_shown setting_order (lit (Int (pos 1))))
+unfolding understood everything
+setting_is = record { names = codes "n" ∷ codes "mode" ∷ codes "until" ∷ codes "hold" ∷ []; is = refl; plain = (refl, refl); unlisted = refl }
+
+-- ---- the rules of a bucket
+
+abbrev pub rules_text : List ℕ
+rules_text = codes "SELECT bucket, n, id, prefix, enabled, days, lone, nc_days, nc_keep, larger, smaller FROM rules WHERE bucket = ?1 ORDER BY n"
+
+abbrev pub rules_tests : List Term
+rules_tests = op2 (Compare Eq Binary) (col 1 1) (col 0 0) ∷ []
+
+abbrev pub rules_shown : List Term
+rules_shown = col 1 1 ∷ col 1 2 ∷ col 1 3 ∷ col 1 4 ∷ col 1 5 ∷ col 1 6 ∷ col 1 7 ∷ col 1 8 ∷ col 1 9 ∷ col 1 10 ∷ col 1 11 ∷ []
+
+abbrev pub rules_order : List (Term × Key)
+rules_order = (col 1 2, ascending Binary) ∷ []
+
+pub rules_is : Selects rules_text (select_of rules_tree rules_tests rules_shown rules_order no_limit)
+unfolding understood everything
+rules_is = record { names = codes "bucket" ∷ codes "n" ∷ codes "id" ∷ codes "prefix" ∷ codes "enabled" ∷ codes "days" ∷ codes "lone" ∷ codes "nc_days" ∷ codes "nc_keep" ∷ codes "larger" ∷ codes "smaller" ∷ []; is = refl; plain = (refl, refl); unlisted = refl }
+
+-- ---- the tenures of a version, and the last of them
+
+abbrev pub tenures_text : List ℕ
+tenures_text = codes "SELECT id, n, dept, moment FROM tenures WHERE id = ?1 ORDER BY n"
+
+abbrev pub last_tenure_text : List ℕ
+last_tenure_text = codes "SELECT id, n, dept, moment FROM tenures WHERE id = ?1 ORDER BY n DESC LIMIT 1"
+
+abbrev pub tenures_tests : List Term
+tenures_tests = op2 (Compare Eq Binary) (col 1 1) (col 0 0) ∷ []
+
+abbrev pub tenures_shown : List Term
+tenures_shown = col 1 1 ∷ col 1 2 ∷ col 1 3 ∷ col 1 4 ∷ []
+
+abbrev pub tenures_order : List (Term × Key)
+tenures_order = (col 1 2, ascending Binary) ∷ []
+
+abbrev pub last_tenure_order : List (Term × Key)
+last_tenure_order = (col 1 2, descending) ∷ []
+
+pub tenures_is : Selects tenures_text (select_of tenures_tree tenures_tests tenures_shown tenures_order no_limit)
+unfolding understood everything
+tenures_is = record { names = codes "id" ∷ codes "n" ∷ codes "dept" ∷ codes "moment" ∷ []; is = refl; plain = (refl, refl); unlisted = refl }
+
+pub last_tenure_is : Selects last_tenure_text (select_of tenures_tree tenures_tests tenures_shown last_tenure_order (lit (Int (pos 1))))
+unfolding understood everything
+last_tenure_is = record { names = codes "id" ∷ codes "n" ∷ codes "dept" ∷ codes "moment" ∷ []; is = refl; plain = (refl, refl); unlisted = refl }
+
+-- ---- the held entries of a key, the newest first
+
+-- by their ids
+abbrev pub entries_order : List (Term × Key)
+entries_order = (col 1 0, ascending Binary) ∷ []
+
+-- by removal, which those that are held have none of, and then by the latest id
+abbrev pub held_order : List (Term × Key)
+held_order = (col 1 10, ascending Binary) ∷ (col 1 0, descending) ∷ []
+
+abbrev pub entries_text : List ℕ
+entries_text = codes "SELECT id, marker, size, admitted FROM entries WHERE bucket = ?1 AND key = ?2 AND removed IS NULL ORDER BY removed, id DESC LIMIT ?3"
+
+abbrev pub entries_tests : List Term
+entries_tests = op2 (Compare Eq Binary) (col 1 2) (col 0 0) ∷ op2 (Compare Eq Binary) (col 1 3) (col 0 1) ∷ op2 (Is Binary) (col 1 10) (lit Null) ∷ []
+
+abbrev pub entries_shown : List Term
+entries_shown = col 1 0 ∷ col 1 4 ∷ col 1 5 ∷ col 1 7 ∷ []
+
+pub entries_is : Selects entries_text (select_of entries_tree entries_tests entries_shown held_order (col 0 2))
+unfolding understood everything
+entries_is = record { names = codes "id" ∷ codes "marker" ∷ codes "size" ∷ codes "admitted" ∷ []; is = refl; plain = (refl, refl); unlisted = refl }
+
+-- ---- the held versions of a bucket
+
+abbrev pub sized_text : List ℕ
+sized_text = codes "SELECT id, size FROM entries WHERE bucket = ?1 AND marker = 0 AND removed IS NULL ORDER BY id"
+
+abbrev pub sized_tests : List Term
+sized_tests = op2 (Compare Eq Binary) (col 1 2) (col 0 0) ∷ op2 (Compare Eq Binary) (col 1 4) (lit (Int (pos 0))) ∷ op2 (Is Binary) (col 1 10) (lit Null) ∷ []
+
+abbrev pub sized_shown : List Term
+sized_shown = col 1 0 ∷ col 1 5 ∷ []
+
+pub sized_is : Selects sized_text (select_of entries_tree sized_tests sized_shown entries_order no_limit)
+unfolding understood everything
+sized_is = record { names = codes "id" ∷ codes "size" ∷ []; is = refl; plain = (refl, refl); unlisted = refl }
+
+-- ---- the newest of them besides one
+
+abbrev pub newest_text : List ℕ
+newest_text = codes "SELECT id FROM entries WHERE bucket = ?1 AND key = ?2 AND id <> ?3 AND removed IS NULL ORDER BY removed, id DESC LIMIT 1"
+
+abbrev pub newest_tests : List Term
+newest_tests =
+    op2 (Compare Eq Binary) (col 1 2) (col 0 0) ∷ op2 (Compare Eq Binary) (col 1 3) (col 0 1) ∷ op2 (Compare Ne Binary) (col 1 0) (col 0 2) ∷ op2 (Is Binary) (col 1 10) (lit Null) ∷ []
+
+pub newest_is : Selects newest_text (select_of entries_tree newest_tests (col 1 0 ∷ []) held_order (lit (Int (pos 1))))
+unfolding understood everything
+newest_is = record { names = codes "id" ∷ []; is = refl; plain = (refl, refl); unlisted = refl }
+
+-- ---- the keys of a bucket
+
+abbrev pub keys_text : List ℕ
+keys_text = codes "SELECT key FROM heads WHERE bucket = ?1 AND key > ?2 ORDER BY key LIMIT ?3"
+
+abbrev pub keys_tests : List Term
+keys_tests = op2 (Compare Eq Binary) (col 1 1) (col 0 0) ∷ op2 (Compare Gt Binary) (col 1 2) (col 0 1) ∷ []
+
+abbrev pub keys_order : List (Term × Key)
+keys_order = (col 1 2, ascending Binary) ∷ []
+
+pub keys_is : Selects keys_text (select_of heads_tree keys_tests (col 1 2 ∷ []) keys_order (col 0 2))
+unfolding understood everything
+keys_is = record { names = codes "key" ∷ []; is = refl; plain = (refl, refl); unlisted = refl }
+
+-- ---- the removed entries
+
+abbrev pub removed_text : List ℕ
+removed_text = codes "SELECT id, bucket, key, marker, size, digest, admitted, by_rule, admitted_by, removed, cause, cause_by FROM entries WHERE removed IS NOT NULL ORDER BY id"
+
+abbrev pub removed_tests : List Term
+removed_tests = op1 Not (op2 (Is Binary) (col 1 10) (lit Null)) ∷ []
+
+abbrev pub removed_shown : List Term
+removed_shown = col 1 0 ∷ col 1 2 ∷ col 1 3 ∷ col 1 4 ∷ col 1 5 ∷ col 1 6 ∷ col 1 7 ∷ col 1 8 ∷ col 1 9 ∷ col 1 10 ∷ col 1 11 ∷ col 1 12 ∷ []
+
+abbrev pub removed_names : List (List ℕ)
+removed_names =
+    codes "id" ∷ codes "bucket" ∷ codes "key" ∷ codes "marker" ∷ codes "size" ∷ codes "digest" ∷ codes "admitted" ∷ codes "by_rule" ∷ codes "admitted_by" ∷ codes "removed" ∷ codes "cause" ∷ codes "cause_by" ∷ []
+
+pub removed_is : Selects removed_text (select_of entries_tree removed_tests removed_shown entries_order no_limit)
+unfolding understood everything
+removed_is = record { names = removed_names; is = refl; plain = (refl, refl); unlisted = refl }
+
+pub removed_command : command_of (understood vault_schema removed_text) ≡ Select (record { lets = []; body = select_of entries_tree removed_tests removed_shown entries_order no_limit }) removed_names
+unfolding understood everything
+removed_command = refl
+
+pub removed_plain : IsPlain (understood vault_schema removed_text)
+unfolding understood everything
+removed_plain = (refl, refl)

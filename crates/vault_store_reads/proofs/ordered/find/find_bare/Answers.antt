@@ -1,0 +1,30 @@
+use Rattle.std.proofs.Common.{◌≡◌, length, ◌∙◌, arith}
+use Rattle.vault_core_model.specs.Places.{held_at}
+use Rattle.vault_store_reads.specs.Shown.{held_row}
+use Rattle.vault_store_reads.proofs.CountLemmas.{none_shown, shown_in_order}
+use Rattle.vault_store_reads.proofs.ordered.find.find_bare.Goals as goal
+
+pub returns-then-count-eq0-clause-value : goal.returns-then-count-eq0-clause-value
+returns-then-count-eq0-clause-value g c clean v was =
+    let told = c.in_ok-count.ensures.value clean v was in
+    let hs = held_at v c.args.bucket.now c.args.key.now in
+    let none : length hs ≡ 0 = omega (arith, told.0, c.if-count-eq0.true) in
+    (rw c.new.ensures.items (none_shown hs none), told.1)
+
+pub returns-in_err-rows-clause-same : goal.returns-in_err-rows-clause-same
+returns-in_err-rows-clause-same g c clean v was = c.entry_rows.ensures.same clean v (c.find_count.ensures.same (c.entry_rows.ensures.honest clean) v was)
+
+pub returns-in_err-held-clause-same : goal.returns-in_err-held-clause-same
+returns-in_err-held-clause-same g c clean v was = c.entry_rows.ensures.same clean v (c.find_count.ensures.same (c.entry_rows.ensures.honest clean) v was)
+
+pub returns-clause-same : goal.returns-clause-same
+returns-clause-same g c clean v was = c.entry_rows.ensures.same clean v (c.find_count.ensures.same (c.entry_rows.ensures.honest clean) v was)
+
+pub returns-clause-value : goal.returns-clause-value
+returns-clause-value g c clean v was =
+    let mid = c.entry_rows.ensures.honest clean in
+    let told = c.in_ok-count.ensures.value mid v was in
+    let shown = c.in_ok-rows.ensures.rows clean v (c.find_count.ensures.same mid v was) in
+    let hs = held_at v c.args.bucket.now c.args.key.now in
+    let decoded = (rw c.deref.ensures.value at c.in_ok-held.ensures) ∙ shown.0 in
+    (rw c.reverse.ensures.items (shown_in_order held_row c.in_ok-held.held.items c.in_ok-count.count hs told.0 decoded), told.1)

@@ -1,0 +1,16 @@
+use Rattle.sqlite.specs.Held.{state}
+use Rattle.vault_store_reads.proofs.QueryLemmas.{finds, keeps_after, if_shown}
+use Rattle.vault_store_reads.proofs.OpenLemmas.{open_after, quiet}
+use Rattle.vault_store_reads.proofs.ordered.rows.open_rows.Goals as goal
+
+pub returns-clause-rows : goal.returns-clause-rows
+returns-clause-rows g c clean = if_shown c.query_all.result (c.query_all.ensures.ok clean) (λ rows shown v was. finds _ _ (state g.S.Store c.args.conn.now) _ v was rows.items shown)
+
+pub returns-clause-same : goal.returns-clause-same
+returns-clause-same g c clean v was = keeps_after _ _ _ _ v was (λ rows. rows.items) c.requires.0 c.requires.1 c.query_all.result (c.query_all.ensures.ok clean) (c.query_all.ensures.err clean)
+
+pub returns-clause-survives : goal.returns-clause-survives
+returns-clause-survives g c = quiet _ _ _ _ c.requires.0 c.requires.1 c.query_all.ensures.survives
+
+pub returns-clause-opened : goal.returns-clause-opened
+returns-clause-opened g c clean = open_after _ _ _ _ (λ rows. rows.items) c.query_all.result (c.query_all.ensures.ok clean)

@@ -1,0 +1,61 @@
+-- What a row of an ordered read tells.
+use Rattle.std.specs.Prelude.{ℕ, ◌*◌, ◌==◌, not, List, [], ◌∷◌, map, filter, Option, None, Some, option_map}
+use Rattle.sqlite_value.specs.declared.value.Value.TheVariants.{Text}
+use Rattle.sqlite_value.specs.Order.{Row}
+use Rattle.vault_rules.specs.declared.plan.Held.{Held}
+use Rattle.vault_rules.specs.declared.rule.Rule.{Rule}
+use Rattle.vault_core_model.specs.declared.records.History.{History}
+use Rattle.vault_core_model.specs.declared.records.LastSetting.{LastSetting}
+use Rattle.vault_core_model.specs.Places.{held_at}
+use Rattle.vault_core_model.specs.Reads.{head_over, lock_of, tenures_of}
+use Rattle.vault_core_model.specs.Totals.{last_day_from}
+use Rattle.vault_core_model.specs.Vault.{Vault}
+use Rattle.vault_audit_model.specs.declared.rows.RuleRow.{RuleRow}
+use Rattle.vault_audit_model.specs.Rows.{retention_mode, retention_until}
+use Rattle.vault_audit_model.specs.Values.{number, flag}
+use Rattle.vault_store_reads.specs.declared.ordered.shown.HeldRow.{HeldRow}
+use Rattle.vault_store_reads.specs.declared.ordered.shown.SizedRow.{SizedRow}
+
+-- the place of a version's last setting, which is how many it has, and its lock
+abbrev pub last_row : LastSetting → Row
+last_row s = number s.count ∷ retention_mode s.lock.retention ∷ retention_until s.lock.retention ∷ flag s.lock.hold ∷ []
+
+-- a held entry without its lock
+abbrev pub held_row : HeldRow → Row
+held_row h = number h.id ∷ flag h.marker ∷ number h.size ∷ number h.admitted ∷ []
+
+abbrev pub without_lock : Held → HeldRow
+without_lock h = record { id = h.id; marker = h.marker; size = h.size; admitted = h.admitted }
+
+abbrev pub entry_shown : Held → Row
+entry_shown h = held_row (without_lock h)
+
+abbrev pub key_row : List ℕ → Row
+key_row key = Text key ∷ []
+
+abbrev pub id_row : ℕ → Row
+id_row id = number id ∷ []
+
+-- a version and its size
+abbrev pub sized_row : SizedRow → Row
+sized_row x = number x.id ∷ number x.size ∷ []
+
+abbrev pub sized_of : History → SizedRow
+sized_of h = record { id = h.entry.id; size = h.entry.size }
+
+-- its size times the day from which its department has it
+abbrev pub weight_in : Vault → SizedRow → ℕ
+weight_in v x = x.size * last_day_from (tenures_of v x.id)
+
+-- the rules of these rows; no rule is no set of rules
+abbrev pub set_of : List RuleRow → Option (List Rule)
+set_of [] = None
+set_of (r ∷ rs) = Some (map (λ x. x.rule) (r ∷ rs))
+
+-- the entry with the lock that the last setting of its id gives
+abbrev pub with_lock_in : Vault → HeldRow → Held
+with_lock_in v h = record { id = h.id; marker = h.marker; size = h.size; admitted = h.admitted; lock = lock_of v h.id }
+
+-- the newest held entry of a key besides this one
+abbrev pub newest_but : Vault → List ℕ → List ℕ → ℕ → Option ℕ
+newest_but v bucket key id = option_map (λ head. head.newest) (head_over (filter (λ h. not (h.entry.id == id)) (held_at v bucket key)))

@@ -1,0 +1,67 @@
+//! The walk over the removed entries.
+ghost use Rattle.std.specs.Prelude.{◌≡◌, false, Ok, IsTrue, IfOk, OnErr};
+ghost use Rattle.sqlite.specs.Held.{state};
+ghost use Rattle.sqlite.specs.State.{HasCleanDisk, Survives};
+ghost use Rattle.vault_core_model.specs.declared.records.Entry.{Entry};
+ghost use Rattle.vault_core_model.specs.Handing.{Hands, TakesSome};
+ghost use Rattle.vault_core_model.specs.Reads.{removed_entries};
+ghost use Rattle.vault_core_model.specs.Vault.{Vault};
+ghost use Rattle.vault_audit_model.specs.Rows.{entry_row};
+ghost use Rattle.vault_store_model.specs.Keeping.{Keeps};
+ghost use Rattle.vault_store_reads.specs.Quiet.{IsQuiet};
+ghost use Rattle.vault_store_reads.specs.Handed.{as_fault};
+
+use crate::query::unread;
+use sqlite::{Alter, Connection, Error, ErrorCode, Row};
+use vault_audit_rows::records::read_entry;
+use vault_core_model::keeper::Sink;
+
+/// Hands the entry of a row on: whether the sink took it.
+fn hand<T: Sink>(row: &Row, sink: &mut T) -> Result<bool, Error>
+    ensures ok { IfOk result (λ taken. (e : Entry) × (row.now ≡ entry_row e) × T.takes sink.old e taken sink.new) }
+    ensures err { OnErr result (sink.new ≡ sink.old) }
+{
+    let entry = read_entry(row).map_err(unread)?;
+    let taken = sink.take(&entry);
+    drop(entry);
+    Ok(taken)
+}
+
+/// Hands on each removed entry, as `walk_removed` does.
+fn hand_each<S: Alter, T: Sink>(conn: &mut Connection<S>, sink: &mut T) -> Result<bool, Error>
+    ensures done { HasCleanDisk (state S.Store conn.new) → IfOk result (λ done. (v : Vault) → ∥ Keeps (state S.Store conn.old) v ∥₁ → Hands T.takes sink.old (removed_entries v) (Ok done) sink.new) }
+    ensures some { HasCleanDisk (state S.Store conn.new) → OnErr result ((v : Vault) → ∥ Keeps (state S.Store conn.old) v ∥₁ → TakesSome T.takes sink.old (removed_entries v) sink.new) }
+    ensures same { HasCleanDisk (state S.Store conn.new) → (v : Vault) → Keeps (state S.Store conn.old) v → Keeps (state S.Store conn.new) v }
+    ensures honest { HasCleanDisk (state S.Store conn.new) → HasCleanDisk (state S.Store conn.old) }
+    ensures mode { conn.old.in_transaction ≡ false → conn.new.in_transaction ≡ false }
+    ensures survives { Survives (state S.Store conn.old) (state S.Store conn.new) (IsQuiet (state S.Store conn.old)) }
+{
+    let mut rows = conn.query(
+        "SELECT id, bucket, key, marker, size, digest, admitted, by_rule, admitted_by, removed, cause, cause_by FROM entries WHERE removed IS NOT NULL ORDER BY id",
+        &[],
+    )?;
+    'rows: for _ in 0..u64::MAX {
+        let Some(row) = rows.next()? else {
+            return Ok(true);
+        };
+        if !hand(row, sink)? {
+            return Ok(false);
+        }
+    }
+    Err(Error::SqliteFailure(ErrorCode::OperationInterrupted))
+}
+
+/// Hands on each removed entry by rising id, one at a time: true after all of them, false where the sink
+/// refused. Where it fails, some of the first of them were handed on.
+pub fn walk_removed<S: Alter, T: Sink>(
+    conn: &mut Connection<S>,
+    sink: &mut T,
+) -> Result<bool, Error>
+    ensures value { HasCleanDisk (state S.Store conn.new) → (v : Vault) → ∥ Keeps (state S.Store conn.old) v ∥₁ → Hands T.takes sink.old (removed_entries v) (as_fault result) sink.new }
+    ensures same { HasCleanDisk (state S.Store conn.new) → (v : Vault) → Keeps (state S.Store conn.old) v → Keeps (state S.Store conn.new) v }
+    ensures honest { HasCleanDisk (state S.Store conn.new) → HasCleanDisk (state S.Store conn.old) }
+    ensures mode { conn.old.in_transaction ≡ false → conn.new.in_transaction ≡ false }
+    ensures crash { (v : Vault) → Keeps (state S.Store conn.old) v → Survives (state S.Store conn.old) (state S.Store conn.new) (λ _. ¬ IsTrue (state S.Store conn.old).is_open) }
+{
+    hand_each(conn, sink)
+}

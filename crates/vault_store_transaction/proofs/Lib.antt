@@ -1,2 +1,0 @@
-pub mod TransactionLemmas
-pub mod ReadyLemmas

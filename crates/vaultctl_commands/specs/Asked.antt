@@ -1,0 +1,95 @@
+-- What a job asks of a vault: its values in the order of the members of the script's line, the reading first,
+-- then the caller who asks.
+use Rattle.std.specs.Prelude.{if◌then◌else◌, Result, Ok}
+use Rattle.vault_base.specs.declared.refusal.Refusal.{Refusal}
+use Rattle.vault_core_model.specs.declared.command.Command.{Command}
+use Rattle.vault_core_model.specs.declared.command.Command.TheVariants as command
+use Rattle.vault_http_values.specs.Fault.{◌>>=◌}
+use Rattle.vault_http_values.specs.Values.{asker_named, bucket_named, name_of, rights_named}
+use Rattle.vaultctl_job.specs.declared.job.Bucket.{Bucket}
+use Rattle.vaultctl_job.specs.declared.job.Caller.{Caller}
+use Rattle.vaultctl_job.specs.declared.job.Certificate.{Certificate}
+use Rattle.vaultctl_job.specs.declared.job.Dept.{Dept}
+use Rattle.vaultctl_job.specs.declared.job.Intake.{Intake}
+use Rattle.vaultctl_job.specs.declared.job.Move.{Move}
+use Rattle.vaultctl_job.specs.declared.job.Report.{Report}
+use Rattle.vaultctl_job.specs.declared.job.Run.{Run}
+use Rattle.vaultctl_commands.specs.Values.{optional_reading, optional_dept, version_named}
+use Rattle.vaultctl_commands.specs.declared.values.asked.Asked.{Asked}
+use Rattle.vaultctl_commands.specs.declared.values.asked.AskedIntake.{AskedIntake}
+
+unfoldable pub dept_of : Dept → Result Asked Refusal
+dept_of job = do
+  at ← optional_reading job.asking.at
+  who ← asker_named job.asking.who
+  dept ← name_of job.name
+  Ok (record { at = at; who = who; command = command.AddDept (record { dept = dept }) })
+
+unfoldable pub new_caller_of : Caller → Result Command Refusal
+new_caller_of job = do
+  caller ← name_of job.name
+  dept ← optional_dept job.dept
+  rights ← rights_named job.rights
+  Ok (command.AddCaller (record { caller = caller; dept = dept; rights = rights }))
+
+-- rights and a department aren't looked at
+unfoldable pub closed_caller_of : Caller → Result Command Refusal
+closed_caller_of job = do
+  caller ← name_of job.name
+  Ok (command.CloseCaller (record { caller = caller }))
+
+abbrev pub caller_command_of : Caller → Result Command Refusal
+caller_command_of job = if job.close then closed_caller_of job else new_caller_of job
+
+unfoldable pub caller_of : Caller → Result Asked Refusal
+caller_of job = do
+  at ← optional_reading job.asking.at
+  who ← asker_named job.asking.who
+  asked ← caller_command_of job
+  Ok (record { at = at; who = who; command = asked })
+
+unfoldable pub bucket_of : Bucket → Result Asked Refusal
+bucket_of job = do
+  at ← optional_reading job.asking.at
+  who ← asker_named job.asking.who
+  bucket ← bucket_named job.name
+  dept ← name_of job.dept
+  Ok (record { at = at; who = who; command = command.AddBucket (record { bucket = bucket; dept = dept }) })
+
+unfoldable pub move_bucket_of : Move → Result Asked Refusal
+move_bucket_of job = do
+  at ← optional_reading job.asking.at
+  who ← asker_named job.asking.who
+  bucket ← bucket_named job.bucket
+  dept ← name_of job.dept
+  Ok (record { at = at; who = who; command = command.MoveBucket (record { bucket = bucket; dept = dept }) })
+
+unfoldable pub run_of : Run → Result Asked Refusal
+run_of job = do
+  at ← optional_reading job.asking.at
+  who ← asker_named job.asking.who
+  bucket ← bucket_named job.bucket
+  Ok (record { at = at; who = who; command = command.Run (record { bucket = bucket }) })
+
+unfoldable pub report_of : Report → Result Asked Refusal
+report_of job = do
+  at ← optional_reading job.asking.at
+  who ← asker_named job.asking.who
+  dept ← name_of job.dept
+  Ok (record { at = at; who = who; command = command.Report (record { dept = dept }) })
+
+unfoldable pub certificate_of : Certificate → Result Asked Refusal
+certificate_of job = do
+  at ← optional_reading job.asking.at
+  who ← asker_named job.asking.who
+  bucket ← bucket_named job.bucket
+  id ← version_named job.version
+  Ok (record { at = at; who = who; command = command.Certificate (record { bucket = bucket; id = id }) })
+
+unfoldable pub intake_of : Intake → Result AskedIntake Refusal
+intake_of job = do
+  at ← optional_reading job.asking.at
+  who ← asker_named job.asking.who
+  bucket ← bucket_named job.bucket
+  batch ← name_of job.batch
+  Ok (record { at = at; who = who; bucket = bucket; batch = batch })
