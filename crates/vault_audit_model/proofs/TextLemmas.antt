@@ -32,10 +32,6 @@ pub entries_is : table_defined_by (creation_of table.Entries) ≡ Ok (record ent
 unfolding everything
 entries_is = refl
 
-pub entries_held_is : index_defined_by entries index_creation ≡ Ok (record entries_held { tree = 0 })
-unfolding everything
-entries_held_is = refl
-
 pub contents_is : table_defined_by (creation_of table.Contents) ≡ Ok (record contents { tree = 0 })
 unfolding everything
 contents_is = refl
@@ -56,7 +52,11 @@ pub tenures_is : table_defined_by (creation_of table.Tenures) ≡ Ok (record ten
 unfolding everything
 tenures_is = refl
 
--- the tables and the index of the entries, made one after another in a store without tables
+pub entries_held_is : index_defined_by entries index_creation ≡ Ok (record entries_held { tree = 0 })
+unfolding everything
+entries_held_is = refl
+
+-- the tables, and then the index of the entries, made one after another in a store without tables
 abbrev pub schema_1 : Schema
 schema_1 = created no_schema meta
 
@@ -73,7 +73,7 @@ abbrev pub schema_5 : Schema
 schema_5 = created schema_4 rules
 
 abbrev pub schema_6 : Schema
-schema_6 = indexed (created schema_5 entries) entries entries_held
+schema_6 = created schema_5 entries
 
 abbrev pub schema_7 : Schema
 schema_7 = created schema_6 contents
@@ -87,5 +87,8 @@ schema_9 = created schema_8 intake
 abbrev pub schema_10 : Schema
 schema_10 = created schema_9 heads
 
-pub all_created : created schema_10 tenures ≡ vault_schema
+abbrev pub schema_11 : Schema
+schema_11 = created schema_10 tenures
+
+pub all_created : indexed schema_11 entries entries_held ≡ vault_schema
 all_created = refl

@@ -1,4 +1,4 @@
--- The tables, as a database knows them once they are made. An edition has columns more at the end of a table than the one before it, or a table more behind the others; the third finds entries by another index.
+-- The tables, as a database knows them once they are made. An edition has columns more at the end of a table than the one before it, or a table or an index more behind the others.
 use Rattle.std.specs.Prelude.{ℕ, Bool, true, false, List, [], ◌∷◌, None, Some, Option, codes}
 use Rattle.sqlite_value.specs.Keys.{plain}
 use Rattle.sqlite_value.specs.declared.keys.Order.{Order}
@@ -54,6 +54,10 @@ table name tree columns key primary uniques orders references = record {
 -- a table whose first column is a number that tells its rows apart
 abbrev pub table_by_number : List ℕ → ℕ → List Column → List Reference → Table
 table_by_number name tree columns references = table name tree columns (Some 0) (0 ∷ []) [] [] references
+
+-- one that also finds its rows by the columns at these places, counted from 1, and 0 for the number
+abbrev pub table_by_number_and : List ℕ → List ℕ → ℕ → List Column → List Reference → Table
+table_by_number_and places name tree columns references = table name tree columns (Some 0) (0 ∷ []) (places ∷ []) (plain ∷ []) references
 
 -- a table whose rows are told apart by the columns at these places, counted from 1; an index follows its tree
 abbrev pub table_by : List ℕ → List ℕ → ℕ → List Column → List Reference → Table
@@ -158,29 +162,14 @@ rules_as n =
 abbrev pub rules : Table
 rules = rules_as newest
 
--- by what the first two editions find the entries of a key; in the third an index of its own follows the table
-abbrev pub entry_places : Edition → List (List ℕ)
-entry_places First = (2 ∷ 3 ∷ 0 ∷ []) ∷ []
-entry_places Second = (2 ∷ 3 ∷ 0 ∷ []) ∷ []
-entry_places Third = []
-
-abbrev pub entry_orders : Edition → List Order
-entry_orders First = plain ∷ []
-entry_orders Second = plain ∷ []
-entry_orders Third = []
-
-abbrev pub entries_as : Edition → Table
-entries_as n =
-    table (codes "entries") entries_tree
+abbrev pub entries : Table
+entries =
+    table_by_number_and (2 ∷ 3 ∷ 0 ∷ []) (codes "entries") entries_tree
     (may_have (codes "id") Integer ∷ has (codes "bucket") Text ∷ has (codes "key") Text ∷ has (codes "marker") Integer
     ∷ has (codes "size") Integer ∷ may_have (codes "digest") Blob ∷ has (codes "admitted") Integer
     ∷ has (codes "by_rule") Integer ∷ has (codes "admitted_by") Text ∷ may_have (codes "removed") Integer
     ∷ may_have (codes "cause") Integer ∷ may_have (codes "cause_by") Text ∷ [])
-    (Some 0) (0 ∷ []) (entry_places n) (entry_orders n)
     (refers 2 (codes "buckets") (codes "name") ∷ [])
-
-abbrev pub entries : Table
-entries = entries_as newest
 
 abbrev pub contents : Table
 contents =
@@ -216,27 +205,22 @@ tenures =
     (has (codes "id") Integer ∷ has (codes "n") Integer ∷ has (codes "dept") Text ∷ has (codes "moment") Integer ∷ [])
     (refers 1 (codes "entries") (codes "id") ∷ refers 3 (codes "departments") (codes "name") ∷ [])
 
--- the tables and the indexes that an edition has besides those of the first
+-- the tables that an edition has besides those of the first
 abbrev pub later_tables : Edition → List Table
 later_tables First = []
 later_tables Second = []
 later_tables Third = tenures ∷ []
 
-abbrev pub later_indexes : Edition → List Index
-later_indexes First = []
-later_indexes Second = []
-later_indexes Third = automatic tenures 0 (1 ∷ 2 ∷ []) 19 ∷ []
-
 -- The entries by bucket, key and removal, the latest first. NULL is the least of all values, so those that a key holds stand last, by their ids.
 abbrev pub entries_held : Index
 entries_held =
-    record { name = codes "entries_held"; tree = 10; table = entries_tree; columns = 2 ∷ 3 ∷ 10 ∷ []; order = record { digits = 64 }; is_unique = false }
+    record { name = codes "entries_held"; tree = 20; table = entries_tree; columns = 2 ∷ 3 ∷ 10 ∷ []; order = record { digits = 64 }; is_unique = false }
 
--- the index that follows the entries
-abbrev pub entries_index : Edition → Index
-entries_index First = automatic (entries_as First) 0 (2 ∷ 3 ∷ 0 ∷ []) 10
-entries_index Second = automatic (entries_as Second) 0 (2 ∷ 3 ∷ 0 ∷ []) 10
-entries_index Third = entries_held
+-- the indexes that an edition has besides those of the first
+abbrev pub later_indexes : Edition → List Index
+later_indexes First = []
+later_indexes Second = []
+later_indexes Third = automatic tenures 0 (1 ∷ 2 ∷ []) 19 ∷ entries_held ∷ []
 
 -- a store without tables
 abbrev pub no_schema : Schema
@@ -245,9 +229,9 @@ no_schema = record { tables = []; indexes = []; views = [] }
 -- the schema of a vault's file, and no table, index or view beside it
 abbrev pub schema_of : Edition → Schema
 schema_of n = record {
-  tables = meta_as n ∷ departments_as n ∷ callers ∷ buckets ∷ rules_as n ∷ entries_as n ∷ contents ∷ settings ∷ intake ∷ heads ∷ later_tables n;
+  tables = meta_as n ∷ departments_as n ∷ callers ∷ buckets ∷ rules_as n ∷ entries ∷ contents ∷ settings ∷ intake ∷ heads ∷ later_tables n;
   indexes = automatic (departments_as n) 0 (1 ∷ []) 2 ∷ automatic callers 0 (1 ∷ []) 4 ∷ automatic buckets 0 (1 ∷ []) 6
-      ∷ automatic (rules_as n) 0 (1 ∷ 2 ∷ []) 8 ∷ entries_index n ∷ automatic settings 0 (1 ∷ 2 ∷ []) 13
+      ∷ automatic (rules_as n) 0 (1 ∷ 2 ∷ []) 8 ∷ automatic entries 0 (2 ∷ 3 ∷ 0 ∷ []) 10 ∷ automatic settings 0 (1 ∷ 2 ∷ []) 13
       ∷ automatic intake 0 (1 ∷ 2 ∷ 3 ∷ []) 15 ∷ automatic heads 0 (1 ∷ 2 ∷ []) 17 ∷ later_indexes n;
   views = [];
 }

@@ -52,7 +52,7 @@ pub fn creation(table: Table) -> &'static str
             "CREATE TABLE rules (bucket TEXT NOT NULL REFERENCES buckets (name), n INTEGER NOT NULL, id TEXT NOT NULL, prefix TEXT NOT NULL, enabled INTEGER NOT NULL, days INTEGER, lone INTEGER NOT NULL, nc_days INTEGER, nc_keep INTEGER, larger INTEGER, smaller INTEGER, PRIMARY KEY (bucket, n)) STRICT"
         }
         Table::Entries => {
-            "CREATE TABLE entries (id INTEGER PRIMARY KEY, bucket TEXT NOT NULL REFERENCES buckets (name), key TEXT NOT NULL, marker INTEGER NOT NULL, size INTEGER NOT NULL, digest BLOB, admitted INTEGER NOT NULL, by_rule INTEGER NOT NULL, admitted_by TEXT NOT NULL, removed INTEGER, cause INTEGER, cause_by TEXT) STRICT"
+            "CREATE TABLE entries (id INTEGER PRIMARY KEY, bucket TEXT NOT NULL REFERENCES buckets (name), key TEXT NOT NULL, marker INTEGER NOT NULL, size INTEGER NOT NULL, digest BLOB, admitted INTEGER NOT NULL, by_rule INTEGER NOT NULL, admitted_by TEXT NOT NULL, removed INTEGER, cause INTEGER, cause_by TEXT, UNIQUE (bucket, key, id)) STRICT"
         }
         Table::Contents => {
             "CREATE TABLE contents (id INTEGER PRIMARY KEY REFERENCES entries (id), bytes BLOB NOT NULL) STRICT"
@@ -72,7 +72,7 @@ pub fn creation(table: Table) -> &'static str
     }
 }
 
-/// The statement that makes the index of the entries, right behind their table.
+/// The statement that makes the index of the entries, behind all tables.
 pub fn index_creation() -> &'static str
     ensures { result.now ≡ index_creation }
 {

@@ -180,36 +180,10 @@ const RULES: TableForm = TableForm {
     }],
 };
 
-/// The entries of the first two editions.
 const ENTRIES: TableForm = TableForm {
     table: Table::Entries,
     tree: 9,
     key: KeyForm::NumberAnd(&[2, 3, 0]),
-    columns: &[
-        MayHave("id", Kind::Integer),
-        Has("bucket", Kind::Text),
-        Has("key", Kind::Text),
-        Has("marker", Kind::Integer),
-        Has("size", Kind::Integer),
-        MayHave("digest", Kind::Blob),
-        Has("admitted", Kind::Integer),
-        Has("by_rule", Kind::Integer),
-        Has("admitted_by", Kind::Text),
-        MayHave("removed", Kind::Integer),
-        MayHave("cause", Kind::Integer),
-        MayHave("cause_by", Kind::Text),
-    ],
-    references: &[ReferenceForm {
-        at: 2,
-        parent: Table::Buckets,
-        column: "name",
-    }],
-};
-
-const THIRD_ENTRIES: TableForm = TableForm {
-    table: Table::Entries,
-    tree: 9,
-    key: KeyForm::Number,
     columns: &[
         MayHave("id", Kind::Integer),
         Has("bucket", Kind::Text),
@@ -377,7 +351,7 @@ static THIRD_TABLES: [TableForm; 11] = [
     CALLERS,
     BUCKETS,
     RULES,
-    THIRD_ENTRIES,
+    ENTRIES,
     CONTENTS,
     SETTINGS,
     INTAKE,

@@ -1,5 +1,5 @@
 -- What a statement that makes a table or an index does to the database.
-use Rattle.std.proofs.Common.{◌≡◌, ℕ, List, [], ◌∷◌, ◌++◌, false, None, Ok, Err, Result, OnOk, sym, ap, subst, ◌∙◌}
+use Rattle.std.proofs.Common.{◌≡◌, ℕ, ◌+◌, List, [], ◌∷◌, ◌++◌, false, None, Ok, Err, Result, OnOk, sym, ap, subst, ◌∙◌}
 use Rattle.std.specs.List.{AllByRecursion}
 use Rattle.sqlite_value.specs.Order.{Row}
 use Rattle.sqlite_trees.specs.Tree.{Trees}
@@ -16,10 +16,10 @@ use Rattle.sqlite_catalog.specs.Change.{created, indexed, next_tree, KeepsRows}
 use Rattle.vault_base.specs.declared.refusal.Table.{Table}
 use Rattle.sqlite.specs.Compile.{index_defined_by}
 use Rattle.vault_base.specs.declared.refusal.Table.TheVariants as table
-use Rattle.vault_audit_model.specs.Tables.{entries, entries_held}
+use Rattle.vault_audit_model.specs.Tables.{vault_schema, entries, entries_held}
 use Rattle.vault_audit_model.specs.Texts.{creation_of, index_creation}
 use Rattle.vault_audit_model.proofs.OutcomeLemmas.{went, same_value}
-use Rattle.vault_store_create.specs.Create.{Moves, HasFirst, HasEmpty, place_of, schema_of_first, unindexed, schema_after}
+use Rattle.vault_store_create.specs.Create.{Moves, HasFirst, HasAll, place_of, schema_of_first}
 use Rattle.vault_store_create.proofs.TextLemmas.{Creates, creates, indexes}
 
 -- a statement of a transaction that runs is a part that goes from one kind of database to another
@@ -36,7 +36,7 @@ none_has_a_row [] last old new empty kept none = (none, tt)
 none_has_a_row (t ∷ ts) last old new empty kept none = (kept.0 ∙ empty.0, none_has_a_row ts last old new empty.1 kept.1 none)
 
 -- the table is there after its statement, without a row
-made_as : (t : Table) (table : Columns) → Creates t table → (old new : State) (count : ℕ) → HasFirst (place_of t) old.now → Executes (creation_of t) [] old new (Ok count) → HasEmpty (schema_after t) new.now
+made_as : (t : Table) (table : Columns) → Creates t table → (old new : State) (count : ℕ) → HasFirst (place_of t) old.now → Executes (creation_of t) [] old new (Ok count) → HasFirst (place_of t + 1) new.now
 made_as t table it old new count was h =
     let text = creation_of t in
     let schema = schema_of_first (place_of t) in
@@ -46,7 +46,7 @@ made_as t table it old new count was h =
     let made = first.1 in
     let both : Ok made.table ≡ Ok table = sym made.defined ∙ it.defined in
     let same : made.table ≡ table = cc in
-    let after : first.0.schema ≡ schema_after t = made.is ∙ ap (λ s. created s made.table) was.schema ∙ ap (created schema) same ∙ it.next in
+    let after : first.0.schema ≡ schema_of_first (place_of t + 1) = made.is ∙ ap (λ s. created s made.table) was.schema ∙ ap (created schema) same ∙ it.next in
     let plain : lacks_sequence first.0.schema ≡ false = ap lacks_sequence after ∙ it.uncounted in
     let now : new.now ≡ first.0 = ap (λ (p : Tally × Database). p.1) (same_value all.2) ∙ same_value (rw plain at first.2) in
     let trees = ap (λ (d : Database). d.trees) now in
@@ -59,7 +59,7 @@ made_as t table it old new count was h =
       rows = subst (λ (s : Schema). AllByRecursion (λ c. new.now.trees c.tree ≡ []) s.tables) it.next rows;
     }
 
-pub table_made : (t : Table) → (old new : State) (count : ℕ) → HasFirst (place_of t) old.now → Executes (creation_of t) [] old new (Ok count) → HasEmpty (schema_after t) new.now
+pub table_made : (t : Table) → (old new : State) (count : ℕ) → HasFirst (place_of t) old.now → Executes (creation_of t) [] old new (Ok count) → HasFirst (place_of t + 1) new.now
 table_made t = let it = creates t in made_as t it.0 it.1
 
 -- none has a row where none had one, and the rows stayed
@@ -68,20 +68,21 @@ none_has_still [] old new empty kept = tt
 none_has_still (t ∷ ts) old new empty kept = (kept.0 ∙ empty.0, none_has_still ts old new empty.1 kept.1)
 
 -- the index is there after its statement, and the tables are without a row still
-pub index_made : (old new : State) (count : ℕ) → HasEmpty unindexed old.now → Executes index_creation [] old new (Ok count) → HasFirst 6 new.now
+pub index_made : (old new : State) (count : ℕ) → HasFirst 11 old.now → Executes index_creation [] old new (Ok count) → HasAll new.now
 index_made old new count was h =
     let command = CreateIndex (place_of table.Entries) in
-    let w = runs_as index_creation [] old new unindexed was.schema command indexes.command indexes.plain count h in
-    let text = statement_of index_creation (understood unindexed index_creation) in
+    let tables = schema_of_first 11 in
+    let w = runs_as index_creation [] old new tables was.schema command indexes.command indexes.plain count h in
+    let text = statement_of index_creation (understood tables index_creation) in
     let did = subst (λ s. Does old.step_limit (mode_of old) [] (record old.now { schema = s }) text None command (Ok (w.tally, new.now))) was.schema w.changed in
     let all = went did in
     let made = all.1 in
     let both : Ok made.index ≡ Ok (record entries_held { tree = 0 }) = sym made.defined ∙ ap (index_defined_by entries) indexes.whole ∙ indexes.defined in
     let same : made.index ≡ record entries_held { tree = 0 } = cc in
-    let after : all.0.schema ≡ schema_of_first 6 = made.is ∙ ap (indexed unindexed entries) same ∙ indexes.next in
+    let after : all.0.schema ≡ vault_schema = made.is ∙ ap (indexed tables entries) same ∙ indexes.next in
     let now : new.now ≡ all.0 = ap (λ (p : Tally × Database). p.1) (same_value all.2) in
-    let kept = subst (λ (d : Trees). KeepsRows unindexed.tables old.now.trees d) (sym (ap (λ (d : Database). d.trees) now)) made.rows in
+    let kept = subst (λ (d : Trees). KeepsRows tables.tables old.now.trees d) (sym (ap (λ (d : Database). d.trees) now)) made.rows in
     record {
       schema = ap (λ (d : Database). d.schema) now ∙ after;
-      rows = none_has_still unindexed.tables old.now.trees new.now.trees was.rows kept;
+      rows = none_has_still tables.tables old.now.trees new.now.trees was.rows kept;
     }

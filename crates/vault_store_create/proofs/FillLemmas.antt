@@ -9,7 +9,7 @@ use Rattle.vault_base.specs.declared.refusal.Table.TheVariants as table
 use Rattle.vault_core_model.specs.Vault.{Vault}
 use Rattle.vault_audit_model.specs.declared.schema.Edition.{Edition}
 use Rattle.vault_audit_model.specs.Spells.{AreSound, AreSoundAs}
-use Rattle.vault_store_create.specs.Create.{HasFirst}
+use Rattle.vault_store_create.specs.Create.{HasAll}
 use Rattle.vault_store_model.proofs.RowsLemmas.{sound_is_rows}
 use Rattle.vault_store_model.specs.Edits.{number_of}
 use Rattle.vault_store_model.specs.Rows.{AreSameRows, rows_in, rows_of}
@@ -21,7 +21,7 @@ none_below : (n : ℕ) → nat_lt n 0 ≡ false
 none_below n = let low : 0 ≤ n = omega arith in grind (arith, nat_tests, low)
 
 -- tables without a row
-pub none_copied : (n : Edition) (from db : Database) → HasFirst 11 db → HasCopied n from 0 db
+pub none_copied : (n : Edition) (from db : Database) → HasAll db → HasCopied n from 0 db
 none_copied n from db made v is = record {
   schema = made.schema;
   rows = λ t.

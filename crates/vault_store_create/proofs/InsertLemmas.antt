@@ -26,7 +26,7 @@ use Rattle.vault_core_model.specs.Vault.{opening}
 use Rattle.vault_audit_model.specs.Tables.{vault_schema, meta, callers, meta_tree, callers_tree}
 use Rattle.vault_audit_model.specs.Rows.{caller_row, caller_columns, meta_columns}
 use Rattle.vault_audit_model.specs.Spells.{Spells, AreSound}
-use Rattle.vault_store_create.specs.Create.{place_of, HasFirst, HasMetaRow, IsFilled}
+use Rattle.vault_store_create.specs.Create.{place_of, HasAll, HasMetaRow, IsFilled}
 use Rattle.vault_store_create.proofs.OpeningLemmas.{is_kept}
 use Rattle.vault_store_create.proofs.TextLemmas.{meta_row_text, meta_row_terms, meta_row_is, meta_row_plain, registrar_text, registrar_terms, registrar_is, registrar_plain}
 use Rattle.vault_audit_model.proofs.OutcomeLemmas.{went, same_value}
@@ -60,7 +60,7 @@ others_empty at (t ∷ ts) other old new same empty =
     (same.0 both.0 ∙ empty.0, others_empty at ts both.1 old new same.1 empty.1)
 
 -- meta has its row after its statement
-pub meta_put : (old new : State) (count : ℕ) → HasFirst 11 old.now → Executes meta_row_text [] old new (Ok count) → HasMetaRow new.now
+pub meta_put : (old new : State) (count : ℕ) → HasAll old.now → Executes meta_row_text [] old new (Ok count) → HasMetaRow new.now
 meta_put old new count was h =
     let command = Insert (place_of table.Meta) (Values meta_row_terms 6) in
     let w = runs_as meta_row_text [] old new vault_schema was.schema command meta_row_is meta_row_plain count h in

@@ -1,5 +1,5 @@
 -- What the statements mean.
-use Rattle.std.proofs.Common.{◌≡◌, ℕ, pos, codes, List, [], ◌∷◌, Ok, false, refl}
+use Rattle.std.proofs.Common.{◌≡◌, ℕ, ◌+◌, pos, codes, List, [], ◌∷◌, Ok, false, refl}
 use Rattle.vault_base.specs.declared.refusal.Table.{Table}
 use Rattle.vault_base.specs.declared.refusal.Table.TheVariants as table
 use Rattle.sqlite.specs.Compile.{table_defined_by, index_defined_by}
@@ -15,7 +15,7 @@ use Rattle.sqlite.proofs.Callers.{IsPlain, command_of, statement_of}
 use Rattle.sqlite_catalog.specs.Change.{created, indexed}
 use Rattle.vault_audit_model.specs.Texts.{creation_of, index_creation}
 use Rattle.vault_audit_model.specs.Tables.{vault_schema, entries_held, meta, departments, callers, buckets, rules, entries, contents, settings, intake, heads, tenures}
-use Rattle.vault_store_create.specs.Create.{place_of, schema_of_first, unindexed, schema_after}
+use Rattle.vault_store_create.specs.Create.{place_of, schema_of_first}
 
 -- The statement makes this table, after the tables that come before it.
 pub record Creates (t : Table) (made : Columns) : Type 0 where
@@ -23,8 +23,8 @@ pub record Creates (t : Table) (made : Columns) : Type 0 where
   pub whole : statement_of (creation_of t) (understood (schema_of_first (place_of t)) (creation_of t)) ≡ creation_of t
   pub defined : table_defined_by (creation_of t) ≡ Ok made
   pub plain : IsPlain (understood (schema_of_first (place_of t)) (creation_of t))
-  pub next : created (schema_of_first (place_of t)) made ≡ schema_after t
-  pub uncounted : lacks_sequence (schema_after t) ≡ false
+  pub next : created (schema_of_first (place_of t)) made ≡ schema_of_first (place_of t + 1)
+  pub uncounted : lacks_sequence (schema_of_first (place_of t + 1)) ≡ false
 
 meta_made : Creates table.Meta (record meta { tree = 0 })
 unfolding understood everything
@@ -86,13 +86,13 @@ creates table.Tenures = (_, tenures_made)
 
 -- ---- the index of the entries
 
--- its statement makes it, after their table
+-- its statement makes it, after all tables
 pub record Indexes : Type 0 where
-  pub command : command_of (understood unindexed index_creation) ≡ CreateIndex (place_of table.Entries)
-  pub whole : statement_of index_creation (understood unindexed index_creation) ≡ index_creation
+  pub command : command_of (understood (schema_of_first 11) index_creation) ≡ CreateIndex (place_of table.Entries)
+  pub whole : statement_of index_creation (understood (schema_of_first 11) index_creation) ≡ index_creation
   pub defined : index_defined_by entries index_creation ≡ Ok (record entries_held { tree = 0 })
-  pub plain : IsPlain (understood unindexed index_creation)
-  pub next : indexed unindexed entries (record entries_held { tree = 0 }) ≡ schema_of_first 6
+  pub plain : IsPlain (understood (schema_of_first 11) index_creation)
+  pub next : indexed (schema_of_first 11) entries (record entries_held { tree = 0 }) ≡ vault_schema
 
 pub indexes : Indexes
 unfolding understood everything

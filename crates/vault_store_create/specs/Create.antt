@@ -1,5 +1,5 @@
 -- The way from a store without tables to a new vault.
-use Rattle.std.specs.Prelude.{◌≡◌, ◌⊎◌, ◌==◌, ℕ, ◌+◌, [], ◌∷◌, filter, map, take, drop, IsTrue}
+use Rattle.std.specs.Prelude.{◌≡◌, ◌⊎◌, ◌&&◌, ◌==◌, ℕ, [], ◌∷◌, filter, map, take, drop, IsTrue}
 use Rattle.std.specs.List.{AllByRecursion, list_any}
 use Rattle.sqlite_trees.specs.Tree.{Trees}
 use Rattle.sqlite_catalog.specs.Listing.{IsSound}
@@ -29,11 +29,11 @@ place_of table.Intake = 8
 place_of table.Heads = 9
 place_of table.Tenures = 10
 
--- the first so many tables of a vault, with their indexes
+-- the first so many tables of a vault, with the indexes that they bring
 abbrev pub schema_of_first : ℕ → Schema
 schema_of_first n = record {
   tables = take n vault_schema.tables;
-  indexes = filter (λ i. list_any (λ t. t.tree == i.table) (take n vault_schema.tables)) vault_schema.indexes;
+  indexes = filter (λ i. i.is_unique && list_any (λ t. t.tree == i.table) (take n vault_schema.tables)) vault_schema.indexes;
   views = [];
 }
 
@@ -45,14 +45,9 @@ pub record HasEmpty (schema_is : Schema) (db : Database) : Type 0 where
 abbrev pub HasFirst : ℕ → Database → Type 0
 HasFirst n = HasEmpty (schema_of_first n)
 
--- the first six, without the index that follows the entries
-abbrev pub unindexed : Schema
-unindexed = record { tables = take 6 vault_schema.tables; indexes = (schema_of_first 5).indexes; views = [] }
-
--- what is there once the statement of a table was carried out
-abbrev pub schema_after : Table → Schema
-schema_after table.Entries = unindexed
-schema_after t = schema_of_first (place_of t + 1)
+-- all of them, and the index of the entries
+abbrev pub HasAll : Database → Type 0
+HasAll = HasEmpty vault_schema
 
 -- A part of a transaction goes from a database of one kind to one of another, and leaves the last commit alone.
 pub record Moves (old new : State) (From To : Database → Type 0) : Type 0 where

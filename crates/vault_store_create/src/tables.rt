@@ -1,8 +1,8 @@
-//! The tables of a new vault and the index of its entries, made one after another.
-ghost use Rattle.std.specs.Prelude.{◌≡◌, IsTrue, OnOk, OnErr};
+//! The tables of a new vault, made one after another, and then the index of its entries.
+ghost use Rattle.std.specs.Prelude.{◌≡◌, ◌+◌, IsTrue, OnOk, OnErr};
 ghost use Rattle.sqlite.specs.State.{HasCleanDisk, KeepsCommit, Survives};
 ghost use Rattle.sqlite.specs.Held.{state};
-ghost use Rattle.vault_store_create.specs.Create.{Moves, HasFirst, HasEmpty, place_of, unindexed, schema_after};
+ghost use Rattle.vault_store_create.specs.Create.{Moves, HasFirst, HasAll, place_of};
 
 use sqlite::{Alter, Error, Transaction};
 use vault_audit_model::schema::{creation, index_creation};
@@ -12,7 +12,7 @@ use vault_base::refusal::Table;
 fn make_table<S: Alter>(tx: &mut Transaction<'_, S>, table: Table) -> Result<usize, Error>
     ensures same_reference { tx.new.conn.ghost_name ≡ tx.old.conn.ghost_name }
     ensures made { HasCleanDisk (state S.Store tx.new.conn.now) → IsTrue tx.old.conn.now.in_transaction
-        → OnOk result (Moves (state S.Store tx.old.conn.now) (state S.Store tx.new.conn.now) (HasFirst (place_of table)) (HasEmpty (schema_after table))) }
+        → OnOk result (Moves (state S.Store tx.old.conn.now) (state S.Store tx.new.conn.now) (HasFirst (place_of table)) (HasFirst (place_of table + 1))) }
     ensures kept { HasCleanDisk (state S.Store tx.new.conn.now) → IsTrue tx.old.conn.now.in_transaction
         → OnErr result (KeepsCommit (state S.Store tx.old.conn.now) (state S.Store tx.new.conn.now)) }
     ensures survives { Survives (state S.Store tx.old.conn.now) (state S.Store tx.new.conn.now) (λ _. ⊥) }
@@ -20,11 +20,11 @@ fn make_table<S: Alter>(tx: &mut Transaction<'_, S>, table: Table) -> Result<usi
     tx.execute(creation(table), &[])
 }
 
-/// Makes the index of the entries, right behind their table.
+/// Makes the index of the entries, all tables being there.
 fn make_index<S: Alter>(tx: &mut Transaction<'_, S>) -> Result<usize, Error>
     ensures same_reference { tx.new.conn.ghost_name ≡ tx.old.conn.ghost_name }
     ensures made { HasCleanDisk (state S.Store tx.new.conn.now) → IsTrue tx.old.conn.now.in_transaction
-        → OnOk result (Moves (state S.Store tx.old.conn.now) (state S.Store tx.new.conn.now) (HasEmpty unindexed) (HasFirst 6)) }
+        → OnOk result (Moves (state S.Store tx.old.conn.now) (state S.Store tx.new.conn.now) (HasFirst 11) HasAll) }
     ensures kept { HasCleanDisk (state S.Store tx.new.conn.now) → IsTrue tx.old.conn.now.in_transaction
         → OnErr result (KeepsCommit (state S.Store tx.old.conn.now) (state S.Store tx.new.conn.now)) }
     ensures survives { Survives (state S.Store tx.old.conn.now) (state S.Store tx.new.conn.now) (λ _. ⊥) }
@@ -57,7 +57,6 @@ fn make_second<S: Alter>(tx: &mut Transaction<'_, S>) -> Result<(), Error>
 {
     make_table(tx, Table::Rules)?;
     make_table(tx, Table::Entries)?;
-    make_index(tx)?;
     make_table(tx, Table::Contents)?;
     make_table(tx, Table::Settings)?;
     Ok(())
@@ -77,16 +76,18 @@ fn make_last<S: Alter>(tx: &mut Transaction<'_, S>) -> Result<(), Error>
     Ok(())
 }
 
-/// Makes all tables in a store without any.
+/// Makes all tables and the index in a store without any.
 pub fn make_tables<S: Alter>(tx: &mut Transaction<'_, S>) -> Result<(), Error>
     ensures same_reference { tx.new.conn.ghost_name ≡ tx.old.conn.ghost_name }
     ensures made { HasCleanDisk (state S.Store tx.new.conn.now) → IsTrue tx.old.conn.now.in_transaction
-        → OnOk result (Moves (state S.Store tx.old.conn.now) (state S.Store tx.new.conn.now) (HasFirst 0) (HasFirst 11)) }
+        → OnOk result (Moves (state S.Store tx.old.conn.now) (state S.Store tx.new.conn.now) (HasFirst 0) HasAll) }
     ensures kept { HasCleanDisk (state S.Store tx.new.conn.now) → IsTrue tx.old.conn.now.in_transaction
         → OnErr result (KeepsCommit (state S.Store tx.old.conn.now) (state S.Store tx.new.conn.now)) }
     ensures survives { Survives (state S.Store tx.old.conn.now) (state S.Store tx.new.conn.now) (λ _. ⊥) }
 {
     make_first(tx)?;
     make_second(tx)?;
-    make_last(tx)
+    make_last(tx)?;
+    make_index(tx)?;
+    Ok(())
 }

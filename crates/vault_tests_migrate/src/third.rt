@@ -2,24 +2,26 @@
 use crate::calls::batches;
 use sqlite::{Alter, Connection, Error};
 
-/// Its tables, and the index of the entries.
+/// Its tables but for the last.
 const TABLES: &[&str] = &[
     "CREATE TABLE meta (one INTEGER PRIMARY KEY, schema INTEGER NOT NULL, last INTEGER NOT NULL, next INTEGER NOT NULL, moves INTEGER NOT NULL) STRICT",
     "CREATE TABLE departments (name TEXT NOT NULL, admitted INTEGER NOT NULL, held INTEGER NOT NULL, removed INTEGER NOT NULL, weighted INTEGER NOT NULL, closed INTEGER NOT NULL, received INTEGER NOT NULL, handed INTEGER NOT NULL, PRIMARY KEY (name)) STRICT",
     "CREATE TABLE callers (name TEXT NOT NULL, dept TEXT REFERENCES departments (name), rights INTEGER NOT NULL, closed INTEGER NOT NULL, PRIMARY KEY (name)) STRICT",
     "CREATE TABLE buckets (name TEXT NOT NULL, dept TEXT NOT NULL REFERENCES departments (name), mode INTEGER NOT NULL, days INTEGER, years INTEGER, PRIMARY KEY (name)) STRICT",
     "CREATE TABLE rules (bucket TEXT NOT NULL REFERENCES buckets (name), n INTEGER NOT NULL, id TEXT NOT NULL, prefix TEXT NOT NULL, enabled INTEGER NOT NULL, days INTEGER, lone INTEGER NOT NULL, nc_days INTEGER, nc_keep INTEGER, larger INTEGER, smaller INTEGER, PRIMARY KEY (bucket, n)) STRICT",
-    "CREATE TABLE entries (id INTEGER PRIMARY KEY, bucket TEXT NOT NULL REFERENCES buckets (name), key TEXT NOT NULL, marker INTEGER NOT NULL, size INTEGER NOT NULL, digest BLOB, admitted INTEGER NOT NULL, by_rule INTEGER NOT NULL, admitted_by TEXT NOT NULL, removed INTEGER, cause INTEGER, cause_by TEXT) STRICT",
-    "CREATE INDEX entries_held ON entries (bucket, key, removed DESC)",
+    "CREATE TABLE entries (id INTEGER PRIMARY KEY, bucket TEXT NOT NULL REFERENCES buckets (name), key TEXT NOT NULL, marker INTEGER NOT NULL, size INTEGER NOT NULL, digest BLOB, admitted INTEGER NOT NULL, by_rule INTEGER NOT NULL, admitted_by TEXT NOT NULL, removed INTEGER, cause INTEGER, cause_by TEXT, UNIQUE (bucket, key, id)) STRICT",
     "CREATE TABLE contents (id INTEGER PRIMARY KEY REFERENCES entries (id), bytes BLOB NOT NULL) STRICT",
     "CREATE TABLE settings (id INTEGER NOT NULL REFERENCES entries (id), n INTEGER NOT NULL, moment INTEGER NOT NULL, caller TEXT NOT NULL, mode INTEGER NOT NULL, until INTEGER, hold INTEGER NOT NULL, bypass INTEGER NOT NULL, PRIMARY KEY (id, n)) STRICT",
     "CREATE TABLE intake (bucket TEXT NOT NULL REFERENCES buckets (name), batch TEXT NOT NULL, line INTEGER NOT NULL, key TEXT NOT NULL, size INTEGER NOT NULL, digest BLOB NOT NULL, mode INTEGER NOT NULL, until INTEGER, hold INTEGER, id INTEGER NOT NULL REFERENCES entries (id), PRIMARY KEY (bucket, batch, line)) STRICT",
     "CREATE TABLE heads (bucket TEXT NOT NULL REFERENCES buckets (name), key TEXT NOT NULL, newest INTEGER NOT NULL REFERENCES entries (id), count INTEGER NOT NULL, PRIMARY KEY (bucket, key)) STRICT",
 ];
 
-/// The last of them.
+/// The last table.
 const TENURES: &str =
     "CREATE TABLE tenures (id INTEGER NOT NULL REFERENCES entries (id), n INTEGER NOT NULL, dept TEXT NOT NULL REFERENCES departments (name), moment INTEGER NOT NULL, PRIMARY KEY (id, n)) STRICT";
+
+/// The index of the entries, behind all tables.
+const ENTRIES_HELD: &str = "CREATE INDEX entries_held ON entries (bucket, key, removed DESC)";
 
 /// Its rows but for those of tenures: two departments and two buckets. `papers` was moved to the court on day 25,
 /// `rolls` to the court on day 27 and back on day 28, and an empty bucket once. The sums are of days 10 to 30.
@@ -77,13 +79,19 @@ const TENURE_ROWS: &[&str] = &[
 
 /// Makes the vault in an empty store.
 pub fn make_third<S: Alter>(conn: &mut Connection<S>) -> Result<(), Error> {
-    make_untenured(conn)?;
+    make_before_tenures(conn)?;
     batches(conn, &[TENURES])?;
-    batches(conn, TENURE_ROWS)
+    batches(conn, TENURE_ROWS)?;
+    batches(conn, &[ENTRIES_HELD])
 }
 
 /// Makes the same without the table of tenures.
 pub fn make_untenured<S: Alter>(conn: &mut Connection<S>) -> Result<(), Error> {
+    make_before_tenures(conn)?;
+    batches(conn, &[ENTRIES_HELD])
+}
+
+fn make_before_tenures<S: Alter>(conn: &mut Connection<S>) -> Result<(), Error> {
     batches(conn, TABLES)?;
     batches(conn, ROWS)
 }
