@@ -5,6 +5,7 @@ ghost use Rattle.sqlite.specs.Held.{state};
 ghost use Rattle.sqlite.specs.State.{HasCleanDisk, IsRolledBack, IsUnchanged, Shows, Survives};
 ghost use Rattle.vault_base.specs.declared.refusal.Table.{Table};
 ghost use Rattle.vault_core_model.specs.Vault.{Vault};
+ghost use Rattle.vault_audit.specs.Health.{IsHealthy};
 ghost use Rattle.vault_audit.specs.Whole.{IsTold};
 ghost use Rattle.vault_audit_model.specs.Spells.{AreSound, AreSoundAs};
 ghost use Rattle.vault_audit_model.specs.Tables.{no_schema};
@@ -53,6 +54,7 @@ fn take_copy<O: Alter, S: Alter>(
     ensures damaged { IfErr result (λ r. HasCleanDisk (state O.Store old.new) → (t : Table) → r ≡ Refusal.Damaged t → (v : Vault) → ¬ AreSoundAs edition (state O.Store old.old).now v) }
     ensures free { OnOk result ((state S.Store new.old).now.schema ≡ no_schema) }
     ensures taken { IfErr result (λ r. r ≡ Refusal.NameTaken → (state S.Store new.old).now.schema ≢ no_schema) }
+    ensures named { (state S.Store new.old).now.schema ≢ no_schema → IfErr result (λ r. IsHealthy (state O.Store old.new) → r ≢ Refusal.Device) }
     ensures outside { OnErr result (HasCleanDisk (state S.Store new.new) → new.new.in_transaction ≡ false) }
     ensures crash { Survives (state S.Store new.old) (state S.Store new.new) (λ _. ⊥) }
     ensures old_outside { HasCleanDisk (state O.Store old.new) → old.new.in_transaction ≡ false }
@@ -160,6 +162,7 @@ fn copy_vault<O: Alter, S: Alter>(
     ensures damaged { IfErr result (λ r. HasCleanDisk (state O.Store old.new) → (t : Table) → r ≡ Refusal.Damaged t → (v : Vault) → ¬ AreSoundAs edition (state O.Store old.old).now v) }
     ensures free { OnOk result ((state S.Store new.old).now.schema ≡ no_schema) }
     ensures taken { IfErr result (λ r. r ≡ Refusal.NameTaken → (state S.Store new.old).now.schema ≢ no_schema) }
+    ensures named { (state S.Store new.old).now.schema ≢ no_schema → IfErr result (λ r. IsHealthy (state O.Store old.new) → r ≢ Refusal.Device) }
     ensures outside { OnErr result (HasCleanDisk (state S.Store new.new) → new.new.in_transaction ≡ false) }
     ensures tables { OnErr result (HasCleanDisk (state S.Store new.new) → HasTablesOf (state S.Store new.old) (state S.Store new.new)) }
     ensures crash { Survives (state S.Store new.old) (state S.Store new.new) (λ trees. HasCleanDisk (state O.Store old.new) → IsMigrated edition (state O.Store old.old).now trees) }
@@ -218,6 +221,9 @@ impl<S: Alter> SqlKeeper<S> {
         ensures damaged { IfErr result (λ e. HasCleanDisk (state O.Store old.new) → (t : Table) → e.0 ≡ Refusal.Damaged t → (v : Vault) → ¬ AreSoundAs edition (state O.Store old.old).now v) }
         ensures free { OnOk result ((state S.Store new).now.schema ≡ no_schema) }
         ensures taken { IfErr result (λ e. e.0 ≡ Refusal.NameTaken → (state S.Store new).now.schema ≢ no_schema) }
+        // A store with anything in it is never told as one that failed, while the old one works.
+        ensures named { old.old.in_transaction ≡ false → new.in_transaction ≡ false → (state S.Store new).now.schema ≢ no_schema
+            → IfErr result (λ e. IsHealthy (state O.Store old.new) → e.0 ≢ Refusal.Device) }
         // Inside a transaction it is refused, and that is left as it was; else none is open behind it, and no table was changed.
         ensures inside { IsTrue new.in_transaction → IsErrAnd result (λ e. (e.0 ≡ Refusal.Device) × (e.1 ≡ new)) }
         ensures outside { new.in_transaction ≡ false → IfErr result (λ e. HasCleanDisk (state S.Store e.1) → e.1.in_transaction ≡ false) }

@@ -1,3 +1,4 @@
-pub mod Faults
+pub mod Editions
 pub mod Files
 pub mod Places
+pub mod Faults

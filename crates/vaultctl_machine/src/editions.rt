@@ -1,31 +1,60 @@
 //! The edition of tables whose vault is to be copied.
-ghost use Rattle.std.specs.Prelude.{◌≡◌, ◌⊎◌};
+ghost use Rattle.std.specs.Prelude.{◌≡◌, ◌⊎◌, codes};
+ghost use Rattle.std.specs.List.{list_any};
+ghost use Rattle.std.specs.Str.{bytes_eq};
 ghost use Rattle.vault_audit_model.specs.declared.schema.Edition.TheVariants.{First, Second};
+ghost use Rattle.vault_audit_model.specs.Tables.{schema_of};
+ghost use Rattle.vaultctl_machine.specs.Editions as spec;
 
-use sqlite_schema::schema::{self, Schema};
+use sqlite_schema::schema::{self, Column, Schema};
 use vault_audit_model::schema::Edition;
 use vault_base::refusal::Table;
 
+/// Whether a column has the larger one of the bounds of sizes.
+fn has_bound(column: &Column) -> bool
+    ensures { result ≡ bytes_eq column.now.name (codes "larger") }
+{
+    column.name.as_slice() == "larger".as_bytes()
+}
+
 /// Whether the rules of a table may have bounds of sizes.
-fn has_bounds(table: &schema::Table) -> bool {
-    for column in table.columns.as_slice() {
-        if column.name.as_slice() == "larger".as_bytes() {
-            return true;
-        }
-    }
-    false
+fn has_bounds(table: &schema::Table) -> bool
+    ensures { result ≡ spec.has_bounds table.now }
+{
+    table.columns.as_slice().iter().any(has_bound)
+}
+
+/// Whether a table is that of the rules.
+fn has_rules(table: &schema::Table) -> bool
+    ensures { result ≡ bytes_eq table.now.name (codes "rules") }
+{
+    table.name.as_slice() == Table::Rules.name().as_bytes()
+}
+
+/// Whether a table is that of the rules, and these may have bounds of sizes.
+fn has_bounded_rules(table: &schema::Table) -> bool
+    ensures { result ≡ spec.has_bounded_rules table.now }
+{
+    has_rules(table) && has_bounds(table)
+}
+
+/// Whether the rules of these tables may have bounds of sizes.
+fn have_bounds(tables: &[schema::Table]) -> bool
+    ensures { result ≡ list_any spec.has_bounded_rules tables.now }
+{
+    tables.iter().any(has_bounded_rules)
 }
 
 /// The edition before the newest that tables are of, by the columns of their rules.
 ///
 /// Where they are of neither, they aren't sound as those of any.
 pub(crate) fn edition_of(schema: &Schema) -> Edition
-    ensures { (result ≡ First) ⊎ (result ≡ Second) }
+    ensures first { schema.now ≡ schema_of First → result ≡ First }
+    ensures second { schema.now ≡ schema_of Second → result ≡ Second }
+    ensures earlier { (result ≡ First) ⊎ (result ≡ Second) }
 {
-    for table in schema.tables.as_slice() {
-        if table.name.as_slice() == Table::Rules.name().as_bytes() && has_bounds(table) {
-            return Edition::Second;
-        }
+    if have_bounds(schema.tables.as_slice()) {
+        return Edition::Second;
     }
     Edition::First
 }

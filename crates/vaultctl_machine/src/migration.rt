@@ -21,8 +21,8 @@ use std::alloc::Global;
 use std::fs;
 use vault_audit_model::schema::Edition;
 use vault_base::refusal::Refusal;
+use vault_store::create::is_blank;
 use vault_store::sql_keeper::SqlKeeper;
-use vault_store_create::create::is_blank;
 
 /// The size of a page in a file that this program makes, in bytes.
 const PAGE_SIZE: u64 = 4096;
@@ -215,8 +215,8 @@ pub fn close_migrated<A: Start, B: Start>(migrated: Migrated<VaultStore<A>, Vaul
 }
 
 impl<'a> Machine<'a> {
-    /// Copies the vault in a file of the first or the second edition, at `old`, into a file at `new` that isn't there or is
-    /// empty. `starts` stands for what the two files and their logs hold.
+    /// Copies the vault in a file of the first or the second edition, at `old`, into a file at `new` that isn't there, is
+    /// empty, or is a store without a table. `starts` stands for what the two files and their logs hold.
     ///
     /// `Damaged` with the first table at `old` that isn't sound; with `meta` where no file is there, or where it is empty, of the
     /// newest edition, or no store of tables whose rows keep its own schema. `NameTaken` where something is in the file at

@@ -1,5 +1,5 @@
 //! The vault of an earlier version, copied into a new file.
-ghost use Rattle.std.specs.Prelude.{◌≡◌, ◌≢◌, IfOk, Ok, string_bytes};
+ghost use Rattle.std.specs.Prelude.{◌≡◌, ◌≢◌, ◌+◌, ◌-◌, ◌^◌, IfOk, Ok, min, string_bytes};
 ghost use Rattle.std.specs.Io.KnownBytes.{Appends};
 ghost use Rattle.vaultctl_perform.specs.Told as spec;
 
@@ -20,7 +20,9 @@ fn copy<A: Start, B: Start>(
     old: &str,
     new: &str,
     starts: Starts<A, B>,
-) -> Result<(), Unopened> {
+) -> Result<(), Unopened>
+    ensures looked { machine.new.looked ≡ min (machine.old.looked + 1) (2 ^ 64 - 1) }
+{
     close_migrated(machine.migrate(old, new, starts)?);
     Ok(())
 }
@@ -53,6 +55,7 @@ pub fn migrate<A: Start, B: Start, W: Write, E: Write>(
     out: &mut W,
     err: &mut E,
 ) -> u8
+    ensures looked { machine.new.looked ≡ min (machine.old.looked + 1) (2 ^ 64 - 1) }
     // Status 0 says that `migrated` was printed.
     ensures told { result ≡ 0 → Appends (W.contents out.old) (W.contents out.new) spec.migrated_line }
     ensures status { result ≢ 2 }

@@ -1,0 +1,14 @@
+use Rattle.std.proofs.Common.{◌≡◌, ◌∙◌, true, false, ap, sym}
+use Rattle.std.specs.List.{list_any}
+use Rattle.sqlite.specs.Schema.{Schema}
+use Rattle.vault_audit_model.specs.declared.schema.Edition.TheVariants.{Second}
+use Rattle.vault_audit_model.specs.Tables.{schema_of}
+use Rattle.vaultctl_machine.specs.Editions as spec
+use Rattle.vaultctl_machine.proofs.editions.edition_of.Goals as goal
+
+pub returns-clause-second : goal.returns-clause-second
+returns-clause-second c is =
+    let tables = ap (λ (s : Schema). s.tables) is in
+    let found : c.have_bounds.result ≡ true = c.have_bounds.ensures ∙ ap (list_any spec.has_bounded_rules) (c.as_slice.ensures ∙ tables) in
+    let never : true ≡ false = sym found ∙ c.if-have_bounds.false in
+    cc never
