@@ -1,8 +1,8 @@
-//! The list and the folder of an intake, on a disk, and how far it has come.
+//! The list and the folder of an intake on a disk, and how far an intake has come.
 #![tactic(auto)]
 
 pub mod disk_folder;
-pub mod list;
+pub mod list_file;
 mod opening;
 pub mod progress;
 mod reading;

@@ -1,6 +1,6 @@
 //! A folder that is made for the test.
 use crate::disk_folder::DiskFolder;
-use crate::list::read_list;
+use crate::list_file::read_list;
 use crate::progress::{ToldFolder, tell};
 use std::alloc::{AllocError, Global};
 use std::rt::Files;

@@ -1,9 +1,9 @@
-pub mod FileName
-pub mod List
-pub mod Row
-pub use Rattle.csv.specs.Records
-pub use Rattle.vault_http_values.specs.Fault
-pub use Rattle.vault_http_values.specs.declared.fault.LineFault
-pub mod Folder
 pub mod TakenIn
 pub mod Lines
+pub mod List
+pub mod Row
+pub mod FileName
+pub mod Folder
+pub use Rattle.csv.specs.Records
+pub use Rattle.vault_values.specs.Fault
+pub use Rattle.vault_values.specs.declared.fault.LineFault

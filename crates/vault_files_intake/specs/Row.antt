@@ -3,10 +3,10 @@ use Rattle.std.specs.Prelude.{ℕ, List, [], ◌∷◌, Bool, Option, Some, None
 use Rattle.csv.specs.Records.{field_at}
 use Rattle.vault_base.specs.declared.refusal.Refusal.{Refusal}
 use Rattle.vault_lock.specs.declared.retention.Retention.{Retention}
-use Rattle.vault_http_values.specs.Fault.{◌>>=◌}
-use Rattle.vault_http_values.specs.Locks.{both_or_none}
-use Rattle.vault_http_values.specs.Values.{or_invalid, if_given, key_named}
-use Rattle.vault_http_values.specs.Words.{hold_named}
+use Rattle.vault_values.specs.Fault.{◌>>=◌, or_invalid, if_given}
+use Rattle.vault_values.specs.Locks.{both_or_none}
+use Rattle.vault_values.specs.Named.{key_named}
+use Rattle.vault_values.specs.Words.{hold_named}
 use Rattle.vault_files_intake.specs.FileName.{text_of, file_name_of}
 use Rattle.vault_files_intake.specs.declared.row.Row.{Row}
 

@@ -15,7 +15,7 @@ use Rattle.vault_core_model.specs.Checks.{most_content}
 use Rattle.vault_core_model.specs.Halts.{is_device_fault, is_device_refusal, is_device_reply}
 use Rattle.vault_core_model.specs.Step.{Step, is_fault}
 use Rattle.vault_core_model.specs.Vault.{Vault}
-use Rattle.vault_http_values.specs.Fault.{◌>>=◌}
+use Rattle.vault_values.specs.Fault.{◌>>=◌}
 use Rattle.vault_files_intake.specs.List.{most_list, AreRecordsOf, is_of_five, below_header}
 use Rattle.vault_files_intake.specs.Row.{row_of}
 use Rattle.vault_files_intake.specs.declared.row.Row.{Row}

@@ -1,8 +1,4 @@
-//! The records of an intake list, and what each asks for.
-//!
-//! Intake: the files of a folder are taken in by a list, each as a version.
-//!
-//! What an intake prints: a line for each row, and one for what stopped it.
+//! A list and the files of a folder taken in, each as a version, and the lines that are printed of it.
 #![tactic(auto)]
 
 pub mod file_name;

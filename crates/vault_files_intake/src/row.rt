@@ -1,7 +1,7 @@
 //! What a record asks for.
 ghost use Rattle.std.specs.Prelude.{◌≡◌, option_map};
 ghost use Rattle.csv.specs.Records.{fields_of};
-ghost use Rattle.vault_http_values.specs.Fault.{Gives};
+ghost use Rattle.vault_values.specs.Fault.{Gives};
 ghost use Rattle.vault_files_intake.specs.Row as spec;
 
 use crate::file_name::{self, FileName};
@@ -9,10 +9,10 @@ use csv::ByteRecord;
 use std::alloc::Global;
 use vault_base::name::ObjectKey;
 use vault_base::refusal::Refusal;
-use vault_http_values::fault::LineFault;
-use vault_http_values::locks::{both_or_none, is_on};
-use vault_http_values::named::key_named;
 use vault_lock::retention::Retention;
+use vault_values::fault::LineFault;
+use vault_values::locks::{both_or_none, is_on};
+use vault_values::named::key_named;
 
 /// A file to be taken in: under which key, and with which retention and hold.
 #[derive(Drop)]

@@ -22,7 +22,7 @@ use vault_core_model::command::{Command, Intake, Put};
 use vault_core_model::halt::{Fault, Halt};
 use vault_core_model::keeper::Keeper;
 use vault_core_model::reply::Reply;
-use vault_http_values::fault::LineFault;
+use vault_values::fault::LineFault;
 
 /// What a record asks for.
 fn row(alloc: Global, cells: &ByteRecord) -> Result<Row, Halt>

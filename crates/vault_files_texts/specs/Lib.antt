@@ -1,10 +1,10 @@
 pub mod Certificate
-pub mod Removed
 pub mod ReportText
+pub mod Register
+pub mod Removed
+pub mod Rows
+pub mod Faults
 pub use Rattle.hex.specs.Hex
 pub use Rattle.sha2.specs.Sha256
-pub mod Faults
-pub mod Register
-pub mod Rows
 pub use Rattle.csv.specs.Records
 pub use Rattle.csv.specs.Writing

@@ -14,8 +14,8 @@
 //! seal: (64 hex digits)
 //! ```
 //!
-//! Where its bucket moved while the version was held, a line for each department that had it, oldest first,
-//! stands above the seal:
+//! Where its bucket moved while the version was held, a line for each department that had it, oldest first (a
+//! department that had it twice has two), stands above the seal:
 //!
 //! ```text
 //! days held: 5

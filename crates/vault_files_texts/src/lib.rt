@@ -1,6 +1,4 @@
-//! Texts for the office: certificates of destruction and reports.
-//!
-//! The register of removals: a record of each removed entry, as CSV.
+//! Texts for the office: certificates of destruction, reports, and the register of removals as CSV.
 #![tactic(auto)]
 
 pub mod certificate;

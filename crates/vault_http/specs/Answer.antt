@@ -6,7 +6,7 @@ use Rattle.httpdate.specs.Date.{unix_secs, date_text}
 use Rattle.vault_base.specs.Moment.{moment_text}
 use Rattle.vault_lock.specs.declared.retention.Mode.{Mode}
 use Rattle.vault_lock.specs.declared.retention.Retention.{Retention}
-use Rattle.vault_http_values.specs.Words.{mode_name, hold_name}
+use Rattle.vault_values.specs.Words.{mode_name, hold_name}
 use Rattle.vault_http.specs.declared.answer.head.Status.{Status}
 use Rattle.vault_http.specs.declared.answer.head.Status.TheVariants as status
 use Rattle.vault_http.specs.declared.answer.head.Allow.{Allow}

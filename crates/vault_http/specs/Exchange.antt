@@ -25,7 +25,7 @@ use Rattle.vault_http_request.specs.declared.plan.Asked.{Asked}
 use Rattle.vault_http_request.specs.declared.plan.Asked.TheVariants as asked
 use Rattle.vault_http_request.specs.declared.plan.Plan.{Plan}
 use Rattle.vault_http_request.specs.declared.terms.Locks.{Locks}
-use Rattle.vault_http.specs.ExchangeBody.{command_after}
+use Rattle.vault_http.specs.Command.{command_after}
 
 -- ---- commands and refusals
 

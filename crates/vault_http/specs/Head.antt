@@ -3,8 +3,8 @@ use Rattle.std.specs.Prelude.{ℕ, ◌≡◌, ◌≤◌, ◌<◌, List, [], ◌�
 use Rattle.httparse.specs.Grammar.{RequestHead, ReadsRequest, NeverHasRequest, print_request}
 use Rattle.httparse.specs.Spans.{IsRequestAt, IsRequestWithin}
 use Rattle.httparse.specs.declared.spans.HeaderSpan.{HeaderSpan}
-use Rattle.vault_http.specs.declared.head.head.Front.{Front}
-use Rattle.vault_http.specs.declared.head.head.Front.TheVariants.{Nothing, NoHead, Head}
+use Rattle.vault_http.specs.declared.read.head.Front.{Front}
+use Rattle.vault_http.specs.declared.read.head.Front.TheVariants.{Nothing, NoHead, Head}
 
 -- a head is within the limits: 16,384 bytes, blank lines in front of it included, and 64 headers
 abbrev pub IsSmall : RequestHead → Type 0

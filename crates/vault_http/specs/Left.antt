@@ -11,13 +11,13 @@ use Rattle.vault_core_model.specs.declared.reply.Reply.{Reply}
 use Rattle.vault_http.specs.Reply.{AnswersRefusal}
 use Rattle.vault_http.specs.declared.answer.head.Allow.{Allow}
 use Rattle.vault_http.specs.Head.{IsHead, HasNoHead}
-use Rattle.vault_http.specs.declared.head.bytes.ReadFault.{ReadFault}
-use Rattle.vault_http.specs.declared.head.bytes.ReadFault.TheVariants as reads
+use Rattle.vault_http.specs.declared.read.bytes.ReadFault.{ReadFault}
+use Rattle.vault_http.specs.declared.read.bytes.ReadFault.TheVariants as reads
 use Rattle.vault_io.specs.Begins.{Begins}
 use Rattle.vault_http_request.specs.declared.plan.Asked.{Asked}
 use Rattle.vault_http_request.specs.declared.plan.Asked.TheVariants as asked
 use Rattle.vault_http_request.specs.declared.plan.Plan.{Plan}
-use Rattle.vault_http.specs.ExchangeBody.{IsWithinLength}
+use Rattle.vault_http.specs.Command.{IsWithinLength}
 use Rattle.vault_http.specs.Exchange.{Denied, Judged, allow_of, go_on, head_asked, is_shown, planned_command, told}
 use Rattle.vault_http.specs.declared.fault.ServeFault.{ServeFault}
 use Rattle.vault_http.specs.declared.fault.ServeFault.TheVariants as faults

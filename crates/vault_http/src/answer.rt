@@ -1,6 +1,6 @@
 //! Answers of HTTP, byte for byte: the status line, the headers in their order, and the body.
 
-pub mod answer;
+pub mod bytes;
 pub mod date;
 pub mod head;
 pub mod lines;

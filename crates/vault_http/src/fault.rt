@@ -1,7 +1,7 @@
 //! Why a request was not served to its end.
 ghost use Rattle.vault_http.specs.Left.{FromRead};
 
-use crate::head::bytes::ReadFault;
+use crate::read::bytes::ReadFault;
 use thiserror::Error;
 
 /// Why a request was not served to its end.

@@ -1,14 +1,15 @@
-//! One exchange of HTTP over any reader, any writer and any keeper: a request, at most one step, and its
-//! answer.
+//! HTTP and JSON for whoever serves requests or reads lines: one exchange over any reader, any writer and any
+//! keeper (a request, at most one step, and its answer), script lines, and replies printed as lines.
 #![tactic(auto)]
 
 pub mod answer;
-pub mod body;
+pub mod carrying;
+pub mod command;
 pub mod fault;
-pub mod head;
-pub mod reply;
+pub mod read;
 mod send;
 pub mod serve;
 
 pub use crate::fault::ServeFault;
 pub use crate::serve::serve_one;
+pub use vault_http_lines::{read_line, reply_line};

@@ -5,18 +5,18 @@ ghost use Rattle.httparse.specs.Spans.{IsRequestWithin, span_bytes};
 ghost use Rattle.vault_base.specs.Days.{moment_at};
 ghost use Rattle.vault_core_model.specs.Halts.{Rose};
 ghost use Rattle.vault_http_request.specs.Plan.{IsAt};
-ghost use Rattle.vault_http_values.specs.Fault.{Gives};
-ghost use Rattle.vault_http.specs.ExchangeBody.{IsWithinLength};
+ghost use Rattle.vault_values.specs.Fault.{Gives};
+ghost use Rattle.vault_http.specs.Command.{IsWithinLength};
 ghost use Rattle.vault_http.specs.Exchange as spec;
 ghost use Rattle.vault_http.specs.Left as left;
 ghost use Rattle.vault_http.specs.Steady.{Steady};
 ghost use Rattle.vault_http.specs.declared.fault.ServeFault.TheVariants as faults;
 
 use crate::answer::head::Allow;
-use crate::body::command_after;
+use crate::carrying::{conclude, deny};
+use crate::command::command_after;
 use crate::fault::ServeFault;
-use crate::head::head::{Front, read_head};
-use crate::reply::{conclude, deny};
+use crate::read::head::{Front, read_head};
 use crate::send::tell;
 use httparse::spans::{EMPTY_HEADER_SPAN, HeaderSpan, RequestSpans};
 use std::alloc::Global;
@@ -28,7 +28,7 @@ use vault_core_model::keeper::Keeper;
 use vault_http_request::order::{Order, Resource};
 use vault_http_request::plan::{Asked, Plan, asked_of};
 use vault_http_request::terms::{Locks, Terms};
-use vault_http_values::fault::LineFault;
+use vault_values::fault::LineFault;
 
 /// Serves the parts of a plan, with what comes behind its head.
 fn serve_parts<R: Read, W: Write, K: Keeper>(

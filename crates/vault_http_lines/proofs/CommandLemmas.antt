@@ -9,7 +9,7 @@ use Rattle.vault_core_model.specs.declared.command.ListVersions.{ListVersions}
 use Rattle.vault_core_model.specs.declared.command.Put.{Put}
 use Rattle.vault_http_values.specs.declared.shape.Kind.{Kind}
 use Rattle.vault_http_values.specs.declared.shape.Kind.TheVariants.{Text, OptionalText}
-use Rattle.vault_http_values.specs.Fault.{◌>>=◌}
+use Rattle.vault_values.specs.Fault.{◌>>=◌}
 use Rattle.vault_http_values.specs.Locks.{retention_of, optional_retention_of, hold_of, optional_hold_of, bypass_of, default_of}
 use Rattle.vault_http_values.specs.Rules.{rules_of}
 use Rattle.vault_http_values.specs.Shape.{fits, fits_each, are_named, has_members, has_one_content}
@@ -27,8 +27,8 @@ use Rattle.vault_http_lines.specs.LockLines.{set_retention_of, get_retention_of,
 use Rattle.vault_http_lines.specs.ReadLine.{values_of}
 use Rattle.vault_http_lines.specs.RecordLines.{add_dept_of, add_caller_of, close_caller_of, add_bucket_of, move_bucket_of, report_of, certificate_of}
 use Rattle.vault_http_lines.specs.Verb.{members_of, is_shaped}
-use Rattle.vault_http_lines.specs.declared.script.verb.Verb.{Verb}
-use Rattle.vault_http_lines.specs.declared.script.verb.Verb.TheVariants as verb
+use Rattle.vault_http_lines.specs.declared.verb.Verb.{Verb}
+use Rattle.vault_http_lines.specs.declared.verb.Verb.TheVariants as verb
 
 -- ---- members one by one
 

@@ -10,7 +10,8 @@ use Rattle.serde_json.specs.Find.{get, as_str}
 use Rattle.vault_base.specs.declared.refusal.Refusal.{Refusal}
 use Rattle.vault_base.specs.declared.refusal.Refusal.TheVariants.{MalformedBody}
 use Rattle.vault_core_model.specs.declared.command.Timed.{Timed}
-use Rattle.vault_http_values.specs.Fault.{◌>>=◌, or_malformed}
+use Rattle.vault_values.specs.Fault.{◌>>=◌}
+use Rattle.vault_http_values.specs.Document.{or_malformed}
 use Rattle.vault_http_values.specs.Members.{text_of}
 use Rattle.vault_http_values.specs.Values.{reading_of, asker_of}
 use Rattle.vault_http_values.proofs.ReadLemmas.{Reads, reads-then, left-of}
@@ -18,8 +19,8 @@ use Rattle.vault_http_values.proofs.ValueLemmas.{reads-reading, reads-asker}
 use Rattle.vault_http_lines.specs.Grammar.{IsDo, verb_in, has_shape, Spells}
 use Rattle.vault_http_lines.specs.ReadLine.{if_shaped, verb_of, values_of, timed_of}
 use Rattle.vault_http_lines.specs.Verb.{verb_name, verbs, verb_named, is_shaped}
-use Rattle.vault_http_lines.specs.declared.script.verb.Verb.{Verb}
-use Rattle.vault_http_lines.specs.declared.script.verb.Verb.TheVariants as verb
+use Rattle.vault_http_lines.specs.declared.verb.Verb.{Verb}
+use Rattle.vault_http_lines.specs.declared.verb.Verb.TheVariants as verb
 use Rattle.vault_http_lines.proofs.CommandLemmas.{Fit, all-fit, reads-values, heading-fits}
 
 -- what a reading gives, of a line that has the shape or hasn't

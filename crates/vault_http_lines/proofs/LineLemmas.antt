@@ -9,10 +9,10 @@ use Rattle.serde_json.proofs.OnLiterals.{serde_json_on_literals}
 use Rattle.vault_base.specs.declared.refusal.Refusal.{Refusal}
 use Rattle.vault_base.specs.declared.refusal.Refusal.TheVariants.{MalformedBody}
 use Rattle.vault_core_model.specs.declared.command.Timed.{Timed}
-use Rattle.vault_http_lines.specs.declared.script.read_line.Line.{Line}
-use Rattle.vault_http_lines.specs.declared.script.read_line.Line.TheVariants as line
-use Rattle.vault_http_values.specs.Document.{json_of}
-use Rattle.vault_http_values.specs.Fault.{◌>>=◌, or_malformed}
+use Rattle.vault_http_lines.specs.declared.read_line.Line.{Line}
+use Rattle.vault_http_lines.specs.declared.read_line.Line.TheVariants as line
+use Rattle.vault_http_values.specs.Document.{json_of, or_malformed}
+use Rattle.vault_values.specs.Fault.{◌>>=◌}
 use Rattle.vault_http_lines.specs.Grammar.{has_shape, HasShape, IsLineOf, Spells}
 use Rattle.vault_http_lines.specs.ReadLine.{timed_of, command_of, without_cr, told, line_of}
 use Rattle.vault_http_lines.proofs.GrammarLemmas.{Told, told-timed}

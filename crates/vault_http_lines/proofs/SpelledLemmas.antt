@@ -33,7 +33,7 @@ use Rattle.vault_core_model.specs.declared.command.SetHold.{SetHold}
 use Rattle.vault_core_model.specs.declared.command.SetRetention.{SetRetention}
 use Rattle.vault_core_model.specs.declared.command.SetRules.{SetRules}
 use Rattle.vault_core_model.specs.declared.command.Timed.{Timed}
-use Rattle.vault_http_values.specs.Fault.{◌>>=◌}
+use Rattle.vault_values.specs.Fault.{◌>>=◌}
 use Rattle.vault_http_values.specs.Members.{text_of}
 use Rattle.vault_http_values.specs.Spelling.{IsText, IsName, IsMoment}
 use Rattle.vault_http_values.specs.Values.{reading_of, asker_of}
@@ -46,8 +46,8 @@ use Rattle.vault_http_lines.specs.LockLines.{set_retention_of, get_retention_of,
 use Rattle.vault_http_lines.specs.ReadLine.{if_shaped, verb_of, values_of, timed_of}
 use Rattle.vault_http_lines.specs.RecordLines.{add_dept_of, add_caller_of, close_caller_of, add_bucket_of, move_bucket_of, report_of, certificate_of}
 use Rattle.vault_http_lines.specs.Verb.{verb_name, verb_named, is_shaped}
-use Rattle.vault_http_lines.specs.declared.script.verb.Verb.{Verb}
-use Rattle.vault_http_lines.specs.declared.script.verb.Verb.TheVariants as verb
+use Rattle.vault_http_lines.specs.declared.verb.Verb.{Verb}
+use Rattle.vault_http_lines.specs.declared.verb.Verb.TheVariants as verb
 
 -- ---- values
 

@@ -5,7 +5,7 @@ use Rattle.vault_base.specs.declared.refusal.Refusal.{Refusal}
 use Rattle.vault_core_model.specs.declared.command.Command.{Command}
 use Rattle.vault_core_model.specs.declared.command.Command.TheVariants.{Get, Head, Delete, DeleteVersion, Intake, Put as Putting}
 use Rattle.vault_core_model.specs.declared.command.Put.{Put}
-use Rattle.vault_http_values.specs.Fault.{◌>>=◌}
+use Rattle.vault_values.specs.Fault.{◌>>=◌}
 use Rattle.vault_http_values.specs.Locks.{optional_retention_of, optional_hold_of, bypass_of}
 use Rattle.vault_http_values.specs.Values.{batch_of, bucket_of, key_of, number_of, id_of, optional_id_of, content_of}
 

@@ -12,8 +12,8 @@ use Rattle.vault_http_values.specs.Document.{json_of}
 use Rattle.vault_http_values.specs.Spelling.{IsAbsent, IsText, IsName, IsBucket, IsKey, IsPrefix, IsMoment, IsSmall, IsId, IsOptionalId, IsFlag, IsRights, IsContent, IsRetention, IsOptionalRetention, IsHold, IsOptionalHold, IsDefault, IsRules}
 use Rattle.vault_http_lines.specs.ReadLine.{without_cr}
 use Rattle.vault_http_lines.specs.Verb.{verb_name, verb_named, is_shaped}
-use Rattle.vault_http_lines.specs.declared.script.verb.Verb.{Verb}
-use Rattle.vault_http_lines.specs.declared.script.verb.Verb.TheVariants as verb
+use Rattle.vault_http_lines.specs.declared.verb.Verb.{Verb}
+use Rattle.vault_http_lines.specs.declared.verb.Verb.TheVariants as verb
 
 -- ---- shapes
 

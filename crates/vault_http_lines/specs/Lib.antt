@@ -1,10 +1,10 @@
-pub mod ReplyLine
-pub mod Putting
+pub mod Grammar
+pub mod ReadLine
+pub mod Verb
+pub mod RecordLines
 pub mod ConfigLines
 pub mod EntryLines
-pub mod Grammar
-pub mod ListLine
 pub mod LockLines
-pub mod ReadLine
-pub mod RecordLines
-pub mod Verb
+pub mod ListLine
+pub mod ReplyLine
+pub mod Putting

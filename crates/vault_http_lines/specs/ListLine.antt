@@ -6,7 +6,7 @@ use Rattle.vault_base.specs.declared.refusal.Refusal.{Refusal}
 use Rattle.vault_base.specs.declared.refusal.Refusal.TheVariants.{InvalidArgument}
 use Rattle.vault_core_model.specs.declared.command.Command.{Command}
 use Rattle.vault_core_model.specs.declared.command.Command.TheVariants.{ListVersions}
-use Rattle.vault_http_values.specs.Fault.{◌>>=◌}
+use Rattle.vault_values.specs.Fault.{◌>>=◌}
 use Rattle.vault_http_values.specs.Values.{bucket_of, prefix_of, optional_id_of, optional_number_of}
 
 -- an id is given with the key that it belongs to

@@ -6,7 +6,7 @@ use Rattle.vault_base.specs.declared.refusal.Refusal.TheVariants.{MalformedBody}
 use Rattle.vault_core_model.specs.declared.command.Command.{Command}
 use Rattle.vault_core_model.specs.declared.command.Timed.{Timed}
 use Rattle.vault_http_values.specs.Document.{document_of}
-use Rattle.vault_http_values.specs.Fault.{◌>>=◌}
+use Rattle.vault_values.specs.Fault.{◌>>=◌}
 use Rattle.vault_http_values.specs.Members.{text_of}
 use Rattle.vault_http_values.specs.Values.{reading_of, asker_of}
 use Rattle.vault_http_lines.specs.ConfigLines.{set_default_of, get_default_of, set_rules_of, get_rules_of, drop_rules_of, run_of}
@@ -15,10 +15,10 @@ use Rattle.vault_http_lines.specs.ListLine.{list_versions_of}
 use Rattle.vault_http_lines.specs.LockLines.{set_retention_of, get_retention_of, set_hold_of, get_hold_of}
 use Rattle.vault_http_lines.specs.RecordLines.{add_dept_of, add_caller_of, close_caller_of, add_bucket_of, move_bucket_of, report_of, certificate_of}
 use Rattle.vault_http_lines.specs.Verb.{verb_named, is_shaped}
-use Rattle.vault_http_lines.specs.declared.script.verb.Verb.{Verb}
-use Rattle.vault_http_lines.specs.declared.script.verb.Verb.TheVariants as verb
-use Rattle.vault_http_lines.specs.declared.script.read_line.Line.{Line}
-use Rattle.vault_http_lines.specs.declared.script.read_line.Line.TheVariants as line
+use Rattle.vault_http_lines.specs.declared.verb.Verb.{Verb}
+use Rattle.vault_http_lines.specs.declared.verb.Verb.TheVariants as verb
+use Rattle.vault_http_lines.specs.declared.read_line.Line.{Line}
+use Rattle.vault_http_lines.specs.declared.read_line.Line.TheVariants as line
 
 -- the verb, if the value has the shape of its line
 abbrev pub if_shaped : Option Verb → Data → Result Verb Refusal

@@ -4,7 +4,7 @@ use Rattle.serde_json.specs.Data.{Data}
 use Rattle.vault_base.specs.declared.refusal.Refusal.{Refusal}
 use Rattle.vault_core_model.specs.declared.command.Command.{Command}
 use Rattle.vault_core_model.specs.declared.command.Command.TheVariants.{AddDept, AddCaller, CloseCaller, AddBucket, MoveBucket, Report, Certificate}
-use Rattle.vault_http_values.specs.Fault.{◌>>=◌}
+use Rattle.vault_values.specs.Fault.{◌>>=◌}
 use Rattle.vault_http_values.specs.Values.{caller_of, dept_of, optional_dept_of, bucket_of, id_of, rights_of}
 
 unfoldable pub add_dept_of : Data → Result Command Refusal

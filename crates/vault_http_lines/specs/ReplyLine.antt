@@ -31,7 +31,7 @@ use Rattle.vault_lock.specs.declared.retention.Default.{Default}
 use Rattle.vault_lock.specs.declared.retention.Period.{Period}
 use Rattle.vault_lock.specs.declared.retention.Period.TheVariants.{Days, Years}
 use Rattle.vault_files_texts.specs.Certificate.{certificate_text}
-use Rattle.vault_http_values.specs.Words.{mode_name, hold_name, status_name}
+use Rattle.vault_values.specs.Words.{mode_name, hold_name, status_name}
 use Rattle.vault_rules.specs.declared.rule.Noncurrent.{Noncurrent}
 use Rattle.vault_rules.specs.declared.rule.Rule.{Rule}
 

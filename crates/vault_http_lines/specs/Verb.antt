@@ -6,8 +6,8 @@ use Rattle.serde_json.specs.Data.{Data}
 use Rattle.vault_http_values.specs.Shape.{has_members, has_one_content}
 use Rattle.vault_http_values.specs.declared.shape.Kind.{Kind}
 use Rattle.vault_http_values.specs.declared.shape.Kind.TheVariants.{Text, OptionalText, Number, OptionalNumber, OptionalFlag, Texts, Rules}
-use Rattle.vault_http_lines.specs.declared.script.verb.Verb.{Verb}
-use Rattle.vault_http_lines.specs.declared.script.verb.Verb.TheVariants as verb
+use Rattle.vault_http_lines.specs.declared.verb.Verb.{Verb}
+use Rattle.vault_http_lines.specs.declared.verb.Verb.TheVariants as verb
 
 -- the `do` of a line
 abbrev pub verb_name : Verb → List ℕ

@@ -1,6 +1,15 @@
-//! Replies printed as lines of JSON.
+//! Script lines read into commands, and replies printed as lines of JSON.
+//!
+//! What a line's members spell is read by `vault_http_values`.
 #![tactic(auto)]
 
+mod config_lines;
+mod entry_lines;
+pub mod laws;
+mod list_line;
+mod lock_lines;
+pub mod read_line;
+mod record_lines;
 pub mod reply_line;
 mod rule_value;
-pub mod script;
+pub mod verb;

@@ -16,9 +16,9 @@ use vault_core_model::reply::{
     Answer, Counts, Listed, Page, Removed, Reply, Report, Stop, TakenIn, Version,
 };
 use vault_files_texts::certificate::certificate;
-use vault_http_values::words::{hold_name, mode_name};
 use vault_lock::lock::Permit;
 use vault_lock::retention::{Default, Mode, Period, Retention};
+use vault_values::words::{hold_name, mode_name};
 
 fn cause_name(permit: Permit) -> &'static str
     ensures { result.now ≡ spec.cause_name permit }

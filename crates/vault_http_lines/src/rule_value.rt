@@ -6,9 +6,9 @@ ghost use Rattle.vault_http_lines.specs.ReplyLine as spec;
 
 use serde_json::{Map, Value, json, put};
 use std::alloc::{AllocError, Global};
-use vault_http_values::words::status_name;
 use vault_rules::rule::{Noncurrent, Rule};
 use vault_rules::rule_set::RuleSet;
+use vault_values::words::status_name;
 
 /// The rules, in configuration order.
 pub(crate) fn rules_value(alloc: Global, rules: &RuleSet) -> Result<Value, AllocError>

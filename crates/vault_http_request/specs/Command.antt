@@ -6,7 +6,7 @@ use Rattle.vault_base.specs.declared.refusal.Refusal.TheVariants.{MalformedBody}
 use Rattle.vault_core_model.specs.declared.command.Command.{Command}
 use Rattle.vault_core_model.specs.declared.command.Command.TheVariants as command
 use Rattle.vault_http_values.specs.Document.{document_of}
-use Rattle.vault_http_values.specs.Fault.{◌>>=◌}
+use Rattle.vault_values.specs.Fault.{◌>>=◌}
 use Rattle.vault_http_values.specs.Locks.{retention_of, hold_of, default_of}
 use Rattle.vault_http_values.specs.Rules.{rules_of}
 use Rattle.vault_http_values.specs.Shape.{has_members}

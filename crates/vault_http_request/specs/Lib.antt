@@ -1,5 +1,5 @@
-pub mod Command
-pub mod Order
 pub mod Plan
-pub mod Supported
+pub mod Order
 pub mod Terms
+pub mod Supported
+pub mod Command

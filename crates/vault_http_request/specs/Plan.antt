@@ -2,7 +2,7 @@
 use Rattle.std.specs.Prelude.{ℕ, ◌≡◌, List, Option, Some, None, Result, Ok, Err}
 use Rattle.vault_base.specs.declared.refusal.Refusal.{Refusal}
 use Rattle.vault_base.specs.declared.refusal.Refusal.TheVariants.{ClockOutOfRange}
-use Rattle.vault_http_values.specs.Fault.{◌>>=◌}
+use Rattle.vault_values.specs.Fault.{◌>>=◌}
 use Rattle.vault_http_target.specs.Fields.{Fields}
 use Rattle.vault_http_target.specs.Target.{target_of}
 use Rattle.vault_http_request.specs.Order.{order_of}

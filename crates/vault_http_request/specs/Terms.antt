@@ -5,10 +5,9 @@ use Rattle.vault_base.specs.declared.refusal.Refusal.{Refusal}
 use Rattle.vault_base.specs.declared.refusal.Refusal.TheVariants.{AccessDenied, EntityTooLarge, InvalidArgument, MissingContentLength}
 use Rattle.vault_lock.specs.declared.retention.Mode.{Mode}
 use Rattle.vault_lock.specs.declared.retention.Retention.{Retention}
-use Rattle.vault_http_values.specs.Fault.{◌>>=◌}
-use Rattle.vault_http_values.specs.Locks.{until_named}
-use Rattle.vault_http_values.specs.Values.{or_invalid, if_given, asker_named}
-use Rattle.vault_http_values.specs.Words.{mode_named, hold_named}
+use Rattle.vault_values.specs.Fault.{◌>>=◌, or_invalid, if_given}
+use Rattle.vault_values.specs.Named.{until_named, asker_named}
+use Rattle.vault_values.specs.Words.{mode_named, hold_named}
 use Rattle.vault_http_target.specs.Fields.{Fields, same_name, value_of, count_of}
 use Rattle.vault_http_target.specs.Number.{number_upto}
 use Rattle.vault_http_target.specs.Path.{as_text, or_refusal}

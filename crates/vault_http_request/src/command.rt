@@ -1,7 +1,7 @@
 //! The command that an order makes with its locks and its body.
 ghost use Rattle.std.specs.Prelude.{◌≡◌, map};
 ghost use Rattle.serde_json.specs.View.{view};
-ghost use Rattle.vault_http_values.specs.Fault.{Gives};
+ghost use Rattle.vault_values.specs.Fault.{Gives};
 ghost use Rattle.vault_http_request.specs.Command as spec;
 
 use crate::order::Order;
@@ -16,9 +16,9 @@ use vault_core_model::command::{
 };
 use vault_http_target::target::Object;
 use vault_http_values::document::document;
-use vault_http_values::fault::LineFault;
 use vault_http_values::shape::{Kind, has_members};
 use vault_http_values::{locks, rules};
+use vault_values::fault::LineFault;
 
 /// The JSON object of just these members that a body is.
 #[tactic(auto, unfolding(crate::specs::Command::object_of))]

@@ -1,7 +1,7 @@
 //! What a head asks for, judged point by point.
 ghost use Rattle.std.specs.Prelude.{◌≡◌, ◌≤◌, All, IfOk, Some, length, map};
 ghost use Rattle.httparse.specs.Spans.{header_bytes, IsHeaderWithin};
-ghost use Rattle.vault_http_values.specs.Fault.{Gives};
+ghost use Rattle.vault_values.specs.Fault.{Gives};
 ghost use Rattle.vault_http_request.specs.Plan as spec;
 
 use crate::order::{Order, Resource, order_of};
@@ -12,7 +12,7 @@ use std::alloc::Global;
 use vault_base::moment::Moment;
 use vault_base::refusal::Refusal;
 use vault_http_target::target::target_of;
-use vault_http_values::fault::LineFault;
+use vault_values::fault::LineFault;
 
 /// What is to be done once the body is there.
 #[derive(Drop)]

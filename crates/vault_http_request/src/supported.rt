@@ -2,13 +2,13 @@
 ghost use Rattle.std.specs.Prelude.{◌≡◌, ◌≤◌, All, drop, length, map};
 ghost use Rattle.std.specs.List.{list_any};
 ghost use Rattle.httparse.specs.Spans.{header_bytes, IsHeaderWithin};
-ghost use Rattle.vault_http_values.specs.Fault.{Gives};
+ghost use Rattle.vault_values.specs.Fault.{Gives};
 ghost use Rattle.vault_http_request.specs.Supported as spec;
 
 use httparse::spans::HeaderSpan;
 use vault_base::refusal::Refusal;
 use vault_http_target::fields::{has, same_name};
-use vault_http_values::fault::LineFault;
+use vault_values::fault::LineFault;
 
 /// The bytes from a place on.
 fn from(text: &[u8], at: usize) -> &[u8]

@@ -2,7 +2,7 @@
 ghost use Rattle.std.specs.Prelude.{◌≡◌, ◌≤◌, All, length, map, option_map};
 ghost use Rattle.std.specs.Option.{option_copied};
 ghost use Rattle.httparse.specs.Spans.{header_bytes, IsHeaderWithin};
-ghost use Rattle.vault_http_values.specs.Fault.{Gives};
+ghost use Rattle.vault_values.specs.Fault.{Gives};
 ghost use Rattle.vault_http_request.specs.Terms as spec;
 
 use crate::order::Order;
@@ -14,10 +14,10 @@ use vault_base::refusal::{Reason, Refusal};
 use vault_http_target::fields::{count_of, same_name, value_of};
 use vault_http_target::number::{NumberFault, number_upto};
 use vault_http_target::path::as_text;
-use vault_http_values::fault::LineFault;
-use vault_http_values::named::{asker_named, until_named};
-use vault_http_values::words::{hold_named, mode_named};
 use vault_lock::retention::{Mode, Retention};
+use vault_values::fault::LineFault;
+use vault_values::named::{asker_named, until_named};
+use vault_values::words::{hold_named, mode_named};
 
 /// Which headers an order takes.
 #[derive(Clone, Copy, PartialEq, Eq, Debug)]

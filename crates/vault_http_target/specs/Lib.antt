@@ -1,7 +1,7 @@
-pub mod Fields
-pub mod Number
-pub mod Path
-pub mod Place
-pub mod Query
-pub mod Routes
 pub mod Target
+pub mod Routes
+pub mod Place
+pub mod Path
+pub mod Query
+pub mod Number
+pub mod Fields

@@ -2,8 +2,8 @@
 use Rattle.std.specs.Prelude.{ℕ, ◌==◌, List, length, drop, Result, Ok, Err, if◌then◌else◌, ⊤}
 use Rattle.vault_base.specs.declared.refusal.Refusal.{Refusal}
 use Rattle.vault_base.specs.declared.refusal.Refusal.TheVariants.{InvalidArgument, InvalidBucketName}
-use Rattle.vault_http_values.specs.Fault.{◌>>=◌}
-use Rattle.vault_http_values.specs.Values.{bucket_named, key_named}
+use Rattle.vault_values.specs.Fault.{◌>>=◌}
+use Rattle.vault_values.specs.Named.{bucket_named, key_named}
 use Rattle.vault_http_target.specs.Path.{before, behind, decoded}
 use Rattle.vault_http_target.specs.Routes.{is_routed}
 use Rattle.vault_http_target.specs.declared.place.Place.{Place}

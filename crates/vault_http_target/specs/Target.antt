@@ -5,8 +5,8 @@ use Rattle.vault_base.specs.Name.{version_id_of}
 use Rattle.vault_base.specs.declared.refusal.Refusal.{Refusal}
 use Rattle.vault_base.specs.declared.refusal.Refusal.TheVariants.{InvalidArgument, NotImplemented}
 use Rattle.vault_core_model.specs.declared.command.ListVersions.{ListVersions}
-use Rattle.vault_http_values.specs.Fault.{◌>>=◌}
-use Rattle.vault_http_values.specs.Values.{or_refused, if_given, prefix_if}
+use Rattle.vault_values.specs.Fault.{◌>>=◌, or_refused, if_given}
+use Rattle.vault_values.specs.Named.{prefix_if}
 use Rattle.vault_http_target.specs.Fields.{Fields}
 use Rattle.vault_http_target.specs.Number.{number_upto}
 use Rattle.vault_http_target.specs.Path.{before, behind}

@@ -1,7 +1,7 @@
 //! The parts of a path, and the texts that they stand for.
 ghost use Rattle.std.specs.Prelude.{◌≡◌, ◌≤◌, drop, length};
 ghost use Rattle.std.specs.Option.{option_copied};
-ghost use Rattle.vault_http_values.specs.Fault.{Gives};
+ghost use Rattle.vault_values.specs.Fault.{Gives};
 ghost use Rattle.vault_http_target.specs.Path as spec;
 
 use crate::text::Text;
@@ -9,7 +9,7 @@ use percent_encoding::percent_decode;
 use std::alloc::Global;
 use std::str;
 use vault_base::refusal::Refusal;
-use vault_http_values::fault::LineFault;
+use vault_values::fault::LineFault;
 
 /// How many bytes stand before the first such byte.
 fn count_before(bytes: &[u8], stop: u8) -> usize

@@ -1,5 +1,5 @@
 //! The bucket that a path names, and its key.
-ghost use Rattle.vault_http_values.specs.Fault.{Gives};
+ghost use Rattle.vault_values.specs.Fault.{Gives};
 ghost use Rattle.vault_http_target.specs.Place as spec;
 
 use crate::path::{before, behind, behind_first, decoded};
@@ -7,8 +7,8 @@ use crate::routes::is_routed;
 use std::alloc::Global;
 use vault_base::name::{BucketName, ObjectKey};
 use vault_base::refusal::Refusal;
-use vault_http_values::fault::LineFault;
-use vault_http_values::named::{bucket_named, key_named};
+use vault_values::fault::LineFault;
+use vault_values::named::{bucket_named, key_named};
 
 /// What a path names: a bucket, or a key in it.
 #[derive(Drop)]

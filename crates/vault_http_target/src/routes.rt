@@ -1,11 +1,11 @@
 //! The routes: a bucket, with a slash behind it or not, and a key behind that slash.
 ghost use Rattle.std.specs.Prelude.{◌≡◌, Bool, IfOk, Ok};
-ghost use Rattle.vault_http_values.specs.Fault.{Gives};
+ghost use Rattle.vault_values.specs.Fault.{Gives};
 ghost use Rattle.vault_http_target.specs.Routes as spec;
 
 use matchit::{InsertError, Router};
 use std::alloc::Global;
-use vault_http_values::fault::LineFault;
+use vault_values::fault::LineFault;
 
 fn routes(alloc: Global) -> Result<Router<u8>, InsertError>
     ensures { IfOk result (λ router. router ≡ spec.routes) }

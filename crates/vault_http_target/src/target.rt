@@ -1,7 +1,7 @@
 //! What a target asks about: an object, one of its settings, a bucket, or one of its subresources.
 ghost use Rattle.std.specs.Prelude.{◌≡◌, map, option_map};
-ghost use Rattle.vault_http_values.specs.Fault.{Gives};
-ghost use Rattle.vault_http_values.specs.Values.{prefix_if};
+ghost use Rattle.vault_values.specs.Fault.{Gives};
+ghost use Rattle.vault_values.specs.Named.{prefix_if};
 ghost use Rattle.vault_http_target.specs.Query.{shown};
 ghost use Rattle.vault_http_target.specs.Target as spec;
 
@@ -13,8 +13,8 @@ use std::alloc::Global;
 use vault_base::name::{BucketName, KeyPrefix, ObjectKey, VersionId};
 use vault_base::refusal::Refusal;
 use vault_core_model::command::ListVersions;
-use vault_http_values::fault::LineFault;
-use vault_http_values::named::prefix_named;
+use vault_values::fault::LineFault;
+use vault_values::named::prefix_named;
 
 /// How many entries a listing has at most, where that isn't said.
 const MOST: u32 = 1_000;

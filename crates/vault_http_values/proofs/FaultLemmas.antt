@@ -3,9 +3,9 @@ use Rattle.std.proofs.Common.{◌≡◌, refl}
 use Rattle.std.specs.Prelude.{Result, Ok, Err}
 use Rattle.std.specs.Result.{IsErrAnd}
 use Rattle.vault_base.specs.declared.refusal.Refusal.{Refusal}
-use Rattle.vault_http_values.specs.declared.fault.LineFault.{LineFault}
-use Rattle.vault_http_values.specs.declared.fault.LineFault.TheVariants as fault
-use Rattle.vault_http_values.specs.Fault.{◌>>=◌, Fails, Gives}
+use Rattle.vault_values.specs.declared.fault.LineFault.{LineFault}
+use Rattle.vault_values.specs.declared.fault.LineFault.TheVariants as fault
+use Rattle.vault_values.specs.Fault.{◌>>=◌, Fails, Gives}
 
 failed : {Y Z : Type 0} (e : LineFault) (said : Result Z Refusal) (f : Z → Result Y Refusal) → Fails e said → Fails e (said >>= f)
 failed fault.Memory said f e = tt

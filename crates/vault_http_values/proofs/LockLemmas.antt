@@ -16,13 +16,15 @@ use Rattle.vault_lock.specs.declared.retention.Mode.TheVariants.{Governance, Com
 use Rattle.vault_lock.specs.declared.retention.Retention.{Retention}
 use Rattle.vault_http_values.specs.declared.members.Whole.{Whole}
 use Rattle.vault_http_values.specs.declared.shape.Kind.TheVariants.{Text, OptionalText, OptionalNumber, OptionalFlag}
-use Rattle.vault_http_values.specs.Fault.{◌>>=◌}
-use Rattle.vault_http_values.specs.Locks.{or_until_refusal, until_named, retention_spelled, retention_of, both_or_none, optional_retention_of, hold_of, optional_hold_of, bypass_of, default_spelled, default_of}
+use Rattle.vault_values.specs.Fault.{◌>>=◌, or_invalid, if_given}
+use Rattle.vault_values.specs.Named.{or_until_refusal, until_named}
+use Rattle.vault_values.specs.Locks.{retention_spelled, both_or_none}
+use Rattle.vault_http_values.specs.Locks.{retention_of, optional_retention_of, hold_of, optional_hold_of, bypass_of, default_spelled, default_of}
 use Rattle.vault_http_values.specs.Members.{text_of, optional_text_of, optional_whole_of, flag_of}
 use Rattle.vault_http_values.specs.Shape.{fits}
 use Rattle.vault_http_values.specs.Spelling.{IsAbsent, IsText, IsMoment, IsRetention, IsOptionalRetention, IsHold, IsOptionalHold, IsFlag, IsPeriod, IsDefault}
-use Rattle.vault_http_values.specs.Values.{or_invalid, if_given, below}
-use Rattle.vault_http_values.specs.Words.{named, mode_name, mode_named, hold_name, hold_named}
+use Rattle.vault_http_values.specs.Values.{below}
+use Rattle.vault_values.specs.Words.{named, mode_name, mode_named, hold_name, hold_named}
 use Rattle.vault_http_values.proofs.ReadLemmas.{Reads, reads-then, reads-as, IsWhole, reads-text, reads-optional-text, reads-optional-whole, reads-flag}
 use Rattle.vault_http_values.proofs.ValueLemmas.{reads-if-given, reads-below}
 

@@ -11,7 +11,8 @@ use Rattle.vault_http_values.specs.declared.members.Whole.{Whole}
 use Rattle.vault_http_values.specs.declared.members.Whole.TheVariants.{Negative, Natural}
 use Rattle.vault_http_values.specs.declared.shape.Kind.{Kind}
 use Rattle.vault_http_values.specs.declared.shape.Kind.TheVariants.{Text, OptionalText, Number, OptionalNumber, OptionalFlag, Texts, Rules}
-use Rattle.vault_http_values.specs.Fault.{◌>>=◌, or_malformed}
+use Rattle.vault_values.specs.Fault.{◌>>=◌}
+use Rattle.vault_http_values.specs.Document.{or_malformed}
 use Rattle.vault_http_values.specs.Members as members
 use Rattle.vault_http_values.specs.Members.{as_whole, as_texts, text_of, optional_text_of, whole_of, optional_whole_of, texts_of, items_of, flag, flag_of}
 use Rattle.vault_http_values.specs.Shape.{needed, optional, is_text, is_number, is_flag, are_texts, all_items, is_rule, are_rules, fits}

@@ -9,9 +9,9 @@ use Rattle.vault_base.specs.declared.right.Right.{Right}
 use Rattle.vault_base.specs.declared.right.Right.TheVariants as right
 use Rattle.vault_core_model.specs.Rights.{has, no_rights, with_right}
 use Rattle.vault_core_model.specs.declared.rights.Rights.{Rights}
-use Rattle.vault_http_values.specs.Fault.{◌>>=◌}
+use Rattle.vault_values.specs.Fault.{◌>>=◌, or_invalid}
 use Rattle.vault_http_values.specs.Spelling.{are_rights, is_right_named}
-use Rattle.vault_http_values.specs.Values.{or_invalid, rights_named, with_rights_of}
+use Rattle.vault_values.specs.Rights.{rights_named, with_rights_of}
 
 or-true : (b : Bool) → b || true ≡ true
 or-true true = refl

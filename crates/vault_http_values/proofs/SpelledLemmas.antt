@@ -19,13 +19,15 @@ use Rattle.vault_lock.specs.declared.retention.Retention.{Retention}
 use Rattle.vault_rules.specs.declared.rule.Noncurrent.{Noncurrent}
 use Rattle.vault_rules.specs.declared.rule.Rule.{Rule}
 use Rattle.vault_http_values.specs.declared.members.Whole.TheVariants.{Natural}
-use Rattle.vault_http_values.specs.Fault.{◌>>=◌}
-use Rattle.vault_http_values.specs.Locks.{until_named, retention_spelled, retention_of, both_or_none, optional_retention_of, hold_of, optional_hold_of, bypass_of, default_spelled, default_of}
+use Rattle.vault_values.specs.Fault.{◌>>=◌, or_invalid}
+use Rattle.vault_values.specs.Named.{until_named, name_of, prefix_named}
+use Rattle.vault_values.specs.Locks.{retention_spelled, both_or_none}
+use Rattle.vault_http_values.specs.Locks.{retention_of, optional_retention_of, hold_of, optional_hold_of, bypass_of, default_spelled, default_of}
 use Rattle.vault_http_values.specs.Members.{text_of, optional_text_of, whole_of, optional_whole_of, as_texts, texts_of, items_of, flag_of}
 use Rattle.vault_http_values.specs.Rules.{rule_id_in, bounds_in, status_in, expiration_spelled, expiration_in, noncurrent_spelled, noncurrent_in, rule_of, rules_in, rules_of}
 use Rattle.vault_http_values.specs.Spelling.{IsAbsent, IsText, IsName, IsBucket, IsKey, IsPrefix, IsMoment, IsNumber, IsSmall, IsOptionalSmall, IsId, IsOptionalId, IsFlag, IsRights, IsContent, IsRetention, IsOptionalRetention, IsHold, IsOptionalHold, IsPeriod, IsDefault, IsExpiration, IsNoncurrent, AreBounds, IsRule, AreRules, IsRules, items_of_texts}
-use Rattle.vault_http_values.specs.Values.{or_invalid, reading_of, asker_of, name_of, caller_of, dept_of, optional_dept_of, batch_of, bucket_of, key_of, prefix_named, prefix_of, below, number_of, optional_number_of, version_of, id_of, optional_id_of, rights_of, bytes_of, content_of}
-use Rattle.vault_http_values.specs.Words.{mode_name, mode_named, hold_name, hold_named, status_name, status_named}
+use Rattle.vault_http_values.specs.Values.{reading_of, asker_of, caller_of, dept_of, optional_dept_of, batch_of, bucket_of, key_of, prefix_of, below, number_of, optional_number_of, version_of, id_of, optional_id_of, rights_of, bytes_of, content_of}
+use Rattle.vault_values.specs.Words.{mode_name, mode_named, hold_name, hold_named, status_name, status_named}
 use Rattle.vault_http_values.proofs.RightsLemmas.{rights-ok}
 
 -- ---- members of a kind

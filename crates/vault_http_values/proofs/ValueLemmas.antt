@@ -20,11 +20,13 @@ use Rattle.vault_core_model.specs.declared.rights.Rights.{Rights}
 use Rattle.vault_http_values.specs.declared.members.Whole.{Whole}
 use Rattle.vault_http_values.specs.declared.members.Whole.TheVariants.{Negative, Natural}
 use Rattle.vault_http_values.specs.declared.shape.Kind.TheVariants.{Text, OptionalText, Number, OptionalNumber, Texts}
-use Rattle.vault_http_values.specs.Fault.{◌>>=◌}
+use Rattle.vault_values.specs.Fault.{◌>>=◌, or_refused, or_invalid, if_given}
 use Rattle.vault_http_values.specs.Members.{text_of, optional_text_of, whole_of, optional_whole_of, texts_of}
 use Rattle.vault_http_values.specs.Shape.{fits, has_one_content}
 use Rattle.vault_http_values.specs.Spelling.{IsAbsent, IsText, IsName, IsBucket, IsKey, IsPrefix, IsMoment, IsSmall, IsOptionalSmall, IsId, IsOptionalId, IsRights, IsContent}
-use Rattle.vault_http_values.specs.Values.{or_refused, or_clock_refusal, or_key_refusal, or_invalid, if_given, reading_of, asker_of, name_of, caller_of, dept_of, optional_dept_of, batch_of, bucket_of, key_of, prefix_named, prefix_if, prefix_of, below, number_of, optional_number_of, version_of, id_of, optional_id_of, with_rights_of, rights_named, rights_of, bytes_of, content_of}
+use Rattle.vault_values.specs.Named.{or_clock_refusal, or_key_refusal, name_of, prefix_named, prefix_if}
+use Rattle.vault_values.specs.Rights.{with_rights_of, rights_named}
+use Rattle.vault_http_values.specs.Values.{reading_of, asker_of, caller_of, dept_of, optional_dept_of, batch_of, bucket_of, key_of, prefix_of, below, number_of, optional_number_of, version_of, id_of, optional_id_of, rights_of, bytes_of, content_of}
 use Rattle.vault_http_values.proofs.ReadLemmas.{Reads, reads-then, reads-as, IsWhole, reads-text, reads-optional-text, reads-whole, reads-optional-whole, reads-texts}
 use Rattle.vault_http_values.proofs.RightsLemmas.{is-rights}
 

@@ -1,10 +1,15 @@
 -- The JSON value that bytes are.
-use Rattle.std.specs.Prelude.{ℕ, List, Option, None, Result, if◌then◌else◌}
+use Rattle.std.specs.Prelude.{ℕ, List, if◌then◌else◌, Option, Some, None, Result, Ok, Err}
 use Rattle.std.specs.Str.{is_utf8}
 use Rattle.serde_json.specs.Data.{Data}
 use Rattle.serde_json.specs.Read.{read}
 use Rattle.vault_base.specs.declared.refusal.Refusal.{Refusal}
-use Rattle.vault_http_values.specs.Fault.{or_malformed}
+use Rattle.vault_base.specs.declared.refusal.Refusal.TheVariants.{MalformedBody}
+
+-- a value that is there, or else MalformedBody
+abbrev pub or_malformed : {A : Type 0} → Option A → Result A Refusal
+or_malformed None = Err MalformedBody
+or_malformed (Some x) = Ok x
 
 -- the value of a text in UTF-8 that is JSON, of a member that is repeated the last value
 abbrev pub json_of : List ℕ → Option Data

@@ -1,9 +1,7 @@
 pub mod Document
-pub mod Fault
-pub mod Locks
-pub mod Members
-pub mod Rules
 pub mod Shape
-pub mod Spelling
+pub mod Members
 pub mod Values
-pub mod Words
+pub mod Locks
+pub mod Rules
+pub mod Spelling

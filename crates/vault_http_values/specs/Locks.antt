@@ -1,54 +1,23 @@
 -- What the members of an object spell about retention and legal hold.
-use Rattle.std.specs.Prelude.{ℕ, List, codes, Bool, Option, Some, None, Result, Ok, Err}
+use Rattle.std.specs.Prelude.{ℕ, List, codes, Option, Some, None, Result, Ok, Err, Bool}
 use Rattle.serde_json.specs.Data.{Data}
-use Rattle.vault_base.specs.Moment.{moment_of}
-use Rattle.vault_base.specs.MomentFault.{MomentFault}
-use Rattle.vault_base.specs.MomentFault.TheVariants as moment
 use Rattle.vault_base.specs.declared.refusal.Refusal.{Refusal}
-use Rattle.vault_base.specs.declared.refusal.Refusal.TheVariants.{InvalidArgument, RetentionOutOfRange}
+use Rattle.vault_base.specs.declared.refusal.Refusal.TheVariants.{InvalidArgument}
 use Rattle.vault_lock.specs.declared.retention.Default.{Default}
-use Rattle.vault_lock.specs.declared.retention.Mode.{Mode}
 use Rattle.vault_lock.specs.declared.retention.Period.TheVariants.{Days, Years}
 use Rattle.vault_lock.specs.declared.retention.Retention.{Retention}
-use Rattle.vault_http_values.specs.Fault.{◌>>=◌}
+use Rattle.vault_values.specs.Fault.{◌>>=◌, or_invalid, if_given}
+use Rattle.vault_values.specs.Words.{mode_named, hold_named}
+use Rattle.vault_values.specs.Locks.{retention_spelled, both_or_none}
 use Rattle.vault_http_values.specs.Members.{text_of, optional_text_of, optional_whole_of, flag_of}
-use Rattle.vault_http_values.specs.Values.{or_invalid, if_given, below}
-use Rattle.vault_http_values.specs.Words.{mode_named, hold_named}
 use Rattle.vault_http_values.specs.declared.members.Whole.{Whole}
-
--- why a text is no moment, where it is the end of a retention
-abbrev pub until_refusal : MomentFault → Refusal
-until_refusal moment.Form = InvalidArgument
-until_refusal moment.Range = RetentionOutOfRange
-
-abbrev pub or_until_refusal : Result ℕ MomentFault → Result ℕ Refusal
-or_until_refusal (Ok at) = Ok at
-or_until_refusal (Err fault) = Err (until_refusal fault)
-
-abbrev pub until_named : List ℕ → Result ℕ Refusal
-until_named text = or_until_refusal (moment_of text)
-
--- the mode is read before the moment
-unfoldable pub retention_spelled : List ℕ → List ℕ → Result Retention Refusal
-retention_spelled mode until = do
-  mode ← or_invalid (mode_named mode)
-  until ← until_named until
-  Ok (record { mode = mode; until = until })
+use Rattle.vault_http_values.specs.Values.{below}
 
 unfoldable pub retention_of : Data → Result Retention Refusal
 retention_of d = do
   mode ← text_of (codes "mode") d
   until ← text_of (codes "until") d
   retention_spelled mode until
-
--- the two stand together or not at all
-unfoldable pub both_or_none : Option (List ℕ) → Option (List ℕ) → Result (Option Retention) Refusal
-both_or_none None None = Ok None
-both_or_none None (Some until) = Err InvalidArgument
-both_or_none (Some mode) None = Err InvalidArgument
-both_or_none (Some mode) (Some until) = do
-  retention ← retention_spelled mode until
-  Ok (Some retention)
 
 unfoldable pub optional_retention_of : Data → Result (Option Retention) Refusal
 optional_retention_of d = do

@@ -5,7 +5,8 @@ use Rattle.serde_json.specs.Find.{get, as_str, as_bool, as_number, as_array}
 use Rattle.vault_base.specs.declared.refusal.Refusal.{Refusal}
 use Rattle.vault_http_values.specs.declared.members.Whole.{Whole}
 use Rattle.vault_http_values.specs.declared.members.Whole.TheVariants.{Negative, Natural}
-use Rattle.vault_http_values.specs.Fault.{◌>>=◌, or_malformed}
+use Rattle.vault_values.specs.Fault.{◌>>=◌}
+use Rattle.vault_http_values.specs.Document.{or_malformed}
 
 -- a member that must be there
 abbrev pub needed : {A : Type 0} → (Data → Option A) → Option Data → Result A Refusal

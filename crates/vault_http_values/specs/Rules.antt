@@ -9,10 +9,10 @@ use Rattle.vault_rules.specs.Rules.{rules_fault}
 use Rattle.vault_rules.specs.declared.rule.Noncurrent.{Noncurrent}
 use Rattle.vault_rules.specs.declared.rule.Rule.{Rule}
 use Rattle.vault_rules.specs.declared.rule_set.RuleFault.{RuleFault}
-use Rattle.vault_http_values.specs.Fault.{◌>>=◌}
+use Rattle.vault_values.specs.Fault.{◌>>=◌, or_refused, or_invalid, if_given}
 use Rattle.vault_http_values.specs.Members.{items_of, text_of, flag_of}
-use Rattle.vault_http_values.specs.Values.{or_refused, or_invalid, if_given, number_of, optional_number_of, prefix_of}
-use Rattle.vault_http_values.specs.Words.{status_named}
+use Rattle.vault_http_values.specs.Values.{number_of, optional_number_of, prefix_of}
+use Rattle.vault_values.specs.Words.{status_named}
 use Rattle.vault_http_values.specs.declared.rules.Bounds.{Bounds}
 use Rattle.vault_http_values.specs.declared.rules.Expiration.{Expiration}
 

@@ -18,7 +18,7 @@ use Rattle.vault_lock.specs.declared.retention.Retention.{Retention}
 use Rattle.vault_rules.specs.Rules.{rules_fault}
 use Rattle.vault_rules.specs.declared.rule.Noncurrent.{Noncurrent}
 use Rattle.vault_rules.specs.declared.rule.Rule.{Rule}
-use Rattle.vault_http_values.specs.Words.{mode_name, hold_name, status_name}
+use Rattle.vault_values.specs.Words.{mode_name, hold_name, status_name}
 
 -- the member is left out
 abbrev pub IsAbsent : Data → List ℕ → Type 0

@@ -1,12 +1,12 @@
 //! Bytes to a JSON value.
 ghost use Rattle.serde_json.specs.View.{view};
-ghost use Rattle.vault_http_values.specs.Fault.{Gives};
+ghost use Rattle.vault_values.specs.Fault.{Gives};
 ghost use Rattle.vault_http_values.specs.Document.{document_of};
 
-use crate::fault::LineFault;
 use serde_json::Value;
 use std::alloc::Global;
 use vault_base::refusal::Refusal;
+use vault_values::fault::LineFault;
 
 /// The value that the bytes are as JSON (RFC 8259).
 pub fn document(alloc: Global, bytes: &[u8]) -> Result<Value, LineFault>

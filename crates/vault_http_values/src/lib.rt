@@ -5,11 +5,8 @@
 #![tactic(auto)]
 
 pub mod document;
-pub mod fault;
 pub mod locks;
 pub mod members;
-pub mod named;
 pub mod rules;
 pub mod shape;
 pub mod values;
-pub mod words;

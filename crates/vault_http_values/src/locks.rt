@@ -1,37 +1,16 @@
 //! Members of an object to retentions, holds and defaults.
 ghost use Rattle.std.specs.Prelude.{option_map};
 ghost use Rattle.serde_json.specs.View.{view};
-ghost use Rattle.vault_http_values.specs.Fault.{Gives};
 ghost use Rattle.vault_http_values.specs.Locks as spec;
-ghost use Rattle.vault_http_values.specs.Values.{or_invalid};
-ghost use Rattle.vault_http_values.specs.Words.{mode_named as mode_of, hold_named as is_on};
+ghost use Rattle.vault_values.specs.Fault.{Gives};
 
-use crate::fault::LineFault;
 use crate::members::{Whole, flag_of, optional_text_of, optional_whole_of, text_of};
-use crate::named::until_named;
 use crate::values::{small, smaller};
-use crate::words::{hold_named, mode_named};
 use serde_json::Value;
 use vault_base::refusal::Refusal;
-use vault_lock::retention::{Default, Mode, Period, Retention};
-
-fn mode(text: &str) -> Result<Mode, LineFault>
-    ensures { Gives (λ x. x) result (or_invalid (mode_of text.now)) }
-{
-    match mode_named(text) {
-        Some(mode) => Ok(mode),
-        None => Err(LineFault::Refused(Refusal::InvalidArgument)),
-    }
-}
-
-#[tactic(auto, unfolding(crate::specs::Locks::retention_spelled))]
-fn retention_spelled(mode_text: &str, until_text: &str) -> Result<Retention, LineFault>
-    ensures { Gives (λ x. x) result (spec.retention_spelled mode_text.now until_text.now) }
-{
-    let mode = mode(mode_text)?;
-    let until = until_named(until_text)?;
-    Ok(Retention { mode, until })
-}
+use vault_lock::retention::{Default, Period, Retention};
+use vault_values::fault::LineFault;
+use vault_values::locks::{both_or_none, is_on, mode, retention_spelled};
 
 /// A retention: the members `mode` and `until`.
 #[tactic(auto, unfolding(crate::specs::Locks::retention_of))]
@@ -43,21 +22,6 @@ pub fn retention(value: &Value) -> Result<Retention, LineFault>
     retention_spelled(mode, until)
 }
 
-/// A retention by the texts of its mode and its end, which stand together or not at all.
-///
-/// InvalidArgument for one without the other, another mode, or a text that is no moment; RetentionOutOfRange for
-/// a moment outside 1970 to 9999.
-#[tactic(auto, unfolding(crate::specs::Locks::both_or_none))]
-pub fn both_or_none(mode: Option<&str>, until: Option<&str>) -> Result<Option<Retention>, LineFault>
-    ensures { Gives (λ x. x) result (spec.both_or_none (option_map (λ t. t.now) mode.entry) (option_map (λ t. t.now) until.entry)) }
-{
-    match (mode, until) {
-        (None, None) => Ok(None),
-        (Some(mode), Some(until)) => Ok(Some(retention_spelled(mode, until)?)),
-        _ => Err(LineFault::Refused(Refusal::InvalidArgument)),
-    }
-}
-
 /// A retention, where the members `mode` and `until` are there; they stand together or not at
 /// all.
 #[tactic(auto, unfolding(crate::specs::Locks::optional_retention_of))]
@@ -67,16 +31,6 @@ pub fn optional_retention(value: &Value) -> Result<Option<Retention>, LineFault>
     let mode = optional_text_of("mode", value)?;
     let until = optional_text_of("until", value)?;
     both_or_none(mode, until)
-}
-
-/// Whether a text names a hold that is on, `ON` or `OFF`; else InvalidArgument.
-pub fn is_on(text: &str) -> Result<bool, LineFault>
-    ensures { Gives (λ x. x) result (or_invalid (is_on text.now)) }
-{
-    match hold_named(text) {
-        Some(hold) => Ok(hold),
-        None => Err(LineFault::Refused(Refusal::InvalidArgument)),
-    }
 }
 
 /// Whether a legal hold is to be on: the member `hold`.

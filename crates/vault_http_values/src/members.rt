@@ -1,13 +1,13 @@
 //! The members of an object, each by its JSON type.
 ghost use Rattle.std.specs.Prelude.{◌≡◌, map, option_map};
 ghost use Rattle.serde_json.specs.View.{view, items_view};
-ghost use Rattle.vault_http_values.specs.Fault.{Gives};
+ghost use Rattle.vault_values.specs.Fault.{Gives};
 ghost use Rattle.vault_http_values.specs.Members as spec;
 
-use crate::fault::LineFault;
 use serde_json::Value;
 use std::alloc::{AllocError, Global};
 use vault_base::refusal::Refusal;
+use vault_values::fault::LineFault;
 
 /// A whole number as JSON gives it: below zero, or of at most 64 bits.
 #[derive(Clone, Copy, Debug, PartialEq, Eq)]

@@ -1,20 +1,20 @@
 //! Lifecycle rules as S3's JSON has them (API Reference, "PutBucketLifecycleConfiguration").
 ghost use Rattle.std.specs.Prelude.{◌≡◌, option_map};
 ghost use Rattle.serde_json.specs.View.{view, items_view};
-ghost use Rattle.vault_http_values.specs.Fault.{Gives};
+ghost use Rattle.vault_values.specs.Fault.{Gives};
 ghost use Rattle.vault_http_values.specs.Rules as spec;
 ghost use Rattle.vault_http_values.specs.Values.{optional_number_of};
 
-use crate::fault::LineFault;
 use crate::members::{flag_of, items_of, text_of};
 use crate::values::{number_of, optional_number_of, prefix};
-use crate::words::status_named;
 use serde_json::Value;
 use std::alloc::{AllocError, Global};
 use vault_base::name::RuleId;
 use vault_base::refusal::Refusal;
 use vault_rules::rule::{Noncurrent, Rule};
 use vault_rules::rule_set::RuleSet;
+use vault_values::fault::LineFault;
+use vault_values::words::status_named;
 
 /// What an Expiration asks for.
 #[derive(Clone, Copy, Debug, PartialEq, Eq)]

@@ -1,15 +1,10 @@
 //! Members of an object to names, moments, ids, rights and contents.
-ghost use Rattle.std.specs.Prelude.{◌≡◌, map, option_map};
+ghost use Rattle.std.specs.Prelude.{option_map};
 ghost use Rattle.serde_json.specs.View.{view};
-ghost use Rattle.vault_http_values.specs.Fault.{Gives};
+ghost use Rattle.vault_values.specs.Fault.{Gives};
 ghost use Rattle.vault_http_values.specs.Values as spec;
 
-use crate::fault::LineFault;
 use crate::members::{Whole, optional_text_of, optional_whole_of, text_of, texts_of, whole_of};
-use crate::named::{
-    asker_named, batch_named, bucket_named, caller_named, dept_named, key_named, prefix_named,
-    reading_named,
-};
 use hex::FromHexError;
 use serde_json::Value;
 use std::alloc::Global;
@@ -19,8 +14,13 @@ use vault_base::name::{
     BatchName, BucketName, CallerName, DeptName, KeyPrefix, ObjectKey, VersionId,
 };
 use vault_base::refusal::Refusal;
-use vault_base::right::Right;
 use vault_core_model::rights::Rights;
+use vault_values::fault::LineFault;
+use vault_values::named::{
+    asker_named, batch_named, bucket_named, caller_named, dept_named, key_named, prefix_named,
+    reading_named,
+};
+use vault_values::rights::rights_named;
 
 /// The reading that a command is given with: the member `at`.
 #[tactic(auto, unfolding(crate::specs::Values::reading_of))]
@@ -187,20 +187,6 @@ pub fn optional_id(name: &str, value: &Value) -> Result<Option<VersionId>, LineF
         return Ok(None);
     };
     Ok(Some(version(number)?))
-}
-
-#[tactic(auto, unfolding(crate::specs::Values::rights_named))]
-fn rights_named(names: &[&str]) -> Result<Rights, LineFault>
-    ensures { Gives (λ x. x) result (spec.rights_named (map (λ n. n.now) names.now)) }
-{
-    let mut rights = Rights::none();
-    for name in names {
-        let Some(right) = Right::read(name) else {
-            return Err(LineFault::Refused(Refusal::InvalidArgument));
-        };
-        rights = rights.with(right);
-    }
-    Ok(rights)
 }
 
 /// The rights that the member `rights` names. A right that is named twice counts once.

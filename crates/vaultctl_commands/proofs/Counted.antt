@@ -1,8 +1,8 @@
 -- What the lines of an intake tell of the count of failures.
 use Rattle.std.proofs.Common.{◌≡◌, ℕ, List, Bool, true, false, Option, Result, inl, inr, refl}
 use Rattle.vault_core_model.specs.Vault.{Vault}
-use Rattle.vault_files_intake.specs.TakenIn.{report_tells_device}
-use Rattle.vault_files_intake.specs.declared.folder.File.{File}
+use Rattle.vault_files.specs.TakenIn.{report_tells_device}
+use Rattle.vault_files.specs.File.{File}
 use Rattle.vaultctl_commands.specs.Told.{IsIntakeSteady, SteadyIntake}
 use Rattle.vaultctl_commands.specs.declared.fault.JobFault.{JobFault}
 use Rattle.vaultctl_commands.specs.declared.outcome.Outcome.{Outcome}

@@ -4,8 +4,9 @@ use Rattle.std.specs.Prelude.{if◌then◌else◌, Result, Ok}
 use Rattle.vault_base.specs.declared.refusal.Refusal.{Refusal}
 use Rattle.vault_core_model.specs.declared.command.Command.{Command}
 use Rattle.vault_core_model.specs.declared.command.Command.TheVariants as command
-use Rattle.vault_http_values.specs.Fault.{◌>>=◌}
-use Rattle.vault_http_values.specs.Values.{asker_named, bucket_named, name_of, rights_named}
+use Rattle.vault_values.specs.Fault.{◌>>=◌}
+use Rattle.vault_values.specs.Named.{asker_named, bucket_named, name_of}
+use Rattle.vault_values.specs.Rights.{rights_named}
 use Rattle.vaultctl_job.specs.declared.job.Bucket.{Bucket}
 use Rattle.vaultctl_job.specs.declared.job.Caller.{Caller}
 use Rattle.vaultctl_job.specs.declared.job.Certificate.{Certificate}
@@ -14,9 +15,9 @@ use Rattle.vaultctl_job.specs.declared.job.Intake.{Intake}
 use Rattle.vaultctl_job.specs.declared.job.Move.{Move}
 use Rattle.vaultctl_job.specs.declared.job.Report.{Report}
 use Rattle.vaultctl_job.specs.declared.job.Run.{Run}
-use Rattle.vaultctl_commands.specs.Values.{optional_reading, optional_dept, version_named}
-use Rattle.vaultctl_commands.specs.declared.values.asked.Asked.{Asked}
-use Rattle.vaultctl_commands.specs.declared.values.asked.AskedIntake.{AskedIntake}
+use Rattle.vaultctl_commands.specs.Words.{optional_reading, optional_dept, version_named}
+use Rattle.vaultctl_commands.specs.declared.asked.Asked.{Asked}
+use Rattle.vaultctl_commands.specs.declared.asked.AskedIntake.{AskedIntake}
 
 unfoldable pub dept_of : Dept → Result Asked Refusal
 dept_of job = do

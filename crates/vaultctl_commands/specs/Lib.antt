@@ -1,5 +1,5 @@
 pub mod Asked
-pub mod Values
-pub mod Faults
-pub mod Printed
+pub mod Words
 pub mod Told
+pub mod Printed
+pub mod Faults

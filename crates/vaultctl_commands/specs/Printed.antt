@@ -4,9 +4,9 @@ use Rattle.std.specs.Io.KnownBytes.{Appends}
 use Rattle.vault_core_model.specs.declared.reply.Answer.TheVariants as answer
 use Rattle.vault_core_model.specs.declared.reply.Reply.{Reply}
 use Rattle.vault_core_model.specs.declared.reply.Reply.TheVariants.{Done, Refused, Stopped}
-use Rattle.vault_files_texts.specs.Certificate.{certificate_text}
-use Rattle.vault_files_texts.specs.ReportText.{report_text}
-use Rattle.vault_http_lines.specs.ReplyLine.{reply_text}
+use Rattle.vault_files.specs.Certificate.{certificate_text}
+use Rattle.vault_files.specs.ReportText.{report_text}
+use Rattle.vault_http.specs.ReplyLine.{reply_text}
 use Rattle.vaultctl_commands.specs.declared.outcome.Outcome.{Outcome}
 use Rattle.vaultctl_commands.specs.declared.outcome.Outcome.TheVariants as outcome
 

@@ -5,10 +5,10 @@ use Rattle.vault_base.specs.declared.refusal.Refusal.{Refusal}
 use Rattle.vault_base.specs.declared.refusal.Refusal.TheVariants.{Device}
 use Rattle.vault_core_model.specs.Halts.{Rose}
 use Rattle.vault_core_model.specs.Vault.{Vault}
-use Rattle.vault_files_intake.specs.TakenIn.{report_tells_device, TakesIn}
-use Rattle.vault_files_intake.specs.declared.folder.File.{File}
-use Rattle.vault_files_intake.specs.declared.report.RowReply.{RowReply}
-use Rattle.vault_files_intake.specs.Lines.{lines, is_accepted}
+use Rattle.vault_files.specs.TakenIn.{report_tells_device, TakesIn}
+use Rattle.vault_files.specs.File.{File}
+use Rattle.vault_files.specs.RowReply.{RowReply}
+use Rattle.vault_files.specs.Lines.{lines, is_accepted}
 use Rattle.vaultctl_commands.specs.declared.fault.JobFault.{JobFault}
 use Rattle.vaultctl_commands.specs.declared.outcome.Outcome.{Outcome}
 use Rattle.vaultctl_commands.specs.declared.outcome.Outcome.TheVariants.{Done, Refused}

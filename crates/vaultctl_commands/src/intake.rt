@@ -3,7 +3,7 @@ ghost use Rattle.std.specs.Prelude.{◌≡◌, ◌≢◌, ◌≤◌, IfOk, OnErr
 ghost use Rattle.std.specs.Io.KnownBytes.{Appends};
 ghost use Rattle.vault_base.specs.declared.refusal.Refusal.TheVariants.{Device as DeviceFailed};
 ghost use Rattle.vault_core_model.specs.Step.{Reached};
-ghost use Rattle.vault_files_intake.specs.Lines.{lines, stopped_line as stop_line};
+ghost use Rattle.vault_files.specs.Lines.{lines, stopped_line as stop_line};
 ghost use Rattle.vaultctl_commands.specs.Told as spec;
 
 use crate::fault::JobFault;
@@ -15,10 +15,10 @@ use vault_base::moment::Moment;
 use vault_base::name::{BatchName, BucketName, CallerName};
 use vault_base::refusal::Refusal;
 use vault_core_model::keeper::Keeper;
-use vault_files_intake::folder::Folder;
-use vault_files_intake::intake::take_in;
-use vault_files_intake::lines::{intake_lines, is_accepted, stopped_line};
-use vault_files_intake::report::IntakeReport;
+use vault_files::folder::Folder;
+use vault_files::intake::take_in;
+use vault_files::lines::{intake_lines, is_accepted, stopped_line};
+use vault_files::report::IntakeReport;
 
 /// What came of an intake: refused where a row was, or it stopped.
 fn outcome(report: &IntakeReport) -> Outcome

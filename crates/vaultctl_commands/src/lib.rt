@@ -1,6 +1,7 @@
 //! What a job asks of a vault carried out over any keeper, and its answer printed.
 #![tactic(auto)]
 
+pub mod asked;
 pub mod carrying;
 pub mod fault;
 pub mod intake;
@@ -12,4 +13,4 @@ mod tests;
 pub mod text;
 pub mod told_keeper;
 pub mod told_writer;
-pub mod values;
+mod words;

@@ -5,9 +5,9 @@ ghost use Rattle.vaultctl_commands.specs.Printed as spec;
 use crate::outcome::Outcome;
 use std::alloc::{AllocError, Global};
 use vault_core_model::reply::{Answer, Reply};
-use vault_files_texts::certificate::certificate;
-use vault_files_texts::report_text::report_text;
-use vault_http_lines::reply_line::reply_line;
+use vault_files::certificate::certificate;
+use vault_files::report_text::report_text;
+use vault_http::reply_line::reply_line;
 
 /// What is printed of a reply: a report and a certificate as text, and any other as its line.
 ///

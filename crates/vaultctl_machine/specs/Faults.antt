@@ -4,7 +4,7 @@ use Rattle.sqlite.specs.declared.error.Error.TheVariants.{SqliteFailure}
 use Rattle.sqlite.specs.declared.error.ErrorCode.TheVariants as code
 use Rattle.vault_base.specs.declared.refusal.Refusal.{Refusal}
 use Rattle.vault_base.specs.declared.refusal.Refusal.TheVariants.{Device, Memory, NameTaken}
-use Rattle.vault_store_create.specs.Create.{without_tables}
+use Rattle.vault_store.specs.Create.{without_tables}
 use Rattle.vaultctl_machine.specs.declared.unopened.Unopened.{Unopened}
 use Rattle.vaultctl_machine.specs.declared.unopened.Unopened.TheVariants.{Held, Refused}
 

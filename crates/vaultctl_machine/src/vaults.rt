@@ -16,8 +16,8 @@ use sqlite::{Connection, Error, ErrorCode, FileFrom, FileStore, Start};
 use std::alloc::Global;
 use std::io::{self, ErrorKind};
 use vault_base::refusal::Refusal;
+use vault_store::create::without_tables;
 use vault_store::sql_keeper::SqlKeeper;
-use vault_store_create::create::without_tables;
 
 /// The store of a vault in files, which held what `S` says when they were opened.
 pub type VaultStore<S> = FileStore<FileFrom<S>>;

@@ -4,7 +4,7 @@ use Rattle.std.specs.Prelude.{MatchOption, ⊤}
 use Rattle.vault_core_model.specs.Vault.{Vault}
 use Rattle.vaultctl_commands.specs.declared.fault.JobFault.{JobFault}
 use Rattle.vaultctl_commands.specs.declared.outcome.Outcome.{Outcome}
-use Rattle.vaultctl_commands.specs.declared.values.asked.Asked.{Asked}
+use Rattle.vaultctl_commands.specs.declared.asked.Asked.{Asked}
 use Rattle.vaultctl_perform.specs.Asked.{IsDone, IsUnread, IsDoneAt, IsSteady, IsUnreadSteady, IsSteadyAt}
 
 module _ (Failed : Type 0) (asked : Asked) (v v' : Vault) (told : Outcome) (before after : Option (List ℕ)) where

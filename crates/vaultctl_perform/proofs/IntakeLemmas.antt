@@ -3,9 +3,9 @@ use Rattle.std.proofs.Common.{◌≡◌, ℕ, List, Bool, true, false, Option, R
 use Rattle.std.specs.Prelude.{IfOk}
 use Rattle.std.specs.Io.KnownBytes.{Appends}
 use Rattle.vault_base.specs.declared.refusal.Refusal.{Refusal}
-use Rattle.vault_files_intake.specs.TakenIn.{report_tells_device}
-use Rattle.vault_files_intake.specs.declared.report.RowReply.{RowReply}
-use Rattle.vault_files_intake.specs.Lines.{lines}
+use Rattle.vault_files.specs.TakenIn.{report_tells_device}
+use Rattle.vault_files.specs.RowReply.{RowReply}
+use Rattle.vault_files.specs.Lines.{lines}
 use Rattle.vaultctl_commands.specs.Told.{IsIntakeSteady, intake_outcome}
 use Rattle.vaultctl_commands.specs.declared.fault.JobFault.{JobFault}
 use Rattle.vaultctl_commands.specs.declared.outcome.Outcome.{Outcome}

@@ -12,7 +12,7 @@ use Rattle.vaultctl_commands.specs.Printed.{outcome_of, printed}
 use Rattle.vaultctl_commands.specs.declared.fault.JobFault.{JobFault}
 use Rattle.vaultctl_commands.specs.declared.outcome.Outcome.{Outcome}
 use Rattle.vaultctl_commands.specs.declared.outcome.Outcome.TheVariants as outcome
-use Rattle.vaultctl_commands.specs.declared.values.asked.Asked.{Asked}
+use Rattle.vaultctl_commands.specs.declared.asked.Asked.{Asked}
 
 -- It was done by one step at that reading, and the reply to it is printed. That the device failed is told only where it did.
 abbrev pub IsDone : Type 0 → ℕ → Asked → Vault → Vault → Outcome → Option (List ℕ) → Option (List ℕ) → Type 0

@@ -1,7 +1,7 @@
 -- Exit statuses, and what came of a job.
 use Rattle.std.specs.Prelude.{ℕ, Result, Ok, Err}
-use Rattle.vault_files_texts.specs.declared.fault.ExportFault.{ExportFault}
-use Rattle.vault_files_texts.specs.declared.fault.ExportFault.TheVariants as export
+use Rattle.vault_files.specs.ExportFault.{ExportFault}
+use Rattle.vault_files.specs.ExportFault.TheVariants as export
 use Rattle.vaultctl_commands.specs.declared.fault.JobFault.{JobFault}
 use Rattle.vaultctl_commands.specs.declared.fault.JobFault.TheVariants as fault
 use Rattle.vaultctl_commands.specs.declared.outcome.Outcome.{Outcome}

@@ -3,10 +3,10 @@ ghost use Rattle.std.specs.Prelude.{◌≡◌, ◌≢◌, ◌≤◌, ℕ, IfOk, 
 ghost use Rattle.vault_base.specs.declared.refusal.Refusal.{Refusal as AnyRefusal};
 ghost use Rattle.vault_core_model.specs.Halts.{Rose};
 ghost use Rattle.vault_core_model.specs.Step.{Reached};
-ghost use Rattle.vault_http_values.specs.Fault.{Gives};
+ghost use Rattle.vault_values.specs.Fault.{Gives};
 ghost use Rattle.vaultctl_commands.specs.Printed.{TellsReply};
 ghost use Rattle.vaultctl_perform.specs.Asked as spec;
-ghost use Rattle.vaultctl_commands.specs.declared.values.asked.Asked.{Asked as AskedOf};
+ghost use Rattle.vaultctl_commands.specs.declared.asked.Asked.{Asked as AskedOf};
 
 use crate::telling::{status, tell_cause, tell_fault, tell_value};
 use sqlite::Start;
@@ -16,12 +16,12 @@ use std::time::Clock;
 use vault_base::moment::Moment;
 use vault_base::refusal::Refusal;
 use vault_core_model::keeper::Keeper;
-use vault_http_values::fault::LineFault;
+use vault_values::fault::LineFault;
+use vaultctl_commands::asked::Asked;
 use vaultctl_commands::carrying::{carry_out, tell_refusal};
 use vaultctl_commands::fault::JobFault;
 use vaultctl_commands::outcome::Outcome;
 use vaultctl_commands::told_keeper::ToldKeeper;
-use vaultctl_commands::values::asked::Asked;
 use vaultctl_machine::terminal::terminal;
 use vaultctl_machine::vaults::{FileVault, Machine, close_vault};
 use vaultctl_serve::clock::now;

@@ -1,8 +1,8 @@
 //! One line: what it asks for is carried out, and its reply written.
 ghost use Rattle.std.specs.Prelude.{◌≡◌, ◌≤◌, [], ◌∷◌, IfOk, OnOk, OnErr, string_bytes};
-ghost use Rattle.vault_http_lines.specs.ReadLine.{line_of};
-ghost use Rattle.vault_http_lines.specs.ReplyLine.{reply_text};
-ghost use Rattle.vault_http_lines.specs.declared.script.read_line.Line.TheVariants.{Command};
+ghost use Rattle.vault_http.specs.ReadLine.{line_of};
+ghost use Rattle.vault_http.specs.ReplyLine.{reply_text};
+ghost use Rattle.vault_http.specs.Line.TheVariants.{Command};
 ghost use Rattle.vaultctl_replay.specs.Lines.{unended_of};
 ghost use Rattle.vaultctl_replay.specs.Runs.{Began, Finished, Replied, Unwritten};
 
@@ -15,8 +15,8 @@ use vault_core::step::step;
 use vault_core_model::command::Timed;
 use vault_core_model::keeper::Keeper;
 use vault_core_model::reply::Reply;
-use vault_http_lines::script::read_line::{Line, read_line};
-use vault_http_lines::script::reply_line::reply_line;
+use vault_http::read_line::{Line, read_line};
+use vault_http::reply_line::reply_line;
 
 /// The line of a reply, which is dropped.
 fn told(alloc: Global, reply: Reply) -> Result<String, AllocError>

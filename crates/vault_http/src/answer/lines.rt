@@ -9,8 +9,8 @@ use crate::answer::head::{Allow, Kind, Status};
 use httpdate::HttpDate;
 use std::alloc::{AllocError, Global};
 use vault_base::name::VersionId;
-use vault_http_values::words::{hold_name, mode_name};
 use vault_lock::retention::Retention;
+use vault_values::words::{hold_name, mode_name};
 
 fn push(out: &mut Vec<u8>, bytes: &[u8]) -> Result<(), AllocError>
     ensures { OnOk result (out.new.items ≡ out.old.items ++ bytes.now) }

@@ -2,7 +2,7 @@
 ghost use Rattle.std.specs.Prelude.{◌≡◌, IfOk, Some};
 ghost use Rattle.vault_http.specs.Reply as spec;
 
-use crate::answer::answer::write_answer;
+use crate::answer::bytes::write_answer;
 use crate::answer::head::{Allow, Head, Kind, Status};
 use crate::answer::text::{answer_text, refusal_text};
 use std::alloc::{AllocError, Global};

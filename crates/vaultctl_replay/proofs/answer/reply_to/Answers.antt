@@ -1,6 +1,6 @@
 use Rattle.std.proofs.Common.{sym, subst, OnErr}
 use Rattle.std.specs.Prelude.{IfOk, string_bytes}
-use Rattle.vault_http_lines.specs.declared.script.read_line.Line.{Line}
+use Rattle.vault_http.specs.Line.{Line}
 use Rattle.vaultctl_replay.specs.Runs.{Replied, Unwritten}
 use Rattle.vaultctl_replay.proofs.RunLemmas.{refusal_replied}
 use Rattle.vaultctl_replay.proofs.answer.reply_to.Goals as goal

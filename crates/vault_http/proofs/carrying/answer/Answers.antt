@@ -1,0 +1,37 @@
+use Rattle.std.proofs.Common.{Err, inr, refl}
+use Rattle.std.proofs.lemmas.Result.{on_ok_weaker, IfErr-weaker}
+use Rattle.vault_core_model.specs.Halts.{Rose}
+use Rattle.vault_http.specs.declared.fault.ServeFault.TheVariants as faults
+use Rattle.vault_http.proofs.Counted.{reply_sent, step_steady}
+use Rattle.vault_http.proofs.Serves.{answer_left, answer_served}
+use Rattle.vault_http.proofs.carrying.answer.Goals as goal
+
+pub returns-clause-once : goal.returns-clause-once
+returns-clause-once g c = λ h.
+    inr (c.args.at, c.args.who.now, c.args.command.now, c.step-reply.result, refl, c.step-reply.ensures.step h)
+
+pub returns-clause-ok : goal.returns-clause-ok
+returns-clause-ok g c = λ h.
+    on_ok_weaker c.send.result
+    (answer_served (Rose (g.K.Keeper.count c.args.keeper.now) (g.K.Keeper.count c.step-reply.new.keeper)) c.args.at c.args.shown c.args.who.now c.args.command.now (g.K.Keeper.vault c.args.keeper.now) (g.K.Keeper.vault c.step-reply.new.keeper) (g.W.Write.contents c.args.writer.now) (g.W.Write.contents c.send.new.writer) c.step-reply.result c.drops.result c.in-Ok.bytes.items c.as_slice.result.now (c.step-reply.ensures.step h) c.drops.ensures c.in-Ok.ensures c.step-reply.ensures.device c.as_slice.ensures.value)
+    c.send.ensures.ok
+
+pub returns-clause-err : goal.returns-clause-err
+returns-clause-err g c = λ h.
+    IfErr-weaker c.send.result _ _
+    (answer_left (Rose (g.K.Keeper.count c.args.keeper.now) (g.K.Keeper.count c.step-reply.new.keeper)) c.args.at c.args.shown c.args.who.now c.args.command.now (g.K.Keeper.vault c.args.keeper.now) (g.K.Keeper.vault c.step-reply.new.keeper) (g.W.Write.contents c.args.writer.now) (g.W.Write.contents c.send.new.writer) c.step-reply.result c.drops.result c.in-Ok.bytes.items c.as_slice.result.now (c.step-reply.ensures.step h) c.drops.ensures c.in-Ok.ensures c.step-reply.ensures.device c.as_slice.ensures.value)
+    c.send.ensures.err
+
+pub returns-in_default-clause-steady : goal.returns-in_default-clause-steady
+returns-in_default-clause-steady g c =
+    let step = c.step-reply in
+    let a = g.W.Write.contents c.args.writer.now in
+    step_steady _ (Err faults.Memory) c.args.at c.args.shown c.args.who.now _ _ _ _ c.args.command.now step.result a a step.ensures.step step.ensures.steady (refl {a = a})
+
+pub returns-clause-steady : goal.returns-clause-steady
+returns-clause-steady g c =
+    let step = c.step-reply in
+    let a = g.W.Write.contents c.args.writer.now in
+    let b = g.W.Write.contents c.send.new.writer in
+    step_steady _ c.send.result c.args.at c.args.shown c.args.who.now _ _ _ _ c.args.command.now step.result a b step.ensures.step step.ensures.steady
+    (reply_sent c.send.result c.args.at c.args.command.now c.args.shown step.result a b c.drops.result c.in-Ok.bytes.items c.as_slice.result.now c.drops.ensures c.in-Ok.ensures c.as_slice.ensures.value c.send.ensures.ok c.send.ensures.err)

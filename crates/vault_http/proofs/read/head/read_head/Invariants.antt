@@ -1,0 +1,13 @@
+use Rattle.std.proofs.Common.{◌≡◌, length}
+use Rattle.std.specs.Io.KnownBytes.{Consumes}
+use Rattle.httparse.specs.Grammar.{HasNoRequest}
+use Rattle.vault_http.proofs.Prompt.{IsOpen}
+use Rattle.vault_http.proofs.read.head.read_head.Given as goal
+
+abbrev pub invariant-loop-turn : goal.invariant-loop-turn
+invariant-loop-turn g l = record {
+  taken : Consumes (g.R.Read.remaining l.fn.reader) (g.R.Read.remaining l.reader) l.buf.items;
+  none : HasNoRequest l.buf.items;
+  going : IsOpen l.buf.items;
+  count : length l.buf.items ≡ l.turn;
+}

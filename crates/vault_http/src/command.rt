@@ -1,0 +1,110 @@
+//! The body of a request, and the command that it makes.
+ghost use Rattle.std.specs.Prelude.{◌≡◌, ℕ, List, Ok, Err, IfErr, IfOk, IfSome, OnOk};
+ghost use Rattle.std.specs.Io.KnownBytes.{Consumes};
+ghost use Rattle.vault_base.specs.declared.refusal.Refusal.TheVariants.{MalformedBody};
+ghost use Rattle.vault_http.specs.Command as spec;
+ghost use Rattle.vault_http.specs.declared.fault.ServeFault.TheVariants as faults;
+
+use crate::fault::ServeFault;
+use crate::read::body::read_body;
+use crate::read::bytes::ReadFault;
+use std::alloc::Global;
+use std::io::Read;
+use vault_base::content::Content;
+use vault_base::refusal::Refusal;
+use vault_core_model::command::Command;
+use vault_http_request::command::command_of;
+use vault_http_request::order::Order;
+use vault_http_request::terms::Locks;
+use vault_values::fault::LineFault;
+
+/// The body of that length, which is empty where there is none; or nothing where it is cut.
+#[tactic(auto, unfolding(crate::specs::Command::body_of))]
+fn body_of<R: Read>(
+    alloc: Global,
+    reader: &mut R,
+    size: Option<u64>,
+) -> Result<Option<Content>, ReadFault>
+    ensures body { IfOk result (λ body. IfSome (R.remaining reader.old) (λ rest. body ≡ spec.body_of size rest)) }
+    ensures taken { OnOk result ((taken : List ℕ) × Consumes (R.remaining reader.old) (R.remaining reader.new) taken × spec.IsWithinLength size taken) }
+{
+    match size {
+        None => Ok(Some(Content::new(Vec::new(alloc)))),
+        Some(size) => read_body(alloc, reader, size),
+    }
+}
+
+/// The command of a body that is there. The error is want of memory.
+fn command_with(
+    alloc: Global,
+    order: Order,
+    locks: Locks,
+    body: Content,
+) -> Result<Result<Command, Refusal>, ServeFault>
+    ensures command { IfOk result (λ judged. judged ≡ spec.command_with order locks body) }
+    ensures kind { IfErr result (λ fault. fault ≡ faults.Memory) }
+{
+    match command_of(alloc, order, locks, body) {
+        Ok(command) => Ok(Ok(command)),
+        Err(LineFault::Refused(refusal)) => Ok(Err(refusal)),
+        Err(LineFault::Memory) => Err(ServeFault::Memory),
+    }
+}
+
+/// The body is cut. The order is dropped.
+fn cut(order: Order) -> Result<Command, Refusal>
+    ensures { result ≡ Err MalformedBody }
+{
+    drop(order);
+    Err(Refusal::MalformedBody)
+}
+
+/// A fault came first. The order is dropped.
+fn faulted(order: Order, fault: ServeFault) -> Result<Result<Command, Refusal>, ServeFault>
+    ensures { result ≡ Err fault }
+{
+    drop(order);
+    Err(fault)
+}
+
+/// The command that an order makes with the body that came, or why it makes none.
+fn command_of_body(
+    alloc: Global,
+    order: Order,
+    locks: Locks,
+    body: Option<Content>,
+) -> Result<Result<Command, Refusal>, ServeFault>
+    ensures command { IfOk result (λ judged. judged ≡ spec.command_of_body order locks body) }
+    ensures kind { ¬ (result ≡ Err faults.Write) }
+{
+    match body {
+        Some(body) => command_with(alloc, order, locks, body),
+        None => Ok(cut(order)),
+    }
+}
+
+/// The command that an order makes with the body that comes, or why it makes none, where the client was
+/// told to go on or didn't wait. No more bytes are taken than the body may have.
+pub fn command_after<R: Read>(
+    alloc: Global,
+    reader: &mut R,
+    order: Order,
+    locks: Locks,
+    size: Option<u64>,
+    told: Result<(), ServeFault>,
+) -> Result<Result<Command, Refusal>, ServeFault>
+    ensures command { IfOk result (λ judged. IfSome (R.remaining reader.old) (λ rest. judged ≡ spec.command_after order locks size rest)) }
+    ensures told { OnOk result (told ≡ Ok tt) }
+    ensures fault { IfErr told (λ f. result ≡ Err f) }
+    ensures err { result ≡ Err faults.Write → told ≡ Err faults.Write }
+    ensures unread { result ≡ Err faults.Write → R.remaining reader.new ≡ R.remaining reader.old }
+    ensures taken { OnOk result ((taken : List ℕ) × Consumes (R.remaining reader.old) (R.remaining reader.new) taken × spec.IsWithinLength size taken) }
+{
+    if let Err(fault) = told {
+        return faulted(order, fault);
+    }
+    match body_of(alloc, reader, size) {
+        Ok(body) => command_of_body(alloc, order, locks, body),
+        Err(fault) => faulted(order, ServeFault::from(fault)),
+    }
+}

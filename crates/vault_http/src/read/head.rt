@@ -1,0 +1,64 @@
+//! The head of a request: its first line, its headers and the blank line (RFC 9112, section 2.1).
+ghost use Rattle.std.specs.Prelude.{◌≡◌, [], IfOk, OnOk, length};
+ghost use Rattle.std.specs.Io.KnownBytes.{Consumes};
+ghost use Rattle.vault_http.specs.Head.{Came, HasBytes, IsPrompt, IsWithin};
+
+use crate::read::bytes::{ReadFault, next_byte};
+use httparse::Status;
+use httparse::spans::{HeaderSpan, RequestSpans, parse_request};
+use std::io::Read;
+
+/// What stands at the front of what a reader gives.
+#[derive(Clone, Copy)]
+pub enum Front {
+    /// Not one byte.
+    Nothing,
+    /// No head of HTTP/1.0 or 1.1 within 16,384 bytes and 64 headers.
+    NoHead,
+    /// A head, whose parts lie here.
+    Head(RequestSpans),
+}
+
+/// Reads the head at the front of what a reader gives, and not a byte more.
+///
+/// `buf` gets just the bytes that were taken. `Read` comes where the reader fails, `Memory` where
+/// room for a byte was refused.
+pub fn read_head<R: Read>(
+    reader: &mut R,
+    buf: &mut Vec<u8>,
+    headers: &mut [HeaderSpan],
+) -> Result<Front, ReadFault>
+    requires empty { buf.old.items ≡ [] }
+    requires room { length headers.old ≡ 64 }
+    ensures front { IfOk result (Came (R.remaining reader.old) buf.new.items headers.new) }
+    ensures within { IfOk result (IsWithin buf.new.items headers.new) }
+    ensures some { IfOk result (λ front. HasBytes front buf.new.items) }
+    ensures taken { OnOk result (Consumes (R.remaining reader.old) (R.remaining reader.new) buf.new.items) }
+    // With each line but the last one that was taken, a head could still come.
+    ensures prompt { IsPrompt buf.new.items }
+{
+    for turn in 0..16_384usize {
+        let byte = match next_byte(reader) {
+            Err(_) => return Err(ReadFault::Read),
+            Ok(None) => {
+                return Ok(if buf.is_empty() {
+                    Front::Nothing
+                } else {
+                    Front::NoHead
+                });
+            }
+            Ok(Some(byte)) => byte,
+        };
+        if buf.push(byte).is_err() {
+            return Err(ReadFault::Memory);
+        }
+        if byte == b'\n' {
+            match parse_request(buf.as_slice(), headers) {
+                Ok(Status::Complete(spans)) => return Ok(Front::Head(spans)),
+                Ok(Status::Partial) => {}
+                Err(_) => return Ok(Front::NoHead),
+            }
+        }
+    }
+    Ok(Front::NoHead)
+}

@@ -1,0 +1,5 @@
+pub mod Fault
+pub mod Words
+pub mod Named
+pub mod Rights
+pub mod Locks
