@@ -9,10 +9,10 @@ use Rattle.vault_audit_model.specs.Limits.{IsDepartmentRow, IsRuleRow}
 use Rattle.vault_audit_model.specs.Rows.{department_row, department_columns_as, rule_row, rule_columns_as}
 use Rattle.vault_audit_model.specs.Tables.{departments_tree, rules_tree}
 use Rattle.vault_audit_schema.specs.Places.{BeginTo}
-use Rattle.vault_audit_records.specs.Queries.{departments_query}
+use Rattle.vault_audit_records.specs.DepartmentsQuery.{departments_query}
 use Rattle.vault_audit_walk.specs.Records.{TellsOne, Checked, AreRecords}
 use Rattle.vault_audit_walk.proofs.RecordLemmas.{records_if_ok}
-use Rattle.vault_audit.specs.RulesText.{rules_text}
+use Rattle.vault_audit.specs.RulesQuery.{rules_text}
 use Rattle.vault_audit.proofs.TextLemmas.{departments_scan, rules_scan}
 
 pub departments_if_ok : (n : Edition) (old new : State) → BeginTo n old.now.schema.tables Departments → (answer : Result Bool Error) → OnOk answer (IsUnchanged old new) → IfOk answer (Checked (TellsOne department_row IsDepartmentRow) (departments_query n) old new)

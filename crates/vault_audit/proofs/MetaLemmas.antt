@@ -10,7 +10,7 @@ use Rattle.sqlite.specs.Schema.{Schema}
 use Rattle.sqlite.specs.State.{State, Shown, IsUnchanged}
 use Rattle.vault_base.specs.declared.refusal.Table.TheVariants as table
 use Rattle.vault_audit_model.specs.declared.rows.MetaRow.{MetaRow}
-use Rattle.vault_audit_records.specs.declared.meta.MetaPass.{MetaPass}
+use Rattle.vault_audit_records.specs.declared.meta.row.MetaPass.{MetaPass}
 use Rattle.vault_audit_model.specs.declared.schema.Edition.{Edition}
 use Rattle.vault_audit_model.specs.declared.schema.Edition.TheVariants.{First, Second, Third}
 use Rattle.vault_audit_model.specs.Rows.{meta_row, meta_columns_as}

@@ -13,7 +13,7 @@ use Rattle.vault_audit_model.specs.declared.schema.Edition.{Edition}
 use Rattle.vault_audit_model.specs.Limits.{IsPlainName, IsDepartmentRow}
 use Rattle.vault_audit_model.specs.Rows.{department_row, department_columns_as}
 use Rattle.vault_audit_model.specs.Tables.{departments_tree}
-use Rattle.vault_audit_records.specs.Names.{department_cmp, AreDepartmentsByName}
+use Rattle.vault_audit_records.specs.ByName.{department_cmp, AreDepartmentsByName}
 use Rattle.vault_audit_laws.specs.Parts.{AreDepartments}
 use Rattle.vault_audit.specs.Found.{names_of}
 

@@ -13,10 +13,10 @@ use Rattle.vault_base.specs.declared.refusal.Table.TheVariants as table
 use Rattle.vault_audit_model.specs.declared.schema.Edition.{Edition}
 use Rattle.vault_audit_model.specs.declared.schema.Edition.TheVariants.{First, Second, Third}
 use Rattle.vault_audit.specs.MetaQuery.{meta_query}
-use Rattle.vault_audit.specs.RulesText.{rules_text}
+use Rattle.vault_audit.specs.RulesQuery.{rules_text}
 use Rattle.vault_audit_model.specs.Tables.{schema_of, contents_tree, heads_tree, intake_tree, settings_tree, tenures_tree}
 use Rattle.vault_audit_schema.specs.Places.{place_of, BeginTo}
-use Rattle.vault_audit_records.specs.Queries.{departments_query}
+use Rattle.vault_audit_records.specs.DepartmentsQuery.{departments_query}
 use Rattle.vault_audit_walk.proofs.RecordLemmas.{Scans}
 use Rattle.vault_audit_walk.proofs.ScanLemmas.{walk_of}
 use Rattle.vault_audit_walk.specs.Health.{Asks}

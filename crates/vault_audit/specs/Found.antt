@@ -18,7 +18,7 @@ use Rattle.vault_audit_model.specs.Rows.{meta_row, meta_columns_as, department_r
 use Rattle.vault_audit_model.specs.Spells.{department_in, entries_in}
 use Rattle.vault_audit_model.specs.Tables.{schema_of, meta_tree, departments_tree}
 use Rattle.vault_audit_laws.specs.Ties.{AreTied}
-use Rattle.vault_audit_records.specs.Names.{AreCallersByName, AreDepartmentsByName}
+use Rattle.vault_audit_records.specs.ByName.{AreCallersByName, AreDepartmentsByName}
 use Rattle.vault_audit_laws.specs.Parts.{vault_of, versions_at}
 
 -- the names of departments

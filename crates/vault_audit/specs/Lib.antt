@@ -3,4 +3,5 @@ pub mod Looks
 pub mod Found
 pub mod InOrder
 pub mod MetaQuery
-pub mod RulesText
+pub mod RulesQuery
+pub use Rattle.vault_audit_walk.specs.Health

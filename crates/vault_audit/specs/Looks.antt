@@ -20,7 +20,7 @@ use Rattle.vault_audit_model.specs.Tables.{entries_tree}
 use Rattle.vault_audit_walk.specs.Records.{AreRecords}
 use Rattle.vault_audit_records.specs.Entries.{IsEntryBy}
 use Rattle.vault_audit_records.specs.Meta.{IsMetaOf}
-use Rattle.vault_audit_records.specs.Names.{AreCallersByName, AreDepartmentsByName}
+use Rattle.vault_audit_records.specs.ByName.{AreCallersByName, AreDepartmentsByName}
 
 -- no table is damaged, and this is found; or one is, and the tables are sound for no vault
 abbrev pub Told : Edition → Database → Type 0 → Option Table → Type 0

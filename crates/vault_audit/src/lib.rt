@@ -1,9 +1,12 @@
-//! The audit of a vault's tables.
+//! The audit of a vault's tables: a first pass over each table by itself, and a second over what their rows
+//! are to each other.
+//!
+//! Within it an error is want of memory, told as `ErrorCode::OutOfMemory`, or a failure of the store;
+//! `audit` tells each as a refusal.
 #![tactic(auto)]
 
+pub mod first_pass;
 pub mod found;
-pub mod looks;
-pub mod order;
 mod second_pass;
 mod whole;
 

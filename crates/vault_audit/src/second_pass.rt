@@ -1,4 +1,10 @@
 //! The second pass over the tables: what their rows are to each other.
+
+pub mod departments;
+pub mod names;
+pub mod tenures;
+pub mod versions;
+
 ghost use Rattle.std.specs.Prelude.{◌≡◌, IfOk, IfErr, OnOk};
 ghost use Rattle.sqlite.specs.State.{HasCleanDisk, IsUnchanged, Survives};
 ghost use Rattle.sqlite.specs.Held.{state};
@@ -7,16 +13,16 @@ ghost use Rattle.vault_audit.specs.Looks.{Told, ToldOf};
 ghost use Rattle.vault_audit.specs.Whole.{VersionsAndHeads, AllFound};
 ghost use Rattle.vault_audit_walk.specs.Health.{IsHealthy, IsMemory};
 
-use crate::looks::departments::look_at_departments;
-use crate::looks::names::look_at_names;
-use crate::looks::tenures::look_at_tenures;
-use crate::looks::versions::look_at_versions;
+use crate::second_pass::departments::look_at_departments;
+use crate::second_pass::names::look_at_names;
+use crate::second_pass::tenures::look_at_tenures;
+use crate::second_pass::versions::look_at_versions;
 use sqlite::{Alter, Connection, Error};
 use std::alloc::Global;
-use vault_audit_entries::keys::check_heads;
+use vault_audit_entries::heads::second_look::check_heads;
 use vault_audit_model::rows::MetaRow;
 use vault_audit_model::schema::Edition;
-use vault_audit_records::numbers::check_numbers;
+use vault_audit_records::entries::second_look::check_numbers;
 use vault_base::refusal::Table;
 
 /// The first of entries, contents, settings, intake and heads that is damaged.

@@ -10,8 +10,8 @@ ghost use Rattle.vault_audit.specs.InOrder.{IsToldInOrder};
 ghost use Rattle.vault_audit.specs.Whole.{IsAudited, IsJudged, IsTold};
 ghost use Rattle.vault_audit_walk.specs.Health.{IsHealthy, IsMemory};
 
-use crate::order::in_order::{is_at, look_at_tables};
-use crate::order::meta::check_meta;
+use crate::first_pass::in_order::{is_at, look_at_tables};
+use crate::first_pass::meta::check_meta;
 use crate::second_pass::look_again;
 use sqlite::{Alter, Connection, Error, ErrorCode};
 use std::alloc::Global;

@@ -33,14 +33,14 @@ use Rattle.vault_audit_walk.specs.Pass.{Takes, Refuses, AllFit, after}
 use Rattle.vault_audit_walk.specs.Walk.{Walked}
 use Rattle.vault_audit_walk.proofs.ScanLemmas.{first_cmp}
 use Rattle.vault_audit_walk.proofs.PassLemmas.{walk_yes, walk_no}
-use Rattle.vault_audit_entries.specs.declared.contents.contents.ContentPass.{ContentPass}
+use Rattle.vault_audit_entries.specs.declared.contents.beside.ContentPass.{ContentPass}
 use Rattle.vault_audit_entries.specs.Contents.{IsContentOf, IsContentIn, AreRisingFrom, AreOfHeld, TellOfHeld, held_row}
-use Rattle.vault_audit_entries.specs.Passes.{ComesLater, with_content}
+use Rattle.vault_audit_entries.specs.ContentPasses.{ComesLater, with_content}
 use Rattle.vault_audit_entries.proofs.BesideLemmas.{is_of, row_beside, beside, beside_is, beside_number}
 use Rattle.vault_audit_entries.proofs.JoinLemmas.{beside_of, shown_beside, join_rows, joined, IsOrderOf}
-use Rattle.vault_audit_entries.proofs.MergeLemmas.{IsGiven, taken}
-use Rattle.vault_audit_entries.proofs.RowLemmas.{same_row}
-use Rattle.vault_audit_entries.proofs.TextLemmas.{contents_walk, contents_shown, contents_walk_is, contents_walk_plain}
+use Rattle.vault_audit_entries.proofs.ContentMergeLemmas.{IsGiven, taken}
+use Rattle.vault_audit_entries.proofs.ContentRowLemmas.{same_row}
+use Rattle.vault_audit_entries.proofs.ContentTextLemmas.{contents_walk, contents_shown, contents_walk_is, contents_walk_plain}
 use Rattle.vault_audit_model.specs.declared.schema.Edition.{Edition}
 
 abbrev Fit : ContentPass → List ContentRow → Type 0

@@ -26,8 +26,8 @@ use Rattle.vault_audit_model.specs.Relations.{AreEntries}
 use Rattle.vault_audit_model.specs.Rows.{head_row}
 use Rattle.vault_audit_model.specs.Spells.{AreSoundAs, head_in, heads_in, entries_in}
 use Rattle.vault_audit_model.proofs.ListLemmas.{all_both}
-use Rattle.vault_audit_entries.proofs.MergeLemmas.{itself, same_if}
-use Rattle.vault_audit_entries.proofs.SoundLemmas.{sound_entries}
+use Rattle.vault_audit_entries.proofs.ContentMergeLemmas.{itself, same_if}
+use Rattle.vault_audit_entries.proofs.ContentSoundLemmas.{sound_entries}
 use Rattle.vault_audit_entries.specs.Heads.{head_cmp, IsHeldFor, NamesHeld, AreHeadsByKey, TellHeadsByKey}
 use Rattle.vault_audit_entries.proofs.SortLemmas.{in_order, same_in_order, all_in_order, AreApart, ascending_in_order}
 use Rattle.vault_audit_model.specs.declared.schema.Edition.{Edition}

@@ -38,12 +38,12 @@ use Rattle.vault_audit_walk.proofs.PassLemmas.{pass_yes, pass_no}
 use Rattle.vault_audit_entries.proofs.BesideLemmas.{is_of, row_beside, beside, beside_is, beside_number}
 use Rattle.vault_audit_entries.proofs.ContentLemmas.{one_each, digest_same}
 use Rattle.vault_audit_entries.proofs.JoinLemmas.{beside_of, shown_beside, join_rows, joined, IsOrderOf}
-use Rattle.vault_audit_entries.proofs.SoundLemmas.{sound_entries}
-use Rattle.vault_audit_entries.specs.declared.intake.intake.NotePass.{NotePass}
+use Rattle.vault_audit_entries.proofs.ContentSoundLemmas.{sound_entries}
+use Rattle.vault_audit_entries.specs.declared.intake.NotePass.{NotePass}
 use Rattle.vault_audit_entries.specs.Notes.{noted_row, IsAfter}
-use Rattle.vault_audit_entries.specs.IntakePasses.{ComesAfter, with_note}
-use Rattle.vault_audit_entries.proofs.IntakeRowLemmas.{first_ten, same_row}
-use Rattle.vault_audit_entries.proofs.IntakeTextLemmas.{notes_walk, notes_shown, notes_order, notes_walk_is, notes_walk_plain}
+use Rattle.vault_audit_entries.specs.NotePasses.{ComesAfter, with_note}
+use Rattle.vault_audit_entries.proofs.NoteRowLemmas.{first_ten, same_row}
+use Rattle.vault_audit_entries.proofs.NoteTextLemmas.{notes_walk, notes_shown, notes_order, notes_walk_is, notes_walk_plain}
 use Rattle.vault_audit_model.specs.declared.schema.Edition.{Edition}
 
 abbrev Fit : NotePass → List Note → Type 0

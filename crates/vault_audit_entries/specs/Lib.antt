@@ -1,10 +1,10 @@
 pub mod Contents
-pub mod Passes
+pub mod ContentPasses
+pub mod SettingPlaces
 pub mod Notes
-pub mod IntakePasses
-pub mod Places
+pub mod NotePasses
 pub mod Heads
-pub mod HeadsPasses
+pub mod HeadPasses
 pub mod Newest
-pub mod Counts
+pub mod HeadCounts
 pub mod Keys

@@ -1,6 +1,7 @@
-//! The heads of the rows of `heads`, beside the entries that they tell of.
-//!
-//! An error is want of memory, told as `ErrorCode::OutOfMemory`, or a failure of the store.
+//! The rows of `heads`: heads by rising bucket and key, each with the count of its key's held entries, and one
+//! over each held entry.
 
 pub mod by_key;
+pub mod counts;
 pub mod newest;
+pub mod second_look;

@@ -1,9 +1,9 @@
-//! vault_audit_entries.
+//! Looks at what stands beside the entries: contents, settings, notes of intakes, and the heads of their keys.
+//!
+//! An error is want of memory, told as `ErrorCode::OutOfMemory`, or a failure of the store.
 #![tactic(auto)]
 
 pub mod contents;
-pub mod counts;
 pub mod heads;
 pub mod intake;
-pub mod keys;
 pub mod settings;

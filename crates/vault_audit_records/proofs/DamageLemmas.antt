@@ -30,7 +30,7 @@ use Rattle.vault_audit_records.specs.Entries.{IsEntryBy}
 use Rattle.vault_audit_records.specs.Meta.{IsMetaOf}
 use Rattle.vault_audit_model.specs.Relations.{AreNumbered, AreTenuresInLimits}
 use Rattle.vault_audit_model.proofs.ListLemmas.{all_as, all_both}
-use Rattle.vault_audit_records.specs.Numbers.{AreEntriesUpTo}
+use Rattle.vault_audit_records.specs.EntriesByNumber.{AreEntriesUpTo}
 use Rattle.vault_audit_records.proofs.TenureLemmas.{kept_tenures}
 
 -- ---- the answer of a look

@@ -1,9 +1,9 @@
-pub mod Entries
 pub mod Meta
-pub mod Numbers
-pub mod Queries
-pub mod Count
+pub mod MetaCount
+pub mod DepartmentsQuery
 pub mod DepartmentsWalk
-pub mod Names
-pub mod Runs
+pub mod ByName
+pub mod RulesByPlace
 pub mod RulesWalk
+pub mod Entries
+pub mod EntriesByNumber

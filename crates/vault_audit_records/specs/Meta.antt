@@ -7,7 +7,7 @@ use Rattle.vault_audit_model.specs.Editions.{number_of}
 use Rattle.vault_audit_model.specs.Limits.{IsMetaRow}
 use Rattle.vault_audit_model.specs.Rows.{meta_row, meta_columns_as}
 use Rattle.vault_audit_model.specs.Tables.{meta_tree}
-use Rattle.vault_audit_records.specs.declared.meta.MetaPass.{MetaPass}
+use Rattle.vault_audit_records.specs.declared.meta.row.MetaPass.{MetaPass}
 
 -- in its limits, and of that edition
 abbrev pub IsMetaRowOf : Edition → MetaRow → Type 0

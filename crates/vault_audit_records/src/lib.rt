@@ -1,13 +1,13 @@
-//! Checks of the rows of a vault's tables, each by itself, the query for `departments`, and the second look at `entries`.
+//! Looks at the rows of each table by themselves, and at those that the office is made of: the row of `meta`,
+//! names in their order, rules at their places, and entries by their ids.
 //!
 //! An error is want of memory, told as `ErrorCode::OutOfMemory`, or a failure of the store.
 #![tactic(auto)]
 
+pub mod buckets;
+pub mod callers;
 pub mod departments;
 pub mod entries;
 pub mod meta;
-pub mod names;
-pub mod next;
-pub mod numbers;
 pub mod row_check;
 pub mod rules;

@@ -1,8 +1,5 @@
-//! The second look at `buckets` and `rules`: each bucket has no rules or a set that it may have.
-//!
-//! An error is want of memory, told as `ErrorCode::OutOfMemory`, or a failure of the store.
+//! The rows of `rules`: each bucket has no rules or a set that it may have.
 
-pub mod bucket_rows;
 pub mod owners;
-pub mod rules;
-pub mod runs;
+pub mod placed;
+pub mod second_look;

@@ -15,7 +15,7 @@ use Rattle.vault_audit_model.specs.Relations.{AreNumbered}
 use Rattle.vault_audit_model.specs.Spells.{tenure_at}
 use Rattle.vault_audit_tenures.specs.declared.owned.OwnedTenure.{OwnedTenure}
 use Rattle.vault_audit_tenures.specs.declared.chain.TenurePass.{TenurePass}
-use Rattle.vault_audit_tenures.specs.Owned.{IsOwned}
+use Rattle.vault_audit_tenures.specs.OwnedTenures.{IsOwned}
 use Rattle.vault_audit_tenures.specs.Chain.{end_at, IsTimely, IsFirst, EndsAs, Fit, AreEnded}
 
 -- ---- which ids tenures have

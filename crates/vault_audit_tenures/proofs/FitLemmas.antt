@@ -15,7 +15,7 @@ use Rattle.vault_audit_model.specs.Limits.{IsBucket, IsEntry, IsPlainName, IsRem
 use Rattle.vault_audit_model.specs.Relations.{AreNumbered, AreTenuresInLimits, IsTenured, IsTenuredAs}
 use Rattle.vault_audit_model.specs.Spells.{entries_in, tenures_in}
 use Rattle.vault_audit_tenures.specs.declared.owned.OwnedTenure.{OwnedTenure}
-use Rattle.vault_audit_tenures.specs.Owned.{owned_in, IsOwned}
+use Rattle.vault_audit_tenures.specs.OwnedTenures.{owned_in, IsOwned}
 use Rattle.vault_audit_tenures.specs.Chain.{IsTimely, EndsAs, IsLast, Follows, Fit, AreEnded}
 use Rattle.vault_audit_tenures.specs.Presence.{HasSome}
 use Rattle.vault_audit_tenures.proofs.ChainLemmas.{has_id, is_some_of, apart_above, skip, own, higher, removed_of, owner_of, end_same, row_of, at}

@@ -17,7 +17,7 @@ use Rattle.vault_audit_walk.specs.Records.{Checked}
 use Rattle.vault_audit_walk.specs.Beside.{TellsAbsence}
 use Rattle.vault_audit_walk.proofs.BesideLemmas.{agree_numbers, beside_row, beside_yes, beside_no, met_yes, met_no, met_as, of_records, of_stored, each}
 use Rattle.vault_audit_tenures.specs.Presence.{AreRowsOf, HasSome, TellPresence}
-use Rattle.vault_audit_tenures.proofs.TextLemmas.{tenures_beside, tenures_beside_is}
+use Rattle.vault_audit_tenures.proofs.TenureTextLemmas.{tenures_beside, tenures_beside_is}
 
 module _ (db : Database) (es : List Entry) (are : AreEntries db es) (ts : List TenureRow) (rows : AreRowsOf db ts) where
   abbrev Tenures : List Row

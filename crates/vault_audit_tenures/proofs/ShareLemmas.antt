@@ -17,7 +17,7 @@ use Rattle.vault_audit_model.specs.Limits.{IsRemoval, IsTenure}
 use Rattle.vault_audit_model.specs.Relations.{AreNumbered, AreTenuresInLimits, IsTenured, IsTenuredAs}
 use Rattle.vault_audit_model.specs.Spells.{entries_in}
 use Rattle.vault_audit_tenures.specs.declared.sums.tenures.ToldTenure.{ToldTenure}
-use Rattle.vault_audit_tenures.specs.Tenures.{share_where, last_share, shares_told}
+use Rattle.vault_audit_tenures.specs.TenureSums.{share_where, last_share, shares_told}
 
 -- a tenure beside its version
 abbrev pub told : Entry → Tenure → ToldTenure

@@ -16,7 +16,7 @@ use Rattle.vault_audit_model.specs.Spells.{AreSoundAs, entries_in, meta_told}
 use Rattle.vault_audit_model.proofs.SameRows.{same_meta}
 use Rattle.vault_audit_records.specs.Meta.{IsMetaOf}
 use Rattle.vault_audit_records.proofs.TenureLemmas.{sound_tenures}
-use Rattle.vault_audit_entries.proofs.SoundLemmas.{sound_entries}
+use Rattle.vault_audit_entries.proofs.ContentSoundLemmas.{sound_entries}
 use Rattle.vault_audit_tenures.proofs.TellLemmas.{IsTold}
 use Rattle.vault_audit_tenures.proofs.UnmovedLemmas.{no_moves_of_first, no_moves_of_second, told_of_first, told_of_second}
 

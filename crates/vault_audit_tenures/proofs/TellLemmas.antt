@@ -24,16 +24,16 @@ use Rattle.vault_audit_walk.proofs.PassLemmas.{pass_yes, pass_no}
 use Rattle.vault_audit_walk.specs.Beside.{TellsAbsence}
 use Rattle.vault_audit_tenures.specs.declared.owned.OwnedTenure.{OwnedTenure}
 use Rattle.vault_audit_tenures.specs.declared.chain.TenurePass.{TenurePass}
-use Rattle.vault_audit_tenures.specs.Owned.{owned_row}
+use Rattle.vault_audit_tenures.specs.OwnedTenures.{owned_row}
 use Rattle.vault_audit_tenures.specs.Chain.{ComesNext, Fit, AreEnded, IsLast, no_tenure, with_tenure, shown_in, TellChains}
 use Rattle.vault_audit_tenures.specs.Presence.{HasSome, TellPresence}
-use Rattle.vault_audit_tenures.proofs.RowLemmas.{same_owned, same_list, rise}
-use Rattle.vault_audit_tenures.proofs.JoinLemmas.{joined}
-use Rattle.vault_audit_tenures.proofs.TextLemmas.{chain_text, chain_is, chain_plain, tenures_beside}
+use Rattle.vault_audit_tenures.proofs.TenureRowLemmas.{same_owned, same_list, rise}
+use Rattle.vault_audit_tenures.proofs.TenureJoinLemmas.{joined}
+use Rattle.vault_audit_tenures.proofs.TenureTextLemmas.{chain_text, chain_is, chain_plain, tenures_beside}
 use Rattle.vault_audit_tenures.proofs.ChainLemmas.{IsOfOne, begin, each_found, found_among, found_below, given, row_of}
 use Rattle.vault_audit_tenures.proofs.HistoryLemmas.{make, tenured_alike}
 use Rattle.vault_audit_tenures.proofs.FitLemmas.{all_fit, all_owned, all_set}
-use Rattle.vault_audit_tenures.proofs.OwnedLemmas.{all_of_one, rows_are, shown_are}
+use Rattle.vault_audit_tenures.proofs.OwnedTenureLemmas.{all_of_one, rows_are, shown_are}
 use Rattle.vault_audit_tenures.proofs.PresenceLemmas.{presence}
 
 -- ---- the walk

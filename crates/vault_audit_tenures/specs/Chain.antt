@@ -14,7 +14,7 @@ use Rattle.vault_audit_model.specs.Tables.{tenures_tree, entries_tree, buckets_t
 use Rattle.vault_audit_walk.specs.Pass.{AllFit, after}
 use Rattle.vault_audit_tenures.specs.declared.owned.OwnedTenure.{OwnedTenure}
 use Rattle.vault_audit_tenures.specs.declared.chain.TenurePass.{TenurePass}
-use Rattle.vault_audit_tenures.specs.Owned.{owned_row, IsOwned}
+use Rattle.vault_audit_tenures.specs.OwnedTenures.{owned_row, IsOwned}
 
 -- ---- one tenure
 

@@ -1,8 +1,8 @@
-pub mod Owned
 pub mod Chain
 pub mod Presence
-pub mod SumsOwned
+pub mod OwnedTenures
 pub mod Totals
-pub mod Versions
-pub mod Tenures
-pub mod Departments
+pub mod DepartmentSums
+pub mod TenureSums
+pub mod VersionSums
+pub mod OwnedEntries

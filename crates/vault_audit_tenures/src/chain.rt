@@ -98,13 +98,13 @@ fn is_ended(tenure: &Option<OwnedTenure>) -> bool
 impl Pass for TenurePass {
     ghost use Rattle.vault_audit_walk.specs.Pass.{Takes, Refuses};
     ghost use Rattle.vault_audit_tenures.specs.Chain.{ComesNext, with_tenure};
-    ghost use Rattle.vault_audit_tenures.specs.Owned.{owned_row};
+    ghost use Rattle.vault_audit_tenures.specs.OwnedTenures.{owned_row};
 
     ghost goes = { λ p row q. Takes owned_row ComesNext with_tenure p row q };
 
     ghost stops = { λ p row. Refuses owned_row ComesNext with_tenure p row };
 
-    #[tactic(auto, using(crate::proofs::RowLemmas::one_tenure))]
+    #[tactic(auto, using(crate::proofs::TenureRowLemmas::one_tenure))]
     fn take(&mut self, row: &Row) -> Result<bool, Error> {
         let tenure = match read_owned(row) {
             Ok(tenure) => tenure,

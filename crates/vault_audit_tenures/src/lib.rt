@@ -1,4 +1,5 @@
-//! The second look at `tenures`: each version has departments from its admission to its end.
+//! Looks at tenures: each version has departments from its admission to its end, and each department has the
+//! sums over its tenures.
 //!
 //! An error is want of memory, told as `ErrorCode::OutOfMemory`, or a failure of the store.
 #![tactic(auto)]
@@ -6,5 +7,5 @@
 pub mod chain;
 pub mod owned;
 pub mod present;
+pub mod second_look;
 pub mod sums;
-pub mod tenures;

@@ -4,7 +4,7 @@ ghost use Rattle.sqlite_value.specs.Order.{column};
 ghost use Rattle.vault_base.specs.Days.{last_moment};
 ghost use Rattle.vault_audit_model.specs.Values.{number_or_null};
 ghost use Rattle.vault_audit_tenures.specs.declared.owned.OwnedTenure.{OwnedTenure as Told};
-ghost use Rattle.vault_audit_tenures.specs.Owned.{owned_row, IsOwned};
+ghost use Rattle.vault_audit_tenures.specs.OwnedTenures.{owned_row, IsOwned};
 
 use sqlite::Row;
 use vault_audit_rows::cell::{MOST_MOVES, is_null, moment, number_within, version_id};
@@ -40,7 +40,7 @@ fn moment_or_null(row: &Row, at: usize) -> Option<Option<Moment>>
 }
 
 /// The tenure that a row tells.
-#[tactic(auto, using(crate::proofs::RowLemmas::row_of_7))]
+#[tactic(auto, using(crate::proofs::TenureRowLemmas::row_of_7))]
 pub fn read_owned(row: &Row) -> Result<OwnedTenure, Misread>
     ensures ok { IfOk result (λ t. (row.now ≡ owned_row t) × IsOwned t) }
     ensures wrong { IfErr result (λ e. e ≡ Misread.Wrong → (x : Told) → IsOwned x → row.now ≢ owned_row x) }

@@ -1,5 +1,5 @@
 pub mod Walk
 pub mod Pass
 pub mod Records
-pub mod Health
 pub mod Beside
+pub mod Health

@@ -1,2 +1,2 @@
-pub mod FuseKeeper
 pub mod Told
+pub mod FuseKeeper

@@ -1,10 +1,10 @@
+pub mod Worm
+pub mod Removals
 pub mod Bypass
-pub mod Callers
+pub mod Permits
 pub mod Chains
 pub mod Once
-pub mod Permits
-pub mod Removals
-pub mod Repeated
 pub mod Stored
+pub mod Callers
+pub mod Repeated
 pub mod SumBounds
-pub mod Worm

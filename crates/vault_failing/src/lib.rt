@@ -1,5 +1,5 @@
-//! A reader and a writer that fail, for tests of what a fault leaves behind.
+//! A reader, a writer and files that fail, for tests of what a fault or a crash leaves behind.
 #![tactic(auto)]
 
 pub mod device;
-pub mod failing;
+pub mod streams;

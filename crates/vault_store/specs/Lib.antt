@@ -1,6 +1,7 @@
-pub mod Opening
-pub mod Blame
 pub mod Kept
 pub mod Acknowledged
-pub mod Tables
 pub mod Migrated
+pub mod Tables
+pub mod Opening
+pub mod Blame
+pub use Rattle.vault_store_create.specs.Create

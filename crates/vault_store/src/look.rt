@@ -6,7 +6,7 @@ ghost use Rattle.vault_base.specs.declared.refusal.Table.{Table};
 ghost use Rattle.vault_core_model.specs.Vault.{Vault};
 ghost use Rattle.vault_audit.specs.Whole.{IsTold};
 ghost use Rattle.vault_audit_model.specs.Spells.{AreSound, AreSoundAs};
-ghost use Rattle.vault_audit_walk.specs.Health.{IsHealthy};
+ghost use Rattle.vault_audit.specs.Health.{IsHealthy};
 ghost use Rattle.vault_store_apply.specs.Left.{LeavesAlone};
 ghost use Rattle.vault_store.specs.Tables.{IsAtRest, HasTablesOf};
 

@@ -4,7 +4,7 @@ ghost use Rattle.sqlite.specs.Held.{state};
 ghost use Rattle.sqlite.specs.State.{HasCleanDisk, IsUnchanged, Survives};
 ghost use Rattle.vault_base.specs.declared.refusal.Table.{Table};
 ghost use Rattle.vault_audit_model.specs.Tables.{no_schema};
-ghost use Rattle.vault_audit_walk.specs.Health.{IsHealthy};
+ghost use Rattle.vault_audit.specs.Health.{IsHealthy};
 ghost use Rattle.vault_audit.specs.Whole.{IsTold};
 ghost use Rattle.vault_store_create.specs.Create.{IsFault};
 ghost use Rattle.vault_core_model.specs.Vault.{Vault, opening};

@@ -21,10 +21,10 @@ use Rattle.vault_audit_model.specs.Rows.{setting_row, tenure_row}
 use Rattle.vault_audit_model.specs.Spells.{settings_from, tenure_at, department_in}
 use Rattle.vault_store_model.specs.Edits.{changed_if, pushed}
 use Rattle.vault_store_model.specs.Tests.{is_named, every, with_last_and_next, with_sums}
-use Rattle.vault_store_model.specs.ChangesEdits.{summed, headed, head_with}
+use Rattle.vault_store_model.specs.Changes.{summed, headed, head_with}
 use Rattle.vault_store_model.specs.Sums.{CountsIn}
 use Rattle.vault_store_model.proofs.SumLemmas.{sums_admitted}
-use Rattle.vault_store_apply.specs.EntryPartsParts.{entry_added, first_put, first_tenure_put, summed_as}
+use Rattle.vault_store_apply.specs.EntryParts.{entry_added, first_put, first_tenure_put, summed_as}
 use Rattle.vault_store_apply.specs.Applies.{IsEditOf}
 
 -- an entry is admitted with one setting at most

@@ -14,7 +14,7 @@ use Rattle.vault_store_model.specs.Rows.{Rows, AreSameRows, rows_in}
 use Rattle.vault_audit_model.specs.Spells.{AreSound}
 use Rattle.vault_store_model.specs.Keeping.{Keeps}
 use Rattle.vault_store_model.proofs.RowsLemmas.{sound_is_rows}
-use Rattle.vault_store_model.specs.ChangesEdits.{edit_of}
+use Rattle.vault_store_model.specs.Changes.{edit_of}
 use Rattle.vault_store_model.specs.Limits.{IsChangeInLimits}
 use Rattle.vault_store_model.proofs.ChangeLemmas.{rows_told}
 use Rattle.vault_store_edits.specs.Commits.{Commits, MayCommit}

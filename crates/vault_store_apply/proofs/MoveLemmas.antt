@@ -11,7 +11,7 @@ use Rattle.vault_core_model.specs.Sound.{Sound}
 use Rattle.vault_core_model.specs.Totals.{items_of, bucket_bytes, bucket_weight}
 use Rattle.vault_core_model.specs.Vault.{Vault, config_of}
 use Rattle.vault_audit_model.specs.Spells.{department_in}
-use Rattle.vault_store_model.specs.ChangesEdits.{with_move}
+use Rattle.vault_store_model.specs.Changes.{with_move}
 use Rattle.vault_store_model.specs.Sums.{HandsOver, Receives}
 use Rattle.vault_store_model.proofs.MoveSums.{sums_handed, sums_received}
 use Rattle.vault_store_apply.specs.Parts.{bucket_moved}

@@ -26,7 +26,7 @@ use Rattle.vault_core_model.specs.Vault.{Vault, config_of, history_of}
 use Rattle.vault_audit_model.specs.Spells.{department_in}
 use Rattle.vault_store_model.specs.Rows.{Rows}
 use Rattle.vault_store_model.specs.Edits.{and_then, at_moment}
-use Rattle.vault_store_model.specs.ChangesEdits.{summed, headed, others_at, without_entry}
+use Rattle.vault_store_model.specs.Changes.{summed, headed, others_at, without_entry}
 use Rattle.vault_store_model.specs.Sums.{CountsOut, last_tenure_of}
 use Rattle.vault_store_model.proofs.EntryLemmas.{found_history}
 use Rattle.vault_store_model.proofs.SumLemmas.{sums_removed}
@@ -34,7 +34,7 @@ use Rattle.vault_store_model.proofs.ChangeLemmas.{is_held_there}
 use Rattle.vault_store_model.proofs.AfterLemmas.{count_removed}
 use Rattle.vault_store_reads.specs.Shown.{newest_but}
 use Rattle.vault_store_reads.specs.Tenures as read
-use Rattle.vault_store_apply.specs.EntryPartsParts.{entry_removed, left_rows}
+use Rattle.vault_store_apply.specs.EntryParts.{entry_removed, left_rows}
 use Rattle.vault_store_apply.specs.Applies.{IsEditOf}
 use Rattle.vault_store_apply.specs.Heads.{head_without, holds_no_other}
 use Rattle.vault_store_apply.proofs.AdmissionLemmas.{summed_same}

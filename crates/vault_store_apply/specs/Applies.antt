@@ -9,7 +9,7 @@ use Rattle.vault_core_model.specs.Change.{changed}
 use Rattle.vault_core_model.specs.Vault.{Vault}
 use Rattle.vault_store_model.specs.Rows.{Rows}
 use Rattle.vault_store_model.specs.Keeping.{Keeps}
-use Rattle.vault_store_model.specs.ChangesEdits.{edit_of}
+use Rattle.vault_store_model.specs.Changes.{edit_of}
 use Rattle.vault_store_model.specs.Limits.{IsChangeInLimits}
 use Rattle.vault_store_apply.specs.Left.{IsFoundIn, LeavesAlone}
 

@@ -1,5 +1,5 @@
-pub mod Parts
-pub mod EntryPartsParts
-pub mod Left
 pub mod Applies
+pub mod Left
+pub mod Parts
+pub mod EntryParts
 pub mod Heads

@@ -1,4 +1,4 @@
--- The edits of the tables that each part makes.
+-- The edits of the tables that the parts make which change records, configurations or whose a bucket is.
 use Rattle.std.specs.Prelude.{ℕ, List, map, Option, None}
 use Rattle.vault_base.specs.declared.refusal.Table.TheVariants as table
 use Rattle.vault_lock.specs.declared.retention.Default.{Default}

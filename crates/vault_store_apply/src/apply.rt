@@ -10,7 +10,7 @@ ghost use Rattle.vault_store_model.specs.Limits.{IsChangeInLimits};
 ghost use Rattle.vault_store_apply.specs.Applies.{Changes, IsChanged};
 ghost use Rattle.vault_store_apply.specs.Left.{IsFoundIn};
 
-use crate::entries::entries::admit;
+use crate::entries::admission::admit;
 use crate::entries::moves::move_bucket;
 use crate::entries::open::check_open;
 use crate::entries::removal::remove;

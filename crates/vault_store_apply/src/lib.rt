@@ -1,14 +1,11 @@
-//! Changes of the vault, each made in one transaction, as a whole or not at all.
+//! Every change of the vault, made in one transaction, as a whole or not at all.
 //!
 //! An error is want of memory, told as `ErrorCode::OutOfMemory`, `ErrorCode::TooBig` for a number that a
 //! column can't take, or a failure of the store.
-//!
-//! Every change of the vault, made in one transaction, as a whole or not at all.
 #![tactic(auto)]
 
 pub mod apply;
 pub mod commit;
 pub mod entries;
-pub mod entry_parts;
 pub mod parts;
 pub mod records;

@@ -1,17 +1,17 @@
-pub mod TransactionLemmas
+mod BoundLemmas
+pub mod CastLemmas
+pub mod CopyLemmas
+mod EntryRowLemmas
+mod EntryTextLemmas
+pub mod ListLemmas
+pub mod QueryLemmas
 pub mod ReadyLemmas
+mod RecordRowLemmas
+mod RecordTextLemmas
+mod RulesLemmas
+pub mod ScanLemmas
+pub mod StatementLemmas
 pub mod TableLemmas
 pub mod TestLemmas
-pub mod ListLemmas
-pub mod CastLemmas
+pub mod TransactionLemmas
 pub mod TypeLemmas
-pub mod ScanLemmas
-pub mod QueryLemmas
-pub mod StatementLemmas
-pub mod CopyLemmas
-mod TextLemmas
-mod RowLemmas
-mod RulesLemmas
-mod BoundLemmas
-mod EntryEditsTextLemmas
-mod EntryEditsRowLemmas

@@ -1,5 +1,5 @@
-pub mod Ready
 pub mod Commits
+pub mod Ready
 pub mod Trees
 pub mod Apart
 pub mod Queries

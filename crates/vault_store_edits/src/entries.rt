@@ -10,7 +10,7 @@ ghost use Rattle.vault_store_model.specs.Edits.{with_row, with_changed, Edits};
 ghost use Rattle.vault_store_model.specs.Tests.{is_numbered, removed_row};
 
 use crate::by_id::check_id;
-use crate::entry_edits_value::{
+use crate::entry_value::{
     author_text, cause_number, cause_text, digest_bytes, is_rule, removal_at, removal_by,
     removal_cause,
 };

@@ -1,11 +1,5 @@
-//! One edit of the tables of a vault in one transaction.
-//!
-//! The statements that edit the tables of a vault, one function for each.
-//!
-//! An error is want of memory, told as `ErrorCode::OutOfMemory`, `ErrorCode::TooBig` for a number that a
-//! column can't take, or a failure of the store.
-//!
-//! The statements that edit entries and what stands beside them, one function for each.
+//! Edits of the tables of a vault: the statements, one function for each, and the transaction that makes
+//! them as a whole or not at all.
 //!
 //! An error is want of memory, told as `ErrorCode::OutOfMemory`, `ErrorCode::TooBig` for a number that a
 //! column can't take, or a failure of the store.
@@ -18,7 +12,7 @@ pub mod callers;
 pub mod contents;
 pub mod departments;
 pub mod entries;
-pub mod entry_edits_value;
+pub mod entry_value;
 pub mod heads;
 pub mod intake;
 pub mod meta;

@@ -21,7 +21,7 @@ use Rattle.vault_audit_model.specs.Editions.{number_of, newest}
 use Rattle.vault_audit_model.specs.Rows.{meta_row, department_row, entry_row, content_row, setting_row, note_row, tenure_row}
 use Rattle.vault_audit_model.specs.Spells.{contents_in, settings_in, tenures_in, department_in, content_if_given}
 use Rattle.vault_store_model.specs.Rows.{rows_of}
-use Rattle.vault_store_model.specs.ChangesEdits.{edit_of, added_if_given, summed}
+use Rattle.vault_store_model.specs.Changes.{edit_of, added_if_given, summed}
 use Rattle.vault_store_model.specs.Beside.{AreSameBesideHeads}
 use Rattle.vault_store_model.proofs.TenureLemmas.{marker_admitted, other_admitted}
 use Rattle.vault_store_model.proofs.EntryLemmas.{items_other, sums_written, texts_turned}

@@ -11,7 +11,7 @@ use Rattle.vault_core_model.specs.Places.{is_held_at, held_at}
 use Rattle.vault_core_model.specs.Reads.{entry_of, head_of, head_over}
 use Rattle.vault_core_model.specs.Sound.{Sound}
 use Rattle.vault_core_model.specs.Vault.{Vault, history_of}
-use Rattle.vault_store_model.specs.ChangesEdits.{others_at}
+use Rattle.vault_store_model.specs.Changes.{others_at}
 use Rattle.vault_store_model.proofs.EntryLemmas.{found_history}
 use Rattle.vault_audit_model.specs.Spells.{entries_in}
 use Rattle.vault_store_model.proofs.ByEntry.{held_of_key, held_entries, last_of, head_over_entries, head_of_entries, head_same}

@@ -7,7 +7,7 @@ use Rattle.vault_core_model.specs.Change.{changed}
 use Rattle.vault_core_model.specs.Sound.{Sound}
 use Rattle.vault_core_model.specs.Vault.{Vault}
 use Rattle.vault_store_model.specs.Rows.{rows_of}
-use Rattle.vault_store_model.specs.ChangesEdits.{edit_of}
+use Rattle.vault_store_model.specs.Changes.{edit_of}
 use Rattle.vault_store_model.specs.Beside.{AreSameBesideHeads}
 use Rattle.vault_store_model.proofs.RecordLemmas.{dept_added, caller_added, caller_closed, bucket_added}
 use Rattle.vault_store_model.proofs.MoveLemmas.{bucket_moved}

@@ -32,7 +32,7 @@ use Rattle.vault_audit_model.specs.Spells.{IsKept, heads_in, entries_in}
 use Rattle.vault_audit_model.specs.Tables.{vault_schema}
 use Rattle.vault_store_model.specs.Rows.{AreSameRows, HasRows, rows_in, rows_of}
 use Rattle.vault_store_model.specs.Edits.{and_then, at_moment}
-use Rattle.vault_store_model.specs.ChangesEdits.{edit_of, headed, head_with, others_at, with_move, without_entry}
+use Rattle.vault_store_model.specs.Changes.{edit_of, headed, head_with, others_at, with_move, without_entry}
 use Rattle.vault_store_model.specs.Limits.{IsChangeInLimits}
 use Rattle.vault_store_model.proofs.BesideLemmas.{beside_heads}
 use Rattle.vault_store_model.proofs.ConfigLemmas.{default_set, rules_set}

@@ -24,7 +24,7 @@ use Rattle.vault_audit_model.specs.Spells.{bucket_of, rules_in, rules_if_given, 
 use Rattle.vault_store_model.specs.Rows.{AreSameRows, rows_of}
 use Rattle.vault_store_model.specs.Edits.{changed_if, pushed}
 use Rattle.vault_store_model.specs.Tests.{is_named, with_default_columns}
-use Rattle.vault_store_model.specs.ChangesEdits.{edit_of}
+use Rattle.vault_store_model.specs.Changes.{edit_of}
 use Rattle.vault_store_model.proofs.ListLemmas.{second_first, pushed_in_front, map_rows, map_untold, flat_map_untold, filter-append, clash}
 
 -- ---- a default

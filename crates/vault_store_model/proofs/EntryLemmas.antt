@@ -20,7 +20,7 @@ use Rattle.vault_audit_model.specs.Rows.{department_row}
 use Rattle.vault_audit_model.specs.Spells.{department_in, sums_over}
 use Rattle.vault_store_model.specs.Edits.{changed_if}
 use Rattle.vault_store_model.specs.Tests.{is_named, with_sums}
-use Rattle.vault_store_model.specs.ChangesEdits.{summed}
+use Rattle.vault_store_model.specs.Changes.{summed}
 use Rattle.vault_store_model.proofs.ListLemmas.{flat_map-append, flat_map_one}
 
 -- ---- ids

@@ -15,7 +15,7 @@ use Rattle.vault_audit_model.specs.Rows.{head_row}
 use Rattle.vault_audit_model.specs.Spells.{heads_in, entries_in}
 use Rattle.vault_store_model.specs.Edits.{changed_if}
 use Rattle.vault_store_model.specs.Tests.{is_of_key, with_head_columns}
-use Rattle.vault_store_model.specs.ChangesEdits.{headed}
+use Rattle.vault_store_model.specs.Changes.{headed}
 use Rattle.vault_store_model.proofs.OrderLemmas.{headed_same}
 use Rattle.vault_store_model.proofs.ByEntry.{is_newest, head_row_of, heads_by, heads_are, head_of_entries}
 use Rattle.vault_store_model.proofs.Newest.{rising_ids}

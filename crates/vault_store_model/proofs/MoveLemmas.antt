@@ -24,7 +24,7 @@ use Rattle.vault_audit_model.specs.Spells.{bucket_of, rules_in, contents_in, set
 use Rattle.vault_store_model.specs.Rows.{rows_of}
 use Rattle.vault_store_model.specs.Edits.{changed_if}
 use Rattle.vault_store_model.specs.Tests.{is_named, with_owner, with_sums}
-use Rattle.vault_store_model.specs.ChangesEdits.{edit_of, with_move}
+use Rattle.vault_store_model.specs.Changes.{edit_of, with_move}
 use Rattle.vault_store_model.specs.Beside.{AreSameBesideHeads}
 use Rattle.vault_store_model.proofs.CopyLemmas.{tenures_added}
 use Rattle.vault_store_model.proofs.EntryLemmas.{texts_turned}

@@ -22,7 +22,7 @@ use Rattle.vault_store_model.specs.Edits.{number_of, with_rows, with_row, change
 use Rattle.vault_store_model.specs.Copies.{is_held_version, moved_row}
 use Rattle.vault_store_model.specs.Tests.{is_named, is_numbered, is_of_key, every, with_last, with_last_and_next, with_last_and_moves, with_sums, closed_row, with_default_columns, with_owner, removed_row, with_head_columns}
 use Rattle.vault_store_model.proofs.EditLemmas.{with_row_ignores, with_changed_ignores, without_ignores, with_copies_ignores, and_then_ignores}
-use Rattle.vault_store_model.specs.ChangesEdits.{added_if_given, with_row_if_given, summed, with_sums_of, headed, with_head, head_with, others_at, with_history, without_entry, with_department_sums, with_move, edit_of}
+use Rattle.vault_store_model.specs.Changes.{added_if_given, with_row_if_given, summed, with_sums_of, headed, with_head, head_with, others_at, with_history, without_entry, with_department_sums, with_move, edit_of}
 
 -- ---- lists of rows
 

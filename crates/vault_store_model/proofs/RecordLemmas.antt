@@ -19,7 +19,7 @@ use Rattle.vault_store_model.specs.Rows.{AreSameRows, rows_of}
 use Rattle.vault_store_model.specs.Edits.{changed_if}
 use Rattle.vault_store_model.specs.Tests.{is_named, closed_row}
 use Rattle.vault_store_model.proofs.DepartmentLemmas.{no_items}
-use Rattle.vault_store_model.specs.ChangesEdits.{edit_of}
+use Rattle.vault_store_model.specs.Changes.{edit_of}
 use Rattle.vault_store_model.proofs.ListLemmas.{placed_in_front, map_each, map_rows}
 
 -- ---- a new department has no tenures

@@ -23,7 +23,7 @@ use Rattle.vault_audit_model.specs.Spells.{contents_in, settings_in, tenures_in,
 use Rattle.vault_store_model.specs.Rows.{rows_of}
 use Rattle.vault_store_model.specs.Edits.{changed_if, and_then, at_moment}
 use Rattle.vault_store_model.specs.Tests.{is_numbered, removed_row}
-use Rattle.vault_store_model.specs.ChangesEdits.{edit_of, without_entry}
+use Rattle.vault_store_model.specs.Changes.{edit_of, without_entry}
 use Rattle.vault_store_model.specs.Beside.{AreSameBesideHeads}
 use Rattle.vault_store_model.proofs.AdmissionLemmas.{sums_changed}
 use Rattle.vault_store_model.proofs.EntryLemmas.{found_history, each_is, items_mapped, texts_turned}

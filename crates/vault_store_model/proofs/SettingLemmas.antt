@@ -21,7 +21,7 @@ use Rattle.vault_audit_model.specs.Editions.{number_of, newest}
 use Rattle.vault_audit_model.specs.Rows.{meta_row, entry_row, content_row, setting_row, tenure_row}
 use Rattle.vault_audit_model.specs.Spells.{settings_from, settings_in, contents_in, tenures_in}
 use Rattle.vault_store_model.specs.Rows.{rows_of}
-use Rattle.vault_store_model.specs.ChangesEdits.{edit_of}
+use Rattle.vault_store_model.specs.Changes.{edit_of}
 use Rattle.vault_store_model.specs.Beside.{AreSameBesideHeads}
 use Rattle.vault_store_model.proofs.EntryLemmas.{other_ids, found_history, items_mapped}
 use Rattle.vault_store_model.proofs.ListLemmas.{map_untold, flat_map_untold}

@@ -1,10 +1,10 @@
-pub mod Rows
-pub mod Tests
-pub mod Edits
-pub mod Copies
 pub mod Keeping
-pub mod Scans
-pub mod ChangesEdits
-pub mod Beside
+pub mod Rows
+pub mod Edits
+pub mod Changes
 pub mod Limits
+pub mod Beside
+pub mod Tests
+pub mod Copies
 pub mod Sums
+pub mod Scans

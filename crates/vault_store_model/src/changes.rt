@@ -2,7 +2,8 @@
 //! what comes of it are the rows of the changed vault. Each law is the contract of a public function
 //! that does nothing.
 
-ghost use Rattle.std.specs.Prelude.{◌≡◌, ℕ, ◌≤◌, false, List, Some};
+ghost use Rattle.std.specs.Prelude.{◌≡◌, ℕ, ◌≤◌, false, List, Some, ◌≢◌, ◌+◌, ◌-◌, None};
+ghost use Rattle.sqlite.specs.Effect.{Database};
 ghost use Rattle.vault_base.specs.Days.{day, last_moment};
 ghost use Rattle.vault_tally.specs.Row.{IsRowOf};
 ghost use Rattle.vault_tally.specs.declared.row.Row.{Row};
@@ -18,11 +19,15 @@ ghost use Rattle.vault_core_model.specs.Change.{changed};
 ghost use Rattle.vault_core_model.specs.Sound.{Sound, last_tenure};
 ghost use Rattle.vault_core_model.specs.Totals.{bucket_bytes, bucket_weight, items_of};
 ghost use Rattle.vault_core_model.specs.Vault.{Vault, config_of, history_of};
+ghost use Rattle.vault_core_model.specs.declared.records.Entry.{Entry};
+ghost use Rattle.vault_core_model.specs.declared.records.Head.{Head};
+ghost use Rattle.vault_core_model.specs.Reads.{entry_of, head_of, head_over};
 ghost use Rattle.vault_audit_model.specs.Spells.{IsKept, department_in};
+ghost use Rattle.vault_audit_model.specs.Tables.{vault_schema};
 ghost use Rattle.vault_store_model.specs.Edits.{IgnoresOrder};
-ghost use Rattle.vault_store_model.specs.Rows.{rows_of};
+ghost use Rattle.vault_store_model.specs.Rows.{rows_of, AreSameRows, HasRows, rows_in};
 ghost use Rattle.vault_store_model.specs.Beside.{AreSameBesideHeads};
-ghost use Rattle.vault_store_model.specs.ChangesEdits.{edit_of};
+ghost use Rattle.vault_store_model.specs.Changes.{edit_of, others_at};
 ghost use Rattle.vault_store_model.specs.Limits.{IsChangeInLimits};
 ghost use Rattle.vault_store_model.specs.Sums.{CountsIn, CountsOut, HandsOver, Receives};
 
@@ -67,4 +72,30 @@ pub fn sums_come_of_the_row()
     ensures received { (v : Vault) (t : ℕ) (name dept : List ℕ) (row new : Row) → Sound v → v.last ≤ t → t ≤ last_moment →
         IsMove v name dept → IsRowOf row (items_of v dept) → Receives row (bucket_bytes v name) (day t) new →
         new ≡ (department_in (changed v t (MoveBucket name dept)) dept).sums }
+{}
+
+/// The edits of a change turn the rows of a vault into those of the changed vault, in every table.
+pub fn edits_make_the_changed_vault()
+    ensures { (v : Vault) (t : ℕ) (c : Change) → IsKept v → v.last ≤ t → Allows v t c →
+        AreSameRows (rows_of (changed v t c)) (edit_of v t c (rows_of v)) }
+{}
+
+/// Tables that have the rows of a vault have, after the edits of a change, those of the changed vault.
+pub fn edited_tables_have_the_changed_vault()
+    ensures { (old new : Database) (v : Vault) (t : ℕ) (c : Change) → HasRows old v → v.last ≤ t → t ≤ last_moment →
+        Allows v t c → IsChangeInLimits c → new.schema ≡ vault_schema →
+        AreSameRows (edit_of v t c (rows_in old)) (rows_in new) → HasRows new (changed v t c) }
+{}
+
+/// The head that a key has after the removal of one of its held entries, by the head that it had: none
+/// where it held that entry alone, the same newest where that was another, and one entry fewer always.
+pub fn heads_after_a_removal()
+    ensures alone { (v : Vault) (id : ℕ) (e : Entry) (head : Head) → Sound v → entry_of v id ≡ Some e → e.removal ≡ None →
+        head_of v e.bucket e.key ≡ Some head → head.count ≡ 1 → head_over (others_at v id e.bucket e.key) ≡ None }
+    ensures older { (v : Vault) (id : ℕ) (e : Entry) (head : Head) → Sound v → entry_of v id ≡ Some e → e.removal ≡ None →
+        head_of v e.bucket e.key ≡ Some head → head.newest ≢ id →
+        head_over (others_at v id e.bucket e.key) ≡ Some (record { newest = head.newest; count = head.count - 1 }) }
+    ensures fewer { (v : Vault) (id : ℕ) (e : Entry) (head new : Head) → Sound v → entry_of v id ≡ Some e → e.removal ≡ None →
+        head_of v e.bucket e.key ≡ Some head → head_over (others_at v id e.bucket e.key) ≡ Some new →
+        new.count + 1 ≡ head.count }
 {}

@@ -1,5 +1,5 @@
-pub mod Queries
 pub mod Quiet
 pub mod Shown
 pub mod Tenures
 pub mod Handed
+pub mod Queries

@@ -1,9 +1,8 @@
-//! Reads of a vault's tables by key.
+//! Reads of a vault's tables: records by their keys, several rows in order, and the removed entries, handed
+//! on one at a time.
 //!
 //! Each answers what its name says of the vault that the connection keeps, and changes nothing. An error
 //! is want of memory, told as `ErrorCode::OutOfMemory`, or a failure of the store.
-//!
-//! The removed entries of a vault's tables, handed on one at a time.
 #![tactic(auto)]
 
 pub mod entries;

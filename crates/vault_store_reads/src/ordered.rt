@@ -1,6 +1,4 @@
 //! Reads of a vault that show several rows in order.
-//!
-//! An error is want of memory, told as `ErrorCode::OutOfMemory`, or a failure of the store.
 
 mod count;
 mod decode;

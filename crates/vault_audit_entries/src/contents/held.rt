@@ -8,7 +8,7 @@ ghost use Rattle.vault_core_model.specs.declared.records.Entry.{Entry};
 ghost use Rattle.vault_audit_model.specs.Relations.{AreEntries};
 ghost use Rattle.vault_audit_model.specs.Tables.{schema_of};
 ghost use Rattle.vault_audit_entries.specs.Contents.{held_count};
-ghost use Rattle.vault_audit_entries.specs.Passes.{is_zero, is_held_row};
+ghost use Rattle.vault_audit_entries.specs.ContentPasses.{is_zero, is_held_row};
 ghost use Rattle.vault_audit_walk.specs.Health.{IsHealthy, IsMemory};
 
 use sqlite::types::ValueRef;
@@ -52,7 +52,7 @@ fn shows_held(row: &Row) -> bool
 }
 
 impl Pass for HeldCount {
-    ghost use Rattle.vault_audit_entries.specs.Passes.{Counts};
+    ghost use Rattle.vault_audit_entries.specs.ContentPasses.{Counts};
 
     ghost goes = { λ p row q. Counts p row q };
 

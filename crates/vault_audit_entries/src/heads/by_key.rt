@@ -98,13 +98,13 @@ fn is_after(last: &Option<HeadRow>, found: &HeadRow) -> bool
 impl Pass for HeadPass {
     ghost use Rattle.vault_audit_walk.specs.Pass.{Takes, Refuses};
     ghost use Rattle.vault_audit_entries.specs.Heads.{headed_row};
-    ghost use Rattle.vault_audit_entries.specs.HeadsPasses.{ComesAfter, with_head};
+    ghost use Rattle.vault_audit_entries.specs.HeadPasses.{ComesAfter, with_head};
 
     ghost goes = { λ p row q. Takes headed_row ComesAfter with_head p row q };
 
     ghost stops = { λ p row. Refuses headed_row ComesAfter with_head p row };
 
-    #[tactic(auto, using(crate::proofs::HeadsRowLemmas::one_head))]
+    #[tactic(auto, using(crate::proofs::HeadRowLemmas::one_head))]
     fn take(&mut self, row: &Row) -> Result<bool, Error> {
         let found = match read_headed(row) {
             Ok(found) => found,

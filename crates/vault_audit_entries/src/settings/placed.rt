@@ -3,7 +3,7 @@ ghost use Rattle.std.specs.Prelude.{◌≡◌, ◌↔◌, IsTrue, IfOk, IfErr, O
 ghost use Rattle.sqlite.specs.State.{HasCleanDisk, IsUnchanged, Survives};
 ghost use Rattle.sqlite.specs.Held.{state};
 ghost use Rattle.vault_audit_model.specs.Tables.{schema_of};
-ghost use Rattle.vault_audit_entries.specs.Places.{IsNext, TellPlaces};
+ghost use Rattle.vault_audit_entries.specs.SettingPlaces.{IsNext, TellPlaces};
 ghost use Rattle.vault_audit_walk.specs.Health.{IsHealthy, IsMemory};
 
 use sqlite::{Alter, Connection, Error, ErrorCode, Row};
@@ -36,13 +36,13 @@ impl SettingPass {
 impl Pass for SettingPass {
     ghost use Rattle.vault_audit_walk.specs.Pass.{Takes, Refuses};
     ghost use Rattle.vault_audit_model.specs.Rows.{setting_row};
-    ghost use Rattle.vault_audit_entries.specs.Places.{ComesNext, with_setting};
+    ghost use Rattle.vault_audit_entries.specs.SettingPlaces.{ComesNext, with_setting};
 
     ghost goes = { λ p row q. Takes setting_row ComesNext with_setting p row q };
 
     ghost stops = { λ p row. Refuses setting_row ComesNext with_setting p row };
 
-    #[tactic(auto, using(crate::proofs::SettingsRowLemmas::one_setting))]
+    #[tactic(auto, using(crate::proofs::SettingRowLemmas::one_setting))]
     fn take(&mut self, row: &Row) -> Result<bool, Error> {
         let setting = match read_setting(row) {
             Ok(setting) => setting,

@@ -4,7 +4,7 @@ ghost use Rattle.sqlite.specs.State.{HasCleanDisk, IsUnchanged, Survives};
 ghost use Rattle.sqlite.specs.Held.{state};
 ghost use Rattle.vault_audit_model.specs.Rows.{department_row, department_columns_as};
 ghost use Rattle.vault_audit_model.specs.Tables.{schema_of, departments_tree};
-ghost use Rattle.vault_audit_tenures.specs.Departments.{HasTotal};
+ghost use Rattle.vault_audit_tenures.specs.DepartmentSums.{HasTotal};
 ghost use Rattle.vault_audit_tenures.specs.Totals.{total_of};
 ghost use Rattle.vault_audit_walk.specs.Health.{IsHealthy, IsMemory};
 ghost use Rattle.vault_audit_walk.specs.Records.{AreRecords};
@@ -13,7 +13,7 @@ use crate::sums::totals::Totals;
 use sqlite::{Alter, Connection, Error, Row};
 use vault_audit_model::rows::DepartmentRow;
 use vault_audit_model::schema::Edition;
-use vault_audit_records::departments::departments_query;
+use vault_audit_records::departments::query::departments_query;
 use vault_audit_records::row_check::refused;
 use vault_audit_rows::records::read_department;
 use vault_audit_walk::check::{Check, check_rows};
@@ -36,12 +36,12 @@ fn has_total(totals: &Totals, department: &DepartmentRow) -> bool
 
 impl Check for SumsCheck {
     ghost use Rattle.vault_audit_model.specs.Rows.{department_row};
-    ghost use Rattle.vault_audit_tenures.specs.Departments.{HasTotal};
+    ghost use Rattle.vault_audit_tenures.specs.DepartmentSums.{HasTotal};
     ghost use Rattle.vault_audit_walk.specs.Records.{TellsOne};
 
     ghost takes = { λ c. TellsOne department_row (HasTotal c.totals) };
 
-    #[tactic(auto, using(crate::proofs::SumsRowLemmas::one_department))]
+    #[tactic(auto, using(crate::proofs::SumRowLemmas::one_department))]
     fn is_passed_by(&self, row: &Row) -> Result<bool, Error> {
         match read_department(row) {
             Ok(department) => Ok(has_total(&self.totals, &department)),

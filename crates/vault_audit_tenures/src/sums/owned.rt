@@ -4,7 +4,7 @@ ghost use Rattle.sqlite_value.specs.Order.{column};
 ghost use Rattle.vault_base.specs.Days.{last_moment};
 ghost use Rattle.vault_audit_model.specs.Values.{number_or_null};
 ghost use Rattle.vault_audit_tenures.specs.declared.sums.owned.OwnedEntry.{OwnedEntry as Told};
-ghost use Rattle.vault_audit_tenures.specs.SumsOwned.{owned_row, IsOwned};
+ghost use Rattle.vault_audit_tenures.specs.OwnedEntries.{owned_row, IsOwned};
 
 use sqlite::Row;
 use vault_audit_rows::cell::{flag, is_null, moment, number, version_id};
@@ -39,7 +39,7 @@ pub fn moment_or_null(row: &Row, at: usize) -> Option<Option<Moment>>
 }
 
 /// The entry that a row tells.
-#[tactic(auto, using(crate::proofs::SumsRowLemmas::row_of_6))]
+#[tactic(auto, using(crate::proofs::SumRowLemmas::row_of_6))]
 pub fn read_owned(row: &Row) -> Result<OwnedEntry, Misread>
     ensures ok { IfOk result (λ e. row.now ≡ owned_row e) }
     ensures wrong { IfErr result (λ e. e ≡ Misread.Wrong → (x : Told) → IsOwned x → row.now ≢ owned_row x) }

@@ -7,7 +7,7 @@ ghost use Rattle.vault_audit_model.specs.Relations.{AreEntries, AreTenuresOf};
 ghost use Rattle.vault_audit_model.specs.Spells.{entries_in};
 ghost use Rattle.vault_audit_model.specs.Tables.{schema_of};
 ghost use Rattle.vault_audit_tenures.specs.declared.sums.tenures.ToldTenure.{ToldTenure as Told};
-ghost use Rattle.vault_audit_tenures.specs.Tenures.{told_row, IsTold, share_as, last_share, share_before, CountsShare, CountsPending, CountsLast};
+ghost use Rattle.vault_audit_tenures.specs.TenureSums.{told_row, IsTold, share_as, last_share, share_before, CountsShare, CountsPending, CountsLast};
 ghost use Rattle.vault_audit_tenures.specs.Totals.{AreTotals};
 ghost use Rattle.vault_audit_walk.specs.Health.{IsHealthy, IsMemory};
 
@@ -45,7 +45,7 @@ pub struct TenurePass {
 }
 
 /// The tenure that a row tells.
-#[tactic(auto, using(crate::proofs::SumsRowLemmas::row_of_6))]
+#[tactic(auto, using(crate::proofs::SumRowLemmas::row_of_6))]
 pub fn read_told(row: &Row) -> Result<ToldTenure, Misread>
     ensures ok { IfOk result (λ t. row.now ≡ told_row t) }
     ensures wrong { IfErr result (λ e. e ≡ Misread.Wrong → (x : Told) → IsTold x → row.now ≢ told_row x) }
@@ -137,7 +137,7 @@ fn count_left(totals: &mut Totals, pending: Option<ToldTenure>) -> Result<(), Er
 }
 
 impl Pass for TenurePass {
-    ghost use Rattle.vault_audit_tenures.specs.Tenures.{GoesIn, TellsNone};
+    ghost use Rattle.vault_audit_tenures.specs.TenureSums.{GoesIn, TellsNone};
 
     ghost goes = { λ p row q. GoesIn p row q };
 

@@ -9,7 +9,7 @@ ghost use Rattle.vault_audit_model.specs.Spells.{entries_in};
 ghost use Rattle.vault_audit_model.specs.Tables.{schema_of};
 ghost use Rattle.vault_audit_model.specs.Tenures.{IsUnmoved};
 ghost use Rattle.vault_audit_tenures.specs.Totals.{AreTotals};
-ghost use Rattle.vault_audit_tenures.specs.Versions.{CountsEntry};
+ghost use Rattle.vault_audit_tenures.specs.VersionSums.{CountsEntry};
 ghost use Rattle.vault_audit_walk.specs.Health.{IsHealthy, IsMemory};
 
 use crate::sums::owned::{OwnedEntry, read_owned};
@@ -57,7 +57,7 @@ fn count_entry(totals: &mut Totals, entry: OwnedEntry) -> Result<(), Error>
 }
 
 impl Pass for SumPass {
-    ghost use Rattle.vault_audit_tenures.specs.Versions.{GoesIn, TellsNone};
+    ghost use Rattle.vault_audit_tenures.specs.VersionSums.{GoesIn, TellsNone};
 
     ghost goes = { λ p row q. GoesIn p row q };
 

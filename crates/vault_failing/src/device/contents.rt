@@ -20,6 +20,7 @@ pub(crate) struct Contents {
     bytes: Vec<u8>,
     synced: Vec<u8>,
     steps: Vec<Step>,
+    reads: u64,
     syncs: u64,
 }
 
@@ -50,12 +51,18 @@ impl Contents {
             bytes: copied(alloc, bytes)?,
             synced: copied(alloc, bytes)?,
             steps: Vec::new(alloc),
+            reads: 0,
             syncs: 0,
         })
     }
 
     pub(crate) fn len(&self) -> usize {
         self.bytes.len()
+    }
+
+    /// How often it was read.
+    pub(crate) fn reads(&self) -> u64 {
+        self.reads
     }
 
     /// How often it was synced.
@@ -68,7 +75,8 @@ impl Contents {
         !self.steps.is_empty()
     }
 
-    pub(crate) fn read(&self, at: usize, buf: &mut [u8]) -> io::Result<()> {
+    pub(crate) fn read(&mut self, at: usize, buf: &mut [u8]) -> io::Result<()> {
+        self.reads = self.reads.saturating_add(1);
         if at > self.bytes.len() || buf.len() > self.bytes.len() - at {
             return Err(io::ErrorKind::UnexpectedEof.into());
         }

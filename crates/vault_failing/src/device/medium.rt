@@ -57,6 +57,14 @@ impl Medium {
         }
     }
 
+    /// How often the file was read.
+    pub fn reads(&self) -> u64 {
+        match self.contents.try_borrow() {
+            Ok(contents) => contents.reads(),
+            Err(_) => 0,
+        }
+    }
+
     /// How often the file was synced.
     pub fn syncs(&self) -> u64 {
         match self.contents.try_borrow() {

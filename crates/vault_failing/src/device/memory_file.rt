@@ -64,8 +64,8 @@ fn read(contents: &Rc<RefCell<Contents>>, at: usize, buf: &mut [u8]) -> io::Resu
     if at > MAX_OFFSET || buf.is_empty() {
         return Err(io::ErrorKind::InvalidInput.into());
     }
-    match contents.try_borrow() {
-        Ok(contents) => contents.read(at, buf)?,
+    match contents.try_borrow_mut() {
+        Ok(mut contents) => contents.read(at, buf)?,
         Err(_) => return Err(io::ErrorKind::ResourceBusy.into()),
     }
     Ok(buf.len())

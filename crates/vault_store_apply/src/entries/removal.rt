@@ -16,7 +16,7 @@ use crate::commit::commit_part;
 use crate::entries::beside::read_beside;
 use crate::entries::open::check_open;
 use crate::entries::place::read_place;
-use crate::entry_parts::entry::RemovedEntry;
+use crate::parts::entry::RemovedEntry;
 use sqlite::{Alter, Connection, Error};
 use vault_base::moment::Moment;
 use vault_base::name::VersionId;

@@ -10,7 +10,7 @@ ghost use Rattle.vault_store_model.specs.Limits.{IsChangeInLimits};
 ghost use Rattle.vault_store_apply.specs.Applies.{Changes, IsChanged};
 
 use crate::commit::commit_part;
-use crate::entry_parts::setting::NewSetting;
+use crate::parts::setting::NewSetting;
 use sqlite::{Alter, Connection, Error, ErrorCode};
 use vault_base::moment::Moment;
 use vault_base::name::VersionId;

@@ -8,8 +8,8 @@ use Rattle.vault_store_model.specs.Scans.{passes}
 use Rattle.vault_audit_model.proofs.OutcomeLemmas.{kept_if_refused}
 use Rattle.vault_store_edits.proofs.StatementLemmas.{edits_checked, sound_checked, refused_after, updates_after}
 use Rattle.vault_store_model.specs.Tests.{is_named, with_default_columns}
-use Rattle.vault_store_edits.proofs.TextLemmas.{by_name, finds_bucket}
-use Rattle.vault_store_edits.proofs.RowLemmas.{default_params, sets_default}
+use Rattle.vault_store_edits.proofs.RecordTextLemmas.{by_name, finds_bucket}
+use Rattle.vault_store_edits.proofs.RecordRowLemmas.{default_params, sets_default}
 use Rattle.vault_store_edits.proofs.CastLemmas.{bound_number}
 use Rattle.vault_store_edits.proofs.buckets.set_default.Goals as goal
 

@@ -8,8 +8,8 @@ use Rattle.vault_store_model.specs.Scans.{passes}
 use Rattle.vault_audit_model.proofs.OutcomeLemmas.{kept_if_refused}
 use Rattle.vault_store_edits.proofs.StatementLemmas.{edits_checked, sound_checked, refused_after, updates_after}
 use Rattle.vault_store_model.specs.Tests.{is_named, with_owner}
-use Rattle.vault_store_edits.proofs.TextLemmas.{by_name, finds_bucket}
-use Rattle.vault_store_edits.proofs.RowLemmas.{owner_params, sets_owner}
+use Rattle.vault_store_edits.proofs.RecordTextLemmas.{by_name, finds_bucket}
+use Rattle.vault_store_edits.proofs.RecordRowLemmas.{owner_params, sets_owner}
 use Rattle.vault_store_edits.proofs.buckets.set_owner.Goals as goal
 
 pub returns-clause-edits : goal.returns-clause-edits

@@ -9,8 +9,8 @@ use Rattle.vault_store_model.specs.Scans.{passes}
 use Rattle.vault_audit_model.proofs.OutcomeLemmas.{kept_if_refused}
 use Rattle.vault_store_edits.proofs.StatementLemmas.{edits_checked, sound_checked, refused_after, updates_after}
 use Rattle.vault_store_model.specs.Tests.{is_named, closed_row}
-use Rattle.vault_store_edits.proofs.TextLemmas.{by_name, finds_caller}
-use Rattle.vault_store_edits.proofs.RowLemmas.{closes_caller}
+use Rattle.vault_store_edits.proofs.RecordTextLemmas.{by_name, finds_caller}
+use Rattle.vault_store_edits.proofs.RecordRowLemmas.{closes_caller}
 use Rattle.vault_store_edits.proofs.callers.close_caller.Goals as goal
 
 pub returns-clause-edits : goal.returns-clause-edits

@@ -4,7 +4,7 @@ use Rattle.vault_store_model.proofs.EditLemmas.{with_row_ignores}
 use Rattle.vault_store_edits.proofs.StatementLemmas.{edits_if, sound_if}
 use Rattle.vault_audit_model.specs.Rows.{caller_row}
 use Rattle.vault_store_edits.proofs.CastLemmas.{bound_text, bound_flag}
-use Rattle.vault_store_edits.proofs.RowLemmas.{puts_caller}
+use Rattle.vault_store_edits.proofs.RecordRowLemmas.{puts_caller}
 use Rattle.vault_store_edits.proofs.callers.put_caller.Goals as goal
 
 pub returns-clause-edits : goal.returns-clause-edits

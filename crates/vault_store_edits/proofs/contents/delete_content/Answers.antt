@@ -9,8 +9,8 @@ use Rattle.vault_audit_model.proofs.OutcomeLemmas.{kept_if_refused}
 use Rattle.vault_store_edits.proofs.StatementLemmas.{edits_checked, sound_checked, refused_after, deletes_after}
 use Rattle.vault_audit_model.specs.Values.{number}
 use Rattle.vault_store_model.specs.Tests.{is_numbered}
-use Rattle.vault_store_edits.proofs.EntryEditsTextLemmas.{by_id, finds_content}
-use Rattle.vault_store_edits.proofs.EntryEditsRowLemmas.{drops_content}
+use Rattle.vault_store_edits.proofs.EntryTextLemmas.{by_id, finds_content}
+use Rattle.vault_store_edits.proofs.EntryRowLemmas.{drops_content}
 use Rattle.vault_store_edits.proofs.contents.delete_content.Goals as goal
 
 pub returns-clause-edits : goal.returns-clause-edits

@@ -3,7 +3,7 @@ use Rattle.vault_base.specs.declared.refusal.Table.TheVariants as table
 use Rattle.vault_store_model.proofs.EditLemmas.{with_row_ignores}
 use Rattle.vault_store_edits.proofs.StatementLemmas.{edits_if, sound_if}
 use Rattle.vault_audit_model.specs.Rows.{content_row}
-use Rattle.vault_store_edits.proofs.EntryEditsRowLemmas.{puts_content}
+use Rattle.vault_store_edits.proofs.EntryRowLemmas.{puts_content}
 use Rattle.vault_store_edits.proofs.contents.put_content.Goals as goal
 
 pub returns-clause-edits : goal.returns-clause-edits

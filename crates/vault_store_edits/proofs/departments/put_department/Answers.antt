@@ -2,7 +2,7 @@ use Rattle.sqlite.specs.Held.{state}
 use Rattle.vault_base.specs.declared.refusal.Table.TheVariants as table
 use Rattle.vault_store_model.proofs.EditLemmas.{with_row_ignores}
 use Rattle.vault_store_edits.proofs.StatementLemmas.{edits_if, sound_if}
-use Rattle.vault_store_edits.proofs.RowLemmas.{new_department, puts_department}
+use Rattle.vault_store_edits.proofs.RecordRowLemmas.{new_department, puts_department}
 use Rattle.vault_store_edits.proofs.departments.put_department.Goals as goal
 
 pub returns-clause-edits : goal.returns-clause-edits

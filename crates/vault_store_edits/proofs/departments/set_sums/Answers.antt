@@ -9,8 +9,8 @@ use Rattle.vault_audit_model.proofs.OutcomeLemmas.{kept_if_refused}
 use Rattle.vault_store_edits.proofs.StatementLemmas.{edits_checked, sound_checked, refused_after, updates_after}
 use Rattle.std.proofs.Common.{FitsSigned, w64, rules, to_z-of_z}
 use Rattle.vault_store_model.specs.Tests.{is_named, with_sums}
-use Rattle.vault_store_edits.proofs.TextLemmas.{by_name, finds_department}
-use Rattle.vault_store_edits.proofs.RowLemmas.{sums_params, sets_sums}
+use Rattle.vault_store_edits.proofs.RecordTextLemmas.{by_name, finds_department}
+use Rattle.vault_store_edits.proofs.RecordRowLemmas.{sums_params, sets_sums}
 use Rattle.vault_store_edits.proofs.departments.set_sums.Goals as goal
 
 pub returns-clause-edits : goal.returns-clause-edits

@@ -6,7 +6,7 @@ use Rattle.std.proofs.Common.{FitsSigned, w64, rules, to_z-of_z}
 use Rattle.vault_audit_model.specs.Rows.{entry_row}
 use Rattle.vault_store_edits.proofs.CastLemmas.{bound_number, bound_flag}
 use Rattle.vault_store_edits.proofs.BoundLemmas.{bound_bytes, bound_name, bound_at, bound_by}
-use Rattle.vault_store_edits.proofs.EntryEditsRowLemmas.{puts_entry}
+use Rattle.vault_store_edits.proofs.EntryRowLemmas.{puts_entry}
 use Rattle.vault_store_edits.proofs.entries.put_entry.Goals as goal
 
 pub returns-clause-edits : goal.returns-clause-edits

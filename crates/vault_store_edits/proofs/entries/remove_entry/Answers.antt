@@ -9,8 +9,8 @@ use Rattle.vault_audit_model.proofs.OutcomeLemmas.{kept_if_refused}
 use Rattle.vault_store_edits.proofs.StatementLemmas.{edits_checked, sound_checked, refused_after, updates_after}
 use Rattle.std.proofs.Common.{FitsSigned, w64, rules, to_z-of_z}
 use Rattle.vault_store_model.specs.Tests.{is_numbered, removed_row}
-use Rattle.vault_store_edits.proofs.EntryEditsTextLemmas.{by_id, finds_entry}
-use Rattle.vault_store_edits.proofs.EntryEditsRowLemmas.{removal_params, removes_entry}
+use Rattle.vault_store_edits.proofs.EntryTextLemmas.{by_id, finds_entry}
+use Rattle.vault_store_edits.proofs.EntryRowLemmas.{removal_params, removes_entry}
 use Rattle.vault_store_edits.proofs.entries.remove_entry.Goals as goal
 
 pub returns-clause-edits : goal.returns-clause-edits

@@ -9,8 +9,8 @@ use Rattle.vault_store_model.specs.Scans.{passes}
 use Rattle.vault_audit_model.proofs.OutcomeLemmas.{kept_if_refused}
 use Rattle.vault_store_edits.proofs.StatementLemmas.{edits_checked, sound_checked, refused_after, deletes_after}
 use Rattle.vault_store_model.specs.Tests.{is_of_key}
-use Rattle.vault_store_edits.proofs.EntryEditsTextLemmas.{by_key, finds_head}
-use Rattle.vault_store_edits.proofs.EntryEditsRowLemmas.{drops_head}
+use Rattle.vault_store_edits.proofs.EntryTextLemmas.{by_key, finds_head}
+use Rattle.vault_store_edits.proofs.EntryRowLemmas.{drops_head}
 use Rattle.vault_store_edits.proofs.heads.delete_head.Goals as goal
 
 pub returns-clause-edits : goal.returns-clause-edits

@@ -4,7 +4,7 @@ use Rattle.vault_store_model.proofs.EditLemmas.{with_row_ignores}
 use Rattle.vault_store_edits.proofs.StatementLemmas.{edits_if, sound_if}
 use Rattle.std.proofs.Common.{FitsSigned, w64, rules, to_z-of_z}
 use Rattle.vault_audit_model.specs.Rows.{head_row}
-use Rattle.vault_store_edits.proofs.EntryEditsRowLemmas.{puts_head}
+use Rattle.vault_store_edits.proofs.EntryRowLemmas.{puts_head}
 use Rattle.vault_store_edits.proofs.heads.put_head.Goals as goal
 
 pub returns-clause-edits : goal.returns-clause-edits

@@ -9,8 +9,8 @@ use Rattle.vault_audit_model.proofs.OutcomeLemmas.{kept_if_refused}
 use Rattle.vault_store_edits.proofs.StatementLemmas.{edits_checked, sound_checked, refused_after, updates_after}
 use Rattle.std.proofs.Common.{FitsSigned, w64, rules, to_z-of_z}
 use Rattle.vault_store_model.specs.Tests.{is_of_key, with_head_columns}
-use Rattle.vault_store_edits.proofs.EntryEditsTextLemmas.{by_key, finds_head}
-use Rattle.vault_store_edits.proofs.EntryEditsRowLemmas.{head_params, sets_head}
+use Rattle.vault_store_edits.proofs.EntryTextLemmas.{by_key, finds_head}
+use Rattle.vault_store_edits.proofs.EntryRowLemmas.{head_params, sets_head}
 use Rattle.vault_store_edits.proofs.heads.set_head.Goals as goal
 
 pub returns-clause-edits : goal.returns-clause-edits

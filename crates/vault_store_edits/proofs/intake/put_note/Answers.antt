@@ -5,7 +5,7 @@ use Rattle.vault_store_edits.proofs.StatementLemmas.{edits_if, sound_if}
 use Rattle.std.proofs.Common.{FitsSigned, w64, rules, to_z-of_z}
 use Rattle.vault_audit_model.specs.Rows.{note_row}
 use Rattle.vault_store_edits.proofs.BoundLemmas.{bound_until, bound_hold}
-use Rattle.vault_store_edits.proofs.EntryEditsRowLemmas.{puts_note}
+use Rattle.vault_store_edits.proofs.EntryRowLemmas.{puts_note}
 use Rattle.vault_store_edits.proofs.intake.put_note.Goals as goal
 
 pub returns-clause-edits : goal.returns-clause-edits

@@ -10,8 +10,8 @@ use Rattle.vault_store_edits.proofs.StatementLemmas.{edits_checked, sound_checke
 use Rattle.std.proofs.Common.{FitsSigned, w64, rules, to_z-of_z}
 use Rattle.vault_audit_model.specs.Values.{number}
 use Rattle.vault_store_model.specs.Tests.{every, with_last_and_next}
-use Rattle.vault_store_edits.proofs.TextLemmas.{finds_meta}
-use Rattle.vault_store_edits.proofs.RowLemmas.{sets_next}
+use Rattle.vault_store_edits.proofs.RecordTextLemmas.{finds_meta}
+use Rattle.vault_store_edits.proofs.RecordRowLemmas.{sets_next}
 use Rattle.vault_store_edits.proofs.meta.set_last_and_next.Goals as goal
 
 pub returns-clause-edits : goal.returns-clause-edits

@@ -4,7 +4,7 @@ use Rattle.vault_store_model.proofs.EditLemmas.{with_row_ignores}
 use Rattle.vault_store_edits.proofs.StatementLemmas.{edits_if, sound_if}
 use Rattle.vault_audit_model.specs.Rows.{rule_row}
 use Rattle.vault_store_edits.proofs.CastLemmas.{bound_number, bound_flag, bound_whole}
-use Rattle.vault_store_edits.proofs.RowLemmas.{puts_rule}
+use Rattle.vault_store_edits.proofs.RecordRowLemmas.{puts_rule}
 use Rattle.vault_store_edits.proofs.rules.put_rule.Goals as goal
 
 pub returns-clause-edits : goal.returns-clause-edits

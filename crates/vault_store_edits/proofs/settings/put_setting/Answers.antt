@@ -6,7 +6,7 @@ use Rattle.std.proofs.Common.{FitsSigned, w64, rules, to_z-of_z}
 use Rattle.vault_audit_model.specs.Rows.{setting_row}
 use Rattle.vault_store_edits.proofs.CastLemmas.{bound_flag}
 use Rattle.vault_store_edits.proofs.BoundLemmas.{bound_until}
-use Rattle.vault_store_edits.proofs.EntryEditsRowLemmas.{puts_setting}
+use Rattle.vault_store_edits.proofs.EntryRowLemmas.{puts_setting}
 use Rattle.vault_store_edits.proofs.settings.put_setting.Goals as goal
 
 pub returns-clause-edits : goal.returns-clause-edits

@@ -4,7 +4,7 @@ use Rattle.vault_base.specs.declared.refusal.Table.TheVariants as table
 use Rattle.vault_store_model.specs.Copies.{is_held_version, moved_row}
 use Rattle.vault_store_model.proofs.EditLemmas.{with_copies_ignores}
 use Rattle.vault_store_edits.proofs.StatementLemmas.{edits_if, sound_if}
-use Rattle.vault_store_edits.proofs.EntryEditsRowLemmas.{puts_tenures}
+use Rattle.vault_store_edits.proofs.EntryRowLemmas.{puts_tenures}
 use Rattle.vault_store_edits.proofs.tenures.put_tenures.Goals as goal
 
 pub returns-clause-edits : goal.returns-clause-edits

@@ -4,8 +4,8 @@ use Rattle.sqlite.specs.State.{HasCleanDisk}
 use Rattle.vault_audit_walk.specs.Health.{Asks, IsMemory}
 use Rattle.sqlite.specs.Given.{IsPlain}
 use Rattle.sqlite.specs.Listing.{understood}
-use Rattle.vault_audit_entries.proofs.CountLemmas.{held_all}
-use Rattle.vault_audit_entries.proofs.TextLemmas.{held_text, held_scan, held_asks}
+use Rattle.vault_audit_entries.proofs.HeldCountLemmas.{held_all}
+use Rattle.vault_audit_entries.proofs.ContentTextLemmas.{held_text, held_scan, held_asks}
 use Rattle.vault_audit_entries.proofs.contents.held.count_held.Goals as goal
 
 pub walk-requires : goal.walk-requires

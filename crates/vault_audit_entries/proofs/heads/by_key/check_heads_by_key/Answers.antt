@@ -5,8 +5,8 @@ use Rattle.vault_audit_walk.specs.Health.{Asks, IsMemory}
 use Rattle.sqlite.specs.Given.{IsPlain}
 use Rattle.sqlite.specs.Listing.{understood}
 use Rattle.vault_audit_entries.proofs.CurrentLemmas.{unsound}
-use Rattle.vault_audit_entries.proofs.HeadsTellLemmas.{heads_told}
-use Rattle.vault_audit_entries.proofs.HeadsTextLemmas.{heads_walk, heads_walk_plain, heads_walk_asks}
+use Rattle.vault_audit_entries.proofs.HeadTellLemmas.{heads_told}
+use Rattle.vault_audit_entries.proofs.HeadTextLemmas.{heads_walk, heads_walk_plain, heads_walk_asks}
 use Rattle.vault_audit_entries.proofs.heads.by_key.check_heads_by_key.Goals as goal
 
 pub walk-requires : goal.walk-requires

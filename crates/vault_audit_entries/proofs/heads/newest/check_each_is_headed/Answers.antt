@@ -4,7 +4,7 @@ use Rattle.sqlite.specs.State.{HasCleanDisk}
 use Rattle.vault_audit_walk.specs.Health.{Asks, IsMemory}
 use Rattle.sqlite.specs.Given.{IsPlain}
 use Rattle.sqlite.specs.Listing.{understood}
-use Rattle.vault_audit_entries.proofs.NewestLemmas.{headed_text, headed_plain, headed_asks, headed_told}
+use Rattle.vault_audit_entries.proofs.HeadNewestLemmas.{headed_text, headed_plain, headed_asks, headed_told}
 use Rattle.vault_audit_entries.proofs.heads.newest.check_each_is_headed.Goals as goal
 
 pub check_rows-requires : goal.check_rows-requires

@@ -4,8 +4,8 @@ use Rattle.sqlite.specs.State.{HasCleanDisk}
 use Rattle.vault_audit_walk.specs.Health.{Asks, IsMemory}
 use Rattle.sqlite.specs.Given.{IsPlain}
 use Rattle.sqlite.specs.Listing.{understood}
-use Rattle.vault_audit_tenures.proofs.SumsTextLemmas.{owned_text, owned_plain, owned_asks}
-use Rattle.vault_audit_tenures.proofs.WalkLemmas.{totals_yes, totals_no}
+use Rattle.vault_audit_tenures.proofs.SumTextLemmas.{owned_text, owned_plain, owned_asks}
+use Rattle.vault_audit_tenures.proofs.VersionSumLemmas.{totals_yes, totals_no}
 use Rattle.vault_audit_tenures.proofs.sums.versions.sum_versions.Goals as goal
 
 pub walk-requires : goal.walk-requires

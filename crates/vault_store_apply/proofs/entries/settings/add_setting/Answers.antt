@@ -4,7 +4,7 @@ use Rattle.sqlite.specs.Held.{state}
 use Rattle.sqlite.proofs.StateLemmas.{survives_then}
 use Rattle.vault_core_model.specs.declared.change.Change.TheVariants as change
 use Rattle.vault_core_model.specs.Reads.{count_by}
-use Rattle.vault_store_apply.specs.EntryPartsParts.{setting_added}
+use Rattle.vault_store_apply.specs.EntryParts.{setting_added}
 use Rattle.vault_store_apply.specs.Applies.{Changes, IsChanged}
 use Rattle.vault_store_edits.proofs.TransactionLemmas.{on_err_here}
 use Rattle.vault_store_edits.proofs.TransactionLemmas.{on_err_all}

@@ -1,0 +1,29 @@
+use Rattle.std.proofs.Common.{map, refl, arith}
+use Rattle.sqlite.specs.Held.{state}
+use Rattle.sqlite.specs.State.{HasCleanDisk}
+use Rattle.vault_audit_model.specs.Rows.{note_row, note_columns}
+use Rattle.vault_audit_model.specs.Limits.{IsNote}
+use Rattle.vault_core_model.specs.Vault.{Vault}
+use Rattle.vault_audit_model.specs.Spells.{AreSoundAs}
+use Rattle.vault_audit_model.specs.Tables.{intake_tree}
+use Rattle.vault_audit_walk.specs.Records.{AreRecords}
+use Rattle.vault_audit_records.proofs.DamageLemmas.{refused_if_ok, no_intake}
+use Rattle.vault_audit_walk.proofs.RecordLemmas.{records_if_ok}
+use Rattle.vault_audit.proofs.TextLemmas.{intake_scan, intake_asks}
+use Rattle.vault_audit.proofs.first_pass.table_rows.check_intake.Goals as goal
+
+pub check_rows-requires : goal.check_rows-requires
+check_rows-requires g c clean = (intake_scan c.args.edition (state g.S.Store c.args.conn.now).now.schema (c.requires clean)).plain
+
+pub returns-clause-told : goal.returns-clause-told
+returns-clause-told g c clean =
+    let early : HasCleanDisk (state g.S.Store c.args.conn.now) = omega (arith, c.check_rows.ensures.crash.clean) in
+    records_if_ok note_row IsNote (intake_scan c.args.edition (state g.S.Store c.args.conn.now).now.schema (c.requires early)) (state g.S.Store c.args.conn.now) (state g.S.Store c.check_rows.new.conn) refl (λ trees. refl) (c.check_rows.result) (c.check_rows.ensures.same clean) (c.check_rows.ensures.checked clean)
+
+pub returns-clause-damaged : goal.returns-clause-damaged
+returns-clause-damaged g c clean =
+    let db = (state g.S.Store c.check_rows.new.conn).now in
+    refused_if_ok (AreRecords note_row IsNote (map note_columns (db.trees intake_tree))) ((v : Vault) → ¬ AreSoundAs c.args.edition db v) (λ none v. no_intake c.args.edition db v none) c.check_rows.result (returns-clause-told g c clean)
+
+pub returns-clause-err : goal.returns-clause-err
+returns-clause-err g c well = c.check_rows.ensures.err well (λ clean. intake_asks c.args.edition (state g.S.Store c.args.conn.now).now.schema (c.requires clean))

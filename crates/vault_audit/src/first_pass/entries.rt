@@ -1,0 +1,40 @@
+//! The first look at `entries`: its rows tell entries, none after the last moment.
+ghost use Rattle.std.specs.Prelude.{◌≡◌, false, map, IfOk, IfErr, OnOk};
+ghost use Rattle.sqlite.specs.State.{HasCleanDisk, IsUnchanged, Survives};
+ghost use Rattle.sqlite.specs.Held.{state};
+ghost use Rattle.vault_audit_walk.specs.Records.{AreRecords};
+ghost use Rattle.vault_audit_model.specs.Tables.{entries_tree};
+ghost use Rattle.vault_audit_model.specs.Rows.{entry_row, entry_columns};
+ghost use Rattle.vault_core_model.specs.Vault.{Vault};
+ghost use Rattle.vault_audit_model.specs.Spells.{AreSoundAs};
+ghost use Rattle.vault_audit_records.specs.Entries.{IsEntryBy};
+ghost use Rattle.vault_base.specs.declared.refusal.Table.TheVariants as table;
+ghost use Rattle.vault_audit_schema.specs.Places.{BeginTo};
+ghost use Rattle.vault_audit_walk.specs.Health.{IsHealthy, IsMemory};
+
+use sqlite::{Alter, Connection, Error};
+use vault_audit_model::schema::Edition;
+use vault_audit_records::entries::row::EntryCheck;
+use vault_audit_walk::check::check_rows;
+use vault_base::moment::Moment;
+
+/// Whether each row of `entries` tells an entry in its limits, none after the last moment and none
+/// removed before it was admitted.
+pub fn check_entries<S: Alter>(
+    conn: &mut Connection<S>,
+    edition: Edition,
+    last: Moment,
+) -> Result<bool, Error>
+    requires { HasCleanDisk (state S.Store conn.old) → BeginTo edition (state S.Store conn.old).now.schema.tables table.Entries }
+    ensures told { HasCleanDisk (state S.Store conn.new) → IfOk result (AreRecords entry_row (IsEntryBy last) (map entry_columns ((state S.Store conn.new).now.trees entries_tree))) }
+    ensures damaged { HasCleanDisk (state S.Store conn.new) → IfOk result (λ told. told ≡ false → (v : Vault) → v.last ≡ last → ¬ AreSoundAs edition (state S.Store conn.new).now v) }
+    ensures same { HasCleanDisk (state S.Store conn.new) → OnOk result (IsUnchanged (state S.Store conn.old) (state S.Store conn.new)) }
+    ensures err { IsHealthy (state S.Store conn.new) → IfErr result IsMemory }
+    ensures crash { Survives (state S.Store conn.old) (state S.Store conn.new) (λ _. ⊥) }
+{
+    check_rows(
+        conn,
+        "SELECT id, bucket, key, marker, size, digest, admitted, by_rule, admitted_by, removed, cause, cause_by FROM entries",
+        &EntryCheck { last },
+    )
+}

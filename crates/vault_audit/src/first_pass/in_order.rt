@@ -1,0 +1,107 @@
+//! All tables, one after the other.
+ghost use Rattle.std.specs.Prelude.{◌≡◌, ◌≢◌, ◌↔◌, false, Some, IsTrue, IfOk, IfErr, OnOk, MatchOption};
+ghost use Rattle.sqlite.specs.State.{HasCleanDisk, IsUnchanged, Survives};
+ghost use Rattle.sqlite.specs.Held.{state};
+ghost use Rattle.vault_base.specs.declared.refusal.Table.TheVariants as table;
+ghost use Rattle.vault_core_model.specs.Vault.{Vault};
+ghost use Rattle.vault_audit_model.specs.Spells.{AreSoundAs};
+ghost use Rattle.vault_audit_model.specs.Tables.{schema_of};
+ghost use Rattle.vault_audit_schema.specs.Places.{BeginTo, IsToldIn};
+ghost use Rattle.vault_audit_records.specs.Meta.{IsMetaOf};
+ghost use Rattle.vault_audit.specs.InOrder.{AreRowsRight, ToldInOrder};
+ghost use Rattle.vault_audit_walk.specs.Health.{IsHealthy, IsMemory};
+
+use crate::first_pass::entries::check_entries;
+use crate::first_pass::meta::check_meta;
+use crate::first_pass::table_rows::{
+    check_buckets, check_callers, check_contents, check_departments, check_heads, check_intake,
+    check_rules, check_settings, check_tenures,
+};
+use sqlite::{Alter, Connection, Error};
+use vault_audit_model::rows::MetaRow;
+use vault_audit_model::schema::Edition;
+use vault_base::refusal::Table;
+
+/// The tables behind `meta`, in their order.
+static BEHIND_META: [Table; 10] = [
+    Table::Departments,
+    Table::Callers,
+    Table::Buckets,
+    Table::Rules,
+    Table::Entries,
+    Table::Contents,
+    Table::Settings,
+    Table::Intake,
+    Table::Heads,
+    Table::Tenures,
+];
+
+/// Whether the schema differs first at this table, where that is where it does.
+pub fn is_at(difference: Option<Table>, table: Table) -> bool
+    ensures { IsTrue result ↔ (difference ≡ Some table) }
+{
+    difference == Some(table)
+}
+
+/// Whether the rows of a table tell records in their limits, each by itself, where this is the row of `meta`.
+fn check_rows_of<S: Alter>(
+    conn: &mut Connection<S>,
+    edition: Edition,
+    meta: &MetaRow,
+    table: Table,
+) -> Result<bool, Error>
+    requires begin { HasCleanDisk (state S.Store conn.old) → BeginTo edition (state S.Store conn.old).now.schema.tables table }
+    requires meta { HasCleanDisk (state S.Store conn.old) → IsMetaOf edition (state S.Store conn.old).now (Some meta.now) }
+    requires open { HasCleanDisk (state S.Store conn.old) → IsTrue (state S.Store conn.old).is_open }
+    ensures told { HasCleanDisk (state S.Store conn.new) → IfOk result (AreRowsRight edition (state S.Store conn.new).now table) }
+    ensures damaged { HasCleanDisk (state S.Store conn.new) → IfOk result (λ right. right ≡ false → (v : Vault) → ¬ AreSoundAs edition (state S.Store conn.new).now v) }
+    ensures same { HasCleanDisk (state S.Store conn.new) → OnOk result (IsUnchanged (state S.Store conn.old) (state S.Store conn.new)) }
+    ensures err { IsHealthy (state S.Store conn.new) → IfErr result IsMemory }
+    ensures crash { Survives (state S.Store conn.old) (state S.Store conn.new) (λ _. ⊥) }
+{
+    match table {
+        Table::Meta => {
+            let found = check_meta(conn, edition)?;
+            Ok(found.is_some())
+        }
+        Table::Departments => check_departments(conn, edition),
+        Table::Callers => check_callers(conn, edition),
+        Table::Buckets => check_buckets(conn, edition),
+        Table::Rules => check_rules(conn, edition),
+        Table::Entries => check_entries(conn, edition, meta.last),
+        Table::Contents => check_contents(conn, edition),
+        Table::Settings => check_settings(conn, edition),
+        Table::Intake => check_intake(conn, edition),
+        Table::Heads => check_heads(conn, edition),
+        Table::Tenures => check_tenures(conn, edition),
+    }
+}
+
+/// The first table behind `meta` that isn't right by itself, where this is the row of `meta`: the schema differs at it,
+/// or one of its rows tells no record in its limits.
+pub fn look_at_tables<S: Alter>(
+    conn: &mut Connection<S>,
+    edition: Edition,
+    difference: Option<Table>,
+    meta: &MetaRow,
+) -> Result<Option<Table>, Error>
+    requires difference { HasCleanDisk (state S.Store conn.old) → MatchOption difference ((state S.Store conn.old).now.schema ≡ schema_of edition) (IsToldIn edition (state S.Store conn.old).now.schema) }
+    requires behind { difference ≢ Some table.Meta }
+    requires meta { HasCleanDisk (state S.Store conn.old) → IsMetaOf edition (state S.Store conn.old).now (Some meta.now) }
+    requires open { HasCleanDisk (state S.Store conn.old) → IsTrue (state S.Store conn.old).is_open }
+    ensures told { HasCleanDisk (state S.Store conn.new) → IfOk result (ToldInOrder edition (state S.Store conn.new).now) }
+    ensures same { HasCleanDisk (state S.Store conn.new) → OnOk result (IsUnchanged (state S.Store conn.old) (state S.Store conn.new)) }
+    ensures err { IsHealthy (state S.Store conn.new) → IfErr result IsMemory }
+    ensures crash { Survives (state S.Store conn.old) (state S.Store conn.new) (λ _. ⊥) }
+{
+    for table in &BEHIND_META {
+        if is_at(difference, *table) {
+            return Ok(Some(*table));
+        }
+        let right = check_rows_of(conn, edition, meta, *table)?;
+        if !right {
+            return Ok(Some(*table));
+        }
+    }
+    Ok(None)
+}

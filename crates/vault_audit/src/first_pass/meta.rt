@@ -1,0 +1,52 @@
+//! The first look at `meta`: it is one row, of the schema's number.
+ghost use Rattle.std.specs.Prelude.{◌≡◌, None, IfOk, IfErr, OnOk};
+ghost use Rattle.sqlite.specs.State.{HasCleanDisk, IsUnchanged, Survives};
+ghost use Rattle.sqlite.specs.Held.{state};
+ghost use Rattle.vault_core_model.specs.Vault.{Vault};
+ghost use Rattle.vault_audit_model.specs.Spells.{AreSoundAs};
+ghost use Rattle.vault_audit_records.specs.Meta.{IsMetaOf};
+ghost use Rattle.vault_base.specs.declared.refusal.Table.TheVariants as table;
+ghost use Rattle.vault_audit_schema.specs.Places.{BeginTo};
+ghost use Rattle.vault_audit.specs.MetaQuery.{meta_query};
+ghost use Rattle.vault_audit_walk.specs.Health.{IsHealthy, IsMemory};
+
+use sqlite::{Alter, Connection, Error};
+use vault_audit_model::rows::MetaRow;
+use vault_audit_model::schema::Edition;
+use vault_audit_records::meta::row::MetaPass;
+use vault_audit_walk::walk::walk;
+
+/// The query for the rows of `meta`. What an edition has no column for is 0.
+fn meta_query(edition: Edition) -> &'static str
+    ensures { result.now ≡ meta_query edition }
+{
+    match edition {
+        Edition::First | Edition::Second => {
+            "SELECT one, schema, last, next, 0 FROM meta ORDER BY one"
+        }
+        Edition::Third => "SELECT one, schema, last, next, moves FROM meta ORDER BY one",
+    }
+}
+
+/// The one row of `meta`, or none where it isn't one row that tells a moment, an id and a number of moves.
+pub fn check_meta<S: Alter>(
+    conn: &mut Connection<S>,
+    edition: Edition,
+) -> Result<Option<MetaRow>, Error>
+    requires { HasCleanDisk (state S.Store conn.old) → BeginTo edition (state S.Store conn.old).now.schema.tables table.Meta }
+    ensures told { HasCleanDisk (state S.Store conn.new) → IfOk result (IsMetaOf edition (state S.Store conn.new).now) }
+    ensures damaged { HasCleanDisk (state S.Store conn.new) → IfOk result (λ found. found ≡ None → (v : Vault) → ¬ AreSoundAs edition (state S.Store conn.new).now v) }
+    ensures same { HasCleanDisk (state S.Store conn.new) → OnOk result (IsUnchanged (state S.Store conn.old) (state S.Store conn.new)) }
+    ensures err { IsHealthy (state S.Store conn.new) → IfErr result IsMemory }
+    ensures crash { Survives (state S.Store conn.old) (state S.Store conn.new) (λ _. ⊥) }
+{
+    let mut pass = MetaPass {
+        edition,
+        found: None,
+    };
+    let one = walk(conn, meta_query(edition), &mut pass)?;
+    if !one {
+        return Ok(None);
+    }
+    Ok(pass.found)
+}

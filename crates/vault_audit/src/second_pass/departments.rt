@@ -1,0 +1,45 @@
+//! The next id, and the departments with their sums.
+ghost use Rattle.std.specs.Prelude.{◌≡◌, IfOk, IfErr, OnOk};
+ghost use Rattle.sqlite.specs.State.{HasCleanDisk, IsUnchanged, Survives};
+ghost use Rattle.sqlite.specs.Held.{state};
+ghost use Rattle.vault_audit_model.specs.Tables.{schema_of};
+ghost use Rattle.vault_audit.specs.Looks.{ToldOf, DepartmentsFound};
+ghost use Rattle.vault_audit_walk.specs.Health.{IsHealthy, IsMemory};
+
+use sqlite::{Alter, Connection, Error};
+use std::alloc::Global;
+use vault_audit_model::rows::MetaRow;
+use vault_audit_model::schema::Edition;
+use vault_audit_records::departments::by_name::check_departments_by_name;
+use vault_audit_records::meta::second_look::check_next;
+use vault_audit_tenures::sums::second_look::check_sums;
+use vault_base::refusal::Table;
+
+/// The first of meta and departments that is damaged: the next id isn't one above the entries, a
+/// department's name stands there twice, or one lacks the sums over its tenures.
+pub fn look_at_departments<S: Alter>(
+    alloc: Global,
+    conn: &mut Connection<S>,
+    edition: Edition,
+    meta: &MetaRow,
+) -> Result<Option<Table>, Error>
+    requires { HasCleanDisk (state S.Store conn.old) → (state S.Store conn.old).now.schema ≡ schema_of edition }
+    ensures told { HasCleanDisk (state S.Store conn.new) → IfOk result (ToldOf edition (state S.Store conn.new).now meta.now (DepartmentsFound edition (state S.Store conn.new).now meta.now)) }
+    ensures same { HasCleanDisk (state S.Store conn.new) → OnOk result (IsUnchanged (state S.Store conn.old) (state S.Store conn.new)) }
+    ensures err { IsHealthy (state S.Store conn.new) → IfErr result IsMemory }
+    ensures crash { Survives (state S.Store conn.old) (state S.Store conn.new) (λ _. ⊥) }
+{
+    let next = check_next(conn, edition, meta.next)?;
+    if !next {
+        return Ok(Some(Table::Meta));
+    }
+    let departments = check_departments_by_name(conn, edition)?;
+    if !departments {
+        return Ok(Some(Table::Departments));
+    }
+    let sums = check_sums(alloc, conn, edition)?;
+    if !sums {
+        return Ok(Some(Table::Departments));
+    }
+    Ok(None)
+}

@@ -1,0 +1,38 @@
+//! Callers, and buckets with their rules.
+ghost use Rattle.std.specs.Prelude.{◌≡◌, IfOk, IfErr, OnOk};
+ghost use Rattle.sqlite.specs.State.{HasCleanDisk, IsUnchanged, Survives};
+ghost use Rattle.sqlite.specs.Held.{state};
+ghost use Rattle.vault_audit_model.specs.Tables.{schema_of};
+ghost use Rattle.vault_audit.specs.Looks.{Told, NamesFound};
+ghost use Rattle.vault_audit_walk.specs.Health.{IsHealthy, IsMemory};
+
+use sqlite::{Alter, Connection, Error};
+use std::alloc::Global;
+use vault_audit_model::schema::Edition;
+use vault_audit_records::callers::check_callers_by_name;
+use vault_audit_records::rules::second_look::check_rules_of_buckets;
+use vault_base::refusal::Table;
+
+/// The first of callers and rules that is damaged: a caller's name stands there twice, or a bucket's
+/// rules aren't a set that it may have.
+pub fn look_at_names<S: Alter>(
+    alloc: Global,
+    conn: &mut Connection<S>,
+    edition: Edition,
+) -> Result<Option<Table>, Error>
+    requires { HasCleanDisk (state S.Store conn.old) → (state S.Store conn.old).now.schema ≡ schema_of edition }
+    ensures told { HasCleanDisk (state S.Store conn.new) → IfOk result (Told edition (state S.Store conn.new).now (NamesFound edition (state S.Store conn.new).now)) }
+    ensures same { HasCleanDisk (state S.Store conn.new) → OnOk result (IsUnchanged (state S.Store conn.old) (state S.Store conn.new)) }
+    ensures err { IsHealthy (state S.Store conn.new) → IfErr result IsMemory }
+    ensures crash { Survives (state S.Store conn.old) (state S.Store conn.new) (λ _. ⊥) }
+{
+    let callers = check_callers_by_name(conn, edition)?;
+    if !callers {
+        return Ok(Some(Table::Callers));
+    }
+    let rules = check_rules_of_buckets(alloc, conn, edition)?;
+    if !rules {
+        return Ok(Some(Table::Rules));
+    }
+    Ok(None)
+}

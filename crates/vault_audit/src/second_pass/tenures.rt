@@ -1,0 +1,33 @@
+//! The tenures of the versions.
+ghost use Rattle.std.specs.Prelude.{◌≡◌, IsTrue, IfOk, IfErr, OnOk};
+ghost use Rattle.sqlite.specs.State.{HasCleanDisk, IsUnchanged, Survives};
+ghost use Rattle.sqlite.specs.Held.{state};
+ghost use Rattle.vault_audit_model.specs.Tables.{schema_of};
+ghost use Rattle.vault_audit.specs.Looks.{ToldOf, TenuresFound};
+ghost use Rattle.vault_audit_walk.specs.Health.{IsHealthy, IsMemory};
+
+use sqlite::{Alter, Connection, Error};
+use vault_audit_model::rows::MetaRow;
+use vault_audit_model::schema::Edition;
+use vault_audit_tenures::second_look::check_tenures;
+use vault_base::refusal::Table;
+
+/// Tenures, where they are damaged. It is told of buckets and entries that other looks find in order.
+pub fn look_at_tenures<S: Alter>(
+    conn: &mut Connection<S>,
+    edition: Edition,
+    meta: MetaRow,
+) -> Result<Option<Table>, Error>
+    requires schema { HasCleanDisk (state S.Store conn.old) → (state S.Store conn.old).now.schema ≡ schema_of edition }
+    requires open { HasCleanDisk (state S.Store conn.old) → IsTrue (state S.Store conn.old).is_open }
+    ensures told { HasCleanDisk (state S.Store conn.new) → IfOk result (ToldOf edition (state S.Store conn.new).now meta (TenuresFound edition (state S.Store conn.new).now meta)) }
+    ensures same { HasCleanDisk (state S.Store conn.new) → OnOk result (IsUnchanged (state S.Store conn.old) (state S.Store conn.new)) }
+    ensures err { IsHealthy (state S.Store conn.new) → IfErr result IsMemory }
+    ensures crash { Survives (state S.Store conn.old) (state S.Store conn.new) (λ _. ⊥) }
+{
+    let tenures = check_tenures(conn, edition, meta)?;
+    if !tenures {
+        return Ok(Some(Table::Tenures));
+    }
+    Ok(None)
+}

@@ -1,0 +1,44 @@
+//! Contents, settings and notes of the entries.
+ghost use Rattle.std.specs.Prelude.{◌≡◌, List, IfOk, IfErr, OnOk};
+ghost use Rattle.sqlite.specs.State.{HasCleanDisk, IsUnchanged, Survives};
+ghost use Rattle.sqlite.specs.Held.{state};
+ghost use Rattle.vault_core_model.specs.declared.records.Entry.{Entry};
+ghost use Rattle.vault_audit_model.specs.Relations.{AreEntries};
+ghost use Rattle.vault_audit_model.specs.Tables.{schema_of};
+ghost use Rattle.vault_audit.specs.Looks.{Told, VersionsFound};
+ghost use Rattle.vault_audit_walk.specs.Health.{IsHealthy, IsMemory};
+
+use sqlite::{Alter, Connection, Error};
+use vault_audit_entries::contents::second_look::check_held_contents;
+use vault_audit_entries::intake::check_notes;
+use vault_audit_entries::settings::second_look::check_history_of_settings;
+use vault_audit_model::schema::Edition;
+use vault_base::refusal::Table;
+
+/// The first of contents, settings and intake that is damaged. It is told of entries whose ids are
+/// 1, 2, 3 and so on.
+pub fn look_at_versions<S: Alter>(
+    conn: &mut Connection<S>,
+    edition: Edition,
+) -> Result<Option<Table>, Error>
+    requires { HasCleanDisk (state S.Store conn.old) → (state S.Store conn.old).now.schema ≡ schema_of edition }
+    ensures told { HasCleanDisk (state S.Store conn.new) → IfOk result (Told edition (state S.Store conn.new).now
+        ((es : List Entry) → AreEntries (state S.Store conn.new).now es → VersionsFound (state S.Store conn.new).now es)) }
+    ensures same { HasCleanDisk (state S.Store conn.new) → OnOk result (IsUnchanged (state S.Store conn.old) (state S.Store conn.new)) }
+    ensures err { IsHealthy (state S.Store conn.new) → IfErr result IsMemory }
+    ensures crash { Survives (state S.Store conn.old) (state S.Store conn.new) (λ _. ⊥) }
+{
+    let contents = check_held_contents(conn, edition)?;
+    if !contents {
+        return Ok(Some(Table::Contents));
+    }
+    let settings = check_history_of_settings(conn, edition)?;
+    if !settings {
+        return Ok(Some(Table::Settings));
+    }
+    let notes = check_notes(conn, edition)?;
+    if !notes {
+        return Ok(Some(Table::Intake));
+    }
+    Ok(None)
+}

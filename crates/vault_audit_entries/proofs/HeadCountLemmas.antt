@@ -1,0 +1,233 @@
+-- The look at each head beside the held entries of its key.
+use Rattle.std.specs.Str.{bytes_eq}
+use Rattle.std.specs.Prelude.{if◌then◌else◌, min, is_none}
+use Rattle.std.proofs.Common.{◌≡◌, ◌≤◌, ℕ, ◌+◌, ◌&&◌, pos, negsuc, codes, List, [], ◌∷◌, ◌++◌, length, map, filter, flat_map, Bool, true, false, Some, None, Option, IsTrue, IsPermutation, refl, sym, ap, subst, ◌∙◌, arith}
+use Rattle.std.proofs.lemmas.Bool.Decides.{nat_tests}
+use Rattle.std.proofs.lemmas.List.{length-map}
+use Rattle.std.proofs.lemmas.List.Sorted.{IsPermutation-map, IsPermutation-sym, length_permutation}
+use Rattle.std.proofs.lemmas.Map.Text.{is_eq-slice_cmp}
+use Rattle.std.proofs.lemmas.List.Concat.{flat_map_single}
+use Rattle.sqlite_tied.specs.Compute.{everything}
+use Rattle.sqlite_trees.specs.Tree.{Trees}
+use Rattle.sqlite_trees.proofs.ListLemmas.{map-map, filter-map, IsPermutation-filter, all-permutation, all-map, all_from_map}
+use Rattle.sqlite_value.specs.declared.value.Value.TheVariants.{Null, Int}
+use Rattle.sqlite_value.specs.declared.keys.Collation.TheVariants.{Binary}
+use Rattle.sqlite_value.specs.Order.{Row, column, value_cmp}
+use Rattle.sqlite_sql.specs.declared.ops.BinaryOp.TheVariants.{Compare, Is}
+use Rattle.sqlite_sql.specs.declared.ops.CompareOp.TheVariants.{Eq}
+use Rattle.sqlite_sql.specs.Ops.{binary, is_true}
+use Rattle.sqlite_sql.specs.Term.{Term, Env, lit, col, op2, eval_all}
+use Rattle.sqlite_sql.specs.Query.{Query, inner, counted, end, IsAnswer, Output, output}
+use Rattle.sqlite_sql.specs.Program.{overlay}
+use Rattle.sqlite.specs.Command.TheVariants.{Select}
+use Rattle.sqlite.specs.Effect.{Database}
+use Rattle.sqlite.specs.Listing.{understood, reads_listing}
+use Rattle.sqlite.specs.State.{State, Shown, IsUnchanged}
+use Rattle.sqlite.proofs.Callers.{IsPlain, command_of, reads_as}
+use Rattle.vault_core_model.specs.declared.records.Entry.{Entry}
+use Rattle.vault_core_model.specs.declared.records.Removal.{Removal}
+use Rattle.vault_base.specs.Name.{is_version_id}
+use Rattle.vault_core_model.specs.Places.{is_held_at}
+use Rattle.vault_audit_model.specs.declared.rows.HeadRow.{HeadRow}
+use Rattle.vault_audit_model.specs.Relations.{AreEntries, AreNumbered}
+use Rattle.vault_audit_model.specs.Rows.{entry_row, entry_columns, head_row, head_columns, removal_at}
+use Rattle.vault_audit_model.specs.Tables.{schema_of, entries_tree, heads_tree}
+use Rattle.vault_audit_model.specs.Values.{number}
+use Rattle.vault_audit_model.proofs.SameRows.{number_same}
+use Rattle.vault_audit_walk.specs.Health.{Asks}
+use Rattle.vault_audit_walk.specs.Records.{Checked}
+use Rattle.vault_audit_walk.proofs.ScanLemmas.{goes_on_to}
+use Rattle.vault_audit_walk.proofs.RecordLemmas.{between, front}
+use Rattle.vault_audit_model.proofs.ValueLemmas.{agrees, three}
+use Rattle.vault_audit_walk.proofs.BesideLemmas.{agree_texts, of_records, of_stored, each, passes}
+use Rattle.vault_audit_entries.specs.HeadCounts.{IsCounted, TellCounts, ShowsCount}
+use Rattle.vault_audit_model.specs.declared.schema.Edition.{Edition}
+
+-- ---- the statement
+
+abbrev pub counts_text : List ℕ
+counts_text = codes "SELECT h.count, (SELECT count(*) FROM entries AS e WHERE e.bucket = h.bucket AND e.key = h.key AND e.removed IS NULL) AS held FROM heads AS h"
+
+abbrev tests : List Term
+tests = op2 (Compare Eq Binary) (col 2 2) (col 1 1) ∷ op2 (Compare Eq Binary) (col 2 3) (col 1 2) ∷ op2 (Is Binary) (col 2 10) (lit Null) ∷ []
+
+-- no count is greater
+abbrev most : ℕ
+most = 9223372036854775807
+
+abbrev pub counts_query : Query
+counts_query = record {
+  from = inner heads_tree (counted most (inner 9 end) tests end);
+  filter = [];
+  group = None;
+  project = col 1 4 ∷ col 2 0 ∷ [];
+  distinct = false;
+  collations = [];
+  order = [];
+  limit = lit (Int (negsuc 0));
+  offset = lit (Int (pos 0));
+}
+
+counts_is : (n : Edition) → (command_of (understood (schema_of n) counts_text) ≡ Select (record { lets = []; body = counts_query }) (codes "count" ∷ codes "held" ∷ []))
+    × (reads_listing (schema_of n) counts_text ≡ false)
+unfolding understood everything
+counts_is n = (refl, refl)
+
+pub counts_plain : (n : Edition) → IsPlain (understood (schema_of n) counts_text)
+unfolding understood everything
+counts_plain n = (refl, refl)
+
+pub counts_asks : (n : Edition) → Asks (schema_of n) counts_text
+unfolding understood everything
+counts_asks n = record { is = (omega (arith), refl, (refl, refl, refl, refl)); unlisted = refl }
+
+-- ---- what it shows
+
+abbrev met : List Row → Row → List Env
+met entries r = flat_map (λ s. if passes tests r s then ([] ∷ r ∷ s ∷ []) ∷ [] else []) entries
+
+abbrev shown_counted : List Row → Row → Row
+shown_counted entries r = column r 4 ∷ Int (pos (min most (length (met entries r)))) ∷ []
+
+abbrev source : Trees → List Row
+source db = map (shown_counted (db 9)) (db heads_tree)
+
+abbrev env_of : Trees → Row → Env
+env_of db r = [] ∷ r ∷ (Int (pos (min most (length (met (db 9) r)))) ∷ []) ∷ []
+
+answered : (db : Trees) (rows : List Row) → IsAnswer counts_query db [] rows → IsPermutation (source db) rows
+answered db rows a =
+    let q = counts_query in
+    let kept : map (λ (o : Output). o.1) a.kept ≡ source db =
+    ap (map (λ (o : Output). o.1)) (a.distinct ∙ ap (map (output q)) (a.grouped ∙ flat_map_single (env_of db) (db heads_tree)))
+    ∙ map-map (λ (o : Output). o.1) (output q) (map (env_of db) (db heads_tree)) ∙ map-map (eval_all q.project) (env_of db) (db heads_tree) in
+    subst (λ xs. IsPermutation xs rows) kept (subst (IsPermutation (map (λ (o : Output). o.1) a.kept)) (sym a.shown) (IsPermutation-map (λ (o : Output). o.1) a.kept a.ordered a.same))
+
+looked : (n : Edition) → (old new : State) → old.now.schema ≡ schema_of n → (rows : List Row) → Shown counts_text [] old new rows → IsPermutation (source old.now.trees) rows
+looked n old new has rows h =
+    let read = reads_as counts_text [] old new (schema_of n) has _ (counts_is n).0 (counts_plain n) (counts_is n).1 rows h in
+    answered (overlay old.now.trees []) rows (read.answer Null)
+
+-- ---- how many entries pass
+
+as_many : {A B : Type 0} (p : A → Bool) (f : A → B) (xs : List A) → length (flat_map (λ x. if p x then f x ∷ [] else []) xs) ≡ length (filter p xs)
+as_many p f [] = refl
+as_many p f (x ∷ xs) =
+    let more = as_many p f xs in
+    elim (p x) as (λ b. length ((if b then f x ∷ [] else []) ++ flat_map (λ y. if p y then f y ∷ [] else []) xs) ≡ length (if b then x ∷ filter p xs else filter p xs)) [
+      | true ↦ omega (arith, more)
+      | false ↦ more
+    ]
+
+-- what a row of heads and a row of entries tell, as their columns
+abbrev tells : Row → Row → Bool
+tells x y = agrees (column y 1) (column x 0) && (agrees (column y 2) (column x 1) && (is_true (binary (Is Binary) (column y 9) Null) && true))
+
+abbrev how_many : List Row → Row → ℕ
+how_many entries x = length (filter (λ s. tells x (entry_columns s)) entries)
+
+abbrev Counts : List Row → Row → Type 0
+Counts entries x = column x 3 ≡ number (min most (how_many entries x))
+
+shown_number : (entries : List Row) (r : Row) → column (shown_counted entries r) 1 ≡ number (min most (how_many entries (head_columns r)))
+shown_number entries r = ap (λ n. number (min most n)) (as_many (passes tests r) (λ s. [] ∷ r ∷ s ∷ []) entries)
+
+counts_if : (entries : List Row) (r : Row) → ShowsCount (shown_counted entries r) → Counts entries (head_columns r)
+counts_if entries r (n, told, shown) = told ∙ sym shown ∙ shown_number entries r
+
+shows_if : (entries : List Row) (r : Row) → Counts entries (head_columns r) → ShowsCount (shown_counted entries r)
+shows_if entries r it = (min most (how_many entries (head_columns r)), it, shown_number entries r)
+
+-- ---- the entries and the heads of the rows
+
+unremoved : (r : Option Removal) → is_true (binary (Is Binary) (removal_at r) Null) ≡ is_none r
+unfolding binary value_cmp lib.Ieee.is_nan lib.Ieee.lt
+unremoved None = refl
+unremoved (Some r) = refl
+
+tells_held : (h : HeadRow) (e : Entry) → tells (head_row h) (entry_row e) ≡ is_held_at h.bucket h.key e
+tells_held h e =
+    three _ _ _ (bytes_eq e.bucket h.bucket) (bytes_eq e.key h.key) (is_none e.removal)
+    (agree_texts e.bucket h.bucket ∙ is_eq-slice_cmp e.bucket h.bucket) (agree_texts e.key h.key ∙ is_eq-slice_cmp e.key h.key) (unremoved e.removal)
+
+filter_alike : {A : Type 0} (p q : A → Bool) → ((x : A) → p x ≡ q x) → (xs : List A) → length (filter p xs) ≡ length (filter q xs)
+filter_alike p q same [] = refl
+filter_alike p q same (x ∷ xs) =
+    let more = filter_alike p q same xs in
+    subst (λ b. length (filter p (x ∷ xs)) ≡ length (if b then x ∷ filter q xs else filter q xs)) (same x)
+    (elim (p x) as (λ b. length (if b then x ∷ filter p xs else filter p xs) ≡ length (if b then x ∷ filter q xs else filter q xs)) [
+      | true ↦ omega (arith, more)
+      | false ↦ more
+    ])
+
+-- how many of what is mapped pass
+pub mapped_many : {A B : Type 0} (p : B → Bool) (f : A → B) (xs : List A) → length (filter p (map f xs)) ≡ length (filter (λ x. p (f x)) xs)
+mapped_many p f xs =
+    let one : length (map f (filter (λ x. p (f x)) xs)) ≡ length (filter (λ x. p (f x)) xs) = simp length-map in
+    ap length (filter-map p f xs) ∙ one
+
+no_more : {A : Type 0} (p : A → Bool) (xs : List A) → length (filter p xs) ≤ length xs
+no_more p [] = omega arith
+no_more p (x ∷ xs) =
+    let more = no_more p xs in
+    elim (p x) as (λ b. length (if b then x ∷ filter p xs else filter p xs) ≤ length (x ∷ xs)) [
+      | true ↦ omega (arith, more)
+      | false ↦ omega (arith, more)
+    ]
+
+id_bound : (n : ℕ) → IsTrue (is_version_id n) → n ≤ 1000000000
+id_bound n is = grind (arith, nat_tests, is)
+
+few_entries : (next low : ℕ) (es : List Entry) → next ≤ 1000000001 → AreNumbered next low es → next + length es ≤ 1000000001
+few_entries next low [] some are = omega (arith, some)
+few_entries next low (e ∷ es) some are =
+    let id = are.0.1.0 in
+    let bound = id_bound e.id are.0.0.id in
+    let more = few_entries (next + 1) e.admitted es (omega (arith, id, bound)) are.1 in
+    omega (arith, more)
+
+below_most : (n : ℕ) → n ≤ 1000000001 → min most n ≡ n
+below_most n low = grind (arith, low)
+
+module _ (entries : List Row) (es : List Entry) (are : IsPermutation (map entry_row es) (map entry_columns entries)) (numbered : AreNumbered 1 0 es) where
+  found : (h : HeadRow) → how_many entries (head_row h) ≡ length (filter (is_held_at h.bucket h.key) es)
+  found h =
+      let p = tells (head_row h) in
+      sym (mapped_many p entry_columns entries) ∙ length_permutation _ _ (IsPermutation-filter p _ _ are)
+      ∙ mapped_many p entry_row es ∙ filter_alike (λ e. p (entry_row e)) (is_held_at h.bucket h.key) (tells_held h) es
+
+  whole : (h : HeadRow) → min most (how_many entries (head_row h)) ≡ length (filter (is_held_at h.bucket h.key) es)
+  whole h =
+      let n = found h in
+      let few = few_entries 1 0 es (omega arith) numbered in
+      let some = no_more (is_held_at h.bucket h.key) es in
+      ap (min most) n ∙ below_most _ (omega (arith, few, some))
+
+  counted_if : (h : HeadRow) → Counts entries (head_row h) → IsCounted es h
+  counted_if h it = number_same _ _ it ∙ whole h
+
+  if_counted : (h : HeadRow) → IsCounted es h → Counts entries (head_row h)
+  if_counted h it = ap number (it ∙ sym (whole h))
+
+module _ (n : Edition) (old new : State) (has : old.now.schema ≡ schema_of n) (same : IsUnchanged old new) (es : List Entry) (hs : List HeadRow) (are : AreEntries new.now es) (tell : IsPermutation (map head_row hs) (map head_columns (new.now.trees heads_tree))) where
+  counts_yes : Checked ShowsCount counts_text old new true → TellCounts es hs true
+  counts_yes (rows, shown, all) =
+      let db : new.now ≡ old.now = same.0.now_is in
+      let every = subst (λ (d : Database). IsPermutation (source d.trees) rows) (sym db) ((looked n) old new has rows shown) in
+      let entries = new.now.trees entries_tree in
+      let stored = all_from_map ShowsCount (shown_counted entries) (new.now.trees heads_tree) (all-permutation ShowsCount _ _ (IsPermutation-sym _ _ every) all) in
+      each (counted_if entries es are.0 are.1) hs (of_records head_row head_columns (Counts entries) hs (new.now.trees heads_tree) tell (each (counts_if entries) (new.now.trees heads_tree) stored))
+
+  counts_no : Checked ShowsCount counts_text old new false → TellCounts es hs false
+  counts_no (rows, row, begins, none) all =
+      let known : new.now.schema ≡ schema_of n = ap (λ (b : Database). b.schema) same.0.now_is ∙ has in
+      let on = goes_on_to counts_text new (schema_of n) known _ _ (counts_is n).0 same.0.is_open (rows ++ row ∷ []) begins in
+      let every = (looked n) new new known ((rows ++ row ∷ []) ++ on.0) on.1 in
+      let entries = new.now.trees entries_tree in
+      let stored = of_stored head_row head_columns (Counts entries) hs (new.now.trees heads_tree) tell (each (if_counted entries es are.0 are.1) hs all) in
+      let passed = all-permutation ShowsCount _ _ every (all-map ShowsCount (shown_counted entries) (new.now.trees heads_tree) (each (shows_if entries) (new.now.trees heads_tree) stored)) in
+      none (between ShowsCount rows row [] (front ShowsCount (rows ++ row ∷ []) on.0 passed))
+
+  pub counts_told : (b : Bool) → Checked ShowsCount counts_text old new b → TellCounts es hs b
+  counts_told true = counts_yes
+  counts_told false = counts_no

@@ -1,0 +1,27 @@
+use Rattle.std.proofs.Common.{◌≡◌, true, false, sym, subst, rules, arith}
+use Rattle.sqlite.specs.Held.{state}
+use Rattle.sqlite.specs.State.{HasCleanDisk}
+use Rattle.vault_audit_walk.specs.Health.{Asks, IsMemory}
+use Rattle.sqlite.specs.Given.{IsPlain}
+use Rattle.sqlite.specs.Listing.{understood}
+use Rattle.vault_audit_entries.proofs.ContentLemmas.{contents_yes, contents_no}
+use Rattle.vault_audit_entries.proofs.ContentTextLemmas.{contents_walk, contents_walk_plain, contents_walk_asks}
+use Rattle.vault_audit_entries.proofs.contents.beside.check_bytes.Goals as goal
+
+pub walk-requires : goal.walk-requires
+walk-requires g c clean = subst (λ s. IsPlain (understood s contents_walk)) (sym (c.requires clean)) (contents_walk_plain c.args.edition)
+
+pub returns-then-not-whole-clause-told : goal.returns-then-not-whole-clause-told
+returns-then-not-whole-clause-told g c clean es are =
+    let early : HasCleanDisk (state g.S.Store c.args.conn.now) = omega (arith, c.in_ok-whole.ensures.crash.clean) in
+    let no : c.in_ok-whole.whole ≡ false = search rules in
+    (contents_no c.args.edition) (state g.S.Store c.args.conn.now) (state g.S.Store c.walk.new.conn) (c.requires early) (c.in_ok-whole.ensures.same clean) c.walk.new.pass es are (rw no at (c.in_ok-whole.ensures.walked clean))
+
+pub returns-clause-told : goal.returns-clause-told
+returns-clause-told g c clean es are =
+    let early : HasCleanDisk (state g.S.Store c.args.conn.now) = omega (arith, c.in_ok-whole.ensures.crash.clean) in
+    let yes : c.in_ok-whole.whole ≡ true = search rules in
+    (contents_yes c.args.edition) (state g.S.Store c.args.conn.now) (state g.S.Store c.walk.new.conn) (c.requires early) (c.in_ok-whole.ensures.same clean) c.walk.new.pass es are (rw yes at (c.in_ok-whole.ensures.walked clean))
+
+pub returns-in_err-whole-clause-err : goal.returns-in_err-whole-clause-err
+returns-in_err-whole-clause-err g c well = let it : IsMemory c.in_err-whole.field-0.0 = c.in_err-whole.ensures.err well (λ clean. subst (λ s. Asks s contents_walk) (sym (c.requires clean)) (contents_walk_asks c.args.edition)) in search rules

@@ -1,0 +1,20 @@
+use Rattle.std.proofs.Common.{sym, subst, arith}
+use Rattle.sqlite.specs.Held.{state}
+use Rattle.sqlite.specs.State.{HasCleanDisk}
+use Rattle.vault_audit_walk.specs.Health.{Asks}
+use Rattle.sqlite.specs.Given.{IsPlain}
+use Rattle.sqlite.specs.Listing.{understood}
+use Rattle.vault_audit_records.proofs.RuleTellLemmas.{buckets_if_ok}
+use Rattle.vault_audit_records.proofs.RuleTextLemmas.{buckets_walk, buckets_walk_plain, buckets_walk_asks}
+use Rattle.vault_audit_records.proofs.buckets.are_buckets.Goals as goal
+
+pub walk-requires : goal.walk-requires
+walk-requires g c clean = subst (λ s. IsPlain (understood s buckets_walk)) (sym (c.requires clean)) (buckets_walk_plain c.args.edition)
+
+pub returns-clause-told : goal.returns-clause-told
+returns-clause-told g c clean =
+    let early : HasCleanDisk (state g.S.Store c.args.conn.now) = omega (arith, c.walk.ensures.crash.clean) in
+    buckets_if_ok c.args.edition (state g.S.Store c.args.conn.now) (state g.S.Store c.walk.new.conn) (c.requires early) c.walk.new.pass c.walk.result (c.walk.ensures.same clean) (c.walk.ensures.walked clean)
+
+pub returns-clause-err : goal.returns-clause-err
+returns-clause-err g c well = c.walk.ensures.err well (λ clean. subst (λ s. Asks s buckets_walk) (sym (c.requires clean)) (buckets_walk_asks c.args.edition))

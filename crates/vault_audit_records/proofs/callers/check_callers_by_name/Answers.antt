@@ -1,0 +1,29 @@
+use Rattle.std.proofs.Common.{sym, subst, arith}
+use Rattle.sqlite.specs.Held.{state}
+use Rattle.sqlite.specs.State.{HasCleanDisk}
+use Rattle.vault_audit_walk.specs.Health.{Asks}
+use Rattle.sqlite.specs.Given.{IsPlain}
+use Rattle.sqlite.specs.Listing.{understood}
+use Rattle.vault_core_model.specs.Vault.{Vault}
+use Rattle.vault_audit_model.specs.Spells.{AreSoundAs}
+use Rattle.vault_audit_records.proofs.DamageLemmas.{refused_if_ok}
+use Rattle.vault_audit_records.specs.ByName.{TellCallers}
+use Rattle.vault_audit_records.proofs.NameTellLemmas.{callers_if_ok, no_callers}
+use Rattle.vault_audit_records.proofs.NameTextLemmas.{callers_walk, callers_walk_plain, callers_walk_asks}
+use Rattle.vault_audit_records.proofs.callers.check_callers_by_name.Goals as goal
+
+pub walk-requires : goal.walk-requires
+walk-requires g c clean = subst (λ s. IsPlain (understood s callers_walk)) (sym (c.requires clean)) (callers_walk_plain c.args.edition)
+
+pub returns-clause-told : goal.returns-clause-told
+returns-clause-told g c clean =
+    let early : HasCleanDisk (state g.S.Store c.args.conn.now) = omega (arith, c.walk.ensures.crash.clean) in
+    (callers_if_ok c.args.edition) (state g.S.Store c.args.conn.now) (state g.S.Store c.walk.new.conn) (c.requires early) c.walk.new.pass c.walk.result (c.walk.ensures.same clean) (c.walk.ensures.walked clean)
+
+pub returns-clause-damaged : goal.returns-clause-damaged
+returns-clause-damaged g c clean =
+    let db = (state g.S.Store c.walk.new.conn).now in
+    refused_if_ok (TellCallers db) ((v : Vault) → ¬ AreSoundAs c.args.edition db v) (λ none v. (no_callers c.args.edition) db v none) c.walk.result (returns-clause-told g c clean)
+
+pub returns-clause-err : goal.returns-clause-err
+returns-clause-err g c well = c.walk.ensures.err well (λ clean. subst (λ s. Asks s callers_walk) (sym (c.requires clean)) (callers_walk_asks c.args.edition))

@@ -1,0 +1,28 @@
+use Rattle.std.proofs.Common.{◌≡◌, true, false, sym, subst, rules, arith}
+use Rattle.sqlite.specs.Held.{state}
+use Rattle.sqlite.specs.State.{HasCleanDisk}
+use Rattle.vault_audit_walk.specs.Health.{Asks, IsMemory}
+use Rattle.sqlite.specs.Given.{IsPlain}
+use Rattle.sqlite.specs.Listing.{understood}
+use Rattle.vault_audit_records.proofs.RuleTellLemmas.{rules_stopped, rules_closed}
+use Rattle.vault_audit_records.proofs.RuleTextLemmas.{rules_walk_plain, rules_walk_asks}
+use Rattle.vault_audit_records.proofs.rules.placed.are_runs.Goals as goal
+use Rattle.vault_audit_records.specs.RulesWalk.{rules_walk}
+
+pub walk-requires : goal.walk-requires
+walk-requires g c clean = rw c.rules_walk.ensures (subst (λ s. IsPlain (understood s (rules_walk c.args.edition))) (sym (c.requires clean)) (rules_walk_plain c.args.edition))
+
+pub returns-then-not-whole-clause-told : goal.returns-then-not-whole-clause-told
+returns-then-not-whole-clause-told g c clean =
+    let early : HasCleanDisk (state g.S.Store c.args.conn.now) = omega (arith, c.in_ok-whole.ensures.crash.clean) in
+    let no : c.in_ok-whole.whole ≡ false = search rules in
+    rules_stopped c.args.edition (state g.S.Store c.args.conn.now) (state g.S.Store c.walk.new.conn) (c.requires early) (c.in_ok-whole.ensures.same clean) _ c.new.ensures.items c.walk.new.pass (rw (no, c.rules_walk.ensures) at (c.in_ok-whole.ensures.walked clean))
+
+pub returns-clause-told : goal.returns-clause-told
+returns-clause-told g c clean =
+    let early : HasCleanDisk (state g.S.Store c.args.conn.now) = omega (arith, c.in_ok-whole.ensures.crash.clean) in
+    let yes : c.in_ok-whole.whole ≡ true = search rules in
+    rules_closed c.args.edition (state g.S.Store c.args.conn.now) (state g.S.Store c.walk.new.conn) (c.requires early) (c.in_ok-whole.ensures.same clean) _ c.new.ensures.items c.walk.new.pass (rw (yes, c.rules_walk.ensures) at (c.in_ok-whole.ensures.walked clean)) c.close.result c.close.ensures.whole
+
+pub returns-in_err-whole-clause-err : goal.returns-in_err-whole-clause-err
+returns-in_err-whole-clause-err g c well = let it : IsMemory c.in_err-whole.field-0.0 = c.in_err-whole.ensures.err well (λ clean. rw c.rules_walk.ensures (subst (λ s. Asks s (rules_walk c.args.edition)) (sym (c.requires clean)) (rules_walk_asks c.args.edition))) in search rules

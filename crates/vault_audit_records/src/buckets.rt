@@ -1,0 +1,83 @@
+//! Whether the rows of `buckets` are buckets by rising name.
+ghost use Rattle.std.specs.Prelude.{◌≡◌, ◌↔◌, IsTrue, IfOk, IfErr, OnOk};
+ghost use Rattle.sqlite.specs.State.{HasCleanDisk, IsUnchanged, Survives};
+ghost use Rattle.sqlite.specs.Held.{state};
+ghost use Rattle.vault_audit_model.specs.Tables.{schema_of};
+ghost use Rattle.vault_audit_records.specs.RulesByPlace.{IsAfter, TellBucketRows};
+ghost use Rattle.vault_audit_walk.specs.Health.{IsHealthy, IsMemory};
+
+use sqlite::{Alter, Connection, Error, ErrorCode, Row};
+use std::marker::Model;
+use vault_audit_model::schema::Edition;
+use vault_audit_rows::misread::Misread;
+use vault_audit_rows::records::read_bucket;
+use vault_audit_walk::walk::{Pass, walk};
+use vault_base::name::BucketName;
+
+/// Whether a name comes after another, or there is no other.
+pub(crate) fn is_after(before: &Option<BucketName>, name: &BucketName) -> bool
+    ensures { IsTrue result ↔ IsAfter before.now name.now }
+{
+    match before {
+        None => true,
+        Some(before) => before < name,
+    }
+}
+
+/// The check of buckets by rising name.
+#[derive(Drop)]
+pub struct BucketPass {
+    last: Option<BucketName>,
+}
+
+impl Model for BucketPass {
+    ghost use Rattle.std.specs.Prelude.{ℕ, List, Option};
+
+    ghost Value = { Option (List ℕ) };
+
+    ghost view = { λ p. p.last };
+}
+
+impl Pass for BucketPass {
+    ghost use Rattle.vault_audit_walk.specs.Pass.{Takes, Refuses};
+    ghost use Rattle.vault_audit_model.specs.Rows.{bucket_row};
+    ghost use Rattle.vault_audit_records.specs.RulesByPlace.{IsNextBucket, with_bucket};
+
+    ghost goes = { λ p row q. Takes bucket_row IsNextBucket with_bucket p row q };
+
+    ghost stops = { λ p row. Refuses bucket_row IsNextBucket with_bucket p row };
+
+    #[tactic(auto, using(crate::proofs::RuleRowLemmas::one_bucket))]
+    fn take(&mut self, row: &Row) -> Result<bool, Error> {
+        let bucket = match read_bucket(row) {
+            Ok(bucket) => bucket,
+            Err(Misread::Wrong) => return Ok(false),
+            Err(Misread::Memory) => return Err(Error::SqliteFailure(ErrorCode::OutOfMemory)),
+        };
+        if !is_after(&self.last, &bucket.name) {
+            drop(bucket);
+            return Ok(false);
+        }
+        self.last = Some(bucket.name);
+        Ok(true)
+    }
+}
+
+/// Whether the rows of `buckets` tell buckets in their limits, of which no two have one name.
+pub(crate) fn are_buckets<S: Alter>(
+    conn: &mut Connection<S>,
+    edition: Edition,
+) -> Result<bool, Error>
+    requires { HasCleanDisk (state S.Store conn.old) → (state S.Store conn.old).now.schema ≡ schema_of edition }
+    ensures told { HasCleanDisk (state S.Store conn.new) → IfOk result (TellBucketRows (state S.Store conn.new).now) }
+    ensures same { HasCleanDisk (state S.Store conn.new) → OnOk result (IsUnchanged (state S.Store conn.old) (state S.Store conn.new)) }
+    ensures err { IsHealthy (state S.Store conn.new) → IfErr result IsMemory }
+    ensures crash { Survives (state S.Store conn.old) (state S.Store conn.new) (λ _. ⊥) }
+{
+    let mut pass = BucketPass { last: None };
+    walk(
+        conn,
+        "SELECT name, dept, mode, days, years FROM buckets ORDER BY name",
+        &mut pass,
+    )
+}

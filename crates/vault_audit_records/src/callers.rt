@@ -1,0 +1,86 @@
+//! Whether the rows of `callers` are callers, by rising name.
+ghost use Rattle.std.specs.Prelude.{◌≡◌, ◌↔◌, false, IsTrue, IfOk, IfErr, OnOk};
+ghost use Rattle.sqlite.specs.State.{HasCleanDisk, IsUnchanged, Survives};
+ghost use Rattle.sqlite.specs.Held.{state};
+ghost use Rattle.vault_core_model.specs.Vault.{Vault};
+ghost use Rattle.vault_audit_model.specs.Spells.{AreSoundAs};
+ghost use Rattle.vault_audit_model.specs.Tables.{schema_of};
+ghost use Rattle.vault_audit_model.specs.Relations.{IsAfter};
+ghost use Rattle.vault_audit_records.specs.ByName.{TellCallers};
+ghost use Rattle.vault_audit_walk.specs.Health.{IsHealthy, IsMemory};
+
+use crate::row_check::refused;
+use sqlite::{Alter, Connection, Error, Row};
+use std::marker::Model;
+use vault_audit_model::schema::Edition;
+use vault_audit_rows::records::read_caller;
+use vault_audit_walk::walk::{Pass, walk};
+use vault_base::name::CallerName;
+
+/// The check of callers by rising name.
+#[derive(Drop)]
+pub struct CallerPass {
+    last: Option<CallerName>,
+}
+
+impl Model for CallerPass {
+    ghost use Rattle.std.specs.Prelude.{ℕ, List, Option};
+
+    ghost Value = { Option (List ℕ) };
+
+    ghost view = { λ p. p.last };
+}
+
+/// Whether a name comes after another, or there is no other.
+fn is_after(before: &Option<CallerName>, name: &CallerName) -> bool
+    ensures { IsTrue result ↔ IsAfter before.now name.now }
+{
+    match before {
+        None => true,
+        Some(before) => before < name,
+    }
+}
+
+impl Pass for CallerPass {
+    ghost use Rattle.vault_audit_walk.specs.Pass.{Takes, Refuses};
+    ghost use Rattle.vault_audit_model.specs.Rows.{caller_row};
+    ghost use Rattle.vault_audit_records.specs.ByName.{IsNextCaller, with_caller};
+
+    ghost goes = { λ p row q. Takes caller_row IsNextCaller with_caller p row q };
+
+    ghost stops = { λ p row. Refuses caller_row IsNextCaller with_caller p row };
+
+    #[tactic(auto, using(crate::proofs::NameRowLemmas::one_caller))]
+    fn take(&mut self, row: &Row) -> Result<bool, Error> {
+        let found = match read_caller(row) {
+            Ok(found) => found,
+            Err(misread) => return refused(misread),
+        };
+        if !is_after(&self.last, &found.name) {
+            drop(found);
+            return Ok(false);
+        }
+        self.last = Some(found.name);
+        Ok(true)
+    }
+}
+
+/// Whether the rows of `callers` tell callers with values in their limits, of which no two have one name.
+pub fn check_callers_by_name<S: Alter>(
+    conn: &mut Connection<S>,
+    edition: Edition,
+) -> Result<bool, Error>
+    requires { HasCleanDisk (state S.Store conn.old) → (state S.Store conn.old).now.schema ≡ schema_of edition }
+    ensures told { HasCleanDisk (state S.Store conn.new) → IfOk result (TellCallers (state S.Store conn.new).now) }
+    ensures damaged { HasCleanDisk (state S.Store conn.new) → IfOk result (λ told. told ≡ false → (v : Vault) → ¬ AreSoundAs edition (state S.Store conn.new).now v) }
+    ensures same { HasCleanDisk (state S.Store conn.new) → OnOk result (IsUnchanged (state S.Store conn.old) (state S.Store conn.new)) }
+    ensures err { IsHealthy (state S.Store conn.new) → IfErr result IsMemory }
+    ensures crash { Survives (state S.Store conn.old) (state S.Store conn.new) (λ _. ⊥) }
+{
+    let mut pass = CallerPass { last: None };
+    walk(
+        conn,
+        "SELECT name, dept, rights, closed FROM callers ORDER BY name",
+        &mut pass,
+    )
+}

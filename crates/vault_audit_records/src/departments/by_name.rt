@@ -1,0 +1,97 @@
+//! Whether the rows of `departments` are departments, by rising name.
+ghost use Rattle.std.specs.Prelude.{◌≡◌, ◌↔◌, false, IsTrue, IfOk, IfErr, OnOk};
+ghost use Rattle.sqlite.specs.State.{HasCleanDisk, IsUnchanged, Survives};
+ghost use Rattle.sqlite.specs.Held.{state};
+ghost use Rattle.vault_core_model.specs.Vault.{Vault};
+ghost use Rattle.vault_audit_model.specs.Spells.{AreSoundAs};
+ghost use Rattle.vault_audit_model.specs.Tables.{schema_of};
+ghost use Rattle.vault_audit_model.specs.Relations.{IsAfter};
+ghost use Rattle.vault_audit_records.specs.DepartmentsWalk.{departments_walk};
+ghost use Rattle.vault_audit_records.specs.ByName.{TellDepartments};
+ghost use Rattle.vault_audit_walk.specs.Health.{IsHealthy, IsMemory};
+
+use crate::row_check::refused;
+use sqlite::{Alter, Connection, Error, Row};
+use std::marker::Model;
+use vault_audit_model::schema::Edition;
+use vault_audit_rows::records::read_department;
+use vault_audit_walk::walk::{Pass, walk};
+use vault_base::name::DeptName;
+
+/// The check of departments by rising name.
+#[derive(Drop)]
+pub struct DepartmentPass {
+    last: Option<DeptName>,
+}
+
+impl Model for DepartmentPass {
+    ghost use Rattle.std.specs.Prelude.{ℕ, List, Option};
+
+    ghost Value = { Option (List ℕ) };
+
+    ghost view = { λ p. p.last };
+}
+
+/// Whether a name comes after another, or there is no other.
+fn is_after(before: &Option<DeptName>, name: &DeptName) -> bool
+    ensures { IsTrue result ↔ IsAfter before.now name.now }
+{
+    match before {
+        None => true,
+        Some(before) => before < name,
+    }
+}
+
+impl Pass for DepartmentPass {
+    ghost use Rattle.vault_audit_walk.specs.Pass.{Takes, Refuses};
+    ghost use Rattle.vault_audit_model.specs.Rows.{department_row};
+    ghost use Rattle.vault_audit_records.specs.ByName.{IsNextDepartment, with_department};
+
+    ghost goes = { λ p row q. Takes department_row IsNextDepartment with_department p row q };
+
+    ghost stops = { λ p row. Refuses department_row IsNextDepartment with_department p row };
+
+    #[tactic(auto, using(crate::proofs::NameRowLemmas::one_name))]
+    fn take(&mut self, row: &Row) -> Result<bool, Error> {
+        let found = match read_department(row) {
+            Ok(found) => found,
+            Err(misread) => return refused(misread),
+        };
+        if !is_after(&self.last, &found.name) {
+            drop(found);
+            return Ok(false);
+        }
+        self.last = Some(found.name);
+        Ok(true)
+    }
+}
+
+/// The query for the departments by name. What an edition has no column for is 0.
+fn departments_walk(edition: Edition) -> &'static str
+    ensures { result.now ≡ departments_walk edition }
+{
+    match edition {
+        Edition::First | Edition::Second => {
+            "SELECT name, admitted, held, removed, weighted, closed, 0, 0 FROM departments ORDER BY name"
+        }
+        Edition::Third => {
+            "SELECT name, admitted, held, removed, weighted, closed, received, handed FROM departments ORDER BY name"
+        }
+    }
+}
+
+/// Whether the rows of `departments` tell departments with values in their limits, of which no two have one name.
+pub fn check_departments_by_name<S: Alter>(
+    conn: &mut Connection<S>,
+    edition: Edition,
+) -> Result<bool, Error>
+    requires { HasCleanDisk (state S.Store conn.old) → (state S.Store conn.old).now.schema ≡ schema_of edition }
+    ensures told { HasCleanDisk (state S.Store conn.new) → IfOk result (TellDepartments edition (state S.Store conn.new).now) }
+    ensures damaged { HasCleanDisk (state S.Store conn.new) → IfOk result (λ told. told ≡ false → (v : Vault) → ¬ AreSoundAs edition (state S.Store conn.new).now v) }
+    ensures same { HasCleanDisk (state S.Store conn.new) → OnOk result (IsUnchanged (state S.Store conn.old) (state S.Store conn.new)) }
+    ensures err { IsHealthy (state S.Store conn.new) → IfErr result IsMemory }
+    ensures crash { Survives (state S.Store conn.old) (state S.Store conn.new) (λ _. ⊥) }
+{
+    let mut pass = DepartmentPass { last: None };
+    walk(conn, departments_walk(edition), &mut pass)
+}

@@ -1,0 +1,41 @@
+//! The second look at `buckets` and `rules`.
+ghost use Rattle.std.specs.Prelude.{◌≡◌, false, IfOk, IfErr, OnOk};
+ghost use Rattle.sqlite.specs.State.{HasCleanDisk, IsUnchanged, Survives};
+ghost use Rattle.sqlite.specs.Held.{state};
+ghost use Rattle.vault_core_model.specs.Vault.{Vault};
+ghost use Rattle.vault_audit_model.specs.Spells.{AreSoundAs};
+ghost use Rattle.vault_audit_model.specs.Tables.{schema_of};
+ghost use Rattle.vault_audit_model.specs.Relations.{TellBuckets};
+ghost use Rattle.vault_audit_walk.specs.Health.{IsHealthy, IsMemory};
+
+use crate::buckets::are_buckets;
+use crate::rules::owners::have_buckets;
+use crate::rules::placed::are_runs;
+use sqlite::{Alter, Connection, Error};
+use std::alloc::Global;
+use vault_audit_model::schema::Edition;
+
+/// Whether the rows of `buckets` and `rules` are buckets of different names, each with no rules or
+/// with a set that it may have, in its order.
+pub fn check_rules_of_buckets<S: Alter>(
+    alloc: Global,
+    conn: &mut Connection<S>,
+    edition: Edition,
+) -> Result<bool, Error>
+    requires { HasCleanDisk (state S.Store conn.old) → (state S.Store conn.old).now.schema ≡ schema_of edition }
+    ensures told { HasCleanDisk (state S.Store conn.new) → IfOk result (TellBuckets edition (state S.Store conn.new).now) }
+    ensures damaged { HasCleanDisk (state S.Store conn.new) → IfOk result (λ found. found ≡ false → (v : Vault) → ¬ AreSoundAs edition (state S.Store conn.new).now v) }
+    ensures same { HasCleanDisk (state S.Store conn.new) → OnOk result (IsUnchanged (state S.Store conn.old) (state S.Store conn.new)) }
+    ensures err { IsHealthy (state S.Store conn.new) → IfErr result IsMemory }
+    ensures crash { Survives (state S.Store conn.old) (state S.Store conn.new) (λ _. ⊥) }
+{
+    let named = are_buckets(conn, edition)?;
+    if !named {
+        return Ok(false);
+    }
+    let placed = are_runs(alloc, conn, edition)?;
+    if !placed {
+        return Ok(false);
+    }
+    have_buckets(conn, edition)
+}

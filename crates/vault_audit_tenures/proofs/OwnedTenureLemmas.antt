@@ -1,0 +1,264 @@
+-- What the query on tenures shows: each tenure once, beside the entry of its id and that entry's bucket, where they are there.
+use Rattle.std.proofs.Common.{◌≡◌, ◌==◌, ℕ, List, [], ◌∷◌, ◌++◌, map, filter, flat_map, find, cond, option_map, Bool, true, false, Option, Some, None, Less, is_eq, nat_cmp, IsPermutation, refl, sym, ap, subst, ◌∙◌, append-nil, arith}
+use Rattle.std.specs.List.{AllByRecursion}
+use Rattle.std.specs.Cmp.Lexicographic.{slice_cmp}
+use Rattle.std.specs.Str.{bytes_eq}
+use Rattle.std.proofs.lemmas.Bool.{false_from_ne_true}
+use Rattle.std.proofs.lemmas.List.Sorted.{length_permutation, IsPermutation-map, IsPermutation-sym}
+use Rattle.std.proofs.lemmas.Map.Text.{is_eq-slice_cmp}
+use Rattle.std.proofs.lemmas.Slice.Eq.{bytes_eq-Decides}
+use Rattle.sqlite_trees.proofs.ListLemmas.{all-permutation, all_from_map}
+use Rattle.sqlite_keyed.proofs.ListLemmas.{map-map, flat_map-map, filter-map, filter_same, filter_none, IsPermutation-filter}
+use Rattle.sqlite_value.specs.declared.value.Value.{Value}
+use Rattle.sqlite_value.specs.declared.value.Value.TheVariants.{Null, Int, Real, Text, Blob}
+use Rattle.sqlite_value.specs.Order.{Row as Values, column}
+use Rattle.sqlite_sql.specs.Ops.{binary}
+use Rattle.sqlite_sql.specs.Query.{or_nulls}
+use Rattle.sqlite.specs.Effect.{Database}
+use Rattle.sqlite.proofs.Callers.{one_permutation}
+use Rattle.vault_core_model.specs.declared.records.Bucket.{Bucket}
+use Rattle.vault_core_model.specs.declared.records.Entry.{Entry}
+use Rattle.vault_core_model.specs.declared.records.History.{History}
+use Rattle.vault_core_model.specs.declared.records.Tenure.{Tenure}
+use Rattle.vault_core_model.specs.Order.{IsAscending, bucket_cmp}
+use Rattle.vault_core_model.specs.Vault.{Vault, bucket_in}
+use Rattle.vault_audit_model.specs.declared.rows.TenureRow.{TenureRow}
+use Rattle.vault_audit_model.specs.declared.schema.Edition.{Edition}
+use Rattle.vault_audit_model.specs.Relations.{AreBuckets, AreEntries}
+use Rattle.vault_audit_model.specs.Rows.{bucket_row, bucket_columns, entry_columns, tenure_row, tenure_columns, removal_at}
+use Rattle.vault_audit_model.specs.Spells.{bucket_of, entries_in, tenures_in}
+use Rattle.vault_audit_model.specs.Tables.{buckets_tree, entries_tree, tenures_tree}
+use Rattle.vault_audit_model.specs.Values.{number, text_or_null}
+use Rattle.vault_audit_model.proofs.SameRows.{cell, number_same}
+use Rattle.vault_audit_model.proofs.ValueLemmas.{agrees, same_text}
+use Rattle.vault_audit_entries.proofs.BesideLemmas.{is_of, is_id, is_id_number, row_beside, beside_is}
+use Rattle.vault_audit_tenures.specs.declared.owned.OwnedTenure.{OwnedTenure}
+use Rattle.vault_audit_tenures.specs.OwnedTenures.{owned_row, owned_in}
+use Rattle.vault_audit_tenures.specs.Chain.{shown_beside, shown_in}
+use Rattle.vault_audit_tenures.specs.Presence.{AreRowsOf}
+use Rattle.vault_audit_tenures.proofs.TenureRowLemmas.{number_or_null_same, text_or_null_same}
+use Rattle.vault_audit_tenures.proofs.ChainLemmas.{found_among, each_found, owner_of, IsOf, IsOfOne, row_of}
+use Rattle.vault_audit_tenures.proofs.FitLemmas.{all_owned, rows_owned}
+
+-- ---- a list of no length, and one of one row, under a map
+
+none_mapped : (columns : Values → Values) (rows : List Values) → IsPermutation [] (map columns rows) → rows ≡ []
+none_mapped columns [] h = refl
+none_mapped columns (r ∷ rows) h = absurd (let n = length_permutation _ _ h in omega (arith, n))
+
+given_rows : (columns : Values → Values) (rows : List Values) (x : Values) → map columns rows ≡ x ∷ [] → map columns (or_nulls rows) ≡ x ∷ []
+given_rows columns [] x h = absurd cc
+given_rows columns (r ∷ rows) x h = h
+
+-- ---- the bucket of a name
+
+abbrev is_bucket : List ℕ → Bucket → Bool
+is_bucket name b = bytes_eq b.name name
+
+abbrev row_of_bucket : Bucket → Values
+row_of_bucket b = bucket_row (bucket_of b)
+
+abbrev bucket_beside : Option Bucket → Values
+bucket_beside None = bucket_columns []
+bucket_beside (Some b) = row_of_bucket b
+
+abbrev alone : Option Bucket → List Bucket
+alone None = []
+alone (Some b) = b ∷ []
+
+not_named : (name other bucket : List ℕ) → slice_cmp nat_cmp name other ≡ Less → name ≡ bucket → bytes_eq other bucket ≡ false
+not_named name other bucket less is =
+    false_from_ne_true (bytes_eq other bucket) (λ yes.
+    let same : other ≡ bucket = (bytes_eq-Decides other bucket).0 yes in
+    let one : bytes_eq name other ≡ true = (bytes_eq-Decides name other).1 (is ∙ sym same) in
+    let two : is_eq (slice_cmp nat_cmp name other) ≡ false = ap is_eq less in
+    let both : ◌≡◌ {A = Bool} true false = sym one ∙ sym (is_eq-slice_cmp name other) ∙ two in
+    absurd cc)
+
+none_later : (name : List ℕ) (b : Bucket) (bs : List Bucket) → AllByRecursion (λ c. bucket_cmp b c ≡ Less) bs → b.name ≡ name → AllByRecursion (λ c. is_bucket name c ≡ false) bs
+none_later name b [] all is = tt
+none_later name b (c ∷ cs) all is = (not_named b.name c.name name all.0 is, none_later name b cs all.1 is)
+
+-- buckets in the order of their names have at most one of a name
+only_one : (name : List ℕ) (bs : List Bucket) → IsAscending bucket_cmp bs → filter (is_bucket name) bs ≡ alone (bucket_in bs name)
+only_one name [] up = refl
+only_one name (b ∷ bs) up = of (is_bucket name b) refl (only_one name bs up.1)
+  where
+    of : (t : Bool) → is_bucket name b ≡ t → filter (is_bucket name) bs ≡ alone (bucket_in bs name) → cond t (b ∷ filter (is_bucket name) bs) (filter (is_bucket name) bs) ≡ alone (cond t (Some b) (bucket_in bs name))
+    of true same more = ap (λ xs. b ∷ xs) (filter_none (is_bucket name) bs (none_later name b bs up.0 ((bytes_eq-Decides b.name name).0 same)))
+    of false other more = more
+
+null_apart : (u : Value) → agrees u Null ≡ false
+unfolding binary
+null_apart Null = refl
+null_apart (Int n) = refl
+null_apart (Real x) = refl
+null_apart (Text t) = refl
+null_apart (Blob b) = refl
+
+none_null : (rows : List Values) → AllByRecursion (λ r. agrees (column r 1) Null ≡ false) rows
+none_null [] = tt
+none_null (r ∷ rows) = (null_apart (column r 1), none_null rows)
+
+module _ (source : List Values) (bs : List Bucket) (are : IsPermutation (map row_of_bucket bs) (map bucket_columns source)) (up : IsAscending bucket_cmp bs) where
+  abbrev is_at : Value → Values → Bool
+  is_at name r = agrees (column r 1) name
+
+  matched : (name : List ℕ) → IsPermutation (map row_of_bucket (filter (is_bucket name) bs)) (map bucket_columns (filter (is_at (Text name)) source))
+  matched name =
+      let test = λ (row : Values). agrees (column row 0) (Text name) in
+      let told : filter test (map row_of_bucket bs) ≡ map row_of_bucket (filter (is_bucket name) bs) =
+      filter-map test row_of_bucket bs ∙ ap (map row_of_bucket) (filter_same (λ (b : Bucket). test (row_of_bucket b)) (is_bucket name) (λ b. same_text b.name name) bs) in
+      subst (λ xs. IsPermutation xs (map bucket_columns (filter (is_at (Text name)) source))) told
+      (subst (IsPermutation (filter test (map row_of_bucket bs))) (filter-map test bucket_columns source) (IsPermutation-filter test _ _ are))
+
+  -- what the join finds for a name is the bucket of that name, or a row of NULLs
+  found : (name : List ℕ) → map bucket_columns (or_nulls (filter (is_at (Text name)) source)) ≡ bucket_beside (bucket_in bs name) ∷ []
+  found name = of (bucket_in bs name) (subst (λ xs. IsPermutation (map row_of_bucket xs) (map bucket_columns (filter (is_at (Text name)) source))) (only_one name bs up) (matched name))
+    where
+      of : (o : Option Bucket) → IsPermutation (map row_of_bucket (alone o)) (map bucket_columns (filter (is_at (Text name)) source)) → map bucket_columns (or_nulls (filter (is_at (Text name)) source)) ≡ bucket_beside o ∷ []
+      of None none = let empty = none_mapped bucket_columns (filter (is_at (Text name)) source) none in rw empty refl
+      of (Some b) one = given_rows bucket_columns (filter (is_at (Text name)) source) (row_of_bucket b) (one_permutation (row_of_bucket b) (map bucket_columns (filter (is_at (Text name)) source)) one)
+
+  not_found : map bucket_columns (or_nulls (filter (is_at Null) source)) ≡ bucket_beside None ∷ []
+  not_found = rw (filter_none (is_at Null) source (none_null source)) refl
+
+-- ---- one tenure
+
+-- its columns, with those of an entry and of a bucket
+abbrev with_both : Values → Values → Values → Values
+with_both t e b = column t 0 ∷ column t 1 ∷ column t 2 ∷ column t 3 ∷ column e 6 ∷ column e 9 ∷ column b 1 ∷ []
+
+abbrev with_buckets : List Values → Values → Values → List Values
+with_buckets buckets t e = map (with_both t e) (map bucket_columns (or_nulls (filter (λ b. agrees (column b 1) (column e 1)) buckets)))
+
+-- the same of the entry that is there, and of its bucket
+abbrev shown_for : List Bucket → Option Entry → Values → Values
+shown_for bs None t = column t 0 ∷ column t 1 ∷ column t 2 ∷ column t 3 ∷ Null ∷ Null ∷ Null ∷ []
+shown_for bs (Some e) t = column t 0 ∷ column t 1 ∷ column t 2 ∷ column t 3 ∷ number e.admitted ∷ removal_at e.removal ∷ text_or_null (owner_of bs e) ∷ []
+
+dept_shown : (o : Option Bucket) → column (bucket_beside o) 1 ≡ text_or_null (option_map (λ c. c.dept) (option_map (λ (b : Bucket). b.config) o))
+dept_shown None = refl
+dept_shown (Some b) = refl
+
+-- the tenure's own columns
+abbrev own_columns : Values → Values
+own_columns r = column r 0 ∷ column r 1 ∷ column r 2 ∷ column r 3 ∷ []
+
+own_shown : (bs : List Bucket) (o : Option Entry) (r : Values) → own_columns (shown_for bs o (tenure_columns r)) ≡ tenure_columns r
+own_shown bs None r = refl
+own_shown bs (Some e) r = refl
+
+id_shown : (bs : List Bucket) (o : Option Entry) (c : Values) (t : OwnedTenure) → owned_row t ≡ shown_for bs o c → number t.id ≡ column c 0
+id_shown bs None c t e = cell (owned_row t) (shown_for bs None c) 0 e
+id_shown bs (Some x) c t e = cell (owned_row t) (shown_for bs (Some x) c) 0 e
+
+is_shown : (bs : List Bucket) (o : Option Entry) (c : Values) (t : OwnedTenure) → owned_row t ≡ shown_for bs o c → IsOf bs t o
+is_shown bs None c t e = absurd (let none : number t.admitted ≡ Null = cell (owned_row t) (shown_for bs None c) 4 e in cc)
+is_shown bs (Some x) c t e =
+    let one = λ (at : ℕ). cell (owned_row t) (shown_for bs (Some x) c) at e in
+    (number_same _ _ (one 4), number_or_null_same _ _ (one 5), text_or_null_same _ _ (one 6))
+
+find_same : (p q : Entry → Bool) → ((e : Entry) → p e ≡ q e) → (es : List Entry) → find p es ≡ find q es
+find_same p q same [] = refl
+find_same p q same (e ∷ es) = rw (same e, find_same p q same es) refl
+
+found_number : (es : List Entry) (i : ℕ) → find (is_id (number i)) es ≡ found_among es i
+found_number es i = find_same (is_id (number i)) (λ e. e.id == i) (is_id_number i) es
+
+each_one : {X Y : Type 0} (f : X → List Y) (g : X → Y) → ((x : X) → f x ≡ g x ∷ []) → (xs : List X) → flat_map f xs ≡ map g xs
+each_one f g same [] = refl
+each_one f g same (x ∷ xs) = rw (same x) (ap (λ ys. g x ∷ ys) (each_one f g same xs))
+
+map_alike : {X Y : Type 0} (f g : X → Y) → ((x : X) → f x ≡ g x) → (xs : List X) → map f xs ≡ map g xs
+map_alike f g same [] = refl
+map_alike f g same (x ∷ xs) = rw (same x, map_alike f g same xs) refl
+
+map_alike_on : {X Y : Type 0} (f g : X → Y) (xs : List X) → AllByRecursion (λ x. f x ≡ g x) xs → map f xs ≡ map g xs
+map_alike_on f g [] all = refl
+map_alike_on f g (x ∷ xs) all = rw (all.0, map_alike_on f g xs all.1) refl
+
+-- ---- all rows
+
+module _ (n : Edition) (db : Database) (bs : List Bucket) (es : List Entry) (buckets : AreBuckets n db bs) (entries : AreEntries db es) where
+  abbrev stored : List Values
+  stored = db.trees tenures_tree
+
+  abbrev told : Values → Values
+  told c = shown_for bs (find (is_id (column c 0)) es) c
+
+  of_bucket : (o : Option Entry) (t : Values) → with_buckets (db.trees buckets_tree) t (row_beside o) ≡ shown_for bs o t ∷ []
+  of_bucket None t = ap (map (with_both t (row_beside None))) (not_found (db.trees buckets_tree) bs buckets.0 buckets.2)
+  of_bucket (Some e) t =
+      ap (map (with_both t (row_beside (Some e)))) (found (db.trees buckets_tree) bs buckets.0 buckets.2 e.bucket)
+      ∙ ap (λ d. (column t 0 ∷ column t 1 ∷ column t 2 ∷ column t 3 ∷ number e.admitted ∷ removal_at e.removal ∷ d ∷ []) ∷ []) (dept_shown (bucket_in bs e.bucket))
+
+  one_shown : (r : Values) → shown_beside (db.trees entries_tree) (db.trees buckets_tree) r ≡ told (tenure_columns r) ∷ []
+  one_shown r =
+      let there = or_nulls (filter (is_of (column r 1)) (db.trees entries_tree)) in
+      let with = with_buckets (db.trees buckets_tree) (tenure_columns r) in
+      ap (λ f. flat_map f there) (λ i e. sym (map-map (with_both (tenure_columns r) (entry_columns e)) bucket_columns (or_nulls (filter (λ b. agrees (column b 1) (column e 2)) (db.trees buckets_tree)))) i)
+      ∙ sym (flat_map-map with entry_columns there)
+      ∙ ap (flat_map with) (beside_is (db.trees entries_tree) es entries.0 entries.1 (column r 1))
+      ∙ append-nil _
+      ∙ of_bucket (find (is_id (column r 1)) es) (tenure_columns r)
+
+  source_is : shown_in db ≡ map told (map tenure_columns stored)
+  source_is = each_one (shown_beside (db.trees entries_tree) (db.trees buckets_tree)) (λ r. told (tenure_columns r)) one_shown stored ∙ sym (map-map told tenure_columns stored)
+
+  -- ---- from the rows shown
+
+  abbrev IsTold : Values → Type 0
+  IsTold row = (c : Values) × (row ≡ told c)
+
+  all_told : (cs : List Values) → AllByRecursion IsTold (map told cs)
+  all_told [] = tt
+  all_told (c ∷ cs) = ((c, refl), all_told cs)
+
+  is_of_one : (t : OwnedTenure) → IsTold (owned_row t) → IsOfOne bs es t
+  is_of_one t (c, e) =
+      let id : column c 0 ≡ number t.id = sym (id_shown bs (find (is_id (column c 0)) es) c t e) in
+      subst (IsOf bs t) (ap (λ w. find (is_id w) es) id ∙ found_number es t.id) (is_shown bs (find (is_id (column c 0)) es) c t e)
+
+  each_of_one : (ts : List OwnedTenure) → AllByRecursion (λ t. IsTold (owned_row t)) ts → AllByRecursion (IsOfOne bs es) ts
+  each_of_one [] all = tt
+  each_of_one (t ∷ ts) all = (is_of_one t all.0, each_of_one ts all.1)
+
+  module _ (ts : List OwnedTenure) (are : IsPermutation (map owned_row ts) (shown_in db)) where
+    pub all_of_one : AllByRecursion (IsOfOne bs es) ts
+    all_of_one =
+        let shown = subst (IsPermutation (map owned_row ts)) source_is are in
+        each_of_one ts (all_from_map IsTold owned_row ts (all-permutation IsTold _ _ (IsPermutation-sym _ _ shown) (all_told (map tenure_columns stored))))
+
+    pub rows_are : AreRowsOf db (map row_of ts)
+    rows_are =
+        let mine : map own_columns (map owned_row ts) ≡ map tenure_row (map row_of ts) = map-map own_columns owned_row ts ∙ sym (map-map tenure_row row_of ts) in
+        let theirs : map own_columns (shown_in db) ≡ map tenure_columns stored =
+        ap (map own_columns) (source_is ∙ map-map told tenure_columns stored) ∙ map-map own_columns (λ r. told (tenure_columns r)) stored ∙ map_alike _ tenure_columns (λ r. own_shown bs (find (is_id (column (tenure_columns r) 0)) es) r) stored in
+        subst (IsPermutation (map tenure_row (map row_of ts))) theirs (subst (λ xs. IsPermutation xs (map own_columns (shown_in db))) mine (IsPermutation-map own_columns _ _ are))
+
+-- ---- from histories
+
+module _ (n : Edition) (db : Database) (v : Vault) (es : List Entry) (buckets : AreBuckets n db v.buckets) (entries : AreEntries db es) where
+  one_told : (e : Entry) → found_among es e.id ≡ Some e → (t : Tenure) → shown_for v.buckets (find (is_id (number e.id)) es) (tenure_row (row_of (owned_in v.buckets e t))) ≡ owned_row (owned_in v.buckets e t)
+  one_told e found t = ap (λ o. shown_for v.buckets o (tenure_row (row_of (owned_in v.buckets e t)))) (found_number es e.id ∙ found)
+
+  abbrev IsSame : OwnedTenure → Type 0
+  IsSame t = shown_for v.buckets (find (is_id (number t.id)) es) (tenure_row (row_of t)) ≡ owned_row t
+
+  run_told : (e : Entry) → found_among es e.id ≡ Some e → (us : List Tenure) (rest : List OwnedTenure) → AllByRecursion IsSame rest → AllByRecursion IsSame (map (owned_in v.buckets e) us ++ rest)
+  run_told e found [] rest all = all
+  run_told e found (u ∷ us) rest all = (one_told e found u, run_told e found us rest all)
+
+  all_same : (hs : List History) → AllByRecursion (λ e. found_among es e.id ≡ Some e) (entries_in hs) → AllByRecursion IsSame (all_owned v hs)
+  all_same [] found = tt
+  all_same (h ∷ hs) found = run_told h.entry found.0 h.tenures (all_owned v hs) (all_same hs found.1)
+
+  pub shown_are : (hs : List History) → entries_in hs ≡ es → AreRowsOf db (flat_map tenures_in hs) → IsPermutation (map owned_row (all_owned v hs)) (shown_in db)
+  shown_are hs same are =
+      let ts = all_owned v hs in
+      let tell = λ (c : Values). shown_for v.buckets (find (is_id (column c 0)) es) c in
+      let each = subst (AllByRecursion (λ e. found_among es e.id ≡ Some e)) (sym same) (each_found 1 0 es entries.1) in
+      let mine : map tell (map tenure_row (flat_map tenures_in hs)) ≡ map owned_row ts =
+      ap (λ (xs : List TenureRow). map tell (map tenure_row xs)) (sym (rows_owned v hs)) ∙ ap (map tell) (map-map tenure_row row_of ts) ∙ map-map tell (λ t. tenure_row (row_of t)) ts ∙ map_alike_on _ owned_row ts (all_same hs each) in
+      subst (λ xs. IsPermutation xs (shown_in db)) mine (subst (IsPermutation (map tell (map tenure_row (flat_map tenures_in hs)))) (sym (source_is n db v.buckets es buckets entries)) (IsPermutation-map tell _ _ are))

@@ -1,0 +1,108 @@
+-- What the statements on departments, on entries beside their buckets, and on tenures beside their versions, read.
+use Rattle.std.proofs.Common.{◌≡◌, List, ℕ, pos, [], ◌∷◌, map, codes, false, refl, ap₂, arith}
+use Rattle.sqlite_tied.specs.Compute.{everything}
+use Rattle.sqlite_value.specs.Keys.{ascending}
+use Rattle.sqlite_value.specs.declared.keys.Key.{Key}
+use Rattle.sqlite_value.specs.declared.keys.Collation.TheVariants.{Binary}
+use Rattle.sqlite_value.specs.declared.value.Value.TheVariants.{Int}
+use Rattle.sqlite_value.specs.Order.{Row}
+use Rattle.sqlite.specs.Command.TheVariants.{Select}
+use Rattle.sqlite.specs.Listing.{understood, reads_listing}
+use Rattle.sqlite.proofs.Callers.{IsPlain, command_of}
+use Rattle.sqlite_sql.specs.Term.{Term, col, lit}
+use Rattle.vault_audit_model.specs.declared.schema.Edition.{Edition}
+use Rattle.vault_audit_model.specs.declared.schema.Edition.TheVariants.{First, Second, Third}
+use Rattle.vault_audit_model.specs.Rows.{department_columns_as}
+use Rattle.vault_audit_model.specs.Tables.{schema_of, departments_tree, buckets_tree, entries_tree, tenures_tree}
+use Rattle.vault_audit_entries.proofs.JoinLemmas.{beside_of}
+use Rattle.vault_audit_records.specs.DepartmentsQuery.{departments_query}
+use Rattle.vault_audit_tenures.proofs.KeyJoinLemmas.{joined_of}
+use Rattle.vault_audit_walk.proofs.RecordLemmas.{Scans}
+use Rattle.vault_audit_walk.proofs.ScanLemmas.{shows}
+use Rattle.vault_audit_walk.specs.Health.{Asks}
+
+-- what is shown of the bytes that came and went with buckets
+abbrev pub moved_shown : Edition → List Term
+moved_shown First = lit (Int (pos 0)) ∷ lit (Int (pos 0)) ∷ []
+moved_shown Second = lit (Int (pos 0)) ∷ lit (Int (pos 0)) ∷ []
+moved_shown Third = col 1 7 ∷ col 1 8 ∷ []
+
+abbrev pub moved_names : Edition → List (List ℕ)
+moved_names First = codes "0" ∷ codes "0" ∷ []
+moved_names Second = codes "0" ∷ codes "0" ∷ []
+moved_names Third = codes "received" ∷ codes "handed" ∷ []
+
+abbrev pub departments_shown : Edition → List Term
+departments_shown n = col 1 1 ∷ col 1 2 ∷ col 1 3 ∷ col 1 4 ∷ col 1 5 ∷ col 1 6 ∷ moved_shown n
+
+abbrev pub departments_names : Edition → List (List ℕ)
+departments_names n = codes "name" ∷ codes "admitted" ∷ codes "held" ∷ codes "removed" ∷ codes "weighted" ∷ codes "closed" ∷ moved_names n
+
+pub departments_scan : (n : Edition) → Scans (schema_of n) (departments_query n) departments_tree (departments_shown n) (departments_names n)
+unfolding understood everything
+departments_scan First = record { command = refl; unlisted = refl; plain = (refl, refl) }
+departments_scan Second = record { command = refl; unlisted = refl; plain = (refl, refl) }
+departments_scan Third = record { command = refl; unlisted = refl; plain = (refl, refl) }
+
+pub departments_asks : (n : Edition) → Asks (schema_of n) (departments_query n)
+unfolding understood everything
+departments_asks First = record { is = (omega (arith), refl, (refl, refl, refl, refl)); unlisted = refl }
+departments_asks Second = record { is = (omega (arith), refl, (refl, refl, refl, refl)); unlisted = refl }
+departments_asks Third = record { is = (omega (arith), refl, (refl, refl, refl, refl)); unlisted = refl }
+
+-- it shows the columns of each row
+shown_columns : (n : Edition) (row : Row) → shows (departments_shown n) [] row ≡ department_columns_as n row
+shown_columns First row = refl
+shown_columns Second row = refl
+shown_columns Third row = refl
+
+pub departments_shows : (n : Edition) (rows : List Row) → map (shows (departments_shown n) []) rows ≡ map (department_columns_as n) rows
+departments_shows n [] = refl
+departments_shows n (row ∷ rows) = ap₂ (λ (r : Row) (rs : List Row). r ∷ rs) (shown_columns n row) (departments_shows n rows)
+
+abbrev pub owned_text : List ℕ
+owned_text = codes "SELECT e.id, e.marker, e.size, e.admitted, e.removed, b.dept FROM entries AS e LEFT JOIN buckets AS b ON b.name = e.bucket ORDER BY e.id"
+
+abbrev pub owned_shown : List Term
+owned_shown = col 1 0 ∷ col 1 4 ∷ col 1 5 ∷ col 1 7 ∷ col 1 10 ∷ col 2 2 ∷ []
+
+abbrev pub owned_order : List (Term × Key)
+owned_order = (col 1 0, ascending Binary) ∷ []
+
+pub owned_is : (n : Edition) → (command_of (understood (schema_of n) owned_text) ≡ Select (record { lets = []; body = joined_of entries_tree buckets_tree 1 2 owned_shown owned_order }) (codes "id" ∷ codes "marker" ∷ codes "size" ∷ codes "admitted" ∷ codes "removed" ∷ codes "dept" ∷ []))
+    × (reads_listing (schema_of n) owned_text ≡ false)
+unfolding understood everything
+owned_is n = (refl, refl)
+
+pub owned_plain : (n : Edition) → IsPlain (understood (schema_of n) owned_text)
+unfolding understood everything
+owned_plain n = (refl, refl)
+
+pub owned_asks : (n : Edition) → Asks (schema_of n) owned_text
+unfolding understood everything
+owned_asks n = record { is = (omega (arith), refl, (refl, refl, refl, refl)); unlisted = refl }
+
+abbrev pub tenures_text : List ℕ
+tenures_text = codes "SELECT t.id, t.n, t.dept, t.moment, e.size, e.removed FROM tenures AS t LEFT JOIN entries AS e ON e.id = t.id ORDER BY t.id, t.n"
+
+abbrev pub tenures_shown : List Term
+tenures_shown = col 1 1 ∷ col 1 2 ∷ col 1 3 ∷ col 1 4 ∷ col 2 5 ∷ col 2 10 ∷ []
+
+abbrev pub tenures_order : List (Term × Key)
+tenures_order = (col 1 1, ascending Binary) ∷ (col 1 2, ascending Binary) ∷ []
+
+abbrev pub tenures_names : List (List ℕ)
+tenures_names = codes "id" ∷ codes "n" ∷ codes "dept" ∷ codes "moment" ∷ codes "size" ∷ codes "removed" ∷ []
+
+pub tenures_is : (command_of (understood (schema_of Third) tenures_text) ≡ Select (record { lets = []; body = beside_of tenures_tree 1 tenures_shown tenures_order }) tenures_names)
+    × (reads_listing (schema_of Third) tenures_text ≡ false)
+unfolding understood everything
+tenures_is = (refl, refl)
+
+pub tenures_plain : IsPlain (understood (schema_of Third) tenures_text)
+unfolding understood everything
+tenures_plain = (refl, refl)
+
+pub tenures_asks : Asks (schema_of Third) tenures_text
+unfolding understood everything
+tenures_asks = record { is = (omega (arith), refl, (refl, refl, refl, refl)); unlisted = refl }

@@ -1,0 +1,108 @@
+-- The walk over the tenures that counts each in for its department.
+use Rattle.std.proofs.Common.{◌≡◌, ℕ, List, [], ◌∷◌, ◌++◌, map, flat_map, cond, Bool, true, false, Option, Some, None, IsPermutation, sym, ap, subst, ◌∙◌, append_assoc, append-nil}
+use Rattle.std.specs.List.{AllByRecursion}
+use Rattle.std.specs.Str.{bytes_eq}
+use Rattle.std.proofs.lemmas.List.Sorted.{IsPermutation-trans}
+use Rattle.sqlite_value.specs.Order.{Row as Values}
+use Rattle.sqlite_trees.proofs.ListLemmas.{all-permutation}
+use Rattle.sqlite_keyed.proofs.SortLemmas.{sorted_unique}
+use Rattle.sqlite.specs.Effect.{Database}
+use Rattle.sqlite.specs.State.{State, IsUnchanged}
+use Rattle.vault_tally.specs.Row.{Item}
+use Rattle.vault_tally.specs.declared.row.Row.{Row}
+use Rattle.vault_core_model.specs.Totals.{Share, items_by}
+use Rattle.vault_core_model.specs.Vault.{Vault}
+use Rattle.vault_audit_model.specs.declared.schema.Edition.TheVariants.{Third}
+use Rattle.vault_audit_model.specs.Relations.{AreEntries, AreTenuresOf}
+use Rattle.vault_audit_model.specs.Spells.{entries_in}
+use Rattle.vault_audit_model.specs.Tables.{schema_of}
+use Rattle.vault_audit_walk.specs.Records.{TellsOne}
+use Rattle.vault_audit_walk.specs.Walk.{Goes, Walked}
+use Rattle.vault_audit_walk.proofs.RecordLemmas.{between, front}
+use Rattle.vault_audit_walk.proofs.ScanLemmas.{goes_on_to}
+use Rattle.vault_audit_tenures.specs.declared.sums.tenures.TenurePass.{TenurePass}
+use Rattle.vault_audit_tenures.specs.declared.sums.tenures.ToldTenure.{ToldTenure}
+use Rattle.vault_audit_tenures.specs.declared.sums.totals.Totals.{Totals}
+use Rattle.vault_audit_tenures.specs.TenureSums.{told_row, IsTold, last_share, share_before, shares_told, CountsShare, CountsPending, CountsLast, GoesIn, TellsNone}
+use Rattle.vault_audit_tenures.specs.Totals.{total_of, empty_sums, IsTotal, IsCounted, AreTotals}
+use Rattle.vault_audit_tenures.proofs.SumRowLemmas.{same_told}
+use Rattle.vault_audit_tenures.proofs.ShareLemmas.{told_in, shares_are, items_after, items_are, IsDated, shares_dated}
+use Rattle.vault_audit_tenures.proofs.SumTextLemmas.{tenures_text, tenures_is}
+use Rattle.vault_audit_tenures.proofs.ToldTenureLemmas.{source, shown_are, row_order, row_order_total, told_rise, answers, each_tells}
+use Rattle.vault_audit_tenures.proofs.TotalLemmas.{no_item}
+
+-- ---- the tenures that were met are counted
+
+module _ (name : List ℕ) where
+  abbrev total : Totals → Option Row
+  total t = total_of t name
+
+  one_share : (s t : Totals) (x : Share) (items : List Item) → CountsShare s x t → IsDated x → IsTotal (total s) items → IsTotal (total t) (items ++ items_by name (x ∷ []))
+  one_share s t x items counts dates are = of (bytes_eq x.dept name) (counts name)
+    where
+      of : (b : Bool) → IsCounted b (total s) x.item (total t) → IsTotal (total t) (items ++ map (λ (y : Share). y.item) (cond b (x ∷ []) []))
+      of false is = subst (λ o. IsTotal o (items ++ [])) (sym is) (subst (IsTotal (total s)) (sym (append-nil items)) are)
+      of true counted = counted items are dates
+
+  one_after : (x : Share) (xs : List Share) (items : List Item) → (items ++ items_by name (x ∷ [])) ++ items_by name xs ≡ items ++ items_by name (x ∷ xs)
+  one_after x xs items = append_assoc items (items_by name (x ∷ [])) (items_by name xs) ∙ ap (λ (is : List Item). items ++ is) (sym (items_after name (x ∷ []) xs))
+
+  -- with a tenure pending
+  went : (p q : TenurePass) (r : Totals) (rows : List Values) (t : ToldTenure) (us : List ToldTenure) (items : List Item) → p.pending ≡ Some t → rows ≡ map told_row us → AllByRecursion IsDated (shares_told (t ∷ us))
+      → Goes GoesIn p rows q → CountsLast q.totals q.pending r → IsTotal (total p.totals) items → IsTotal (total r) (items ++ items_by name (shares_told (t ∷ us)))
+  went p q r [] t [] items alone e dates goes left are =
+      let here : CountsLast p.totals p.pending r = subst (λ (s : TenurePass). CountsLast s.totals s.pending r) (sym goes) left in
+      one_share p.totals r (last_share t) items (subst (λ o. CountsLast p.totals o r) alone here) dates.0 are
+  went p q r [] t (u ∷ us) items alone e dates goes left are = absurd cc
+  went p q r (row ∷ rows) t [] items alone e dates goes left are = absurd cc
+  went p q r (row ∷ rows) t (u ∷ us) items alone e dates (m, one, more) left are =
+      let first : row ≡ told_row u = cc in
+      let rest : rows ≡ map told_row us = cc in
+      let same : one.0 ≡ u = same_told one.0 u (sym one.1 ∙ first) in
+      let counts : CountsPending p.totals p.pending u m.totals = subst (λ x. CountsPending p.totals p.pending x m.totals) same one.2 in
+      let now = one_share p.totals m.totals (share_before t u) items (subst (λ o. CountsPending p.totals o u m.totals) alone counts) dates.0 are in
+      subst (IsTotal (total r)) (one_after (share_before t u) (shares_told (u ∷ us)) items)
+      (went m q r rows u us (items ++ items_by name (share_before t u ∷ [])) (one.3 ∙ ap Some same) rest dates.1 more left now)
+
+  -- with none
+  begun : (p q : TenurePass) (r : Totals) (rows : List Values) (ts : List ToldTenure) → p.pending ≡ None → rows ≡ map told_row ts → AllByRecursion IsDated (shares_told ts)
+      → Goes GoesIn p rows q → CountsLast q.totals q.pending r → IsTotal (total p.totals) [] → IsTotal (total r) (items_by name (shares_told ts))
+  begun p q r [] [] none e dates goes left are =
+      let here : CountsLast p.totals p.pending r = subst (λ (s : TenurePass). CountsLast s.totals s.pending r) (sym goes) left in
+      let same : r ≡ p.totals = subst (λ o. CountsLast p.totals o r) none here in
+      subst (λ t. IsTotal (total t) []) (sym same) are
+  begun p q r [] (t ∷ ts) none e dates goes left are = absurd cc
+  begun p q r (row ∷ rows) [] none e dates goes left are = absurd cc
+  begun p q r (row ∷ rows) (t ∷ ts) none e dates (m, one, more) left are =
+      let first : row ≡ told_row t = cc in
+      let rest : rows ≡ map told_row ts = cc in
+      let same : one.0 ≡ t = same_told one.0 t (sym one.1 ∙ first) in
+      let still : m.totals ≡ p.totals = subst (λ o. CountsPending p.totals o one.0 m.totals) none one.2 in
+      went m q r rows t ts [] (one.3 ∙ ap Some same) rest dates more left (subst (λ s. IsTotal (total s) []) (sym still) are)
+
+-- ---- the walk
+
+module _ (old new : State) (has : old.now.schema ≡ schema_of Third) (same : IsUnchanged old new) (p q : TenurePass) (v : Vault) (entries : AreEntries new.now (entries_in v.histories)) (are : AreTenuresOf Third new.now v) where
+  abbrev met : List ToldTenure
+  met = flat_map told_in v.histories
+
+  known : new.now.schema ≡ schema_of Third
+  known = ap (λ (d : Database). d.schema) same.0.now_is ∙ has
+
+  pub tenures_yes : ((name : List ℕ) → total_of p.totals name ≡ Some empty_sums) → p.pending ≡ None → Walked GoesIn TellsNone tenures_text old new p q true → (r : Totals) → CountsLast q.totals q.pending r → AreTotals v.histories r
+  tenures_yes empty none (rows, shown, goes) r left name =
+      let whole = answers old new has rows shown in
+      let shuffled = subst (λ (d : Database). IsPermutation (map told_row met) (source d)) same.0.now_is (shown_are new.now v.histories entries are.rows) in
+      let order = sorted_unique row_order row_order_total (map told_row met) rows (told_rise v 1 0 v.histories entries.1 are.tenured) (IsPermutation-trans _ _ _ shuffled whole.0) whole.1 in
+      let shares = shares_are v 1 0 v.histories entries.1 are.tenured in
+      let dates = subst (AllByRecursion IsDated) (sym shares) (shares_dated v 1 0 v.histories entries.1 are.tenured are.limits) in
+      let counted = begun name p q r rows met none order dates goes left (subst (λ o. IsTotal o []) (sym (empty name)) no_item) in
+      subst (IsTotal (total_of r name)) (ap (items_by name) shares ∙ items_are name v.histories) counted
+
+  pub tenures_no : ¬ Walked GoesIn TellsNone tenures_text old new p q false
+  tenures_no (rows, row, m, begins, goes, never) =
+      let on = goes_on_to tenures_text new (schema_of Third) known _ _ tenures_is.0 same.0.is_open (rows ++ row ∷ []) begins in
+      let whole = answers new new known ((rows ++ row ∷ []) ++ on.0) on.1 in
+      let every = all-permutation (TellsOne told_row IsTold) _ _ (IsPermutation-trans _ _ _ (shown_are new.now v.histories entries are.rows) whole.0) (each_tells 1 0 v.histories entries.1 are.limits) in
+      let it = between (TellsOne told_row IsTold) rows row [] (front (TellsOne told_row IsTold) (rows ++ row ∷ []) on.0 every) in
+      never it.0 it.2 it.1

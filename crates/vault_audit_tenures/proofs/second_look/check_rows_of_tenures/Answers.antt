@@ -1,0 +1,19 @@
+use Rattle.std.proofs.Common.{◌≡◌, true, false, subst, rules, arith}
+use Rattle.sqlite.specs.Held.{state}
+use Rattle.sqlite.specs.State.{HasCleanDisk}
+use Rattle.vault_audit_tenures.specs.Presence.{TellPresence}
+use Rattle.vault_audit_tenures.proofs.TellLemmas.{none_told, last_told}
+use Rattle.vault_audit_tenures.proofs.second_look.check_rows_of_tenures.Goals as goal
+
+pub returns-then-not-present-clause-told : goal.returns-then-not-present-clause-told
+returns-then-not-present-clause-told g c clean =
+    let db = (state g.S.Store c.have_tenures.new.conn).now in
+    let no : c.in_ok-present.present ≡ false = search rules in
+    none_told c.args.moves c.args.last db (subst (TellPresence db) no (c.in_ok-present.ensures.told clean))
+
+pub returns-clause-told : goal.returns-clause-told
+returns-clause-told g c clean =
+    let early : HasCleanDisk (state g.S.Store c.have_tenures.new.conn) = omega (arith, c.are_chains.ensures.crash.clean) in
+    let yes : c.in_ok-present.present ≡ true = search rules in
+    last_told c.args.moves c.args.last (state g.S.Store c.have_tenures.new.conn) (state g.S.Store c.are_chains.new.conn) (subst (TellPresence (state g.S.Store c.have_tenures.new.conn).now) yes (c.in_ok-present.ensures.told early))
+    c.are_chains.result (c.are_chains.ensures.same clean) (c.are_chains.ensures.told clean)

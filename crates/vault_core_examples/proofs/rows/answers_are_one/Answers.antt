@@ -1,5 +1,0 @@
-use Rattle.vault_core_examples.proofs.Machine.{Step-is_outcome}
-use Rattle.vault_core_examples.proofs.rows.answers_are_one.Goals as goal
-
-pub returns : goal.returns
-returns c = Step-is_outcome

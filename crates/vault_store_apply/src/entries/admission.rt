@@ -1,0 +1,84 @@
+//! An entry that is admitted.
+ghost use Rattle.std.specs.Prelude.{◌≡◌, false, IsTrue, IfOk, OnOk, OnErr};
+ghost use Rattle.sqlite.specs.Held.{state};
+ghost use Rattle.sqlite.specs.State.{HasCleanDisk, Survives};
+ghost use Rattle.vault_core_model.specs.declared.change.Change.TheVariants as change;
+ghost use Rattle.vault_base.specs.Days.{day};
+ghost use Rattle.vault_core_model.specs.Vault.{Vault};
+ghost use Rattle.vault_store_model.specs.Keeping.{Keeps};
+ghost use Rattle.vault_store_model.specs.Changes.{head_with};
+ghost use Rattle.vault_store_model.specs.Limits.{IsChangeInLimits};
+ghost use Rattle.vault_store_model.specs.Sums.{CountsIn};
+ghost use Rattle.vault_store_apply.specs.Applies.{Changes, IsChanged};
+
+use crate::commit::commit_part;
+use crate::entries::place::read_place;
+use crate::parts::entry::NewEntry;
+use sqlite::{Alter, Connection, Error, ErrorCode};
+use vault_base::moment::Moment;
+use vault_base::name::VersionId;
+use vault_core_model::change::Admission;
+use vault_core_model::records::Head;
+use vault_tally::row::Row;
+
+/// The head of a key with one entry more. `TooBig` beyond 64 bits.
+fn next_head(id: VersionId, head: Option<Head>) -> Result<Head, Error>
+    ensures { IfOk result (λ next. next ≡ head_with id head) }
+{
+    let Some(head) = head else {
+        return Ok(Head {
+            newest: id,
+            count: 1,
+        });
+    };
+    if head.count == u64::MAX {
+        return Err(Error::SqliteFailure(ErrorCode::TooBig));
+    }
+    Ok(Head {
+        newest: id,
+        count: head.count + 1,
+    })
+}
+
+/// The sums with a version counted in that is admitted at a moment.
+fn with_version(sums: Row, size: u64, at: Moment) -> Row
+    ensures { CountsIn sums size (day at) result }
+{
+    let mut sums = sums;
+    sums.admit(size, at.day());
+    sums
+}
+
+/// Admits an entry, with its note if it came by an intake list.
+pub fn admit<S: Alter>(
+    conn: &mut Connection<S>,
+    at: Moment,
+    admission: &Admission,
+) -> Result<(), Error>
+    requires { conn.old.in_transaction ≡ false }
+    ensures mode { conn.new.in_transaction ≡ false }
+    ensures open { HasCleanDisk (state S.Store conn.new) → OnOk result (IsTrue (state S.Store conn.new).is_open) }
+    ensures done { HasCleanDisk (state S.Store conn.new) → IsChangeInLimits (change.Admit admission.now) → OnOk result (Changes (state S.Store conn.old) (state S.Store conn.new) at (change.Admit admission.now)) }
+    ensures nothing { HasCleanDisk (state S.Store conn.new) → OnErr result ((v : Vault) → Keeps (state S.Store conn.old) v → Keeps (state S.Store conn.new) v) }
+    ensures honest { HasCleanDisk (state S.Store conn.new) → HasCleanDisk (state S.Store conn.old) }
+    ensures crash { IsChangeInLimits (change.Admit admission.now) → (v : Vault) → Keeps (state S.Store conn.old) v → Survives (state S.Store conn.old) (state S.Store conn.new) (IsChanged (state S.Store conn.old) v at (change.Admit admission.now)) }
+{
+    let entry = &admission.history.entry;
+    let place = read_place(conn, &entry.bucket, &entry.key)?;
+    let newest = next_head(entry.id, place.head)?;
+    let sums = with_version(place.sums, entry.size, at);
+    let next = u64::from(entry.id.number()) + 1;
+    let _in_range = at.secs();
+    let part = NewEntry {
+        at,
+        admission,
+        head: place.head,
+        newest,
+        dept: &place.config.dept,
+        sums,
+        next,
+    };
+    let admitted = commit_part(conn, at, &part);
+    drop(place);
+    admitted
+}

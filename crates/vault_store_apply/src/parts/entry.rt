@@ -1,0 +1,138 @@
+//! An entry that is added, and one that is removed.
+ghost use Rattle.std.specs.Prelude.{◌≡◌, IsTrue, OnOk, OnErr};
+ghost use Rattle.sqlite.specs.State.{HasCleanDisk, KeepsCommit, Survives};
+ghost use Rattle.sqlite.specs.Held.{state};
+ghost use Rattle.vault_store_model.specs.Edits.{Edits};
+ghost use Rattle.vault_store_edits.specs.Ready.{IsReady};
+ghost use Rattle.vault_store_apply.specs.EntryParts.{history_put, noted_and_summed, bytes_dropped};
+
+use crate::parts::given::{
+    leave_head, put_content_if_given, put_first_setting, put_first_tenure, put_newest,
+    put_note_if_given, set_sums_of,
+};
+use sqlite::{Alter, Error, Transaction};
+use vault_base::moment::Moment;
+use vault_base::name::{DeptName, VersionId};
+use vault_core_model::change::Admission;
+use vault_core_model::records::{Entry, Head, History, Note, Removal};
+use vault_store_edits::contents::delete_content;
+use vault_store_edits::entries::{put_entry, remove_entry};
+use vault_store_edits::meta::{set_last, set_last_and_next};
+use vault_store_edits::transaction::Part;
+use vault_tally::row::Row as Sums;
+
+/// Puts in an entry with its bytes, its first setting and its first tenure.
+fn put_history<S: Alter>(tx: &mut Transaction<'_, S>, history: &History) -> Result<(), Error>
+    ensures same_reference { tx.new.conn.ghost_name ≡ tx.old.conn.ghost_name }
+    ensures edits { HasCleanDisk (state S.Store tx.new.conn.now) → IsTrue tx.old.conn.now.in_transaction → IsReady (state S.Store tx.old.conn.now)
+        → OnOk result (Edits (state S.Store tx.old.conn.now) (state S.Store tx.new.conn.now) (history_put history.now) × IsReady (state S.Store tx.new.conn.now)) }
+    ensures kept { HasCleanDisk (state S.Store tx.new.conn.now) → IsTrue tx.old.conn.now.in_transaction → IsReady (state S.Store tx.old.conn.now)
+        → OnErr result (KeepsCommit (state S.Store tx.old.conn.now) (state S.Store tx.new.conn.now)) }
+    ensures survives { Survives (state S.Store tx.old.conn.now) (state S.Store tx.new.conn.now) (λ _. ⊥) }
+{
+    put_entry(tx, &history.entry)?;
+    put_content_if_given(tx, history.entry.id, &history.content)?;
+    put_first_setting(tx, history.entry.id, history.settings.as_slice())?;
+    put_first_tenure(tx, history.entry.id, history.tenures.as_slice())
+}
+
+/// Puts in the note of an admission, and writes the sums of the department.
+fn put_beside<S: Alter>(
+    tx: &mut Transaction<'_, S>,
+    note: &Option<Note>,
+    marker: bool,
+    dept: &DeptName,
+    sums: &Sums,
+) -> Result<(), Error>
+    ensures same_reference { tx.new.conn.ghost_name ≡ tx.old.conn.ghost_name }
+    ensures edits { HasCleanDisk (state S.Store tx.new.conn.now) → IsTrue tx.old.conn.now.in_transaction → IsReady (state S.Store tx.old.conn.now)
+        → OnOk result (Edits (state S.Store tx.old.conn.now) (state S.Store tx.new.conn.now) (noted_and_summed note.now marker dept.now sums.now) × IsReady (state S.Store tx.new.conn.now)) }
+    ensures kept { HasCleanDisk (state S.Store tx.new.conn.now) → IsTrue tx.old.conn.now.in_transaction → IsReady (state S.Store tx.old.conn.now)
+        → OnErr result (KeepsCommit (state S.Store tx.old.conn.now) (state S.Store tx.new.conn.now)) }
+    ensures survives { Survives (state S.Store tx.old.conn.now) (state S.Store tx.new.conn.now) (λ _. ⊥) }
+{
+    put_note_if_given(tx, note)?;
+    set_sums_of(tx, marker, dept, sums)
+}
+
+/// Writes a removal into the row of its entry, and deletes the bytes.
+fn drop_bytes<S: Alter>(
+    tx: &mut Transaction<'_, S>,
+    id: VersionId,
+    removal: &Removal,
+) -> Result<(), Error>
+    ensures same_reference { tx.new.conn.ghost_name ≡ tx.old.conn.ghost_name }
+    ensures edits { HasCleanDisk (state S.Store tx.new.conn.now) → IsTrue tx.old.conn.now.in_transaction → IsReady (state S.Store tx.old.conn.now)
+        → OnOk result (Edits (state S.Store tx.old.conn.now) (state S.Store tx.new.conn.now) (bytes_dropped id removal.now) × IsReady (state S.Store tx.new.conn.now)) }
+    ensures kept { HasCleanDisk (state S.Store tx.new.conn.now) → IsTrue tx.old.conn.now.in_transaction → IsReady (state S.Store tx.old.conn.now)
+        → OnErr result (KeepsCommit (state S.Store tx.old.conn.now) (state S.Store tx.new.conn.now)) }
+    ensures survives { Survives (state S.Store tx.old.conn.now) (state S.Store tx.new.conn.now) (λ _. ⊥) }
+{
+    remove_entry(tx, id, removal)?;
+    delete_content(tx, id)?;
+    Ok(())
+}
+
+/// An admission at a moment, by what was read of the vault before.
+#[derive(Drop)]
+pub struct NewEntry<'a> {
+    pub at: Moment,
+    pub admission: &'a Admission,
+    /// The head that the key has, and the one that it gets.
+    pub head: Option<Head>,
+    pub newest: Head,
+    /// The department of the bucket, and the sums that it gets; of a marker they stay as they are.
+    pub dept: &'a DeptName,
+    pub sums: Sums,
+    /// The id that the next entry gets.
+    pub next: u64,
+}
+
+impl<S: Alter> Part<S> for NewEntry<'_> {
+    ghost use Rattle.vault_store_apply.specs.EntryParts.{entry_added};
+
+    ghost edit = { λ part. entry_added part.admission.now part.head part.newest part.dept.now part.sums part.at part.next };
+
+    fn make(&self, tx: &mut Transaction<'_, S>) -> Result<(), Error> {
+        let entry = &self.admission.history.entry;
+        put_history(tx, &self.admission.history)?;
+        put_newest(tx, &entry.bucket, &entry.key, self.head, &self.newest)?;
+        put_beside(
+            tx,
+            &self.admission.note,
+            entry.marker,
+            self.dept,
+            &self.sums,
+        )?;
+        set_last_and_next(tx, self.at, self.next)?;
+        Ok(())
+    }
+}
+
+/// The removal of an entry at a moment, by what was read of the vault before.
+#[derive(Drop)]
+pub struct RemovedEntry<'a> {
+    pub at: Moment,
+    pub id: VersionId,
+    pub entry: &'a Entry,
+    pub removal: &'a Removal,
+    /// The head that is left of the key; none where this was its last entry.
+    pub left: Option<Head>,
+    /// The department of the bucket, and the sums that it gets; of a marker they stay as they are.
+    pub dept: &'a DeptName,
+    pub sums: Sums,
+}
+
+impl<S: Alter> Part<S> for RemovedEntry<'_> {
+    ghost use Rattle.vault_store_apply.specs.EntryParts.{entry_removed};
+
+    ghost edit = { λ part. entry_removed part.entry.now part.id part.removal.now part.left part.dept.now part.sums part.at };
+
+    fn make(&self, tx: &mut Transaction<'_, S>) -> Result<(), Error> {
+        drop_bytes(tx, self.id, self.removal)?;
+        set_sums_of(tx, self.entry.marker, self.dept, &self.sums)?;
+        leave_head(tx, &self.entry.bucket, &self.entry.key, self.left)?;
+        set_last(tx, self.at)?;
+        Ok(())
+    }
+}

@@ -1,0 +1,167 @@
+//! Statements of one part, each where there is what it writes.
+ghost use Rattle.std.specs.Prelude.{◌≡◌, Some, IsTrue, OnOk, OnErr};
+ghost use Rattle.sqlite.specs.State.{HasCleanDisk, KeepsCommit, Survives};
+ghost use Rattle.sqlite.specs.Held.{state};
+ghost use Rattle.vault_base.specs.declared.refusal.Table.TheVariants as table;
+ghost use Rattle.vault_audit_model.specs.Rows.{content_row, note_row};
+ghost use Rattle.vault_store_model.specs.Changes.{with_row_if_given, with_head};
+ghost use Rattle.vault_store_model.specs.Edits.{Edits};
+ghost use Rattle.vault_store_edits.specs.Ready.{IsReady};
+ghost use Rattle.vault_store_apply.specs.EntryParts.{with_left_head, with_first_setting, with_first_tenure, with_sums_as};
+
+use sqlite::{Alter, Error, Transaction};
+use vault_base::content::Content;
+use vault_base::name::{BucketName, DeptName, ObjectKey, VersionId};
+use vault_core_model::records::{Head, Note, Setting, Tenure};
+use vault_store_edits::contents::put_content;
+use vault_store_edits::departments::set_sums;
+use vault_store_edits::heads::{delete_head, put_head, set_head};
+use vault_store_edits::intake::put_note;
+use vault_store_edits::settings::put_setting;
+use vault_store_edits::tenures::put_tenure;
+use vault_tally::row::Row as Sums;
+
+/// Puts in the bytes of an entry, if it has any.
+pub fn put_content_if_given<S: Alter>(
+    tx: &mut Transaction<'_, S>,
+    id: VersionId,
+    content: &Option<Content>,
+) -> Result<(), Error>
+    ensures same_reference { tx.new.conn.ghost_name ≡ tx.old.conn.ghost_name }
+    ensures edits { HasCleanDisk (state S.Store tx.new.conn.now) → IsTrue tx.old.conn.now.in_transaction → IsReady (state S.Store tx.old.conn.now)
+        → OnOk result (Edits (state S.Store tx.old.conn.now) (state S.Store tx.new.conn.now) (with_row_if_given table.Contents (λ bytes. content_row (record { id = id; content = bytes })) content.now) × IsReady (state S.Store tx.new.conn.now)) }
+    ensures kept { HasCleanDisk (state S.Store tx.new.conn.now) → IsTrue tx.old.conn.now.in_transaction → IsReady (state S.Store tx.old.conn.now)
+        → OnErr result (KeepsCommit (state S.Store tx.old.conn.now) (state S.Store tx.new.conn.now)) }
+    ensures survives { Survives (state S.Store tx.old.conn.now) (state S.Store tx.new.conn.now) (λ _. ⊥) }
+{
+    let Some(content) = content else {
+        return Ok(());
+    };
+    put_content(tx, id, content)?;
+    Ok(())
+}
+
+/// Puts in the note of an accepted line, if there is one.
+pub fn put_note_if_given<S: Alter>(
+    tx: &mut Transaction<'_, S>,
+    note: &Option<Note>,
+) -> Result<(), Error>
+    ensures same_reference { tx.new.conn.ghost_name ≡ tx.old.conn.ghost_name }
+    ensures edits { HasCleanDisk (state S.Store tx.new.conn.now) → IsTrue tx.old.conn.now.in_transaction → IsReady (state S.Store tx.old.conn.now)
+        → OnOk result (Edits (state S.Store tx.old.conn.now) (state S.Store tx.new.conn.now) (with_row_if_given table.Intake note_row note.now) × IsReady (state S.Store tx.new.conn.now)) }
+    ensures kept { HasCleanDisk (state S.Store tx.new.conn.now) → IsTrue tx.old.conn.now.in_transaction → IsReady (state S.Store tx.old.conn.now)
+        → OnErr result (KeepsCommit (state S.Store tx.old.conn.now) (state S.Store tx.new.conn.now)) }
+    ensures survives { Survives (state S.Store tx.old.conn.now) (state S.Store tx.new.conn.now) (λ _. ⊥) }
+{
+    let Some(note) = note else {
+        return Ok(());
+    };
+    put_note(tx, note)?;
+    Ok(())
+}
+
+/// Writes the new head of a key, which had the old one or none.
+pub fn put_newest<S: Alter>(
+    tx: &mut Transaction<'_, S>,
+    bucket: &BucketName,
+    key: &ObjectKey,
+    old: Option<Head>,
+    new: &Head,
+) -> Result<(), Error>
+    ensures same_reference { tx.new.conn.ghost_name ≡ tx.old.conn.ghost_name }
+    ensures edits { HasCleanDisk (state S.Store tx.new.conn.now) → IsTrue tx.old.conn.now.in_transaction → IsReady (state S.Store tx.old.conn.now)
+        → OnOk result (Edits (state S.Store tx.old.conn.now) (state S.Store tx.new.conn.now) (with_head bucket.now key.now old (Some new.now)) × IsReady (state S.Store tx.new.conn.now)) }
+    ensures kept { HasCleanDisk (state S.Store tx.new.conn.now) → IsTrue tx.old.conn.now.in_transaction → IsReady (state S.Store tx.old.conn.now)
+        → OnErr result (KeepsCommit (state S.Store tx.old.conn.now) (state S.Store tx.new.conn.now)) }
+    ensures survives { Survives (state S.Store tx.old.conn.now) (state S.Store tx.new.conn.now) (λ _. ⊥) }
+{
+    let Some(_) = old else {
+        put_head(tx, bucket, key, new)?;
+        return Ok(());
+    };
+    set_head(tx, bucket, key, new)?;
+    Ok(())
+}
+
+/// Writes the head that is left of a key, or none.
+pub fn leave_head<S: Alter>(
+    tx: &mut Transaction<'_, S>,
+    bucket: &BucketName,
+    key: &ObjectKey,
+    left: Option<Head>,
+) -> Result<(), Error>
+    ensures same_reference { tx.new.conn.ghost_name ≡ tx.old.conn.ghost_name }
+    ensures edits { HasCleanDisk (state S.Store tx.new.conn.now) → IsTrue tx.old.conn.now.in_transaction → IsReady (state S.Store tx.old.conn.now)
+        → OnOk result (Edits (state S.Store tx.old.conn.now) (state S.Store tx.new.conn.now) (with_left_head bucket.now key.now left) × IsReady (state S.Store tx.new.conn.now)) }
+    ensures kept { HasCleanDisk (state S.Store tx.new.conn.now) → IsTrue tx.old.conn.now.in_transaction → IsReady (state S.Store tx.old.conn.now)
+        → OnErr result (KeepsCommit (state S.Store tx.old.conn.now) (state S.Store tx.new.conn.now)) }
+    ensures survives { Survives (state S.Store tx.old.conn.now) (state S.Store tx.new.conn.now) (λ _. ⊥) }
+{
+    let Some(head) = left else {
+        delete_head(tx, bucket, key)?;
+        return Ok(());
+    };
+    set_head(tx, bucket, key, &head)?;
+    Ok(())
+}
+
+/// Puts in the first of these settings of a version, if there is one.
+pub fn put_first_setting<S: Alter>(
+    tx: &mut Transaction<'_, S>,
+    id: VersionId,
+    settings: &[Setting],
+) -> Result<(), Error>
+    ensures same_reference { tx.new.conn.ghost_name ≡ tx.old.conn.ghost_name }
+    ensures edits { HasCleanDisk (state S.Store tx.new.conn.now) → IsTrue tx.old.conn.now.in_transaction → IsReady (state S.Store tx.old.conn.now)
+        → OnOk result (Edits (state S.Store tx.old.conn.now) (state S.Store tx.new.conn.now) (with_first_setting id settings.now) × IsReady (state S.Store tx.new.conn.now)) }
+    ensures kept { HasCleanDisk (state S.Store tx.new.conn.now) → IsTrue tx.old.conn.now.in_transaction → IsReady (state S.Store tx.old.conn.now)
+        → OnErr result (KeepsCommit (state S.Store tx.old.conn.now) (state S.Store tx.new.conn.now)) }
+    ensures survives { Survives (state S.Store tx.old.conn.now) (state S.Store tx.new.conn.now) (λ _. ⊥) }
+{
+    let Some(setting) = settings.first() else {
+        return Ok(());
+    };
+    put_setting(tx, id, 1, setting)?;
+    Ok(())
+}
+
+/// Puts in the first of these tenures of an entry, if there is one; a marker has none.
+pub fn put_first_tenure<S: Alter>(
+    tx: &mut Transaction<'_, S>,
+    id: VersionId,
+    tenures: &[Tenure],
+) -> Result<(), Error>
+    ensures same_reference { tx.new.conn.ghost_name ≡ tx.old.conn.ghost_name }
+    ensures edits { HasCleanDisk (state S.Store tx.new.conn.now) → IsTrue tx.old.conn.now.in_transaction → IsReady (state S.Store tx.old.conn.now)
+        → OnOk result (Edits (state S.Store tx.old.conn.now) (state S.Store tx.new.conn.now) (with_first_tenure id tenures.now) × IsReady (state S.Store tx.new.conn.now)) }
+    ensures kept { HasCleanDisk (state S.Store tx.new.conn.now) → IsTrue tx.old.conn.now.in_transaction → IsReady (state S.Store tx.old.conn.now)
+        → OnErr result (KeepsCommit (state S.Store tx.old.conn.now) (state S.Store tx.new.conn.now)) }
+    ensures survives { Survives (state S.Store tx.old.conn.now) (state S.Store tx.new.conn.now) (λ _. ⊥) }
+{
+    let Some(tenure) = tenures.first() else {
+        return Ok(());
+    };
+    put_tenure(tx, id, tenure)?;
+    Ok(())
+}
+
+/// Writes the sums of a department, but for a marker, which counts in none.
+pub fn set_sums_of<S: Alter>(
+    tx: &mut Transaction<'_, S>,
+    marker: bool,
+    dept: &DeptName,
+    sums: &Sums,
+) -> Result<(), Error>
+    ensures same_reference { tx.new.conn.ghost_name ≡ tx.old.conn.ghost_name }
+    ensures edits { HasCleanDisk (state S.Store tx.new.conn.now) → IsTrue tx.old.conn.now.in_transaction → IsReady (state S.Store tx.old.conn.now)
+        → OnOk result (Edits (state S.Store tx.old.conn.now) (state S.Store tx.new.conn.now) (with_sums_as marker dept.now sums.now) × IsReady (state S.Store tx.new.conn.now)) }
+    ensures kept { HasCleanDisk (state S.Store tx.new.conn.now) → IsTrue tx.old.conn.now.in_transaction → IsReady (state S.Store tx.old.conn.now)
+        → OnErr result (KeepsCommit (state S.Store tx.old.conn.now) (state S.Store tx.new.conn.now)) }
+    ensures survives { Survives (state S.Store tx.old.conn.now) (state S.Store tx.new.conn.now) (λ _. ⊥) }
+{
+    if marker {
+        return Ok(());
+    }
+    set_sums(tx, dept, sums)?;
+    Ok(())
+}

@@ -1,0 +1,168 @@
+-- What each statement on meta, departments, callers, buckets and rules does.
+use Rattle.std.proofs.Common.{◌≡◌, ℕ, List, [], ◌∷◌, Option, None, Ok, refl, sym, subst, ◌∙◌}
+use Rattle.sqlite_value.specs.declared.value.Value.TheVariants.{Null, Text}
+use Rattle.sqlite_value.specs.Order.{Row, column}
+use Rattle.sqlite_schema.specs.declared.schema.Kind.TheVariants as kind
+use Rattle.sqlite_rules.specs.Cast.{cast}
+use Rattle.sqlite.specs.Effect.{IsDatabase}
+use Rattle.sqlite.specs.State.{State, Executes}
+use Rattle.vault_base.specs.declared.refusal.Table.TheVariants as table
+use Rattle.vault_lock.specs.declared.retention.Default.{Default}
+use Rattle.vault_tally.specs.declared.row.Row.{Row as Sums}
+use Rattle.vault_core_model.specs.declared.records.Caller.{Caller}
+use Rattle.vault_audit_model.specs.declared.rows.RuleRow.{RuleRow}
+use Rattle.vault_audit_model.specs.Rows.{department_row, caller_row, bucket_row, rule_row, rights_number, default_mode, default_days, default_years, noncurrent_days, noncurrent_newer}
+use Rattle.vault_audit_model.specs.Tables.{vault_schema, meta, departments, callers, buckets, rules, meta_tree, departments_tree, callers_tree, buckets_tree, rules_tree}
+use Rattle.vault_audit_model.specs.Values.{number, number_or_null, text_or_null, flag}
+use Rattle.vault_store_model.specs.Edits.{with_row, with_changed, without}
+use Rattle.sqlite_tied.proofs.RuleLemmas.{and_true}
+use Rattle.vault_store_edits.specs.Apart.{IsApart}
+use Rattle.vault_store_model.specs.Scans.{passes}
+use Rattle.vault_store_model.specs.Tests.{is_text, is_named, every, with_last, with_last_and_next, with_last_and_moves, with_sums, closed_row, with_default_columns, with_owner}
+use Rattle.vault_audit_model.proofs.ValueLemmas.{cast_null, cast_int}
+use Rattle.vault_store_edits.proofs.CastLemmas.{cast_number, cast_number_or_null, cast_flag, cast_text_or_null}
+use Rattle.vault_store_edits.proofs.StatementLemmas.{Leaves, inserts, updates, deletes}
+use Rattle.vault_store_edits.proofs.TestLemmas.{text_test}
+use Rattle.vault_store_edits.proofs.RecordTextLemmas.{department_text, department_terms, department_is, department_plain, by_name, sums_text, sums_project, sums_is, sums_plain, caller_text, caller_terms, caller_is, caller_plain, closed_text, closed_project, closed_is, closed_plain, bucket_text, bucket_terms, bucket_is, bucket_plain, default_text, default_project, default_is, default_plain, owner_text, owner_project, owner_is, owner_plain, rule_text, rule_terms, rule_is, rule_plain, no_rules_text, no_rules_is, no_rules_plain, last_text, last_project, last_is, last_plain, next_text, next_project, next_is, next_plain, moves_text, moves_project, moves_is, moves_plain}
+use Rattle.vault_store_edits.proofs.TypeLemmas.{column_taken}
+
+-- the name in the first column is the first parameter
+named : (name : List ℕ) (rest r : Row) → passes by_name (Text name ∷ rest) r ≡ is_text name (column r 1)
+named name rest r = and_true _ ∙ text_test name (column r 1)
+
+-- ---- meta
+
+module _ (last : ℕ) where
+  pub sets_last : (old new : State) (count : ℕ) → IsApart (passes [] (number last ∷ [])) (old.now.trees meta_tree) → IsDatabase old.now → old.now.schema ≡ vault_schema
+      → Executes last_text (number last ∷ []) old new (Ok count) → Leaves old new (with_changed table.Meta every (with_last last))
+  sets_last =
+      updates table.Meta 0 meta last_text (number last ∷ []) [] every refl last_plain (λ r whole. refl) last_project (with_last last) last_is (λ limit mode text db out h. h) (λ db k. k.0)
+      (λ r typed id is.
+      let one : cast kind.Integer (column r 0) ≡ column r 0 = subst (λ v. cast kind.Integer v ≡ v) (sym is) (cast_int id) in
+      let schema : cast kind.Integer (column r 2) ≡ column r 2 = column_taken meta r refl typed 1 _ refl in
+      let next : cast kind.Integer (column r 4) ≡ column r 4 = column_taken meta r refl typed 3 _ refl in
+      let moves : cast kind.Integer (column r 5) ≡ column r 5 = column_taken meta r refl typed 4 _ refl in
+      rw (one, schema, next, moves, cast_number last) refl)
+
+  pub sets_next : (next : ℕ) (old new : State) (count : ℕ) → IsApart (passes [] (number last ∷ number next ∷ [])) (old.now.trees meta_tree) → IsDatabase old.now → old.now.schema ≡ vault_schema
+      → Executes next_text (number last ∷ number next ∷ []) old new (Ok count) → Leaves old new (with_changed table.Meta every (with_last_and_next last next))
+  sets_next next =
+      updates table.Meta 0 meta next_text (number last ∷ number next ∷ []) [] every refl next_plain (λ r whole. refl) next_project (with_last_and_next last next) next_is (λ limit mode text db out h. h) (λ db k. k.0)
+      (λ r typed id is.
+      let one : cast kind.Integer (column r 0) ≡ column r 0 = subst (λ v. cast kind.Integer v ≡ v) (sym is) (cast_int id) in
+      let schema : cast kind.Integer (column r 2) ≡ column r 2 = column_taken meta r refl typed 1 _ refl in
+      let moves : cast kind.Integer (column r 5) ≡ column r 5 = column_taken meta r refl typed 4 _ refl in
+      rw (one, schema, moves, cast_number last, cast_number next) refl)
+
+  pub sets_moves : (moves : ℕ) (old new : State) (count : ℕ) → IsApart (passes [] (number last ∷ number moves ∷ [])) (old.now.trees meta_tree) → IsDatabase old.now → old.now.schema ≡ vault_schema
+      → Executes moves_text (number last ∷ number moves ∷ []) old new (Ok count) → Leaves old new (with_changed table.Meta every (with_last_and_moves last moves))
+  sets_moves moves =
+      updates table.Meta 0 meta moves_text (number last ∷ number moves ∷ []) [] every refl moves_plain (λ r whole. refl) moves_project (with_last_and_moves last moves) moves_is (λ limit mode text db out h. h) (λ db k. k.0)
+      (λ r typed id is.
+      let one : cast kind.Integer (column r 0) ≡ column r 0 = subst (λ v. cast kind.Integer v ≡ v) (sym is) (cast_int id) in
+      let schema : cast kind.Integer (column r 2) ≡ column r 2 = column_taken meta r refl typed 1 _ refl in
+      let next : cast kind.Integer (column r 4) ≡ column r 4 = column_taken meta r refl typed 3 _ refl in
+      rw (one, schema, next, cast_number last, cast_number moves) refl)
+
+-- ---- departments
+
+abbrev pub new_department : List ℕ → Row
+new_department name = department_row (record { name = name; sums = record { admitted = 0; received = 0; held = 0; removed = 0; handed = 0; weighted = 0; closed = 0 } })
+
+pub puts_department : (name : List ℕ) (old new : State) (count : ℕ) → old.now.schema ≡ vault_schema → Executes department_text (Text name ∷ []) old new (Ok count)
+    → Leaves old new (with_row table.Departments (new_department name))
+puts_department name =
+    inserts table.Departments 1 departments department_text (Text name ∷ []) department_terms 9
+    (Null ∷ Text name ∷ number 0 ∷ number 0 ∷ number 0 ∷ number 0 ∷ number 0 ∷ number 0 ∷ number 0 ∷ []) (new_department name) department_is department_plain (λ limit mode text db out h. h) refl refl
+    (λ rows. rw (cast_null, cast_number 0) refl)
+
+abbrev pub sums_params : List ℕ → Sums → Row
+sums_params name sums = Text name ∷ number sums.admitted ∷ number sums.held ∷ number sums.removed ∷ number sums.weighted ∷ number sums.closed ∷ number sums.received ∷ number sums.handed ∷ []
+
+pub sets_sums : (name : List ℕ) (sums : Sums) (old new : State) (count : ℕ) → IsApart (passes by_name (sums_params name sums)) (old.now.trees departments_tree) → IsDatabase old.now → old.now.schema ≡ vault_schema
+    → Executes sums_text (sums_params name sums) old new (Ok count) → Leaves old new (with_changed table.Departments (is_named name) (with_sums sums))
+sets_sums name sums =
+    updates table.Departments 1 departments sums_text (sums_params name sums) by_name (is_named name) refl sums_plain (λ r whole. named name (number sums.admitted ∷ number sums.held ∷ number sums.removed ∷ number sums.weighted ∷ number sums.closed ∷ number sums.received ∷ number sums.handed ∷ []) r) sums_project (with_sums sums) sums_is (λ limit mode text db out h. h) (λ db k. k.1.0)
+    (λ r typed id is.
+    let first : cast kind.Text (column r 1) ≡ column r 1 = column_taken departments r refl typed 0 _ refl in
+    rw (first, cast_number sums.admitted, cast_number sums.held, cast_number sums.removed, cast_number sums.weighted, cast_number sums.closed, cast_number sums.received, cast_number sums.handed) refl)
+
+-- ---- callers
+
+abbrev pub caller_params : Caller → Row
+caller_params c = Text c.name ∷ text_or_null c.dept ∷ number (rights_number c.rights) ∷ flag c.closed ∷ []
+
+pub puts_caller : (c : Caller) (old new : State) (count : ℕ) → old.now.schema ≡ vault_schema → Executes caller_text (caller_params c) old new (Ok count) → Leaves old new (with_row table.Callers (caller_row c))
+puts_caller c =
+    inserts table.Callers 2 callers caller_text (caller_params c) caller_terms 5 (Null ∷ caller_params c) (caller_row c) caller_is caller_plain (λ limit mode text db out h. h) refl refl
+    (λ rows. rw (cast_null, cast_text_or_null c.dept, cast_number (rights_number c.rights), cast_flag c.closed) refl)
+
+pub closes_caller : (name : List ℕ) (old new : State) (count : ℕ) → IsApart (passes by_name (Text name ∷ [])) (old.now.trees callers_tree) → IsDatabase old.now → old.now.schema ≡ vault_schema
+    → Executes closed_text (Text name ∷ []) old new (Ok count) → Leaves old new (with_changed table.Callers (is_named name) closed_row)
+closes_caller name =
+    updates table.Callers 2 callers closed_text (Text name ∷ []) by_name (is_named name) refl closed_plain (λ r whole. named name [] r) closed_project closed_row closed_is (λ limit mode text db out h. h) (λ db k. k.1.1.0)
+    (λ r typed id is.
+    let first : cast kind.Text (column r 1) ≡ column r 1 = column_taken callers r refl typed 0 _ refl in
+    let dept : cast kind.Text (column r 2) ≡ column r 2 = column_taken callers r refl typed 1 _ refl in
+    let rights : cast kind.Integer (column r 3) ≡ column r 3 = column_taken callers r refl typed 2 _ refl in
+    rw (first, dept, rights, cast_number 1) refl)
+
+-- ---- buckets
+
+abbrev pub new_bucket : List ℕ → List ℕ → Row
+new_bucket name dept = bucket_row (record { name = name; config = record { dept = dept; default = None } })
+
+pub puts_bucket : (name dept : List ℕ) (old new : State) (count : ℕ) → old.now.schema ≡ vault_schema → Executes bucket_text (Text name ∷ Text dept ∷ []) old new (Ok count)
+    → Leaves old new (with_row table.Buckets (new_bucket name dept))
+puts_bucket name dept =
+    inserts table.Buckets 3 buckets bucket_text (Text name ∷ Text dept ∷ []) bucket_terms 6 (Null ∷ Text name ∷ Text dept ∷ number 0 ∷ Null ∷ Null ∷ []) (new_bucket name dept) bucket_is bucket_plain (λ limit mode text db out h. h) refl refl
+    (λ rows. rw (cast_null, cast_number 0) refl)
+
+abbrev pub default_params : List ℕ → Option Default → Row
+default_params name default = Text name ∷ default_mode default ∷ default_days default ∷ default_years default ∷ []
+
+pub sets_default : (name : List ℕ) (default : Option Default) (old new : State) (count : ℕ) → IsApart (passes by_name (default_params name default)) (old.now.trees buckets_tree) → IsDatabase old.now → old.now.schema ≡ vault_schema
+    → Executes default_text (default_params name default) old new (Ok count) → Leaves old new (with_changed table.Buckets (is_named name) (with_default_columns default))
+sets_default name default =
+    updates table.Buckets 3 buckets default_text (default_params name default) by_name (is_named name) refl default_plain (λ r whole. named name (default_mode default ∷ default_days default ∷ default_years default ∷ []) r) default_project (with_default_columns default) default_is (λ limit mode text db out h. h) (λ db k. k.1.1.1.0)
+    (λ r typed id is.
+    let first : cast kind.Text (column r 1) ≡ column r 1 = column_taken buckets r refl typed 0 _ refl in
+    let dept : cast kind.Text (column r 2) ≡ column r 2 = column_taken buckets r refl typed 1 _ refl in
+    let mode : cast kind.Integer (default_mode default) ≡ default_mode default = cast_number _ in
+    let days : cast kind.Integer (default_days default) ≡ default_days default = cast_number_or_null _ in
+    let years : cast kind.Integer (default_years default) ≡ default_years default = cast_number_or_null _ in
+    rw (first, dept, mode, days, years) refl)
+
+abbrev pub owner_params : List ℕ → List ℕ → Row
+owner_params name dept = Text name ∷ Text dept ∷ []
+
+pub sets_owner : (name dept : List ℕ) (old new : State) (count : ℕ) → IsApart (passes by_name (owner_params name dept)) (old.now.trees buckets_tree) → IsDatabase old.now → old.now.schema ≡ vault_schema
+    → Executes owner_text (owner_params name dept) old new (Ok count) → Leaves old new (with_changed table.Buckets (is_named name) (with_owner dept))
+sets_owner name dept =
+    updates table.Buckets 3 buckets owner_text (owner_params name dept) by_name (is_named name) refl owner_plain (λ r whole. named name (Text dept ∷ []) r) owner_project (with_owner dept) owner_is (λ limit mode text db out h. h) (λ db k. k.1.1.1.0)
+    (λ r typed id is.
+    let first : cast kind.Text (column r 1) ≡ column r 1 = column_taken buckets r refl typed 0 _ refl in
+    let mode : cast kind.Integer (column r 3) ≡ column r 3 = column_taken buckets r refl typed 2 _ refl in
+    let days : cast kind.Integer (column r 4) ≡ column r 4 = column_taken buckets r refl typed 3 _ refl in
+    let years : cast kind.Integer (column r 5) ≡ column r 5 = column_taken buckets r refl typed 4 _ refl in
+    rw (first, mode, days, years) refl)
+
+-- ---- rules
+
+abbrev pub rule_params : RuleRow → Row
+rule_params r = rule_row r
+
+pub puts_rule : (r : RuleRow) (old new : State) (count : ℕ) → old.now.schema ≡ vault_schema → Executes rule_text (rule_params r) old new (Ok count) → Leaves old new (with_row table.Rules (rule_row r))
+puts_rule r =
+    inserts table.Rules 4 rules rule_text (rule_params r) rule_terms 12 (Null ∷ rule_params r) (rule_row r) rule_is rule_plain (λ limit mode text db out h. h) refl refl
+    (λ rows.
+    let days : cast kind.Integer (number_or_null r.rule.days) ≡ number_or_null r.rule.days = cast_number_or_null _ in
+    let old : cast kind.Integer (noncurrent_days r.rule.noncurrent) ≡ noncurrent_days r.rule.noncurrent = cast_number_or_null _ in
+    let newer : cast kind.Integer (noncurrent_newer r.rule.noncurrent) ≡ noncurrent_newer r.rule.noncurrent = cast_number_or_null _ in
+    let larger : cast kind.Integer (number_or_null r.rule.larger) ≡ number_or_null r.rule.larger = cast_number_or_null _ in
+    let smaller : cast kind.Integer (number_or_null r.rule.smaller) ≡ number_or_null r.rule.smaller = cast_number_or_null _ in
+    rw (cast_null, cast_number r.place, cast_flag r.rule.enabled, days, cast_flag r.rule.lone_markers, old, newer, larger, smaller) refl)
+
+pub drops_rules : (bucket : List ℕ) (old new : State) (count : ℕ) → IsApart (passes by_name (Text bucket ∷ [])) (old.now.trees rules_tree) → old.now.schema ≡ vault_schema → Executes no_rules_text (Text bucket ∷ []) old new (Ok count)
+    → Leaves old new (without table.Rules (is_named bucket))
+drops_rules bucket = deletes table.Rules 4 rules no_rules_text (Text bucket ∷ []) by_name (is_named bucket) refl no_rules_plain (λ r whole. named bucket [] r) no_rules_is (λ limit mode text db out h. h)

@@ -1,0 +1,212 @@
+-- What the statements on meta, departments, callers, buckets and rules mean.
+use Rattle.std.proofs.Common.{◌≡◌, ℕ, pos, List, [], ◌∷◌, codes, refl}
+use Rattle.sqlite_tied.specs.Compute.{everything}
+use Rattle.sqlite.specs.declared.types.Value.TheVariants.{Null, Int}
+use Rattle.sqlite.specs.Term.{Term, lit, col}
+use Rattle.sqlite.specs.Source.TheVariants.{Values}
+use Rattle.sqlite.specs.Command.TheVariants.{Insert, Update, Delete}
+use Rattle.sqlite.specs.Listing.{understood}
+use Rattle.sqlite.proofs.Callers.{IsPlain, command_of}
+use Rattle.vault_audit_model.specs.Tables.{vault_schema, meta_tree, departments_tree, callers_tree, buckets_tree, rules_tree}
+use Rattle.vault_store_model.specs.Scans.{scan}
+use Rattle.vault_store_edits.specs.Queries.{equals, Finds}
+
+abbrev pub department_text : List ℕ
+department_text = codes "INSERT INTO departments (name, admitted, held, removed, weighted, closed, received, handed) VALUES (?1, 0, 0, 0, 0, 0, 0, 0)"
+
+abbrev pub department_terms : List Term
+department_terms =
+    lit Null ∷ col 0 0 ∷ lit (Int (pos 0)) ∷ lit (Int (pos 0)) ∷ lit (Int (pos 0)) ∷ lit (Int (pos 0)) ∷ lit (Int (pos 0)) ∷ lit (Int (pos 0)) ∷ lit (Int (pos 0)) ∷ []
+
+pub department_is : command_of (understood vault_schema department_text) ≡ Insert 1 (Values department_terms 9)
+unfolding understood everything
+department_is = refl
+
+pub department_plain : IsPlain (understood vault_schema department_text)
+unfolding understood everything
+department_plain = (refl, refl)
+
+-- ---- departments
+
+abbrev pub sums_text : List ℕ
+sums_text = codes "UPDATE departments SET admitted = ?2, held = ?3, removed = ?4, weighted = ?5, closed = ?6, received = ?7, handed = ?8 WHERE name = ?1"
+
+abbrev pub sums_project : List Term
+sums_project = col 1 0 ∷ col 1 1 ∷ col 0 1 ∷ col 0 2 ∷ col 0 3 ∷ col 0 4 ∷ col 0 5 ∷ col 0 6 ∷ col 0 7 ∷ []
+
+-- the first column is the first parameter
+abbrev pub by_name : List Term
+by_name = equals 1 0 ∷ []
+
+pub sums_is : command_of (understood vault_schema sums_text) ≡ Update 1 (record { lets = []; body = scan departments_tree by_name (col 1 0 ∷ sums_project) })
+unfolding understood everything
+sums_is = refl
+
+pub sums_plain : IsPlain (understood vault_schema sums_text)
+unfolding understood everything
+sums_plain = (refl, refl)
+
+pub finds_department : Finds (codes "SELECT rowid FROM departments WHERE name = ?1") departments_tree by_name
+unfolding understood everything
+finds_department = record { names = codes "rowid" ∷ []; command = refl; unlisted = refl; plain = (refl, refl) }
+
+-- ---- callers
+
+abbrev pub caller_text : List ℕ
+caller_text = codes "INSERT INTO callers (name, dept, rights, closed) VALUES (?1, ?2, ?3, ?4)"
+
+abbrev pub caller_terms : List Term
+caller_terms = lit Null ∷ col 0 0 ∷ col 0 1 ∷ col 0 2 ∷ col 0 3 ∷ []
+
+pub caller_is : command_of (understood vault_schema caller_text) ≡ Insert 2 (Values caller_terms 5)
+unfolding understood everything
+caller_is = refl
+
+pub caller_plain : IsPlain (understood vault_schema caller_text)
+unfolding understood everything
+caller_plain = (refl, refl)
+
+abbrev pub closed_text : List ℕ
+closed_text = codes "UPDATE callers SET closed = 1 WHERE name = ?1"
+
+abbrev pub closed_project : List Term
+closed_project = col 1 0 ∷ col 1 1 ∷ col 1 2 ∷ col 1 3 ∷ lit (Int (pos 1)) ∷ []
+
+pub closed_is : command_of (understood vault_schema closed_text) ≡ Update 2 (record { lets = []; body = scan callers_tree by_name (col 1 0 ∷ closed_project) })
+unfolding understood everything
+closed_is = refl
+
+pub closed_plain : IsPlain (understood vault_schema closed_text)
+unfolding understood everything
+closed_plain = (refl, refl)
+
+pub finds_caller : Finds (codes "SELECT rowid FROM callers WHERE name = ?1") callers_tree by_name
+unfolding understood everything
+finds_caller = record { names = codes "rowid" ∷ []; command = refl; unlisted = refl; plain = (refl, refl) }
+
+-- ---- buckets
+
+abbrev pub bucket_text : List ℕ
+bucket_text = codes "INSERT INTO buckets (name, dept, mode, days, years) VALUES (?1, ?2, 0, NULL, NULL)"
+
+abbrev pub bucket_terms : List Term
+bucket_terms = lit Null ∷ col 0 0 ∷ col 0 1 ∷ lit (Int (pos 0)) ∷ lit Null ∷ lit Null ∷ []
+
+pub bucket_is : command_of (understood vault_schema bucket_text) ≡ Insert 3 (Values bucket_terms 6)
+unfolding understood everything
+bucket_is = refl
+
+pub bucket_plain : IsPlain (understood vault_schema bucket_text)
+unfolding understood everything
+bucket_plain = (refl, refl)
+
+abbrev pub default_text : List ℕ
+default_text = codes "UPDATE buckets SET mode = ?2, days = ?3, years = ?4 WHERE name = ?1"
+
+abbrev pub default_project : List Term
+default_project = col 1 0 ∷ col 1 1 ∷ col 1 2 ∷ col 0 1 ∷ col 0 2 ∷ col 0 3 ∷ []
+
+pub default_is : command_of (understood vault_schema default_text) ≡ Update 3 (record { lets = []; body = scan buckets_tree by_name (col 1 0 ∷ default_project) })
+unfolding understood everything
+default_is = refl
+
+pub default_plain : IsPlain (understood vault_schema default_text)
+unfolding understood everything
+default_plain = (refl, refl)
+
+abbrev pub owner_text : List ℕ
+owner_text = codes "UPDATE buckets SET dept = ?2 WHERE name = ?1"
+
+abbrev pub owner_project : List Term
+owner_project = col 1 0 ∷ col 1 1 ∷ col 0 1 ∷ col 1 3 ∷ col 1 4 ∷ col 1 5 ∷ []
+
+pub owner_is : command_of (understood vault_schema owner_text) ≡ Update 3 (record { lets = []; body = scan buckets_tree by_name (col 1 0 ∷ owner_project) })
+unfolding understood everything
+owner_is = refl
+
+pub owner_plain : IsPlain (understood vault_schema owner_text)
+unfolding understood everything
+owner_plain = (refl, refl)
+
+pub finds_bucket : Finds (codes "SELECT rowid FROM buckets WHERE name = ?1") buckets_tree by_name
+unfolding understood everything
+finds_bucket = record { names = codes "rowid" ∷ []; command = refl; unlisted = refl; plain = (refl, refl) }
+
+-- ---- rules
+
+abbrev pub rule_text : List ℕ
+rule_text = codes "INSERT INTO rules (bucket, n, id, prefix, enabled, days, lone, nc_days, nc_keep, larger, smaller) VALUES (?1, ?2, ?3, ?4, ?5, ?6, ?7, ?8, ?9, ?10, ?11)"
+
+abbrev pub rule_terms : List Term
+rule_terms = lit Null ∷ col 0 0 ∷ col 0 1 ∷ col 0 2 ∷ col 0 3 ∷ col 0 4 ∷ col 0 5 ∷ col 0 6 ∷ col 0 7 ∷ col 0 8 ∷ col 0 9 ∷ col 0 10 ∷ []
+
+pub rule_is : command_of (understood vault_schema rule_text) ≡ Insert 4 (Values rule_terms 12)
+unfolding understood everything
+rule_is = refl
+
+pub rule_plain : IsPlain (understood vault_schema rule_text)
+unfolding understood everything
+rule_plain = (refl, refl)
+
+abbrev pub no_rules_text : List ℕ
+no_rules_text = codes "DELETE FROM rules WHERE bucket = ?1"
+
+pub no_rules_is : command_of (understood vault_schema no_rules_text) ≡ Delete 4 (record { lets = []; body = scan rules_tree by_name (col 1 0 ∷ []) })
+unfolding understood everything
+no_rules_is = refl
+
+pub no_rules_plain : IsPlain (understood vault_schema no_rules_text)
+unfolding understood everything
+no_rules_plain = (refl, refl)
+
+pub finds_rules : Finds (codes "SELECT rowid FROM rules WHERE bucket = ?1") rules_tree by_name
+unfolding understood everything
+finds_rules = record { names = codes "rowid" ∷ []; command = refl; unlisted = refl; plain = (refl, refl) }
+
+-- ---- meta
+
+abbrev pub last_text : List ℕ
+last_text = codes "UPDATE meta SET last = ?1"
+
+abbrev pub last_project : List Term
+last_project = col 1 0 ∷ lit Null ∷ col 1 2 ∷ col 0 0 ∷ col 1 4 ∷ col 1 5 ∷ []
+
+pub last_is : command_of (understood vault_schema last_text) ≡ Update 0 (record { lets = []; body = scan meta_tree [] (col 1 0 ∷ last_project) })
+unfolding understood everything
+last_is = refl
+
+pub last_plain : IsPlain (understood vault_schema last_text)
+unfolding understood everything
+last_plain = (refl, refl)
+
+abbrev pub next_text : List ℕ
+next_text = codes "UPDATE meta SET last = ?1, next = ?2"
+
+abbrev pub next_project : List Term
+next_project = col 1 0 ∷ lit Null ∷ col 1 2 ∷ col 0 0 ∷ col 0 1 ∷ col 1 5 ∷ []
+
+pub next_is : command_of (understood vault_schema next_text) ≡ Update 0 (record { lets = []; body = scan meta_tree [] (col 1 0 ∷ next_project) })
+unfolding understood everything
+next_is = refl
+
+pub next_plain : IsPlain (understood vault_schema next_text)
+unfolding understood everything
+next_plain = (refl, refl)
+
+abbrev pub moves_text : List ℕ
+moves_text = codes "UPDATE meta SET last = ?1, moves = ?2"
+
+abbrev pub moves_project : List Term
+moves_project = col 1 0 ∷ lit Null ∷ col 1 2 ∷ col 0 0 ∷ col 1 4 ∷ col 0 1 ∷ []
+
+pub moves_is : command_of (understood vault_schema moves_text) ≡ Update 0 (record { lets = []; body = scan meta_tree [] (col 1 0 ∷ moves_project) })
+unfolding understood everything
+moves_is = refl
+
+pub moves_plain : IsPlain (understood vault_schema moves_text)
+unfolding understood everything
+moves_plain = (refl, refl)
+
+pub finds_meta : Finds (codes "SELECT rowid FROM meta") meta_tree []
+unfolding understood everything
+finds_meta = record { names = codes "one" ∷ []; command = refl; unlisted = refl; plain = (refl, refl) }

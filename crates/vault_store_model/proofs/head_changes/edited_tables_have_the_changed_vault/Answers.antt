@@ -1,5 +1,0 @@
-use Rattle.vault_store_model.proofs.ChangeLemmas.{rows_told}
-use Rattle.vault_store_model.proofs.head_changes.edited_tables_have_the_changed_vault.Goals as goal
-
-pub returns : goal.returns
-returns c = rows_told

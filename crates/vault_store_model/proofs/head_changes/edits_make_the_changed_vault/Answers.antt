@@ -1,5 +1,0 @@
-use Rattle.vault_store_model.proofs.ChangeLemmas.{rows_made}
-use Rattle.vault_store_model.proofs.head_changes.edits_make_the_changed_vault.Goals as goal
-
-pub returns : goal.returns
-returns c = rows_made
