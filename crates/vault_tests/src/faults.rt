@@ -6,7 +6,7 @@ use std::test::Fail;
 use vault_core::fuse_keeper::FuseKeeper;
 use vault_core_list::list_keeper::ListKeeper;
 use vault_core_model::keeper::Keeper;
-use vault_failing::failing::failing::{FailingReader, FailingWriter};
+use vault_failing::streams::{FailingReader, FailingWriter};
 use vault_transcript::transcript::{opened, play, replies};
 use vaultctl_replay::{ReplayFault, replay};
 

@@ -6,7 +6,7 @@ use std::alloc::Global;
 use std::test::Fail;
 use vault_core_list::list_keeper::ListKeeper;
 use vault_core_model::keeper::Keeper;
-use vault_failing::failing::failing::{FailingReader, FailingWriter};
+use vault_failing::streams::{FailingReader, FailingWriter};
 use vault_http::ServeFault;
 
 /// Serves what a reader gives before it fails: what is written, and what is answered.

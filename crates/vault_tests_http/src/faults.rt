@@ -5,7 +5,7 @@ use std::io::BufWriter;
 use std::test::Fail;
 use vault_core::fuse_keeper::FuseKeeper;
 use vault_core_model::keeper::Keeper;
-use vault_failing::failing::failing::{FailingReader, FailingWriter};
+use vault_failing::streams::{FailingReader, FailingWriter};
 use vault_http::ServeFault;
 use vault_transcript::transcript::opened;
 

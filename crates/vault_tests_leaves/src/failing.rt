@@ -2,7 +2,7 @@
 use std::alloc::Global;
 use std::io::{self, Read, Write};
 use std::test::Fail;
-use vault_failing::failing::failing::{FailingReader, FailingWriter};
+use vault_failing::streams::{FailingReader, FailingWriter};
 
 /// How many bytes each of three reads gives; none where it fails.
 fn three_reads(reader: &mut FailingReader<'_>) -> [Option<usize>; 3] {

@@ -10,7 +10,7 @@ use vault_core_model::command::Certificate;
 use vault_core_model::halt::Halt;
 use vault_core_model::keeper::Keeper;
 use vault_core_model::reply::Answer;
-use vault_files_texts::certificate as text;
+use vault_files::certificate as text;
 use vault_transcript::trial::{Trial, compare, try_behind};
 
 fn command(alloc: Global, number: u32) -> Result<Certificate, Fail> {

@@ -3,7 +3,7 @@ use crate::export::written;
 use std::alloc::Global;
 use std::test::Fail;
 use vault_core_model::keeper::Keeper;
-use vault_files_texts::ExportFault;
+use vault_files::ExportFault;
 use vault_transcript::telling::{tells_still, told};
 use vault_transcript::trial::{Trial, try_behind};
 

@@ -3,9 +3,9 @@ use std::alloc::Global;
 use std::io::Write;
 use std::test::Fail;
 use vault_core_model::keeper::Keeper;
-use vault_failing::failing::FailingWriter;
-use vault_files_texts::ExportFault;
-use vault_files_texts::register::export_register;
+use vault_failing::streams::FailingWriter;
+use vault_files::ExportFault;
+use vault_files::register::export_register;
 
 pub fn export<K: Keeper, W: Write>(
     alloc: Global,

@@ -5,8 +5,8 @@ use std::alloc::Global;
 use std::io::BufWriter;
 use std::test::Fail;
 use vault_core_model::keeper::Keeper;
-use vault_failing::failing::FailingWriter;
-use vault_files_texts::ExportFault;
+use vault_failing::streams::FailingWriter;
+use vault_files::ExportFault;
 use vault_transcript::trial::{Trial, compare, try_behind, try_on_new};
 
 const HEADER: &str =

@@ -9,7 +9,7 @@ use vault_core_model::halt::Halt;
 use vault_core_model::keeper::Keeper;
 use vault_core_model::reply::Answer;
 use vault_core_records::records::report;
-use vault_files_texts::report_text::report_text;
+use vault_files::report_text::report_text;
 use vault_transcript::trial::{Trial, compare, try_behind};
 
 /// A hundred bytes that are removed a second later, on the next day.

@@ -5,7 +5,7 @@ use sqlite::{Files, Unknown};
 use sqlite_disk::{Fuse, Modelled, Start, Wary};
 use std::alloc::Global;
 use std::test::Fail;
-use vault_failing::failing::device::{Crash, Medium, MemoryFile, opened};
+use vault_failing::device::{Crash, Medium, MemoryFile, opened};
 
 /// How a crash is read.
 #[derive(Clone, Copy)]

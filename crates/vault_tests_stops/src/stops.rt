@@ -8,14 +8,61 @@ use std::test::Fail;
 /// More calls than a day makes of a file.
 const MOST_CALLS: u64 = 10_000;
 
+/// About half of the calls that a later day makes of its log. Its stops behind fewer calls are one test, and those behind
+/// as many and more are another, since a test of all of them takes longest.
+const HALF_OF_A_LATER_DAY: u64 = 170;
+
+/// Stops the day behind each number of calls of that file, from the first of these numbers up to below the second, or
+/// until it isn't stopped.
+fn stopped_behind(
+    rt: &HostRuntime,
+    day: Day,
+    reading: Reading,
+    which: Which,
+    from: u64,
+    to: u64,
+) -> Result<Stops, Fail> {
+    let trial = prepare(rt.alloc(), day, reading)?;
+    let stops = stop_behind_each(rt.alloc(), &trial, which, from, to)?;
+    println!(rt; "{stops:?}")?;
+    Ok(stops)
+}
+
 /// Stops the day behind each number of calls of that file, from none on until it isn't stopped. Fails where it has no
 /// stop in one of its phases.
 fn stopped(rt: &HostRuntime, day: Day, reading: Reading, which: Which) -> Result<Stops, Fail> {
-    let trial = prepare(rt.alloc(), day, reading)?;
-    let stops = stop_behind_each(rt.alloc(), &trial, which, 0, MOST_CALLS)?;
-    println!(rt; "{stops:?}")?;
+    let stops = stopped_behind(rt, day, reading, which, 0, MOST_CALLS)?;
     if !stops.are_complete() {
         return Err(Fail::new("a day has a phase in which it isn't stopped"));
+    }
+    Ok(stops)
+}
+
+/// Stops a later day behind each number of calls of its log up to half of them. Fails where it isn't stopped behind each.
+fn stopped_in_first_half(rt: &HostRuntime, reading: Reading) -> Result<Stops, Fail> {
+    let stops = stopped_behind(rt, later_day(), reading, Which::Log, 0, HALF_OF_A_LATER_DAY)?;
+    if stops.is_over || stops.all() != HALF_OF_A_LATER_DAY {
+        return Err(Fail::new("a later day has fewer stops than half of them"));
+    }
+    if stops.opening == 0 || stops.asking == 0 {
+        return Err(Fail::new("a day has a phase in which it isn't stopped"));
+    }
+    Ok(stops)
+}
+
+/// Stops a later day behind each number of calls of its log from half of them on, until it isn't stopped. Fails where
+/// that is never reached.
+fn stopped_in_second_half(rt: &HostRuntime, reading: Reading) -> Result<Stops, Fail> {
+    let stops = stopped_behind(
+        rt,
+        later_day(),
+        reading,
+        Which::Log,
+        HALF_OF_A_LATER_DAY,
+        MOST_CALLS,
+    )?;
+    if !stops.is_over || stops.asking == 0 || stops.closing == 0 {
+        return Err(Fail::new("a day has a phase in which it isn't stopped, or has no end"));
     }
     Ok(stops)
 }
@@ -47,15 +94,33 @@ fn a_first_day_is_stopped_in_a_database_file_that_tears(rt: HostRuntime) -> Resu
 }
 
 #[test]
-fn a_later_day_is_stopped_in_its_log(rt: HostRuntime) -> Result<(), Fail> {
-    let stops = stopped(&rt, later_day(), Reading::Mixing, Which::Log)?;
+fn a_later_day_is_stopped_behind_few_calls_of_its_log(rt: HostRuntime) -> Result<(), Fail> {
+    let stops = stopped_in_first_half(&rt, Reading::Mixing)?;
     assert!(rt; stops.one_more != 0);
     Ok(())
 }
 
 #[test]
-fn a_later_day_is_stopped_in_a_log_that_tears(rt: HostRuntime) -> Result<(), Fail> {
-    let stops = stopped(&rt, later_day(), Reading::Tearing, Which::Log)?;
+fn a_later_day_is_stopped_behind_few_calls_of_a_log_that_tears(
+    rt: HostRuntime,
+) -> Result<(), Fail> {
+    let stops = stopped_in_first_half(&rt, Reading::Tearing)?;
+    assert!(rt; stops.one_more != 0);
+    Ok(())
+}
+
+#[test]
+fn a_later_day_is_stopped_behind_many_calls_of_its_log(rt: HostRuntime) -> Result<(), Fail> {
+    let stops = stopped_in_second_half(&rt, Reading::Mixing)?;
+    assert!(rt; stops.one_more != 0);
+    Ok(())
+}
+
+#[test]
+fn a_later_day_is_stopped_behind_many_calls_of_a_log_that_tears(
+    rt: HostRuntime,
+) -> Result<(), Fail> {
+    let stops = stopped_in_second_half(&rt, Reading::Tearing)?;
     assert!(rt; stops.one_more != 0);
     Ok(())
 }

@@ -4,7 +4,7 @@ use std::test::Fail;
 use vault_base::name::{DeptName, VersionId};
 use vault_core_model::keeper::Keeper;
 use vault_core_model::records::Tenure;
-use vault_files_texts::register::export_register;
+use vault_files::register::export_register;
 use vault_tally::row::Row;
 use vault_transcript::transcript::replies;
 

@@ -51,6 +51,14 @@ impl Stops {
         self.is_over && self.opening != 0 && self.asking != 0 && self.closing != 0
     }
 
+    /// How many days were stopped.
+    pub fn all(&self) -> u64 {
+        self.opening
+            .saturating_add(self.entering)
+            .saturating_add(self.asking)
+            .saturating_add(self.closing)
+    }
+
     fn count(&mut self, phase: Phase) {
         match phase {
             Phase::Opening => self.opening = self.opening.saturating_add(1),

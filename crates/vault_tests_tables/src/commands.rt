@@ -5,7 +5,7 @@ use vault_base::moment::Moment;
 use vault_base::name::{CallerName, DeptName};
 use vault_core_model::command::{AddDept, Command, Timed};
 use vault_core_model::reply::{Answer, Reply};
-use vault_store::in_tables::run::run_in_tables;
+use vault_store::in_tables::run_in_tables;
 
 /// The registrar adds the department `records`.
 fn add_records(alloc: Global, at: &str) -> Option<Timed> {

@@ -5,12 +5,12 @@ use vault_base::content::Content;
 use vault_base::moment::Moment;
 use vault_base::name::{BatchName, BucketName, CallerName};
 use vault_core_model::keeper::Keeper;
-use vault_files_intake::file_name::FileName;
-use vault_files_intake::folder::{File, Folder};
-use vault_files_intake::intake::take_in;
-use vault_files_intake::lines::intake_lines;
-use vault_files_intake::list_folder::ListFolder;
-use vault_files_intake::report::IntakeReport;
+use vault_files::file_name::FileName;
+use vault_files::folder::{File, Folder};
+use vault_files::intake::take_in;
+use vault_files::lines::intake_lines;
+use vault_files::list_folder::ListFolder;
+use vault_files::report::IntakeReport;
 use vault_transcript::transcript::play;
 use vault_transcript::trial::compare;
 

@@ -17,6 +17,8 @@ mod lookups;
 #[cfg(test)]
 mod opens;
 #[cfg(test)]
+mod reads;
+#[cfg(test)]
 mod steps;
 #[cfg(test)]
 mod trials;

@@ -6,7 +6,7 @@ use std::process::Abort;
 use std::test::Fail;
 use vault_base::name::{BucketName, DeptName, KeyPrefix, ObjectKey};
 use vault_base::refusal::Refusal;
-use vault_store_create::create::fill;
+use vault_store::create::fill;
 use vault_store_reads::heads::read_head;
 use vault_store_reads::meta::read_last;
 use vault_store_reads::names::{has_department, read_totals};

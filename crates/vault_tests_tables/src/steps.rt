@@ -4,8 +4,8 @@ use sqlite::{Alter, Connection, Error};
 use std::alloc::Global;
 use std::test::Fail;
 use vault_base::refusal::Refusal;
+use vault_store::create::fill;
 use vault_store::sql_keeper::SqlKeeper;
-use vault_store_create::create::fill;
 
 /// A step.
 #[derive(Clone, Copy)]

@@ -6,8 +6,8 @@ use std::alloc::Global;
 use std::test::Fail;
 use vault_base::refusal::Refusal;
 use vault_core_model::keeper::Keeper;
-use vault_files_intake::lines::intake_lines;
-use vault_files_intake::report::IntakeReport;
+use vault_files::lines::intake_lines;
+use vault_files::report::IntakeReport;
 use vault_transcript::trial::{Trial, compare, try_on_new};
 
 /// Takes the list in. All that the test itself needs is there before, so that only the intake takes memory.

@@ -1,7 +1,7 @@
 //! Texts that are printed to a writer that takes them, fails, or holds them back.
 use std::io::BufWriter;
 use std::test::Fail;
-use vault_failing::failing::FailingWriter;
+use vault_failing::streams::FailingWriter;
 use vaultctl_commands::fault::JobFault;
 use vaultctl_commands::printing::print;
 

@@ -4,7 +4,7 @@ use crate::batch::Listed;
 use std::alloc::Global;
 use std::test::Fail;
 use vault_core_model::keeper::Keeper;
-use vault_files_intake::list_folder::ListFolder;
+use vault_files::list_folder::ListFolder;
 
 const HEADER: &str = "file,key,mode,until,hold\n";
 

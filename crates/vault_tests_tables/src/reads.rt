@@ -1,0 +1,298 @@
+//! How often a vault's files are read for what a keeper is asked, where one page of them has room in memory: as often
+//! with many entries as with few, and for the first removed entry less often than for all.
+use sqlite::{Connection, FileStore, Files, Options, Unknown};
+use sqlite_disk::Disk;
+use std::alloc::Global;
+use std::test::Fail;
+use vault_base::name::{BucketName, DeptName, KeyPrefix};
+use vault_core_model::keeper::{Keeper, Sink};
+use vault_core_model::records::Entry;
+use vault_failing::device::{Medium, opened};
+use vault_store::sql_keeper::SqlKeeper;
+use vault_transcript::transcript::{play, replies};
+
+/// A vault's two files, which are there also when nobody has them open.
+struct Media {
+    log: Medium,
+    database: Medium,
+}
+
+// It is written out, so that a test does not prove again how each part is let go of.
+impl Drop for Media {
+    fn drop(self) {
+        let Media {
+            log: _,
+            database: _,
+        } = self;
+    }
+}
+
+impl Media {
+    /// Empty files.
+    fn new(alloc: Global) -> Result<Media, Fail> {
+        Ok(Media {
+            log: Medium::new(alloc, b"")?,
+            database: Medium::new(alloc, b"")?,
+        })
+    }
+
+    /// How often they were read.
+    fn reads(&self) -> u64 {
+        self.log.reads().saturating_add(self.database.reads())
+    }
+}
+
+/// The lines that open a vault.
+const OPENING: &str = r#"
+{"at":"2014-01-01T00:00:00Z","as":"registrar","do":"add-dept","dept":"records"}
+  {"ok":{}}
+{"at":"2014-01-01T00:00:00Z","as":"registrar","do":"add-caller","caller":"ann","dept":"records","rights":["put","delete-version"]}
+  {"ok":{}}
+{"at":"2014-01-01T00:00:00Z","as":"registrar","do":"add-bucket","bucket":"docs","dept":"records"}
+  {"ok":{}}
+"#;
+
+/// With keys so long a page has four of them, or four entries.
+const KEY_LENGTH: usize = 900;
+
+const FEW: u64 = 6;
+
+const MANY: u64 = 100;
+
+/// How many of them are removed in the end.
+const REMOVED: u64 = 50;
+
+/// A key for each number.
+fn key(alloc: Global, number: u64) -> Result<String, Fail> {
+    let stem = "k".repeat(alloc, KEY_LENGTH)?;
+    Ok(format!(in alloc; "{stem}{number}")?)
+}
+
+/// Ann puts a byte at the key of that number.
+fn put(alloc: Global, number: u64) -> Result<String, Fail> {
+    let key = key(alloc, number)?;
+    Ok(format!(in alloc;
+        "{{\"at\":\"2024-01-15T10:30:00Z\",\"as\":\"ann\",\"do\":\"put\",\"bucket\":\"docs\",\"key\":\"{key}\",\"text\":\"a\"}}"
+    )?)
+}
+
+/// Ann removes the version with that id, which is at the key of that number.
+fn removal(alloc: Global, number: u64) -> Result<String, Fail> {
+    let key = key(alloc, number)?;
+    Ok(format!(in alloc;
+        "{{\"at\":\"2024-01-16T00:00:00Z\",\"as\":\"ann\",\"do\":\"delete-version\",\"bucket\":\"docs\",\"key\":\"{key}\",\"id\":{number}}}"
+    )?)
+}
+
+/// Puts the versions behind so many, up to that number.
+fn put_each<K: Keeper>(alloc: Global, keeper: &mut K, behind: u64, last: u64) -> Result<(), Fail> {
+    for number in behind..last {
+        let line = put(alloc, number.saturating_add(1))?;
+        replies(alloc, keeper, line.as_bytes())?;
+    }
+    if keeper.next_id().ok() == Some(last.saturating_add(1)) {
+        return Ok(());
+    }
+    Err(Fail::new("a version isn't put"))
+}
+
+/// Removes the first versions.
+fn remove_each<K: Keeper>(alloc: Global, keeper: &mut K) -> Result<(), Fail> {
+    for number in 0..REMOVED {
+        let line = removal(alloc, number.saturating_add(1))?;
+        replies(alloc, keeper, line.as_bytes())?;
+    }
+    Ok(())
+}
+
+/// A department, its bucket, and where the bucket's keys begin.
+#[derive(Drop)]
+struct Names {
+    dept: DeptName,
+    bucket: BucketName,
+    start: KeyPrefix,
+}
+
+fn read_names(alloc: Global) -> Result<Names, Fail> {
+    Ok(Names {
+        dept: DeptName::read(alloc, "records")?.ok().ok_or("a name")?,
+        bucket: BucketName::read(alloc, "docs")?.ok().ok_or("a name")?,
+        start: KeyPrefix::read(alloc, "")?.ok().ok_or("a prefix")?,
+    })
+}
+
+/// How often the files were read for an answer.
+#[derive(Clone, Copy, Debug)]
+struct Reads {
+    totals: u64,
+    keys: u64,
+}
+
+/// The reads for a department's sums.
+fn reads_of_totals<K: Keeper>(
+    keeper: &mut K,
+    media: &Media,
+    names: &Names,
+    held: u64,
+) -> Result<u64, Fail> {
+    let before = media.reads();
+    let sums = keeper.totals(&names.dept).ok().ok_or("no sums")?;
+    if sums.held != held {
+        return Err(Fail::new("other sums"));
+    }
+    Ok(media.reads().saturating_sub(before))
+}
+
+/// The reads for the first five keys of a bucket.
+fn reads_of_keys<K: Keeper>(keeper: &mut K, media: &Media, names: &Names) -> Result<u64, Fail> {
+    let before = media.reads();
+    let keys = keeper.keys(&names.bucket, &names.start, 5);
+    if !keys.is_ok_and(|keys| keys.len() == 5) {
+        return Err(Fail::new("no five keys"));
+    }
+    Ok(media.reads().saturating_sub(before))
+}
+
+fn reads_among<K: Keeper>(
+    keeper: &mut K,
+    media: &Media,
+    names: &Names,
+    held: u64,
+) -> Result<Reads, Fail> {
+    Ok(Reads {
+        totals: reads_of_totals(keeper, media, names, held)?,
+        keys: reads_of_keys(keeper, media, names)?,
+    })
+}
+
+/// Whether the many are no more than the few twice over: a tree that grows has a step more. No page is read without a
+/// read of a file.
+fn is_alike(few: u64, many: u64) -> bool {
+    few != 0 && many <= few.saturating_mul(2)
+}
+
+/// Fails unless the sums and the keys are read as well among many entries as among few.
+fn read_among_few_and_many<K: Keeper>(
+    alloc: Global,
+    keeper: &mut K,
+    media: &Media,
+    names: &Names,
+) -> Result<(), Fail> {
+    put_each(alloc, keeper, 0, FEW)?;
+    let few = reads_among(keeper, media, names, FEW)?;
+    put_each(alloc, keeper, FEW, MANY)?;
+    let many = reads_among(keeper, media, names, MANY)?;
+    if is_alike(few.totals, many.totals) && is_alike(few.keys, many.keys) {
+        return Ok(());
+    }
+    Err(Fail::new(format_args!("{few:?}, and among many {many:?}")))
+}
+
+/// Takes so many entries, and refuses the next.
+#[derive(Drop)]
+struct Room {
+    left: u64,
+}
+
+impl Sink for Room {
+    ghost takes = { λ _ _ _ _. Unit {0} };
+
+    fn take(&mut self, _entry: &Entry) -> bool {
+        if self.left == 0 {
+            return false;
+        }
+        self.left -= 1;
+        true
+    }
+}
+
+/// The reads until a sink with room for so many removed entries has taken them: all of them, or not.
+fn reads_of_removed<K: Keeper>(
+    keeper: &mut K,
+    media: &Media,
+    room: u64,
+    all: bool,
+) -> Result<u64, Fail> {
+    let before = media.reads();
+    let mut sink = Room { left: room };
+    let walked = keeper.walk_removed(&mut sink);
+    let left = sink.left;
+    drop(sink);
+    if left != 0 || walked.ok() != Some(all) {
+        return Err(Fail::new("other entries are handed on"));
+    }
+    Ok(media.reads().saturating_sub(before))
+}
+
+/// Fails unless a removed entry is handed on before the next ones are read.
+fn read_removed<K: Keeper>(alloc: Global, keeper: &mut K, media: &Media) -> Result<(), Fail> {
+    remove_each(alloc, keeper)?;
+    let first = reads_of_removed(keeper, media, 1, false)?;
+    let all = reads_of_removed(keeper, media, REMOVED, true)?;
+    if first != 0 && first.saturating_mul(4) <= all {
+        return Ok(());
+    }
+    Err(Fail::new(format_args!("{first} reads for the first, {all} for all")))
+}
+
+fn judge<K: Keeper>(
+    alloc: Global,
+    keeper: &mut K,
+    media: &Media,
+    names: &Names,
+) -> Result<(), Fail> {
+    play(alloc, keeper, OPENING)?;
+    read_among_few_and_many(alloc, keeper, media, names)?;
+    read_removed(alloc, keeper, media)
+}
+
+/// Opens the files with room for one page of them.
+fn connected<D: Disk + Drop>(
+    alloc: Global,
+    files: Files<D>,
+) -> Result<Connection<FileStore<D>>, Fail> {
+    if !files.may_be_used() {
+        return Err(Fail::new("the files can't be used"));
+    }
+    // The log is kept short, as what is synced is copied.
+    let options = Options {
+        cache_pages: 1,
+        spill_pages: 2000,
+        checkpoint_frames: 40,
+        seed: 1,
+    };
+    let opened = Connection::open_files(alloc, files, options);
+    Ok(opened.ok().ok_or("the files can't be opened")?)
+}
+
+/// Judges a new vault in these files.
+fn judge_in<D: Disk + Drop>(
+    alloc: Global,
+    files: Files<D>,
+    media: &Media,
+    names: &Names,
+) -> Result<(), Fail> {
+    let conn = connected(alloc, files)?;
+    match SqlKeeper::create(alloc, conn) {
+        Ok(keeper) => {
+            let mut keeper = keeper;
+            let judged = judge(alloc, &mut keeper, media, names);
+            drop(keeper.into_connection());
+            judged
+        }
+        Err((_, conn)) => {
+            drop(conn);
+            Err(Fail::new("a vault can't be made"))
+        }
+    }
+}
+
+#[test]
+fn sums_and_keys_are_read_without_entries_and_removals_one_by_one(
+    rt: HostRuntime,
+) -> Result<(), Fail> {
+    let media = Media::new(rt.alloc())?;
+    let names = read_names(rt.alloc())?;
+    let files = opened::<Unknown>(&media.log, &media.database)?;
+    judge_in(rt.alloc(), files, &media, &names)
+}
