@@ -166,8 +166,9 @@ def make(program, path, shape):
 
 
 def copy(path, to):
-    """A copy of a vault: its file, and its log where it has one."""
+    """A copy of a vault: its file, and its log where it has one; none of what stood there before is left."""
     for end in ("", "-wal"):
+        pathlib.Path(f"{to}{end}").unlink(missing_ok=True)
         with contextlib.suppress(FileNotFoundError):
             shutil.copyfile(f"{path}{end}", f"{to}{end}")
     return to
