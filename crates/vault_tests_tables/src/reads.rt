@@ -165,10 +165,10 @@ fn reads_among<K: Keeper>(
     })
 }
 
-/// Whether the many are no more than the few twice over: a tree that grows has a step more. No page is read without a
-/// read of a file.
+/// Whether the many are no more than the few three times over: a tree that grows has two steps more, and each of five
+/// keys may take them; all entries are in 25 pages. No page is read without a read of a file.
 fn is_alike(few: u64, many: u64) -> bool {
-    few != 0 && many <= few.saturating_mul(2)
+    few != 0 && many <= few.saturating_mul(3)
 }
 
 /// Fails unless the sums and the keys are read as well among many entries as among few.
