@@ -1,6 +1,5 @@
 //! Tests of the texts of names and ids.
-ghost use Rattle.std.specs.Prelude.{◌≡◌, length, if◌then◌else◌, Some, None, ◌&&◌};
-ghost use Rattle.std.specs.Str.Parse.{digits_value};
+ghost use Rattle.std.specs.Prelude.{◌≡◌, length, Some, None, ◌&&◌};
 ghost use Rattle.vault_base.specs.Name as spec;
 
 use crate::name::NameFault;

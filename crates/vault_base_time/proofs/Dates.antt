@@ -9,7 +9,8 @@ use Rattle.jiff_core.specs.Date.{epoch_day}
 use Rattle.jiff_core.specs.declared.civil.date.Date as jiff
 use Rattle.jiff_core.proofs.DateLemmas.{epoch_day_injective}
 use Rattle.jiff_core.proofs.SignedLemmas.{signed_arith}
-use Rattle.vault_base_time.specs.Calendar.{Passed, year_after, month_after, date_in_year, date_of, IsDate}
+use Rattle.vault_base_time.specs.Calendar.{Passed, first_year, last_year, year_after, month_after, date_in_year, date_of, IsDate}
+use Rattle.vault_base_time.specs.Days.{last_day}
 use Rattle.vault_base_time.specs.declared.calendar.Date.{Date}
 
 is_less : (a b : ℕ) → a < b → nat_lt a b ≡ true
@@ -72,7 +73,7 @@ pub record IsDateOf (n : ℕ) (d : Date) : Type 0 where
   pub is : IsDate d
   pub number : days_from_civil (pos d.year) d.month d.day ≡ pos n
 
-in_year : (n : ℕ) (y : Passed) → EndsInYear 1970 9999 n y → IsDateOf n (date_in_year y)
+in_year : (n : ℕ) (y : Passed) → EndsInYear first_year last_year n y → IsDateOf n (date_in_year y)
 in_year n y ends =
     let last = day_count-last_of_year (pos y.number) in
     let months = month_after_ends 11 y.number 1 y.days (omega arith) (omega arith) (omega (arith, ends.within, last, day_count-day (pos y.number) 12 31 1 (omega arith) (omega arith))) in
@@ -84,16 +85,16 @@ in_year n y ends =
       number = omega (arith, signed_arith, number, day, months.same, ends.same, day_count-epoch);
     }
 
-pub date_of_is : (n : ℕ) → n ≤ 2932896 → IsDateOf n (date_of n)
+pub date_of_is : (n : ℕ) → n ≤ last_day → IsDateOf n (date_of n)
 unfolding date_of
 date_of_is n h =
-    in_year n (year_after 8029 1970 n) (year_after_ends 8029 1970 9999 n (omega arith) (omega (arith, next_year 9999, day_count-end, day_count-epoch)))
+    in_year n (year_after (last_year - first_year) first_year n) (year_after_ends (last_year - first_year) first_year last_year n (omega arith) (omega (arith, next_year last_year, day_count-end, day_count-epoch)))
 
 abbrev pub jiff_date : (d : Date) → IsDate d → jiff.Date
 jiff_date d is = record { year = pos d.year; month = d.month; day = d.day; year_in = is.0.0; month_in = is.0.1; day_in = is.0.2 }
 
 -- a date of jiff with that day number is the same
-pub date_of_only : (n : ℕ) (d : jiff.Date) → n ≤ 2932896 → epoch_day d ≡ pos n → (d.year ≡ pos (date_of n).year) × (d.month ≡ (date_of n).month) × (d.day ≡ (date_of n).day)
+pub date_of_only : (n : ℕ) (d : jiff.Date) → n ≤ last_day → epoch_day d ≡ pos n → (d.year ≡ pos (date_of n).year) × (d.month ≡ (date_of n).month) × (d.day ≡ (date_of n).day)
 date_of_only n d h e =
     let own = date_of_is n h in
     epoch_day_injective d (jiff_date (date_of n) own.is) (e ∙ sym own.number)

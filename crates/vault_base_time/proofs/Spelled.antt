@@ -6,6 +6,7 @@ use Rattle.std.proofs.lemmas.List.{drop-drop}
 use Rattle.std.specs.List.{list_all, prefix_len}
 use Rattle.jiff_core.specs.Calendar.{days_from_civil}
 use Rattle.jiff_core.proofs.CalendarLemmas.{days_in_month_bounds}
+use Rattle.vault_base_time.specs.Days.{day_length}
 use Rattle.vault_base_time.specs.Moment.{is_digit, pair_at, pair_upto, mark_at, is_date, day_number, day_of, seconds_of, digits_in_front, has_other_than_zero, fraction_of, offset_of, raised, second_at, second_of, ◌>>=◌}
 use Rattle.vault_base_time.specs.Grammar.{Parts, Offset, fraction_text, offset_text, spelled, ArePartsOfMoment, IsOffset, seconds_ahead, second_named}
 
@@ -130,7 +131,7 @@ offset_is (Some o) h =
 
 -- ---- the whole text
 
-at_offset : (day : ℤ) (s : ℕ) (up west : Bool) (off : ℕ) → second_at day (raised s up) west off ≡ day *ℤ pos 86400 +ℤ pos s +ℤ cond up (pos 1) (pos 0) -ℤ cond west (neg_ℤ (pos off)) (pos off)
+at_offset : (day : ℤ) (s : ℕ) (up west : Bool) (off : ℕ) → second_at day (raised s up) west off ≡ day *ℤ pos day_length +ℤ pos s +ℤ cond up (pos 1) (pos 0) -ℤ cond west (neg_ℤ (pos off)) (pos off)
 at_offset day s true true off = omega (arith, ints)
 at_offset day s true false off = omega (arith, ints)
 at_offset day s false true off = omega (arith, ints)

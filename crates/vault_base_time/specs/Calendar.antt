@@ -4,9 +4,16 @@ use Rattle.jiff_core.specs.Calendar.{days_in_year, days_in_month, IsCivilDate}
 use Rattle.vault_base_time.specs.Days.{day, day_length}
 use Rattle.vault_base_time.specs.declared.calendar.Date.{Date}
 
+-- the years of the first moment and of the last
+abbrev pub first_year : ℕ
+first_year = 1970
+
+abbrev pub last_year : ℕ
+last_year = 9999
+
 -- the calendar has that date, and it lies from 1970 to 9999
 abbrev pub IsDate : Date → Type 0
-IsDate d = IsCivilDate (pos d.year) d.month d.day × (1970 ≤ d.year)
+IsDate d = IsCivilDate (pos d.year) d.month d.day × (first_year ≤ d.year)
 
 -- a year or a month, and the days of it that have passed
 pub record Passed : Type 0 where
@@ -33,23 +40,23 @@ date_in_year y =
     let month = month_after 11 y.number 1 y.days in
     record { year = y.number; month = month.number; day = month.days + 1 }
 
--- the date of a day, up to the year 9999
+-- the date of a day, up to the last year
 unfoldable pub date_of : ℕ → Date
-date_of n = date_in_year (year_after 8029 1970 n)
+date_of n = date_in_year (year_after (last_year - first_year) first_year n)
 
--- the days of the first n years from 1970 on
+-- the days of the first n years from the first on
 abbrev pub days_of_years : ℕ → ℕ
 days_of_years zero = 0
-days_of_years (suc n) = days_of_years n + days_in_year (pos (1970 + n))
+days_of_years (suc n) = days_of_years n + days_in_year (pos (first_year + n))
 
 -- the days of the first n months of a year
 abbrev pub days_of_months : ℕ → ℕ → ℕ
 days_of_months year zero = 0
 days_of_months year (suc n) = days_of_months year n + days_in_month (pos year) (suc n)
 
--- the day of a date from 1970 on
+-- the day of a date from the first year on
 abbrev pub day_of_date : Date → ℕ
-day_of_date d = days_of_years (d.year - 1970) + days_of_months d.year (d.month - 1) + (d.day - 1)
+day_of_date d = days_of_years (d.year - first_year) + days_of_months d.year (d.month - 1) + (d.day - 1)
 
 -- the same month and day so many years later, 29 February cut to the 28th
 abbrev pub date_years_later : ℕ → Date → Date

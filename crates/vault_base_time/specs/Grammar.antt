@@ -2,7 +2,7 @@
 use Rattle.std.specs.Prelude.{◌≡◌, ℕ, ◌+◌, ◌*◌, ◌/◌, ◌%◌, ◌<◌, ◌≤◌, ◌++◌, List, [], ◌∷◌, length, Bool, IsTrue, if◌then◌else◌, ℤ, pos, neg_ℤ, ◌+ℤ◌, ◌-ℤ◌, ◌*ℤ◌, ◌<ℤ◌, ◌⊎◌, Option, Some, None, Result, Ok, Err, IfSome}
 use Rattle.std.specs.List.{list_all}
 use Rattle.jiff_core.specs.Calendar.{days_from_civil, IsCivilDate}
-use Rattle.vault_base_time.specs.Days.{last_moment}
+use Rattle.vault_base_time.specs.Days.{day_length, last_moment}
 use Rattle.vault_base_time.specs.Moment.{is_digit, two_digits, has_other_than_zero}
 use Rattle.vault_base_time.specs.declared.moment.MomentFault.{MomentFault}
 use Rattle.vault_base_time.specs.declared.moment.MomentFault.TheVariants.{Form, Range}
@@ -64,7 +64,7 @@ seconds_ahead (Some o) = if o.west then neg_ℤ (pos (3600 * o.hours + 60 * o.mi
 -- the second that they name: a fraction that isn't zero counts as a whole second
 abbrev pub second_named : Parts → ℤ
 second_named p =
-    days_from_civil (pos p.year) p.month p.day *ℤ pos 86400 +ℤ pos (3600 * p.hours + 60 * p.minutes + p.seconds)
+    days_from_civil (pos p.year) p.month p.day *ℤ pos day_length +ℤ pos (3600 * p.hours + 60 * p.minutes + p.seconds)
     +ℤ (if has_other_than_zero p.fraction then pos 1 else pos 0) -ℤ seconds_ahead p.offset
 
 -- a text spells the parts of a moment

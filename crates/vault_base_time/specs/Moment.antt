@@ -2,7 +2,7 @@
 use Rattle.std.specs.Prelude.{ℕ, ◌+◌, ◌-◌, ◌*◌, ◌/◌, ◌%◌, ◌==◌, ◌&&◌, ◌||◌, ◌++◌, not, List, [], ◌∷◌, length, take, drop, slice_index, Bool, false, nat_le, if◌then◌else◌, ℤ, pos, ◌+ℤ◌, ◌-ℤ◌, ◌*ℤ◌, unsigned_abs, int_lt, Result, Ok, Err, ⊤}
 use Rattle.std.specs.List.{list_any, prefix_len}
 use Rattle.jiff_core.specs.Calendar.{days_from_civil, days_in_month}
-use Rattle.vault_base_time.specs.Days.{day, last_moment}
+use Rattle.vault_base_time.specs.Days.{day, day_length, last_moment}
 use Rattle.vault_base_time.specs.Calendar.{date_of}
 use Rattle.vault_base_time.specs.declared.moment.MomentFault.{MomentFault}
 use Rattle.vault_base_time.specs.declared.moment.MomentFault.TheVariants.{Form, Range}
@@ -89,7 +89,7 @@ raised seconds up = seconds + (if up then 1 else 0)
 
 -- a clock that is so far from UTC shows that second of that day: the second in UTC
 abbrev pub second_at : ℤ → ℕ → Bool → ℕ → ℤ
-second_at day seconds west offset = day *ℤ pos 86_400 +ℤ (if west then pos (seconds + offset) else pos seconds -ℤ pos offset)
+second_at day seconds west offset = day *ℤ pos day_length +ℤ (if west then pos (seconds + offset) else pos seconds -ℤ pos offset)
 
 -- the second that a text names, a fraction raised to the next
 unfoldable pub second_of : List ℕ → Result ℤ MomentFault
@@ -121,4 +121,4 @@ clock_text year month day seconds =
 unfoldable pub moment_text : ℕ → List ℕ
 moment_text t =
     let date = date_of (day t) in
-    clock_text date.year date.month date.day (t % 86400)
+    clock_text date.year date.month date.day (t % day_length)

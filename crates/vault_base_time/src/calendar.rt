@@ -2,9 +2,12 @@
 ghost use Rattle.std.specs.Prelude.{◌≡◌, ◌≤◌, pos};
 ghost use Rattle.jiff_core.specs.Date.{epoch_day};
 ghost use Rattle.vault_base_time.specs.Calendar as spec;
-ghost use Rattle.vault_base_time.specs.Days.{as_day};
+ghost use Rattle.vault_base_time.specs.Days.{as_day, last_day};
 
 use jiff_core::civil;
+
+/// The year of the last moment.
+const LAST_YEAR: u32 = 9999;
 
 /// A date.
 #[derive(Clone, Copy)]
@@ -15,7 +18,7 @@ pub struct Date {
 }
 
 fn date_of(day: u32) -> civil::Date
-    requires { day ≤ 2_932_896 }
+    requires { day ≤ last_day }
     ensures { epoch_day result ≡ pos day }
 {
     civil::Date::from_unix_epoch_day(i64::from(day)).unwrap()
@@ -24,10 +27,11 @@ fn date_of(day: u32) -> civil::Date
 impl Date {
     ghost use Rattle.std.specs.Prelude.{◌≡◌, ◌≤◌, ◌+◌, nat_le, if◌then◌else◌, Some, None, IfSome};
     ghost use Rattle.vault_base_time.specs.Calendar as spec;
+    ghost use Rattle.vault_base_time.specs.Days.{last_day};
 
     /// The date of a day, counted from 0 for 1970-01-01.
     pub fn of_day(day: u32) -> Date
-        requires { day ≤ 2_932_896 }
+        requires { day ≤ last_day }
         ensures value { result ≡ spec.date_of day }
         ensures date { spec.IsDate result }
     {
@@ -43,7 +47,7 @@ impl Date {
     pub fn day_number(self) -> u32
         requires { spec.IsDate self }
         ensures value { result ≡ spec.day_of_date self }
-        ensures range { result ≤ 2_932_896 }
+        ensures range { result ≤ last_day }
     {
         civil::Date::constrain(self.year as i16, self.month, self.day).to_unix_epoch_day() as u32
     }
@@ -51,11 +55,11 @@ impl Date {
     /// The same month and day so many years later, 29 February cut to the 28th; none after 9999.
     pub fn plus_years(self, years: u16) -> Option<Date>
         requires { spec.IsDate self }
-        ensures value { result ≡ (if nat_le (self.year + years) 9999 then Some (spec.date_years_later years self) else None) }
+        ensures value { result ≡ (if nat_le (self.year + years) spec.last_year then Some (spec.date_years_later years self) else None) }
         ensures date { IfSome result spec.IsDate }
     {
         let year = u32::from(self.year) + u32::from(years);
-        if year > 9999 {
+        if year > LAST_YEAR {
             return None;
         }
         let later = civil::Date::constrain(year as i16, self.month, self.day);
@@ -70,7 +74,7 @@ impl Date {
 /// The same month and day so many years later, 29 February cut to the 28th; none after 9999.
 /// Days are counted from 0 for 1970-01-01.
 pub fn day_years_later(day: u32, years: u16) -> Option<u32>
-    requires { day ≤ 2_932_896 }
+    requires { day ≤ last_day }
     ensures { result ≡ as_day (spec.day_of_date (spec.date_years_later years (spec.date_of day))) }
 {
     let later = Date::of_day(day).plus_years(years)?;

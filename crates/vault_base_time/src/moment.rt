@@ -10,12 +10,13 @@ mod writing;
 use crate::calendar;
 use std::alloc::{AllocError, Global};
 use std::marker::Model;
+use thiserror::Error;
 
 /// The seconds of a day.
-const DAY: u64 = 86_400;
+pub const DAY: u64 = 86_400;
 
 /// The second 9999-12-31T23:59:59Z.
-const LAST: u64 = 253_402_300_799;
+pub const LAST: u64 = 253_402_300_799;
 
 /// A moment, seen as its number of seconds since 1970-01-01T00:00:00Z,
 /// up to 9999-12-31T23:59:59Z.
@@ -38,11 +39,13 @@ impl Model for Moment {
 }
 
 /// Why a text is no moment.
-#[derive(Clone, Copy, Debug, PartialEq, Eq)]
+#[derive(Clone, Copy, Debug, PartialEq, Eq, Error)]
 pub enum MomentFault {
     /// It hasn't the form of a moment, or its date isn't in the calendar.
+    #[error("the text isn't written as a moment, or its date isn't in the calendar")]
     Form,
     /// It lies before 1970 or after 9999.
+    #[error("the moment lies before 1970 or after 9999")]
     Range,
 }
 

@@ -4,6 +4,7 @@ ghost use Rattle.vault_lock.specs.Lock.{guards, is_locked, removable, retainable
 ghost use Rattle.vault_lock.specs.Retention.{in_force, first_lock, DefaultEndsTooLate};
 
 use crate::retention::{Default, Mode, Retention};
+use thiserror::Error;
 use vault_base::moment::Moment;
 
 /// What a setting says of a version.
@@ -23,13 +24,16 @@ pub enum Permit {
 }
 
 /// What denies a removal or a change of retention. Of several the first is named.
-#[derive(Clone, Copy, Debug, PartialEq, Eq)]
+#[derive(Clone, Copy, Debug, PartialEq, Eq, Error)]
 pub enum Denial {
     /// A legal hold.
+    #[error("a legal hold is on")]
     Hold,
     /// A compliance retention in force.
+    #[error("a compliance retention is in force")]
     Compliance,
     /// A governance retention in force, without a bypass that is asked for and allowed.
+    #[error("a governance retention is in force")]
     Governance,
 }
 

@@ -5,12 +5,12 @@ use Rattle.std.specs.List.{All, position_from}
 use Rattle.std.proofs.lemmas.List.Elements.{All-head, All-tail, All-nil, All-cons, All-weaker}
 use Rattle.std.proofs.lemmas.Iterator.Adapters.{position_from-zero}
 use Rattle.std.proofs.lemmas.Bool.Decides.{nat_tests}
-use Rattle.vault_base.specs.Days.{midnight_from}
+use Rattle.vault_base.specs.Days.{day_length, midnight_from}
 use Rattle.vault_rules.specs.declared.rule.Rule.{Rule}
 use Rattle.vault_rules.specs.declared.rule.Noncurrent.{Noncurrent}
 use Rattle.vault_rules.specs.declared.rule_set.RuleFault.{RuleFault}
 use Rattle.vault_rules.specs.declared.rule_set.RuleFault.TheVariants.{SameId, NoAction, DaysAndMarkers, OutOfRange, TooMany}
-use Rattle.vault_rules.specs.Rules.{is_days, is_newer, passes_if_given, is_noncurrent_action, are_bounds, is_in_range, has_id, has_action, has_days_and_markers, fault_where, fault_of, first_of_both, first_fault, is_rule_set}
+use Rattle.vault_rules.specs.Rules.{is_day_count, is_newer_count, passes_if_given, is_noncurrent_action, are_bounds, is_in_range, has_id, has_action, has_days_and_markers, fault_where, fault_of, first_of_both, first_fault, is_rule_set}
 use Rattle.vault_rules.specs.Due.{fits, noncurrent_has_passed, makes_noncurrent_due}
 use Rattle.vault_rules.specs.Walk.{Dues, dues}
 use Rattle.vault_rules.proofs.Truth.{both}
@@ -46,12 +46,12 @@ in_range : (b : Bool) → not b ≡ false → IsTrue b
 in_range true h = refl
 in_range false h = absurd (cc)
 
-a_day : (n : ℕ) → IsTrue (is_days n) → 0 < n
+a_day : (n : ℕ) → IsTrue (is_day_count n) → 0 < n
 a_day n h = grind (arith, nat_tests)
 
 days_of_action : (o : Option Noncurrent) → IsTrue (passes_if_given is_noncurrent_action o) → HasDays o
 days_of_action None h = tt
-days_of_action (Some n) h = a_day n.days (both (is_days n.days) (passes_if_given is_newer n.newer) h).0
+days_of_action (Some n) h = a_day n.days (both (is_day_count n.days) (passes_if_given is_newer_count n.newer) h).0
 
 timed : (before : List Rule) (r : Rule) → IsTrue (is_none (fault_of before r)) → IsTimed r
 timed before r h =
@@ -59,8 +59,8 @@ timed before r h =
     let kinds = fault_where (has_days_and_markers r) DaysAndMarkers range in
     let action = fault_where (not (has_action r)) NoAction kinds in
     let e = no_fault (not (is_in_range r)) OutOfRange None (no_fault (has_days_and_markers r) DaysAndMarkers range (no_fault (not (has_action r)) NoAction kinds (no_fault (has_id before r.id) SameId action h).1).1).1 in
-    let numbers = both (passes_if_given is_days r.days && passes_if_given is_noncurrent_action r.noncurrent) (are_bounds r.larger r.smaller) (in_range (is_in_range r) e.0) in
-    days_of_action r.noncurrent (both (passes_if_given is_days r.days) (passes_if_given is_noncurrent_action r.noncurrent) numbers.0).1
+    let numbers = both (passes_if_given is_day_count r.days && passes_if_given is_noncurrent_action r.noncurrent) (are_bounds r.larger r.smaller) (in_range (is_in_range r) e.0) in
+    days_of_action r.noncurrent (both (passes_if_given is_day_count r.days) (passes_if_given is_noncurrent_action r.noncurrent) numbers.0).1
 
 all_timed : (before rs : List Rule) → IsTrue (is_none (first_fault before rs)) → All IsTimed rs
 all_timed before [] h = All-nil IsTimed
@@ -101,14 +101,14 @@ and_falls false x y h e = refl
 
 passed_falls : (o : Option Noncurrent) (since later rank lower t : ℕ) → since ≤ later → lower ≤ rank → noncurrent_has_passed o since rank t ≡ false → noncurrent_has_passed o later lower t ≡ false
 passed_falls None since later rank lower t a b e = refl
-passed_falls (Some n) since later rank lower t a b e = let c : midnight_from (since + 86400 * n.days) ≤ midnight_from (later + 86400 * n.days) = midnight_from-le (since + 86400 * n.days) (later + 86400 * n.days) (omega arith) in falls (midnight_from (since + 86400 * n.days)) (midnight_from (later + 86400 * n.days)) (unwrap_or n.newer 0) rank lower t c b e
+passed_falls (Some n) since later rank lower t a b e = let c : midnight_from (since + day_length * n.days) ≤ midnight_from (later + day_length * n.days) = midnight_from-le (since + day_length * n.days) (later + day_length * n.days) (omega arith) in falls (midnight_from (since + day_length * n.days)) (midnight_from (later + day_length * n.days)) (unwrap_or n.newer 0) rank lower t c b e
   where
     falls : (x y k r l t : ℕ) → x ≤ y → l ≤ r → (nat_le x t && nat_le k r) ≡ false → (nat_le y t && nat_le k l) ≡ false
     falls x y k r l t a b e = grind (arith, nat_tests)
 
 passed_fresh : (o : Option Noncurrent) (rank t : ℕ) → HasDays o → noncurrent_has_passed o t rank t ≡ false
 passed_fresh None rank t h = refl
-passed_fresh (Some n) rank t h = let c : t < midnight_from (t + 86400 * n.days) = omega (arith, le-midnight_from (t + 86400 * n.days)) in late (midnight_from (t + 86400 * n.days)) (unwrap_or n.newer 0) rank t c
+passed_fresh (Some n) rank t h = let c : t < midnight_from (t + day_length * n.days) = omega (arith, le-midnight_from (t + day_length * n.days)) in late (midnight_from (t + day_length * n.days)) (unwrap_or n.newer 0) rank t c
   where
     late : (x k r t : ℕ) → t < x → (nat_le x t && nat_le k r) ≡ false
     late x k r t a = grind (arith, nat_tests)

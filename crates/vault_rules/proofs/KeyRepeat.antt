@@ -9,7 +9,7 @@ use Rattle.vault_rules.specs.declared.plan.Step.{Step}
 use Rattle.vault_rules.specs.declared.plan.Step.TheVariants.{Mark, Remove, RemoveLone}
 use Rattle.vault_rules.specs.Rules.{is_rule_set}
 use Rattle.vault_rules.specs.KeyPlan.{ids_rise, id_above, key_plan}
-use Rattle.vault_rules.specs.KeyRepeats.{without, made, made_all, is_in_order, Repeats}
+use Rattle.vault_rules.specs.KeyRepeats.{without, held_after, held_after_all, is_in_order, Repeats}
 use Rattle.vault_rules.specs.Walk.{Dues, dues, unless, last_mark, marker_at, marked_by, removal, mark_step, remove_step, lone_step, removals, keep_if, left_over, lone_removal, later_phases, walk}
 use Rattle.vault_rules.proofs.Fit.{IsFalling, fit}
 use Rattle.vault_rules.proofs.Lasts.{walk_unmarked}
@@ -141,17 +141,17 @@ removals_are d (x ∷ xs) s ss e = cases (removal d x xs) refl (removals_are d x
     cases (Some q) n ih = let h : Remove x.id q ∷ removals d xs ≡ s ∷ ss = ap (λ t. remove_step x.id t ++ removals d xs) (sym n) ∙ e in (x.id, q, cc)
 
 -- a lone marker goes, and then there is nothing
-lone_goes : (d : Dues) (t : ℕ) (hs : List Held) (s : Step) (ss : List Step) → lone_removal d hs ≡ s ∷ ss → walk d t (made t hs s) ≡ ss
+lone_goes : (d : Dues) (t : ℕ) (hs : List Held) (s : Step) (ss : List Step) → lone_removal d hs ≡ s ∷ ss → walk d t (held_after t hs s) ≡ ss
 lone_goes d t [] s ss e = absurd (cc)
 lone_goes d t (x ∷ y ∷ ys) s ss e = absurd (cc)
 lone_goes d t (x ∷ []) s ss e = cases (unless (not x.marker) (d.lone x.size x.admitted)) e
   where
-    cases : (o : Option ℕ) → lone_step x.id o ≡ s ∷ ss → walk d t (made t (x ∷ []) s) ≡ ss
+    cases : (o : Option ℕ) → lone_step x.id o ≡ s ∷ ss → walk d t (held_after t (x ∷ []) s) ≡ ss
     cases None h = absurd (cc)
     cases (Some r) h =
         let a : s ≡ RemoveLone x.id r = cc in
         let b : ss ≡ [] = cc in
-        ap (λ u. walk d t (made t (x ∷ []) u)) a ∙ (ap (walk d t) (without_first x [] tt) ∙ sym b)
+        ap (λ u. walk d t (held_after t (x ∷ []) u)) a ∙ (ap (walk d t) (without_first x [] tt) ∙ sym b)
 
 removal_goes : (d : Dues) → IsFalling d → (t : ℕ) (hs : List Held) (i r : ℕ) (rs : List Step) → IsInOrder hs → last_mark d hs ≡ None → removals d hs ≡ Remove i r ∷ rs → walk d t (without i hs) ≡ rs ++ lone_removal d (left_over d hs)
 removal_goes d f t [] i r rs o m e = absurd (cc)
@@ -160,24 +160,24 @@ removal_goes d f t (x ∷ xs) i r rs o m e =
     walk_unmarked d t (without i (x ∷ xs)) (s.same_mark ∙ m) ∙ (ap (λ l. l ++ lone_removal d (left_over d (without i (x ∷ xs)))) s.rest ∙ ap (λ l. rs ++ lone_removal d l) s.same_left)
 
 -- after the first step, the walk is the rest
-pub one_step : (d : Dues) → IsFalling d → (t : ℕ) (hs : List Held) (s : Step) (ss : List Step) → IsInOrder hs → walk d t hs ≡ s ∷ ss → walk d t (made t hs s) ≡ ss
+pub one_step : (d : Dues) → IsFalling d → (t : ℕ) (hs : List Held) (s : Step) (ss : List Step) → IsInOrder hs → walk d t hs ≡ s ∷ ss → walk d t (held_after t hs s) ≡ ss
 one_step d f t hs s ss o e = marks (last_mark d hs) refl
   where
-    later : (rs : List Step) → last_mark d hs ≡ None → removals d hs ≡ rs → rs ++ lone_removal d (left_over d hs) ≡ s ∷ ss → walk d t (made t hs s) ≡ ss
+    later : (rs : List Step) → last_mark d hs ≡ None → removals d hs ≡ rs → rs ++ lone_removal d (left_over d hs) ≡ s ∷ ss → walk d t (held_after t hs s) ≡ ss
     later [] m r h = lone_goes d t hs s ss (ap (lone_removal d) (sym (left_all d hs r)) ∙ h)
     later (u ∷ rs) m r h =
         let a = removals_are d hs u rs r in
         let same : s ≡ Remove a.0 a.1 = let k : u ≡ Remove a.0 a.1 = a.2 in cc in
         let rest : rs ++ lone_removal d (left_over d hs) ≡ ss = cc in
-        ap (λ v. walk d t (made t hs v)) same ∙ (removal_goes d f t hs a.0 a.1 rs o m (r ∙ ap (λ v. v ∷ rs) a.2) ∙ rest)
+        ap (λ v. walk d t (held_after t hs v)) same ∙ (removal_goes d f t hs a.0 a.1 rs o m (r ∙ ap (λ v. v ∷ rs) a.2) ∙ rest)
 
-    marks : (m : Option ℕ) → last_mark d hs ≡ m → walk d t (made t hs s) ≡ ss
+    marks : (m : Option ℕ) → last_mark d hs ≡ m → walk d t (held_after t hs s) ≡ ss
     marks None m = later (removals d hs) m refl (sym (walk_unmarked d t hs m) ∙ e)
     marks (Some r) m =
         let h : Mark r ∷ later_phases d (hs ++ marker_at (id_above hs) t ∷ []) ≡ s ∷ ss = ap (λ o. mark_step o ++ later_phases d (marked_by t o hs)) (sym m) ∙ e in
         let same : s ≡ Mark r = cc in
         let rest : later_phases d (hs ++ marker_at (id_above hs) t ∷ []) ≡ ss = cc in
-        ap (λ u. walk d t (made t hs u)) same ∙ (walk_unmarked d t (hs ++ marker_at (id_above hs) t ∷ []) (mark_none d hs (id_above hs) t) ∙ rest)
+        ap (λ u. walk d t (held_after t hs u)) same ∙ (walk_unmarked d t (hs ++ marker_at (id_above hs) t ∷ []) (mark_none d hs (id_above hs) t) ∙ rest)
 
 -- ---- order is kept
 
@@ -219,12 +219,12 @@ up_to_push : (l : List Held) (id t : ℕ) → IsUpTo t l → IsUpTo t (l ++ mark
 up_to_push [] id t b = (omega arith, tt)
 up_to_push (y ∷ ys) id t b = (b.0, up_to_push ys id t b.1)
 
-pub order_made : (t : ℕ) (s : Step) (hs : List Held) → IsUpTo t hs → IsInOrder hs → IsInOrder (made t hs s)
+pub order_made : (t : ℕ) (s : Step) (hs : List Held) → IsUpTo t hs → IsInOrder hs → IsInOrder (held_after t hs s)
 order_made t (Mark r) hs b o = order_push hs (id_above hs) t (below_above hs) b o
 order_made t (Remove i r) hs b o = order_without i hs o
 order_made t (RemoveLone i r) hs b o = order_without i hs o
 
-up_to_made : (t : ℕ) (s : Step) (hs : List Held) → IsUpTo t hs → IsUpTo t (made t hs s)
+up_to_made : (t : ℕ) (s : Step) (hs : List Held) → IsUpTo t hs → IsUpTo t (held_after t hs s)
 up_to_made t (Mark r) hs b = up_to_push hs (id_above hs) t b
 up_to_made t (Remove i r) hs b = up_to_without i t hs b
 up_to_made t (RemoveLone i r) hs b = up_to_without i t hs b
@@ -240,13 +240,13 @@ rises (x ∷ xs) o = and_true (list_all (λ y. nat_lt x.id y.id) xs) (ids_rise x
 -- ---- the law
 
 module _ (rules : List Rule) (key : List ℕ) (t : ℕ) (f : IsFalling (dues rules key t)) where
-  pub repeats : (hs : List Held) (ss : List Step) (n : ℕ) → IsInOrder hs → IsUpTo t hs → key_plan rules key hs t ≡ ss → key_plan rules key (made_all t hs (take n ss)) t ≡ drop n ss
+  pub repeats : (hs : List Held) (ss : List Step) (n : ℕ) → IsInOrder hs → IsUpTo t hs → key_plan rules key hs t ≡ ss → key_plan rules key (held_after_all t hs (take n ss)) t ≡ drop n ss
   repeats hs ss zero o b e = e
   repeats hs [] (suc n) o b e = e
   repeats hs (s ∷ ss) (suc n) o b e =
       let o' = order_made t s hs b o in
       let rest = one_step (dues rules key t) f t hs s ss o (sym (key_plan-walk rules key t hs (rises hs o)) ∙ e) in
-      repeats (made t hs s) ss n o' (up_to_made t s hs b) (key_plan-walk rules key t (made t hs s) (rises (made t hs s) o') ∙ rest)
+      repeats (held_after t hs s) ss n o' (up_to_made t s hs b) (key_plan-walk rules key t (held_after t hs s) (rises (held_after t hs s) o') ∙ rest)
 
 -- what the test of order says
 record IsTested (id from t : ℕ) (x : Held) (xs : List Held) : Type 0 where

@@ -9,7 +9,7 @@ use Rattle.vault_rules.specs.declared.plan.Held.{Held}
 use Rattle.vault_rules.specs.declared.plan.Step.{Step}
 use Rattle.vault_rules.specs.declared.plan.Step.TheVariants.{Mark, Remove, RemoveLone}
 use Rattle.vault_rules.specs.Due.{due_current, due_noncurrent, due_marker}
-use Rattle.vault_rules.specs.KeyPlan.{ids_rise, newer, first_admission, only_if, mark_rule, removal_rule, lone_rule, mark_steps, removal_steps, lone_steps, id_above, marker_on, marked, kept, key_plan}
+use Rattle.vault_rules.specs.KeyPlan.{ids_rise, newer_among, first_admission, only_if, mark_rule, removal_rule, lone_rule, mark_steps, removal_steps, lone_steps, id_above, marker_on, marked, kept, key_plan}
 use Rattle.vault_rules.proofs.Truth.{both, and_true, test_of_less}
 use Rattle.vault_rules.specs.Walk.{dues, unless, last_mark, mark_step, remove_step, lone_step, walk, marked_by, marker_at, removal, removals, keep_if, left_over, lone_removal}
 
@@ -30,13 +30,13 @@ not_less_back : (m n : ℕ) → IsTrue (nat_lt m n) → nat_lt n m ≡ false
 not_less_back m n h = grind (arith, nat_tests)
 
 -- what is newer than x stands behind it
-newer_behind : (before : List Held) (x : Held) (after : List Held) → IsTrue (ids_rise (before ++ x ∷ after)) → newer (before ++ x ∷ after) x ≡ after
+newer_behind : (before : List Held) (x : Held) (after : List Held) → IsTrue (ids_rise (before ++ x ∷ after)) → newer_among (before ++ x ∷ after) x ≡ after
 newer_behind [] x after h =
-    ap (λ b. cond b (x ∷ newer after x) (newer after x)) (not_less_itself x.id)
+    ap (λ b. cond b (x ∷ newer_among after x) (newer_among after x)) (not_less_itself x.id)
     ∙ filter_all (λ y. nat_lt x.id y.id) after (both (list_all (λ y. nat_lt x.id y.id) after) (ids_rise after) h).0
 newer_behind (b ∷ bs) x after h =
     let e = both (list_all (λ y. nat_lt b.id y.id) (bs ++ x ∷ after)) (ids_rise (bs ++ x ∷ after)) h in
-    ap (λ c. cond c (b ∷ newer (bs ++ x ∷ after) x) (newer (bs ++ x ∷ after) x)) (not_less_back b.id x.id (in_middle (λ y. nat_lt b.id y.id) bs x after e.0))
+    ap (λ c. cond c (b ∷ newer_among (bs ++ x ∷ after) x) (newer_among (bs ++ x ∷ after) x)) (not_less_back b.id x.id (in_middle (λ y. nat_lt b.id y.id) bs x after e.0))
     ∙ newer_behind bs x after e.1
 
 some_stand : (n : ℕ) → nat_lt 0 (suc n) ≡ true
@@ -73,7 +73,7 @@ module _ (rules : List Rule) (key : List ℕ) (t : ℕ) where
 
   removal_at : (hs before : List Held) (x : Held) (after : List Held) → hs ≡ before ++ x ∷ after → IsTrue (ids_rise hs) → removal_rule rules key t hs x ≡ removal (dues rules key t) x after
   removal_at hs before x after e h =
-      let n : newer hs x ≡ after = ap (λ l. newer l x) e ∙ newer_behind before x after (subst (λ l. IsTrue (ids_rise l)) e h) in
+      let n : newer_among hs x ≡ after = ap (λ l. newer_among l x) e ∙ newer_behind before x after (subst (λ l. IsTrue (ids_rise l)) e h) in
       ap (λ l. only_if (nat_lt 0 (length l) && not (is_locked x.lock t)) (due_noncurrent rules key x.size (first_admission l) (length l - 1) t)) n ∙ removal_is x after
 
   pub removals_from : (hs before l : List Held) → hs ≡ before ++ l → IsTrue (ids_rise hs) → filter_map (λ x. option_map (λ r. Remove x.id r) (removal_rule rules key t hs x)) l ≡ removals (dues rules key t) l
@@ -93,7 +93,7 @@ module _ (rules : List Rule) (key : List ℕ) (t : ℕ) where
   -- the rule that marks the key for x, above which these stand
   mark_at : (hs before : List Held) (x : Held) (after : List Held) → hs ≡ before ++ x ∷ after → IsTrue (ids_rise hs) → mark_rule rules key t hs x ≡ only_if ((length after == 0) && not x.marker) (due_current rules key x.size x.admitted t)
   mark_at hs before x after e h =
-      let n : newer hs x ≡ after = ap (λ l. newer l x) e ∙ newer_behind before x after (subst (λ l. IsTrue (ids_rise l)) e h) in
+      let n : newer_among hs x ≡ after = ap (λ l. newer_among l x) e ∙ newer_behind before x after (subst (λ l. IsTrue (ids_rise l)) e h) in
       ap (λ l. only_if ((length l == 0) && not x.marker) (due_current rules key x.size x.admitted t)) n
 
   push_mark : (o : Option ℕ) → cons_option (option_map (λ r. Mark r) o) [] ≡ mark_step o

@@ -14,14 +14,14 @@ ids_rise [] = true
 ids_rise (x ∷ xs) = list_all (λ y. nat_lt x.id y.id) xs && ids_rise xs
 
 -- the entries of the key that are newer than x
-abbrev pub newer : List Held → Held → List Held
-newer hs x = filter (λ y. nat_lt x.id y.id) hs
+abbrev pub newer_among : List Held → Held → List Held
+newer_among hs x = filter (λ y. nat_lt x.id y.id) hs
 
-abbrev pub is_current : List Held → Held → Bool
-is_current hs x = length (newer hs x) == 0
+abbrev pub is_current_among : List Held → Held → Bool
+is_current_among hs x = length (newer_among hs x) == 0
 
-abbrev pub is_noncurrent : List Held → Held → Bool
-is_noncurrent hs x = nat_lt 0 (length (newer hs x))
+abbrev pub is_noncurrent_among : List Held → Held → Bool
+is_noncurrent_among hs x = nat_lt 0 (length (newer_among hs x))
 
 -- the admission of the first of these entries
 abbrev pub first_admission : List Held → ℕ
@@ -30,23 +30,23 @@ first_admission (x ∷ xs) = x.admitted
 
 -- when x became noncurrent: as its successor was admitted
 abbrev pub since : List Held → Held → ℕ
-since hs x = first_admission (newer hs x)
+since hs x = first_admission (newer_among hs x)
 
 -- how many newer noncurrent entries stand above x
 abbrev pub rank : List Held → Held → ℕ
-rank hs x = length (newer hs x) - 1
+rank hs x = length (newer_among hs x) - 1
 
 abbrev pub only_if : {A : Type 0} → Bool → Option A → Option A
 only_if b found = if b then found else None
 
 -- the rule that marks the key for x: x is current content and due
 abbrev pub mark_rule : List Rule → List ℕ → ℕ → List Held → Held → Option ℕ
-mark_rule rules key t hs x = only_if (is_current hs x && not x.marker) (due_current rules key x.size x.admitted t)
+mark_rule rules key t hs x = only_if (is_current_among hs x && not x.marker) (due_current rules key x.size x.admitted t)
 
 -- the rule that removes x: x is noncurrent, due and not locked
 abbrev pub removal_rule : List Rule → List ℕ → ℕ → List Held → Held → Option ℕ
 removal_rule rules key t hs x =
-    only_if (is_noncurrent hs x && not (is_locked x.lock t)) (due_noncurrent rules key x.size (since hs x) (rank hs x) t)
+    only_if (is_noncurrent_among hs x && not (is_locked x.lock t)) (due_noncurrent rules key x.size (since hs x) (rank hs x) t)
 
 -- the rule that removes x alone: x is a marker, its key's only entry, and due
 abbrev pub lone_rule : List Rule → List ℕ → ℕ → List Held → Held → Option ℕ

@@ -11,15 +11,15 @@ abbrev pub without : ℕ → List Held → List Held
 without id hs = filter (λ x. not (x.id == id)) hs
 
 -- the held entries after a step at t
-abbrev pub made : ℕ → List Held → Step → List Held
-made t hs (Mark r) = hs ++ marker_on t hs ∷ []
-made t hs (Remove id r) = without id hs
-made t hs (RemoveLone id r) = without id hs
+abbrev pub held_after : ℕ → List Held → Step → List Held
+held_after t hs (Mark r) = hs ++ marker_on t hs ∷ []
+held_after t hs (Remove id r) = without id hs
+held_after t hs (RemoveLone id r) = without id hs
 
 -- and after these steps
-abbrev pub made_all : ℕ → List Held → List Step → List Held
-made_all t hs [] = hs
-made_all t hs (s ∷ ss) = made_all t (made t hs s) ss
+abbrev pub held_after_all : ℕ → List Held → List Step → List Held
+held_after_all t hs [] = hs
+held_after_all t hs (s ∷ ss) = held_after_all t (held_after t hs s) ss
 
 -- ids rise from above one on, admissions don't go back before a moment, and none is after t
 abbrev pub is_in_order : ℕ → ℕ → ℕ → List Held → Bool
@@ -28,4 +28,4 @@ is_in_order id from t (x ∷ xs) = nat_lt id x.id && nat_le from x.admitted && i
 
 -- after the first n of these steps, made at t, the key's plan at t is the rest of them
 abbrev pub Repeats : List Rule → List ℕ → List Held → ℕ → List Step → Type 0
-Repeats rules key hs t steps = (n : ℕ) → key_plan rules key (made_all t hs (take n steps)) t ≡ drop n steps
+Repeats rules key hs t steps = (n : ℕ) → key_plan rules key (held_after_all t hs (take n steps)) t ≡ drop n steps

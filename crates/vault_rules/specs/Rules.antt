@@ -8,12 +8,12 @@ use Rattle.vault_rules.specs.declared.rule_set.RuleFault.{RuleFault}
 use Rattle.vault_rules.specs.declared.rule_set.RuleFault.TheVariants.{NoRules, TooMany, SameId, NoAction, DaysAndMarkers, OutOfRange}
 
 -- a number of days is 1 to 2,147,483,647
-abbrev pub is_days : ℕ → Bool
-is_days n = nat_le 1 n && nat_le n 2147483647
+abbrev pub is_day_count : ℕ → Bool
+is_day_count n = nat_le 1 n && nat_le n 2147483647
 
 -- NewerNoncurrentVersions is 1 to 100
-abbrev pub is_newer : ℕ → Bool
-is_newer n = nat_le 1 n && nat_le n 100
+abbrev pub is_newer_count : ℕ → Bool
+is_newer_count n = nat_le 1 n && nat_le n 100
 
 -- where it is given, it passes
 abbrev pub passes_if_given : {A : Type 0} → (A → Bool) → Option A → Bool
@@ -21,7 +21,7 @@ passes_if_given test None = true
 passes_if_given test (Some x) = test x
 
 abbrev pub is_noncurrent_action : Noncurrent → Bool
-is_noncurrent_action n = is_days n.days && passes_if_given is_newer n.newer
+is_noncurrent_action n = is_day_count n.days && passes_if_given is_newer_count n.newer
 
 -- ObjectSizeGreaterThan is at most 1,048,576, which is the most that a version has
 abbrev pub is_lower_bound : ℕ → Bool
@@ -52,7 +52,7 @@ has_days_and_markers r = is_some r.days && r.lone_markers
 -- each number is in its range
 abbrev pub is_in_range : Rule → Bool
 is_in_range r =
-    passes_if_given is_days r.days && passes_if_given is_noncurrent_action r.noncurrent && are_bounds r.larger r.smaller
+    passes_if_given is_day_count r.days && passes_if_given is_noncurrent_action r.noncurrent && are_bounds r.larger r.smaller
 
 -- the first of these faults whose test passes
 abbrev pub fault_where : Bool → RuleFault → Option RuleFault → Option RuleFault

@@ -1,10 +1,10 @@
 //! A lifecycle rule.
 ghost use Rattle.std.specs.Prelude.{◌≡◌};
-ghost use Rattle.vault_rules.specs.Rules.{is_days, is_newer, is_noncurrent_action, is_lower_bound, is_upper_bound, are_in_order, are_bounds, has_action, has_days_and_markers, is_in_range};
-ghost use Rattle.vault_rules.specs.Due.{have_passed, is_larger, is_smaller, fits, days_have_passed, noncurrent_has_passed};
+ghost use Rattle.vault_rules.specs.Rules.{is_day_count, is_newer_count, is_noncurrent_action, is_lower_bound, is_upper_bound, are_in_order, are_bounds, has_action, has_days_and_markers, is_in_range};
+ghost use Rattle.vault_rules.specs.Due.{have_passed, fits, days_have_passed, noncurrent_has_passed};
 
 use std::alloc::AllocError;
-use vault_base::moment::Moment;
+use vault_base::moment::{DAY, Moment};
 use vault_base::name::{KeyPrefix, ObjectKey, RuleId};
 
 /// The action on noncurrent entries.
@@ -51,15 +51,15 @@ impl Clone for Rule {
 }
 
 /// Whether a number of days that a rule names is from 1 to 2,147,483,647.
-fn is_days(days: u32) -> bool
-    ensures { result ≡ is_days days }
+pub fn is_day_count(days: u32) -> bool
+    ensures { result ≡ is_day_count days }
 {
     1 <= days && days <= 2_147_483_647
 }
 
 /// Whether a number of newer noncurrent entries that a rule names is from 1 to 100.
-fn is_newer(newer: u32) -> bool
-    ensures { result ≡ is_newer newer }
+pub fn is_newer_count(newer: u32) -> bool
+    ensures { result ≡ is_newer_count newer }
 {
     1 <= newer && newer <= 100
 }
@@ -101,8 +101,8 @@ pub fn are_bounds(larger: Option<u64>, smaller: Option<u64>) -> bool
 fn have_passed(days: u32, from: Moment, now: Moment) -> bool
     ensures { result ≡ have_passed days from now }
 {
-    let end = from.secs() + 86_400 * u64::from(days);
-    end.next_multiple_of(86_400) <= now.secs()
+    let end = from.secs() + DAY * u64::from(days);
+    end.next_multiple_of(DAY) <= now.secs()
 }
 
 impl Noncurrent {
@@ -110,7 +110,7 @@ impl Noncurrent {
     fn is_in_range(&self) -> bool
         ensures { result ≡ is_noncurrent_action self.now }
     {
-        is_days(self.days) && self.newer.map_or(true, is_newer)
+        is_day_count(self.days) && self.newer.map_or(true, is_newer_count)
     }
 }
 
@@ -133,7 +133,7 @@ impl Rule {
     pub(crate) fn is_in_range(&self) -> bool
         ensures { result ≡ is_in_range self.now }
     {
-        self.days.map_or(true, is_days)
+        self.days.map_or(true, is_day_count)
             && self.noncurrent.map_or(true, |action| action.is_in_range())
             && are_bounds(self.larger, self.smaller)
     }

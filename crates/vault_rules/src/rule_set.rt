@@ -5,22 +5,29 @@ ghost use Rattle.vault_rules.specs.Rules.{has_id, fault_of, first_fault};
 use crate::rule::Rule;
 use std::alloc::AllocError;
 use std::marker::Model;
+use thiserror::Error;
 use vault_base::name::RuleId;
 
 /// What is wrong with a list of rules.
-#[derive(Clone, Copy, Debug, PartialEq, Eq)]
+#[derive(Clone, Copy, Debug, PartialEq, Eq, Error)]
 pub enum RuleFault {
     /// It is empty.
+    #[error("there are no rules")]
     NoRules,
     /// It has more than 1,000 rules.
+    #[error("there are more than 1,000 rules")]
     TooMany,
     /// A rule has the id of one before it.
+    #[error("a rule has the id of one before it")]
     SameId,
     /// A rule has no action.
+    #[error("a rule has no action")]
     NoAction,
     /// A rule has Days and ExpiredObjectDeleteMarker.
+    #[error("a rule has Days and ExpiredObjectDeleteMarker")]
     DaysAndMarkers,
     /// A number of a rule is out of its range.
+    #[error("a number of a rule is out of its range")]
     OutOfRange,
 }
 

@@ -11,8 +11,8 @@ use Rattle.vault_rules.specs.declared.plan.Step.TheVariants.{Mark, Remove, Remov
 use Rattle.vault_rules.specs.Walk.{marker_at}
 use Rattle.vault_rules.proofs.Truth.{and_true, test_of_less}
 use Rattle.vault_rules.specs.KeyPlan.{Planned}
-use Rattle.vault_rules_laws.specs.Histories.{History, is_at, held_of, entries, new_marker, removed_by, made_at, made, made_all}
-use Rattle.vault_rules_laws.specs.BucketLaws.{IsChronicle}
+use Rattle.vault_rules_laws.specs.Histories.{History, is_at, held_of, entries, new_marker, gone_if, histories_after_step_at, histories_after_step, histories_after_steps}
+use Rattle.vault_rules_laws.specs.BucketLaws.{AreOrderly}
 use Rattle.vault_rules.specs.KeyRepeats.{without}
 use Rattle.vault_rules.proofs.KeyRepeat.{IsBelow, IsInOrder}
 use Rattle.vault_rules_laws.proofs.KeySteps.{made_with, HasId, IsStepOf, AllNot, without_absent}
@@ -63,7 +63,7 @@ other_key b k j h a e =
 
 -- ---- a removal
 
-one_removed : (b k : List ℕ) (i : ℕ) (h : History) (l : List Held) → put_if (is_at b k (removed_by i h)) (held_of (removed_by i h)) (without i l) ≡ without i (put_if (is_at b k h) (held_of h) l)
+one_removed : (b k : List ℕ) (i : ℕ) (h : History) (l : List Held) → put_if (is_at b k (gone_if i h)) (held_of (gone_if i h)) (without i l) ≡ without i (put_if (is_at b k h) (held_of h) l)
 one_removed b k i h l = cases (h.id == i) refl (is_at b k h) refl
   where
     kept_held : (c : Bool) → (h.id == i) ≡ false → put_if c (held_of h) (without i l) ≡ without i (put_if c (held_of h) l)
@@ -74,19 +74,19 @@ one_removed b k i h l = cases (h.id == i) refl (is_at b k h) refl
     gone_held true n = sym (ap (λ x. cond (not x) (held_of h ∷ without i l) (without i l)) n)
     gone_held false n = refl
 
-    cases : (e : Bool) → (h.id == i) ≡ e → (c : Bool) → is_at b k h ≡ c → put_if (is_at b k (removed_by i h)) (held_of (removed_by i h)) (without i l) ≡ without i (put_if (is_at b k h) (held_of h) l)
+    cases : (e : Bool) → (h.id == i) ≡ e → (c : Bool) → is_at b k h ≡ c → put_if (is_at b k (gone_if i h)) (held_of (gone_if i h)) (without i l) ≡ without i (put_if (is_at b k h) (held_of h) l)
     cases true n c m =
-        let r : removed_by i h ≡ record h { removed = true } = ap (λ x. if x then record h { removed = true } else h) n in
+        let r : gone_if i h ≡ record h { removed = true } = ap (λ x. if x then record h { removed = true } else h) n in
         ap (λ g. put_if (is_at b k g) (held_of g) (without i l)) r ∙ gone_held (is_at b k h) n
     cases false n c m =
-        let r : removed_by i h ≡ h = ap (λ x. if x then record h { removed = true } else h) n in
+        let r : gone_if i h ≡ h = ap (λ x. if x then record h { removed = true } else h) n in
         ap (λ g. put_if (is_at b k g) (held_of g) (without i l)) r ∙ kept_held (is_at b k h) n
 
-pub entries-removed : (b k : List ℕ) (i : ℕ) (v : List History) → entries b k (map (removed_by i) v) ≡ without i (entries b k v)
+pub entries-removed : (b k : List ℕ) (i : ℕ) (v : List History) → entries b k (map (gone_if i) v) ≡ without i (entries b k v)
 entries-removed b k i [] = refl
 entries-removed b k i (h ∷ v) =
-    entries-cons b k (removed_by i h) (map (removed_by i) v)
-    ∙ (ap (put_if (is_at b k (removed_by i h)) (held_of (removed_by i h))) (entries-removed b k i v)
+    entries-cons b k (gone_if i h) (map (gone_if i) v)
+    ∙ (ap (put_if (is_at b k (gone_if i h)) (held_of (gone_if i h))) (entries-removed b k i v)
     ∙ (one_removed b k i h (entries b k v) ∙ ap (without i) (sym (entries-cons b k h v))))
 
 -- ---- a new marker
@@ -112,7 +112,7 @@ put_below : (c : Bool) (w x : Held) (xs : List Held) → w.id < x.id → w.admit
 put_below true w x xs a b h = (a, b, h)
 put_below false w x xs a b h = h
 
-below_entries : (b k : List ℕ) (w : Held) (n from t : ℕ) (v : List History) → w.id < n → w.admitted ≤ from → IsChronicle n from t v → IsBelow w (entries b k v)
+below_entries : (b k : List ℕ) (w : Held) (n from t : ℕ) (v : List History) → w.id < n → w.admitted ≤ from → AreOrderly n from t v → IsBelow w (entries b k v)
 below_entries b k w n from t [] l a c = tt
 below_entries b k w n from t (h ∷ v) l a c =
     let id : w.id < h.id = omega (arith, c.0) in
@@ -123,7 +123,7 @@ put_order : (c : Bool) (x : Held) (xs : List Held) → IsBelow x xs → IsInOrde
 put_order true x xs a b = (a, b)
 put_order false x xs a b = b
 
-pub order_entries : (b k : List ℕ) (n from t : ℕ) (v : List History) → IsChronicle n from t v → IsInOrder (entries b k v)
+pub order_entries : (b k : List ℕ) (n from t : ℕ) (v : List History) → AreOrderly n from t v → IsInOrder (entries b k v)
 order_entries b k n from t [] c = tt
 order_entries b k n from t (h ∷ v) c =
     subst IsInOrder (sym (entries-cons b k h v)) (put_order (is_at b k h) (held_of h) (entries b k v) (below_entries b k (held_of h) (n + 1) h.admitted t v (omega (arith, c.0)) (omega arith) c.2) (order_entries b k (n + 1) h.admitted t v c.2))
@@ -132,56 +132,52 @@ put_under : (c : Bool) (x : Held) (xs : List Held) (m : ℕ) → x.id < m → Is
 put_under true x xs m a h = and_true (nat_lt x.id m) (list_all (λ y. nat_lt y.id m) xs) (test_of_less x.id m a) h
 put_under false x xs m a h = h
 
-pub under_entries : (b k : List ℕ) (n from t m : ℕ) (v : List History) → n + length v ≤ m → IsChronicle n from t v → IsTrue (list_all (λ y. nat_lt y.id m) (entries b k v))
+pub under_entries : (b k : List ℕ) (n from t m : ℕ) (v : List History) → n + length v ≤ m → AreOrderly n from t v → IsTrue (list_all (λ y. nat_lt y.id m) (entries b k v))
 under_entries b k n from t m [] l c = refl
 under_entries b k n from t m (h ∷ v) l c =
     subst (λ es. IsTrue (list_all (λ y. nat_lt y.id m) es)) (sym (entries-cons b k h v)) (put_under (is_at b k h) (held_of h) (entries b k v) m (omega (arith, c.0)) (under_entries b k (n + 1) h.admitted t m v (omega arith) c.2))
 
-from_up_to : (n from t : ℕ) (v : List History) → IsChronicle n from t v → from ≤ t
-from_up_to n from t [] c = c
-from_up_to n from t (h ∷ v) c = let g = from_up_to (n + 1) h.admitted t v c.2 in omega (arith, g, c.1)
+orderly_marked : (b k : List ℕ) (n from t m : ℕ) (v : List History) → m ≡ n + length v → AreOrderly n from t v → AreOrderly n from t (v ++ new_marker m b k t ∷ [])
+orderly_marked b k n from t m [] e c = (omega arith, c, omega arith)
+orderly_marked b k n from t m (h ∷ v) e c = (c.0, c.1, orderly_marked b k (n + 1) h.admitted t m v (omega arith) c.2)
 
-chronicle_marked : (b k : List ℕ) (n from t m : ℕ) (v : List History) → m ≡ n + length v → IsChronicle n from t v → IsChronicle n from t (v ++ new_marker m b k t ∷ [])
-chronicle_marked b k n from t m [] e c = (omega arith, c, omega arith)
-chronicle_marked b k n from t m (h ∷ v) e c = (c.0, c.1, chronicle_marked b k (n + 1) h.admitted t m v (omega arith) c.2)
-
-same_id : (i : ℕ) (h : History) → (removed_by i h).id ≡ h.id
+same_id : (i : ℕ) (h : History) → (gone_if i h).id ≡ h.id
 same_id i h = cases (h.id == i)
   where
     cases : (e : Bool) → (if e then record h { removed = true } else h).id ≡ h.id
     cases true = refl
     cases false = refl
 
-same_admitted : (i : ℕ) (h : History) → (removed_by i h).admitted ≡ h.admitted
+same_admitted : (i : ℕ) (h : History) → (gone_if i h).admitted ≡ h.admitted
 same_admitted i h = cases (h.id == i)
   where
     cases : (e : Bool) → (if e then record h { removed = true } else h).admitted ≡ h.admitted
     cases true = refl
     cases false = refl
 
-chronicle_removed : (i n from t : ℕ) (v : List History) → IsChronicle n from t v → IsChronicle n from t (map (removed_by i) v)
-chronicle_removed i n from t [] c = c
-chronicle_removed i n from t (h ∷ v) c = (
+orderly_removed : (i n from t : ℕ) (v : List History) → AreOrderly n from t v → AreOrderly n from t (map (gone_if i) v)
+orderly_removed i n from t [] c = c
+orderly_removed i n from t (h ∷ v) c = (
   same_id i h ∙ c.0,
   subst (λ x. from ≤ x) (sym (same_admitted i h)) c.1,
-  subst (λ x. IsChronicle (n + 1) x t (map (removed_by i) v)) (sym (same_admitted i h)) (chronicle_removed i (n + 1) h.admitted t v c.2),
+  subst (λ x. AreOrderly (n + 1) x t (map (gone_if i) v)) (sym (same_admitted i h)) (orderly_removed i (n + 1) h.admitted t v c.2),
 )
 
-pub chronicle_made : (b : List ℕ) (t : ℕ) (v : List History) (p : Planned) → IsChronicle 1 0 t v → IsChronicle 1 0 t (made b t v p)
-chronicle_made b t v p c = cases p.step
+pub orderly_after_step : (b : List ℕ) (t : ℕ) (v : List History) (p : Planned) → AreOrderly 1 0 t v → AreOrderly 1 0 t (histories_after_step b t v p)
+orderly_after_step b t v p c = cases p.step
   where
-    cases : (s : Step) → IsChronicle 1 0 t (made_at b t p.key v s)
-    cases (Mark r) = chronicle_marked b p.key 1 0 t (length v + 1) v (omega arith) c
-    cases (Remove i r) = chronicle_removed i 1 0 t v c
-    cases (RemoveLone i r) = chronicle_removed i 1 0 t v c
+    cases : (s : Step) → AreOrderly 1 0 t (histories_after_step_at b t p.key v s)
+    cases (Mark r) = orderly_marked b p.key 1 0 t (length v + 1) v (omega arith) c
+    cases (Remove i r) = orderly_removed i 1 0 t v c
+    cases (RemoveLone i r) = orderly_removed i 1 0 t v c
 
-pub chronicle_made_all : (b : List ℕ) (t : ℕ) (v : List History) (ps : List Planned) → IsChronicle 1 0 t v → IsChronicle 1 0 t (made_all b t v ps)
-chronicle_made_all b t v [] c = c
-chronicle_made_all b t v (p ∷ ps) c = chronicle_made_all b t (made b t v p) ps (chronicle_made b t v p c)
+pub orderly_after_steps : (b : List ℕ) (t : ℕ) (v : List History) (ps : List Planned) → AreOrderly 1 0 t v → AreOrderly 1 0 t (histories_after_steps b t v ps)
+orderly_after_steps b t v [] c = c
+orderly_after_steps b t v (p ∷ ps) c = orderly_after_steps b t (histories_after_step b t v p) ps (orderly_after_step b t v p c)
 
 -- ---- an id is of one key
 
-has_least : (b k : List ℕ) (i n from t : ℕ) (v : List History) → IsChronicle n from t v → HasId i (entries b k v) → n ≤ i
+has_least : (b k : List ℕ) (i n from t : ℕ) (v : List History) → AreOrderly n from t v → HasId i (entries b k v) → n ≤ i
 has_least b k i n from t [] c h = absurd h
 has_least b k i n from t (x ∷ v) c h = cases (is_at b k x) (subst (HasId i) (entries-cons b k x v) h) (λ g. has_least b k i (n + 1) x.admitted t v c.2 g)
   where
@@ -199,12 +195,12 @@ put_not : (c : Bool) (x : Held) (xs : List Held) (i : ℕ) → (x.id == i) ≡ f
 put_not true x xs i a h = (a, h)
 put_not false x xs i a h = h
 
-above_not : (b k : List ℕ) (i n from t : ℕ) (v : List History) → i < n → IsChronicle n from t v → AllNot i (entries b k v)
+above_not : (b k : List ℕ) (i n from t : ℕ) (v : List History) → i < n → AreOrderly n from t v → AllNot i (entries b k v)
 above_not b k i n from t [] l c = tt
 above_not b k i n from t (h ∷ v) l c =
     subst (AllNot i) (sym (entries-cons b k h v)) (put_not (is_at b k h) (held_of h) (entries b k v) i (not_same_back h.id i (omega (arith, c.0))) (above_not b k i (n + 1) h.admitted t v (omega arith) c.2))
 
-pub id_of_one : (b k j : List ℕ) (i n from t : ℕ) (v : List History) → IsChronicle n from t v → bytes_eq k j ≡ false → HasId i (entries b k v) → AllNot i (entries b j v)
+pub id_of_one : (b k j : List ℕ) (i n from t : ℕ) (v : List History) → AreOrderly n from t v → bytes_eq k j ≡ false → HasId i (entries b k v) → AllNot i (entries b j v)
 id_of_one b k j i n from t [] c a h = tt
 id_of_one b k j i n from t (x ∷ v) c a h =
     let later : HasId i (entries b k v) → AllNot i (put_if (is_at b j x) (held_of x) (entries b j v)) = λ g.
@@ -220,7 +216,7 @@ id_of_one b k j i n from t (x ∷ v) c a h =
 
 -- ---- a step alters its own key's entries alone
 
-pub entries-own : (b k : List ℕ) (t : ℕ) (v : List History) (s : Step) → entries b k (made_at b t k v s) ≡ made_with (length v + 1) t (entries b k v) s
+pub entries-own : (b k : List ℕ) (t : ℕ) (v : List History) (s : Step) → entries b k (histories_after_step_at b t k v s) ≡ made_with (length v + 1) t (entries b k v) s
 entries-own b k t v (Mark r) = entries-marked b k k (length v + 1) t true v (bytes_same k)
 entries-own b k t v (Remove i r) = entries-removed b k i v
 entries-own b k t v (RemoveLone i r) = entries-removed b k i v
@@ -229,7 +225,7 @@ append_none : (l : List Held) → l ++ [] ≡ l
 append_none [] = refl
 append_none (x ∷ xs) = ap (λ l. x ∷ l) (append_none xs)
 
-pub entries-away : (b k j : List ℕ) (t : ℕ) (v : List History) (s : Step) → IsChronicle 1 0 t v → bytes_eq k j ≡ false → IsStepOf (entries b k v) s → entries b j (made_at b t k v s) ≡ entries b j v
+pub entries-away : (b k j : List ℕ) (t : ℕ) (v : List History) (s : Step) → AreOrderly 1 0 t v → bytes_eq k j ≡ false → IsStepOf (entries b k v) s → entries b j (histories_after_step_at b t k v s) ≡ entries b j v
 entries-away b k j t v (Mark r) c a h = entries-marked b j k (length v + 1) t false v a ∙ append_none (entries b j v)
 entries-away b k j t v (Remove i r) c a h = entries-removed b j i v ∙ without_absent i (entries b j v) (id_of_one b k j i 1 0 t v c a h)
 entries-away b k j t v (RemoveLone i r) c a h = entries-removed b j i v ∙ without_absent i (entries b j v) (id_of_one b k j i 1 0 t v c a h)

@@ -1,22 +1,21 @@
 -- The first step of a plan removes nothing that is locked.
 use Rattle.std.proofs.Common.{◌≡◌, ◌⊎◌, ℕ, ◌++◌, Bool, true, false, IsTrue, List, [], ◌∷◌, Option, Some, None, refl, sym, ap, subst, ◌∙◌, inl, inr}
 use Rattle.std.specs.Prelude.{not}
-use Rattle.vault_lock.specs.Lock.{is_locked}
 use Rattle.vault_rules.specs.declared.rule.Rule.{Rule}
 use Rattle.vault_rules.specs.declared.plan.Held.{Held}
 use Rattle.vault_rules.specs.declared.plan.Step.{Step}
 use Rattle.vault_rules.specs.declared.plan.Step.TheVariants.{Mark, Remove, RemoveLone}
-use Rattle.vault_rules.specs.KeyPlan.{Planned, key_plan, id_above}
+use Rattle.vault_rules.specs.KeyPlan.{Planned, id_above}
 use Rattle.vault_rules.specs.Walk.{Dues, dues, unless, last_mark, marker_at, marked_by, removal, mark_step, remove_step, lone_step, removals, left_over, lone_removal, later_phases, walk}
 use Rattle.vault_rules.proofs.Lasts.{walk_unmarked}
 use Rattle.vault_rules.proofs.Sets.{key_plan-walk}
 use Rattle.vault_rules_laws.specs.Histories.{History, is_at, held_of, entries}
 use Rattle.vault_rules_laws.specs.BucketPlan.{plan, key_plans}
-use Rattle.vault_rules_laws.specs.BucketLaws.{IsChronicle, are_rules, IsPlan, HasFree, IsFreeStep}
-use Rattle.vault_rules.proofs.KeyRepeat.{IsInOrder, rises, left_all}
+use Rattle.vault_rules_laws.specs.BucketLaws.{AreOrderly, are_rules, IsPlan, HasFree, IsFreeStep}
+use Rattle.vault_rules.proofs.KeyRepeat.{rises, left_all}
 use Rattle.vault_rules_laws.proofs.Entries.{put_if, entries-cons, order_entries}
 use Rattle.vault_rules_laws.proofs.KeyByKey.{apart, key_by_key}
-use Rattle.vault_rules_laws.proofs.BucketRepeat.{IsFirst, first_of}
+use Rattle.vault_rules_laws.proofs.BucketRepeat.{first_of}
 
 -- ---- at a key
 
@@ -104,7 +103,7 @@ module _ (rules : List Rule) (b : List ℕ) (t : ℕ) (k : List ℕ) where
   free_step v (Remove i r) free = has_free i v free
   free_step v (RemoveLone i r) free = has_free i v free
 
-pub first_free : (rules : List Rule) (b : List ℕ) (t : ℕ) (v : List History) (p : Planned) (ps : List Planned) → IsTrue (are_rules rules) → IsChronicle 1 0 t v → IsPlan rules b t v (p ∷ ps) → IsFreeStep b p.key t v p.step
+pub first_free : (rules : List Rule) (b : List ℕ) (t : ℕ) (v : List History) (p : Planned) (ps : List Planned) → IsTrue (are_rules rules) → AreOrderly 1 0 t v → IsPlan rules b t v (p ∷ ps) → IsFreeStep b p.key t v p.step
 first_free rules b t v p ps ok c plan =
     let whole : key_plans rules b t plan.keys v ≡ p ∷ ps = sym (plan.steps ∙ key_by_key rules b t ok plan.keys v c (apart plan.keys plan.rising)) in
     let f = first_of rules b t ok v plan.keys p ps whole in

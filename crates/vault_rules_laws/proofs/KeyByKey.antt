@@ -14,12 +14,12 @@ use Rattle.vault_rules.specs.KeyPlan.{Planned, at_key, mark_steps, removal_steps
 use Rattle.vault_rules.specs.Walk.{Dues, dues, last_mark, mark_step, marked_by, later_phases, removals, removal, remove_step}
 use Rattle.vault_rules.proofs.Sets.{marks_from, removals_from, key_plan-walk}
 use Rattle.vault_rules.specs.KeyRepeats.{without}
-use Rattle.vault_rules_laws.specs.Histories.{History, entries, new_marker, made, made_all}
+use Rattle.vault_rules_laws.specs.Histories.{History, entries, new_marker, histories_after_step, histories_after_steps}
 use Rattle.vault_rules_laws.specs.BucketPlan.{marks_at, removals_at, lone_at, after_marks, after_removals, plan, key_plans}
-use Rattle.vault_rules_laws.specs.BucketLaws.{IsIn, IsUnder, IsRising, IsChronicle, are_rules}
+use Rattle.vault_rules_laws.specs.BucketLaws.{IsIn, IsUnder, IsRising, AreOrderly, are_rules}
 use Rattle.vault_rules.proofs.KeyRepeat.{IsInOrder, rises}
 use Rattle.vault_rules_laws.proofs.KeySteps.{marked_with, later_any, fit_any, AreStepsOf, removal_steps_of, AllNot, AreElsewhere, withouts, withouts_elsewhere, withouts-kept, later-walk}
-use Rattle.vault_rules_laws.proofs.Entries.{entries-removed, entries-marked, bytes_same, order_entries, chronicle_made_all, id_of_one}
+use Rattle.vault_rules_laws.proofs.Entries.{entries-removed, entries-marked, bytes_same, order_entries, orderly_after_steps, id_of_one}
 
 -- ---- keys that rise are apart
 
@@ -64,20 +64,20 @@ pub flat_map-in : (f g : List ℕ → List Planned) (ks : List (List ℕ)) → (
 flat_map-in f g [] h = refl
 flat_map-in f g (k ∷ ks) h = ap (λ l. l ++ flat_map f ks) (h k (inl refl)) ∙ ap (λ l. g k ++ l) (flat_map-in f g ks (λ j i. h j (inr i)))
 
-pub made_all-append : (b : List ℕ) (t : ℕ) (v : List History) (ps qs : List Planned) → made_all b t v (ps ++ qs) ≡ made_all b t (made_all b t v ps) qs
-made_all-append b t v [] qs = refl
-made_all-append b t v (p ∷ ps) qs = made_all-append b t (made b t v p) ps qs
+pub histories_after_steps-append : (b : List ℕ) (t : ℕ) (v : List History) (ps qs : List Planned) → histories_after_steps b t v (ps ++ qs) ≡ histories_after_steps b t (histories_after_steps b t v ps) qs
+histories_after_steps-append b t v [] qs = refl
+histories_after_steps-append b t v (p ∷ ps) qs = histories_after_steps-append b t (histories_after_step b t v p) ps qs
 
 -- ---- the entries after the first phase
 
 module _ (b : List ℕ) (t : ℕ) (o : List ℕ → Option ℕ) where
-  pub marks_away : (k : List ℕ) (v : List History) (ks : List (List ℕ)) → IsAway k ks → entries b k (made_all b t v (flat_map (λ j. at_key j (mark_step (o j))) ks)) ≡ entries b k v
+  pub marks_away : (k : List ℕ) (v : List History) (ks : List (List ℕ)) → IsAway k ks → entries b k (histories_after_steps b t v (flat_map (λ j. at_key j (mark_step (o j))) ks)) ≡ entries b k v
   marks_away k v [] a = refl
   marks_away k v (j ∷ js) a = cases (o j) (λ w. marks_away k w js a.2)
     where
       cases : (q : Option ℕ)
-          → ((w : List History) → entries b k (made_all b t w (flat_map (λ j. at_key j (mark_step (o j))) js)) ≡ entries b k w)
-          → entries b k (made_all b t v (at_key j (mark_step q) ++ flat_map (λ j. at_key j (mark_step (o j))) js)) ≡ entries b k v
+          → ((w : List History) → entries b k (histories_after_steps b t w (flat_map (λ j. at_key j (mark_step (o j))) js)) ≡ entries b k w)
+          → entries b k (histories_after_steps b t v (at_key j (mark_step q) ++ flat_map (λ j. at_key j (mark_step (o j))) js)) ≡ entries b k v
       cases None ih = ih v
       cases (Some r) ih = ih (v ++ new_marker (length v + 1) b j t ∷ []) ∙ (entries-marked b k j (length v + 1) t false v a.0 ∙ nothing (entries b k v))
         where
@@ -86,22 +86,22 @@ module _ (b : List ℕ) (t : ℕ) (o : List ℕ → Option ℕ) where
           nothing (x ∷ xs) = ap (λ l. x ∷ l) (nothing xs)
 
   -- a key has its marker, where it is marked
-  marks_in : (k : List ℕ) (v : List History) (ks : List (List ℕ)) → IsApart ks → IsIn k ks → (m : ℕ) × (entries b k (made_all b t v (flat_map (λ j. at_key j (mark_step (o j))) ks)) ≡ marked_with m t (o k) (entries b k v))
+  marks_in : (k : List ℕ) (v : List History) (ks : List (List ℕ)) → IsApart ks → IsIn k ks → (m : ℕ) × (entries b k (histories_after_steps b t v (flat_map (λ j. at_key j (mark_step (o j))) ks)) ≡ marked_with m t (o k) (entries b k v))
   marks_in k v [] a i = absurd i
   marks_in k v (j ∷ js) a i =
-      ⊎_elim (λ (e : k ≡ j). subst (λ x. (m : ℕ) × (entries b x (made_all b t v (flat_map (λ j. at_key j (mark_step (o j))) (j ∷ js))) ≡ marked_with m t (o x) (entries b x v))) (sym e) (own (o j)))
+      ⊎_elim (λ (e : k ≡ j). subst (λ x. (m : ℕ) × (entries b x (histories_after_steps b t v (flat_map (λ j. at_key j (mark_step (o j))) (j ∷ js))) ≡ marked_with m t (o x) (entries b x v))) (sym e) (own (o j)))
       (λ (r : IsIn k js). other (o j) (flip_eq j k (away_in' k j js a.0 r)) (λ w. marks_in k w js a.1 r)) i
     where
       away_in' : (k j : List ℕ) (js : List (List ℕ)) → IsAway j js → IsIn k js → bytes_eq k j ≡ false
       away_in' k j js a r = flip_eq k j (away_in j k js a r)
 
-      own : (q : Option ℕ) → (m : ℕ) × (entries b j (made_all b t v (at_key j (mark_step q) ++ flat_map (λ j. at_key j (mark_step (o j))) js)) ≡ marked_with m t q (entries b j v))
+      own : (q : Option ℕ) → (m : ℕ) × (entries b j (histories_after_steps b t v (at_key j (mark_step q) ++ flat_map (λ j. at_key j (mark_step (o j))) js)) ≡ marked_with m t q (entries b j v))
       own None = (0, marks_away j v js a.0)
       own (Some r) = (length v + 1, marks_away j (v ++ new_marker (length v + 1) b j t ∷ []) js a.0 ∙ entries-marked b j j (length v + 1) t true v (bytes_same j))
 
       other : (q : Option ℕ) → bytes_eq j k ≡ false
-          → ((w : List History) → (m : ℕ) × (entries b k (made_all b t w (flat_map (λ j. at_key j (mark_step (o j))) js)) ≡ marked_with m t (o k) (entries b k w)))
-          → (m : ℕ) × (entries b k (made_all b t v (at_key j (mark_step q) ++ flat_map (λ j. at_key j (mark_step (o j))) js)) ≡ marked_with m t (o k) (entries b k v))
+          → ((w : List History) → (m : ℕ) × (entries b k (histories_after_steps b t w (flat_map (λ j. at_key j (mark_step (o j))) js)) ≡ marked_with m t (o k) (entries b k w)))
+          → (m : ℕ) × (entries b k (histories_after_steps b t v (at_key j (mark_step q) ++ flat_map (λ j. at_key j (mark_step (o j))) js)) ≡ marked_with m t (o k) (entries b k v))
       other None n ih = ih v
       other (Some r) n ih =
           let w = v ++ new_marker (length v + 1) b j t ∷ [] in
@@ -131,12 +131,12 @@ walk_removals d (x ∷ xs) = cases (removal d x xs) (walk_removals d xs)
 are_removals : (rules : List Rule) (key : List ℕ) (t : ℕ) (hs : List Held) → IsInOrder hs → AreRemovals (removal_steps rules key t hs)
 are_removals rules key t hs o = subst AreRemovals (sym (removals_from rules key t hs [] hs refl (rises hs o))) (walk_removals (dues rules key t) hs)
 
-made_removals : (b k j : List ℕ) (t : ℕ) (v : List History) (ss : List Step) → AreRemovals ss → entries b k (made_all b t v (at_key j ss)) ≡ withouts (entries b k v) ss
+made_removals : (b k j : List ℕ) (t : ℕ) (v : List History) (ss : List Step) → AreRemovals ss → entries b k (histories_after_steps b t v (at_key j ss)) ≡ withouts (entries b k v) ss
 made_removals b k j t v [] h = refl
 made_removals b k j t v (Mark r ∷ ss) h = absurd h
 made_removals b k j t v (RemoveLone i r ∷ ss) h = absurd h
 made_removals b k j t v (Remove i r ∷ ss) h =
-    made_removals b k j t (made b t v (record { key = j; step = Remove i r })) ss h ∙ ap (λ l. withouts l ss) (entries-removed b k i v)
+    made_removals b k j t (histories_after_step b t v (record { key = j; step = Remove i r })) ss h ∙ ap (λ l. withouts l ss) (entries-removed b k i v)
 
 not_without : (i m : ℕ) (hs : List Held) → AllNot i hs → AllNot i (without m hs)
 not_without i m [] a = tt
@@ -158,30 +158,30 @@ elsewhere_withouts (Mark r ∷ rs) ss hs a = elsewhere_withouts rs ss hs a
 elsewhere_withouts (Remove i r ∷ rs) ss hs a = elsewhere_withouts rs ss (without i hs) (elsewhere_without i ss hs a)
 elsewhere_withouts (RemoveLone i r ∷ rs) ss hs a = elsewhere_withouts rs ss hs a
 
-steps_elsewhere : (b j k : List ℕ) (t : ℕ) (v : List History) (ss : List Step) → IsChronicle 1 0 t v → bytes_eq j k ≡ false → AreStepsOf (entries b j v) ss → AreElsewhere ss (entries b k v)
+steps_elsewhere : (b j k : List ℕ) (t : ℕ) (v : List History) (ss : List Step) → AreOrderly 1 0 t v → bytes_eq j k ≡ false → AreStepsOf (entries b j v) ss → AreElsewhere ss (entries b k v)
 steps_elsewhere b j k t v [] c a h = tt
 steps_elsewhere b j k t v (Mark r ∷ ss) c a h = steps_elsewhere b j k t v ss c a h.1
 steps_elsewhere b j k t v (Remove i r ∷ ss) c a h = (id_of_one b j k i 1 0 t v c a h.0, steps_elsewhere b j k t v ss c a h.1)
 steps_elsewhere b j k t v (RemoveLone i r ∷ ss) c a h = steps_elsewhere b j k t v ss c a h.1
 
 module _ (b k : List ℕ) (t : ℕ) (r : List ℕ → List Step) (are : (j : List ℕ) → AreRemovals (r j)) where
-  removals_away : (hs : List Held) (v : List History) (ks : List (List ℕ)) → ((j : List ℕ) → bytes_eq j k ≡ false → AreElsewhere (r j) hs) → IsAway k ks → entries b k v ≡ hs → entries b k (made_all b t v (flat_map (λ j. at_key j (r j)) ks)) ≡ hs
+  removals_away : (hs : List Held) (v : List History) (ks : List (List ℕ)) → ((j : List ℕ) → bytes_eq j k ≡ false → AreElsewhere (r j) hs) → IsAway k ks → entries b k v ≡ hs → entries b k (histories_after_steps b t v (flat_map (λ j. at_key j (r j)) ks)) ≡ hs
   removals_away hs v [] f a e = e
   removals_away hs v (j ∷ js) f a e =
-      ap (entries b k) (made_all-append b t v (at_key j (r j)) (flat_map (λ j. at_key j (r j)) js))
-      ∙ removals_away hs (made_all b t v (at_key j (r j))) js f a.2
+      ap (entries b k) (histories_after_steps-append b t v (at_key j (r j)) (flat_map (λ j. at_key j (r j)) js))
+      ∙ removals_away hs (histories_after_steps b t v (at_key j (r j))) js f a.2
       (made_removals b k j t v (r j) (are j) ∙ (ap (λ l. withouts l (r j)) e ∙ withouts_elsewhere (r j) hs (f j a.0)))
 
-  removals_in : (hs : List Held) (v : List History) (ks : List (List ℕ)) → ((j : List ℕ) → bytes_eq j k ≡ false → AreElsewhere (r j) hs) → IsApart ks → IsIn k ks → entries b k v ≡ hs → entries b k (made_all b t v (flat_map (λ j. at_key j (r j)) ks)) ≡ withouts hs (r k)
+  removals_in : (hs : List Held) (v : List History) (ks : List (List ℕ)) → ((j : List ℕ) → bytes_eq j k ≡ false → AreElsewhere (r j) hs) → IsApart ks → IsIn k ks → entries b k v ≡ hs → entries b k (histories_after_steps b t v (flat_map (λ j. at_key j (r j)) ks)) ≡ withouts hs (r k)
   removals_in hs v [] f a i e = absurd i
   removals_in hs v (j ∷ js) f a i e =
-      ap (entries b k) (made_all-append b t v (at_key j (r j)) (flat_map (λ j. at_key j (r j)) js))
+      ap (entries b k) (histories_after_steps-append b t v (at_key j (r j)) (flat_map (λ j. at_key j (r j)) js))
       ∙ ⊎_elim
-      (λ (s : k ≡ j). removals_away (withouts hs (r k)) (made_all b t v (at_key j (r j))) js
+      (λ (s : k ≡ j). removals_away (withouts hs (r k)) (histories_after_steps b t v (at_key j (r j))) js
       (λ x n. elsewhere_withouts (r k) (r x) hs (f x n))
       (subst (λ x. IsAway x js) (sym s) a.0)
       (made_removals b k j t v (r j) (are j) ∙ (ap (λ l. withouts l (r j)) e ∙ ap (λ x. withouts hs (r x)) (sym s))))
-      (λ (q : IsIn k js). removals_in hs (made_all b t v (at_key j (r j))) js f a.1 q
+      (λ (q : IsIn k js). removals_in hs (histories_after_steps b t v (at_key j (r j))) js f a.1 q
       (made_removals b k j t v (r j) (are j) ∙ (ap (λ l. withouts l (r j)) e ∙ withouts_elsewhere (r j) hs (f j (away_in j k js a.0 q)))))
       i
 
@@ -191,16 +191,16 @@ module _ (rules : List Rule) (b : List ℕ) (t : ℕ) (ok : IsTrue (are_rules ru
   abbrev pub mark_of : List History → List ℕ → Option ℕ
   mark_of v k = last_mark (dues rules k t) (entries b k v)
 
-  pub marks_are : (v : List History) (k : List ℕ) → IsChronicle 1 0 t v → mark_steps rules k t (entries b k v) ≡ mark_step (mark_of v k)
+  pub marks_are : (v : List History) (k : List ℕ) → AreOrderly 1 0 t v → mark_steps rules k t (entries b k v) ≡ mark_step (mark_of v k)
   marks_are v k c = marks_from rules k t (entries b k v) [] (entries b k v) refl (rises (entries b k v) (order_entries b k 1 0 t v c))
 
-  pub after_first : (v : List History) (ks : List (List ℕ)) (k : List ℕ) → IsChronicle 1 0 t v → IsApart ks → IsIn k ks → (m : ℕ) × (entries b k (after_marks rules b t ks v) ≡ marked_with m t (mark_of v k) (entries b k v))
+  pub after_first : (v : List History) (ks : List (List ℕ)) (k : List ℕ) → AreOrderly 1 0 t v → IsApart ks → IsIn k ks → (m : ℕ) × (entries b k (after_marks rules b t ks v) ≡ marked_with m t (mark_of v k) (entries b k v))
   after_first v ks k c a i =
       let h = marks_in b t (mark_of v) k v ks a i in
       let e = flat_map-each (marks_at rules b t v) (λ j. at_key j (mark_step (mark_of v j))) ks (λ j. ap (at_key j) (marks_are v j c)) in
-      (h.0, ap (λ ps. entries b k (made_all b t v ps)) e ∙ h.1)
+      (h.0, ap (λ ps. entries b k (histories_after_steps b t v ps)) e ∙ h.1)
 
-  after_second : (v : List History) (ks : List (List ℕ)) (k : List ℕ) → IsChronicle 1 0 t v → IsApart ks → IsIn k ks → entries b k (after_removals rules b t ks v) ≡ kept rules k t (entries b k v)
+  after_second : (v : List History) (ks : List (List ℕ)) (k : List ℕ) → AreOrderly 1 0 t v → IsApart ks → IsIn k ks → entries b k (after_removals rules b t ks v) ≡ kept rules k t (entries b k v)
   after_second v ks k c a i =
       let order = λ (j : List ℕ). order_entries b j 1 0 t v c in
       removals_in b k t (λ j. removal_steps rules j t (entries b j v)) (λ j. are_removals rules j t (entries b j v) (order j)) (entries b k v) v ks
@@ -208,7 +208,7 @@ module _ (rules : List Rule) (b : List ℕ) (t : ℕ) (ok : IsTrue (are_rules ru
       a i refl
       ∙ withouts-kept rules k t (entries b k v) (order k)
 
-  one_key : (v : List History) (ks : List (List ℕ)) (k : List ℕ) → IsChronicle 1 0 t v → IsApart ks → IsIn k ks
+  one_key : (v : List History) (ks : List (List ℕ)) (k : List ℕ) → AreOrderly 1 0 t v → IsApart ks → IsIn k ks
       → (let v1 = after_marks rules b t ks v in marks_at rules b t v k ++ removals_at rules b t v1 k ++ lone_at rules b t (after_removals rules b t ks v1) k)
       ≡ at_key k (key_plan rules k (entries b k v) t)
   one_key v ks k c a i =
@@ -216,7 +216,7 @@ module _ (rules : List Rule) (b : List ℕ) (t : ℕ) (ok : IsTrue (are_rules ru
       let es = entries b k v in
       let v1 = after_marks rules b t ks v in
       let v2 = after_removals rules b t ks v1 in
-      let c1 : IsChronicle 1 0 t v1 = chronicle_made_all b t v (flat_map (marks_at rules b t v) ks) c in
+      let c1 : AreOrderly 1 0 t v1 = orderly_after_steps b t v (flat_map (marks_at rules b t v) ks) c in
       let first = after_first v ks k c a i in
       let es1 = entries b k v1 in
       let later : removal_steps rules k t es1 ++ lone_steps rules k t (entries b k v2) ≡ later_phases d (marked_by t (last_mark d es) es) =
@@ -232,7 +232,7 @@ module _ (rules : List Rule) (b : List ℕ) (t : ℕ) (ok : IsTrue (are_rules ru
       ∙ (sym (map-append (λ s. record { key = k; step = s }) (mark_steps rules k t es) (removal_steps rules k t es1 ++ lone_steps rules k t (entries b k v2)))
       ∙ ap (at_key k) steps))
 
-  pub key_by_key : (ks : List (List ℕ)) (v : List History) → IsChronicle 1 0 t v → IsApart ks → plan rules b t ks v ≡ key_plans rules b t ks v
+  pub key_by_key : (ks : List (List ℕ)) (v : List History) → AreOrderly 1 0 t v → IsApart ks → plan rules b t ks v ≡ key_plans rules b t ks v
   key_by_key ks v c a =
       flat_map-in
       (λ k. let v1 = after_marks rules b t ks v in marks_at rules b t v k ++ removals_at rules b t v1 k ++ lone_at rules b t (after_removals rules b t ks v1) k)

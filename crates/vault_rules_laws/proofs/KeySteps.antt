@@ -14,7 +14,7 @@ use Rattle.vault_rules.proofs.Fit.{IsFit, fit}
 use Rattle.vault_rules.proofs.Lasts.{IsLong, left_long, walk_unmarked}
 use Rattle.vault_rules.proofs.Sets.{removals_from, kept_from, lone_is, rise_push, key_plan-walk}
 use Rattle.vault_rules_laws.specs.BucketLaws.{are_rules}
-use Rattle.vault_rules.specs.KeyRepeats.{without, made}
+use Rattle.vault_rules.specs.KeyRepeats.{without, held_after}
 use Rattle.vault_rules.proofs.KeyRepeat.{IsBelow, IsInOrder, rises, one_step, mark_none, left_all, without_first, without_other, order_without}
 
 -- no rules make nothing due
@@ -85,20 +85,20 @@ module _ (rules : List Rule) (key : List ℕ) (t : ℕ) (f : IsFit (dues rules k
       walked : walk (dues rules key t) t hs ≡ s ∷ ss
       walked = sym (key_plan-walk rules key t hs (rises hs o)) ∙ e
 
-      stepped : walk (dues rules key t) t (made t hs s) ≡ ss
+      stepped : walk (dues rules key t) t (held_after t hs s) ≡ ss
       stepped = one_step (dues rules key t) f.falling t hs s ss o walked
 
       cases : (u : Step) → s ≡ u → key_plan rules key (made_with id t hs u) t ≡ ss
       cases (Mark r) n =
           key_plan-walk rules key t (hs ++ marker_at id t ∷ []) (rise_push hs (marker_at id t) (rises hs o) b)
           ∙ (push_same (dues rules key t) t f id r hs ss (walked ∙ ap (λ u. u ∷ ss) n)
-          ∙ (ap (λ u. walk (dues rules key t) t (made t hs u)) (sym n) ∙ stepped))
+          ∙ (ap (λ u. walk (dues rules key t) t (held_after t hs u)) (sym n) ∙ stepped))
       cases (Remove i r) n =
           key_plan-walk rules key t (without i hs) (rises (without i hs) (order_without i hs o))
-          ∙ (ap (λ u. walk (dues rules key t) t (made t hs u)) (sym n) ∙ stepped)
+          ∙ (ap (λ u. walk (dues rules key t) t (held_after t hs u)) (sym n) ∙ stepped)
       cases (RemoveLone i r) n =
           key_plan-walk rules key t (without i hs) (rises (without i hs) (order_without i hs o))
-          ∙ (ap (λ u. walk (dues rules key t) t (made t hs u)) (sym n) ∙ stepped)
+          ∙ (ap (λ u. walk (dues rules key t) t (held_after t hs u)) (sym n) ∙ stepped)
 
 -- ---- which entry a step removes
 

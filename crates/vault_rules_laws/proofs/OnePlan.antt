@@ -5,18 +5,20 @@ use Rattle.std.specs.declared.cmp.Ordering.{Ordering}
 use Rattle.std.specs.declared.cmp.Ordering.TheVariants.{Less, Equal, Greater}
 use Rattle.std.specs.Cmp.Lexicographic.{slice_cmp, nat_list_cmp_total}
 use Rattle.std.specs.FinMap.{slice_cmp-IsAntisymmetric, nat_cmp-IsAntisymmetric}
+use Rattle.std.specs.List.{sum}
 use Rattle.std.specs.Str.{bytes_eq}
 use Rattle.std.proofs.Math.Seq.{take-add}
 use Rattle.std.proofs.lemmas.List.{drop-drop}
+use Rattle.std.proofs.lemmas.List.Sums.{sum_by-cons}
 use Rattle.std.proofs.lemmas.Map.Text.{is_eq-slice_cmp}
 use Rattle.std.proofs.lemmas.Slice.Eq.{bytes_eq-Decides}
 use Rattle.vault_rules.specs.declared.rule.Rule.{Rule}
 use Rattle.vault_rules.specs.KeyPlan.{Planned, at_key, key_plan}
-use Rattle.vault_rules_laws.specs.Histories.{History, held_of, entries, is_at, made_all}
+use Rattle.vault_rules_laws.specs.Histories.{History, held_of, entries, is_at, histories_after_steps}
 use Rattle.vault_rules_laws.specs.BucketPlan.{key_plans}
-use Rattle.vault_rules_laws.specs.BucketLaws.{IsIn, IsUnder, IsRising, Covers, IsChronicle, are_rules, IsPlan, total, Runs, AddsUp}
-use Rattle.vault_rules_laws.proofs.Entries.{put_if, entries-cons, matches, bytes_same, chronicle_made_all}
-use Rattle.vault_rules_laws.proofs.KeyByKey.{apart, key_by_key, made_all-append}
+use Rattle.vault_rules_laws.specs.BucketLaws.{IsIn, IsUnder, IsRising, Covers, AreOrderly, are_rules, IsPlan, Runs, AddsUp}
+use Rattle.vault_rules_laws.proofs.Entries.{put_if, entries-cons, matches, bytes_same, orderly_after_steps}
+use Rattle.vault_rules_laws.proofs.KeyByKey.{apart, key_by_key, histories_after_steps-append}
 use Rattle.vault_rules_laws.proofs.BucketRepeat.{repeats}
 
 pub irreflexive : (k : List ℕ) → slice_cmp nat_cmp k k ≡ Less → ⊥
@@ -107,23 +109,25 @@ module _ (rules : List Rule) (b : List ℕ) (t : ℕ) where
 
   module _ (ok : IsTrue (are_rules rules)) where
     -- a bucket has one plan
-    pub unique : (v : List History) (ps qs : List Planned) → IsChronicle 1 0 t v → IsPlan rules b t v ps → IsPlan rules b t v qs → ps ≡ qs
+    pub unique : (v : List History) (ps qs : List Planned) → AreOrderly 1 0 t v → IsPlan rules b t v ps → IsPlan rules b t v qs → ps ≡ qs
     unique v ps qs c p q =
         p.steps ∙ (key_by_key rules b t ok p.keys v c (apart p.keys p.rising)
         ∙ (merge (length p.keys + length q.keys) v p.keys q.keys (omega arith) p.rising q.rising (λ k i. outside_quiet v q.keys k q.covers) (λ k i. outside_quiet v p.keys k p.covers)
         ∙ sym (q.steps ∙ key_by_key rules b t ok q.keys v c (apart q.keys q.rising))))
 
     -- stopped runs make a beginning of the one plan
-    pub runs_make : (ns : List ℕ) (v w : List History) (ps : List Planned) → IsChronicle 1 0 t v → IsPlan rules b t v ps → Runs rules b t v ns w → AddsUp rules b t v ps (total ns) w
+    pub runs_make : (ns : List ℕ) (v w : List History) (ps : List Planned) → AreOrderly 1 0 t v → IsPlan rules b t v ps → Runs rules b t v ns w → AddsUp rules b t v ps (sum ns) w
     runs_make [] v w ps c p r = record { within = omega arith; left = r; rest = subst (λ x. IsPlan rules b t x ps) (sym r) p }
     runs_make (n ∷ ns) v w ps c p r =
         let same : r.0 ≡ ps = unique v r.0 ps c r.1 p in
-        let v' = made_all b t v (take n ps) in
-        let c' : IsChronicle 1 0 t v' = chronicle_made_all b t v (take n ps) c in
-        let later : Runs rules b t v' ns w = subst (λ x. Runs rules b t (made_all b t v (take n x)) ns w) same r.3 in
+        let v' = histories_after_steps b t v (take n ps) in
+        let c' : AreOrderly 1 0 t v' = orderly_after_steps b t v (take n ps) c in
+        let later : Runs rules b t v' ns w = subst (λ x. Runs rules b t (histories_after_steps b t v (take n x)) ns w) same r.3 in
         let within : n ≤ length ps = subst (λ x. n ≤ length x) same r.2 in
-        let h = runs_make ns v' w (drop n ps) c' (repeats rules b t ok n v ps c p) later in record {
+        let h = runs_make ns v' w (drop n ps) c' (repeats rules b t ok n v ps c p) later in
+        let all : AddsUp rules b t v ps (n + sum ns) w = record {
           within = omega (arith, h.within, length-drop n ps, within);
-          left = h.left ∙ (sym (made_all-append b t v (take n ps) (take (total ns) (drop n ps))) ∙ ap (made_all b t v) (sym (take-add n (total ns) ps)));
-          rest = subst (IsPlan rules b t w) (drop-drop (total ns) n ps) h.rest;
-        }
+          left = h.left ∙ (sym (histories_after_steps-append b t v (take n ps) (take (sum ns) (drop n ps))) ∙ ap (histories_after_steps b t v) (sym (take-add n (sum ns) ps)));
+          rest = subst (IsPlan rules b t w) (drop-drop (sum ns) n ps) h.rest;
+        } in
+        subst (λ k. AddsUp rules b t v ps k w) (sym (sum_by-cons (λ k. k) n ns)) all

@@ -2,7 +2,7 @@
 use Rattle.std.specs.Prelude.{ℕ, List, ◌++◌, flat_map}
 use Rattle.vault_rules.specs.declared.rule.Rule.{Rule}
 use Rattle.vault_rules.specs.KeyPlan.{Planned, at_key, mark_steps, removal_steps, lone_steps, key_plan}
-use Rattle.vault_rules_laws.specs.Histories.{History, entries, made_all}
+use Rattle.vault_rules_laws.specs.Histories.{History, entries, histories_after_steps}
 
 -- the steps of each phase at a key
 abbrev pub marks_at : List Rule → List ℕ → ℕ → List History → List ℕ → List Planned
@@ -16,11 +16,11 @@ lone_at rules bucket t v key = at_key key (lone_steps rules key t (entries bucke
 
 -- the histories after the first phase: a marker for each key whose current entry is content that is due, in the order of the keys
 abbrev pub after_marks : List Rule → List ℕ → ℕ → List (List ℕ) → List History → List History
-after_marks rules bucket t keys v = made_all bucket t v (flat_map (marks_at rules bucket t v) keys)
+after_marks rules bucket t keys v = histories_after_steps bucket t v (flat_map (marks_at rules bucket t v) keys)
 
 -- the histories after the second: each noncurrent entry that is due and not locked is removed
 abbrev pub after_removals : List Rule → List ℕ → ℕ → List (List ℕ) → List History → List History
-after_removals rules bucket t keys v = made_all bucket t v (flat_map (removals_at rules bucket t v) keys)
+after_removals rules bucket t keys v = histories_after_steps bucket t v (flat_map (removals_at rules bucket t v) keys)
 
 -- the plan, where the histories after the first and the second phase are known
 abbrev pub plan_over : List Rule → List ℕ → ℕ → List (List ℕ) → List History → List History → List History → List Planned

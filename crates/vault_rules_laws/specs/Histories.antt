@@ -43,18 +43,18 @@ new_marker id bucket key t = record {
 }
 
 -- the history removed, where it has that id
-abbrev pub removed_by : ℕ → History → History
-removed_by id h = if h.id == id then record h { removed = true } else h
+abbrev pub gone_if : ℕ → History → History
+gone_if id h = if h.id == id then record h { removed = true } else h
 
-abbrev pub made_at : List ℕ → ℕ → List ℕ → List History → Step → List History
-made_at bucket t key v (Mark r) = v ++ new_marker (length v + 1) bucket key t ∷ []
-made_at bucket t key v (Remove id r) = map (removed_by id) v
-made_at bucket t key v (RemoveLone id r) = map (removed_by id) v
+abbrev pub histories_after_step_at : List ℕ → ℕ → List ℕ → List History → Step → List History
+histories_after_step_at bucket t key v (Mark r) = v ++ new_marker (length v + 1) bucket key t ∷ []
+histories_after_step_at bucket t key v (Remove id r) = map (gone_if id) v
+histories_after_step_at bucket t key v (RemoveLone id r) = map (gone_if id) v
 
 -- the histories after a step, and after these, one after another
-abbrev pub made : List ℕ → ℕ → List History → Planned → List History
-made bucket t v p = made_at bucket t p.key v p.step
+abbrev pub histories_after_step : List ℕ → ℕ → List History → Planned → List History
+histories_after_step bucket t v p = histories_after_step_at bucket t p.key v p.step
 
-abbrev pub made_all : List ℕ → ℕ → List History → List Planned → List History
-made_all bucket t v [] = v
-made_all bucket t v (p ∷ ps) = made_all bucket t (made bucket t v p) ps
+abbrev pub histories_after_steps : List ℕ → ℕ → List History → List Planned → List History
+histories_after_steps bucket t v [] = v
+histories_after_steps bucket t v (p ∷ ps) = histories_after_steps bucket t (histories_after_step bucket t v p) ps

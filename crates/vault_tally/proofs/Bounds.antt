@@ -4,7 +4,7 @@ use Rattle.std.specs.List.{sum_by, list_all, sum}
 use Rattle.std.proofs.lemmas.Bool.{and_parts, leb-true}
 use Rattle.std.proofs.lemmas.List.Sums.{sum_by-cons, sum_by-append}
 use Rattle.std.proofs.Math.Nat.{mul-le-mul_left, mul-sub}
-use Rattle.vault_tally.specs.Row.{Item, last_day, quota, size_of, if_held, admitted_size, received_size, held_size, removed_size, handed_size, weight, end_day, charge, byte_days, closed_byte_days, is_dated, AreBegunBy, AreBounded, AreHeld, received_items, held_item, handed_item}
+use Rattle.vault_tally.specs.Row.{Item, last_day, quota, size_of, if_held, admitted_size, received_size, held_size, removed_size, handed_size, weight, end_day, charge, byte_days, closed_byte_days, is_dated, AreBegunBy, AreBounded, received_items, held_item, handed_item}
 
 one_balance : (s : ℕ) (e : Option ℕ) (l : Bool) → if_held e s 0 + (if_held e 0 (if l then s else 0) + if_held e 0 (if l then 0 else s)) ≡ s
 one_balance s None l = omega arith

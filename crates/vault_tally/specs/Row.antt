@@ -1,7 +1,7 @@
 -- The row of a department: seven sums over the tenures that it has of content versions.
-use Rattle.std.specs.Prelude.{◌≡◌, ℕ, ◌+◌, ◌-◌, ◌*◌, Bool, true, false, nat_le, List, map, Option, Some, None, is_none, sum, sum_by, ◌&&◌, ◌≤◌, IsTrue, if◌then◌else◌}
+use Rattle.std.specs.Prelude.{◌≡◌, ℕ, ◌-◌, ◌*◌, Bool, true, false, nat_le, List, map, Option, Some, None, is_none, sum_by, ◌&&◌, ◌≤◌, IsTrue, if◌then◌else◌}
 use Rattle.std.specs.List.{list_all}
-use Rattle.vault_base.specs.Days.{day, last_moment}
+pub use Rattle.vault_base.specs.Days.{last_day}
 use Rattle.vault_tally.specs.declared.row.Row.{Row}
 
 -- a tenure of a version: its size, whether it is the version's first tenure, the day from which the department has it, the day of its end or none, and whether it is the version's last one. The last ends with the removal; any other ends as the next begins.
@@ -71,14 +71,6 @@ pub record IsRowOf (row : Row) (items : List Item) : Type 0 where
 -- the byte-days of all these tenures, those that last up to today
 abbrev pub charge : ℕ → List Item → ℕ
 charge today items = sum_by (byte_days today) items
-
--- whether a department with this row may admit or receive so many bytes more
-abbrev pub fits : Row → ℕ → Bool
-fits row size = nat_le (row.admitted + row.received + size) quota
-
--- the day of the last moment
-abbrev pub last_day : ℕ
-last_day = day last_moment
 
 -- no day goes back, and none is past the last one
 abbrev pub is_dated : Item → Bool

@@ -1,9 +1,10 @@
 //! Reads the second that the text of a moment names.
 ghost use Rattle.std.specs.Prelude.{◌≡◌, ◌≤◌, ◌<◌, ◌+◌, IfOk, OnOk, length};
 ghost use Rattle.jiff_core.specs.Calendar.{IsEpochDay};
+ghost use Rattle.vault_base_time.specs.Days.{day_length};
 ghost use Rattle.vault_base_time.specs.Moment as spec;
 
-use crate::moment::MomentFault;
+use crate::moment::{DAY, MomentFault};
 use jiff_core::civil::Date;
 
 fn is_digit(byte: u8) -> bool
@@ -92,7 +93,7 @@ fn day_of(text: &[u8]) -> Result<i32, MomentFault>
 #[tactic(auto, unfolding(crate::specs::Moment::seconds_of))]
 fn seconds_of(text: &[u8]) -> Result<u32, MomentFault>
     ensures value { result ≡ spec.seconds_of text.now }
-    ensures bound { IfOk result (λ n. n < 86400) }
+    ensures bound { IfOk result (λ n. n < day_length) }
     ensures inside { OnOk result (19 ≤ length text.now) }
 {
     mark_at(text, 10, b'T')?;
@@ -139,7 +140,7 @@ fn fraction_of(text: &[u8]) -> Result<(bool, usize), MomentFault>
 #[tactic(auto, unfolding(crate::specs::Moment::offset_of))]
 fn offset_of(text: &[u8]) -> Result<(bool, u32), MomentFault>
     ensures value { result ≡ spec.offset_of text.now }
-    ensures bound { IfOk result (λ f. f.1 < 86400) }
+    ensures bound { IfOk result (λ f. f.1 < day_length) }
 {
     if text.len() == 1 && text[0] == b'Z' {
         return Ok((false, 0));
@@ -157,7 +158,7 @@ fn offset_of(text: &[u8]) -> Result<(bool, u32), MomentFault>
 }
 
 fn raised(seconds: u32, up: bool) -> u32
-    requires { seconds < 86400 }
+    requires { seconds < day_length }
     ensures { result ≡ spec.raised seconds up }
 {
     if up { seconds + 1 } else { seconds }
@@ -166,11 +167,11 @@ fn raised(seconds: u32, up: bool) -> u32
 /// The second in UTC, where a clock that is so far off shows that one.
 fn second_at(day: i32, seconds: u32, west: bool, offset: u32) -> i64
     requires day_in { IsEpochDay day }
-    requires seconds_in { seconds ≤ 86400 }
-    requires offset_in { offset < 86400 }
+    requires seconds_in { seconds ≤ day_length }
+    requires offset_in { offset < day_length }
     ensures { result ≡ spec.second_at day seconds west offset }
 {
-    let day = i64::from(day) * 86_400;
+    let day = i64::from(day) * DAY as i64;
     let seconds = i64::from(seconds);
     let offset = i64::from(offset);
     if west {

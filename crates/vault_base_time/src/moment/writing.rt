@@ -1,10 +1,11 @@
 //! Writes the text of a moment.
 ghost use Rattle.std.specs.Prelude.{◌≡◌, ◌≤◌, ◌<◌, ◌++◌, [], ◌∷◌, IfOk, OnOk};
 ghost use Rattle.std.specs.String.{string_bytes};
-ghost use Rattle.vault_base_time.specs.Days.{last_moment};
+ghost use Rattle.vault_base_time.specs.Days.{day_length, last_moment};
 ghost use Rattle.vault_base_time.specs.Moment as spec;
 
 use crate::calendar::Date;
+use crate::moment::DAY;
 use std::alloc::{AllocError, Global};
 
 /// Appends the two digits of a number.
@@ -36,7 +37,7 @@ fn clock_text(
     requires year_in { year < 10000 }
     requires month_in { month < 100 }
     requires day_in { day < 100 }
-    requires seconds_in { seconds < 86400 }
+    requires seconds_in { seconds < day_length }
     ensures { IfOk result (λ text. string_bytes text ≡ spec.clock_text year month day seconds) }
 {
     let mut out = String::new(alloc);
@@ -62,12 +63,12 @@ pub fn moment_text(alloc: Global, seconds: u64) -> Result<String, AllocError>
     requires { seconds ≤ last_moment }
     ensures { IfOk result (λ text. string_bytes text ≡ spec.moment_text seconds) }
 {
-    let date = Date::of_day((seconds / 86_400) as u32);
+    let date = Date::of_day((seconds / DAY) as u32);
     clock_text(
         alloc,
         date.year,
         date.month,
         date.day,
-        (seconds % 86_400) as u32,
+        (seconds % DAY) as u32,
     )
 }

@@ -6,7 +6,7 @@ use std::io;
 
 /// A call that changed a file.
 #[derive(Drop)]
-enum Step {
+enum FileChange {
     /// These bytes were written from there on.
     Written(usize, Vec<u8>),
     /// The file was cut or grown to that length.
@@ -19,7 +19,7 @@ pub(crate) struct Contents {
     alloc: Global,
     bytes: Vec<u8>,
     synced: Vec<u8>,
-    steps: Vec<Step>,
+    changes: Vec<FileChange>,
     reads: u64,
     syncs: u64,
 }
@@ -50,7 +50,7 @@ impl Contents {
             alloc,
             bytes: copied(alloc, bytes)?,
             synced: copied(alloc, bytes)?,
-            steps: Vec::new(alloc),
+            changes: Vec::new(alloc),
             reads: 0,
             syncs: 0,
         })
@@ -72,7 +72,7 @@ impl Contents {
 
     /// Whether it was changed since its last sync.
     pub(crate) fn is_changed(&self) -> bool {
-        !self.steps.is_empty()
+        !self.changes.is_empty()
     }
 
     pub(crate) fn read(&mut self, at: usize, buf: &mut [u8]) -> io::Result<()> {
@@ -85,21 +85,21 @@ impl Contents {
     }
 
     pub(crate) fn write(&mut self, at: usize, bytes: &[u8]) -> Result<(), AllocError> {
-        let step = Step::Written(at, copied(self.alloc, bytes)?);
-        self.steps.push(step)?;
+        let change = FileChange::Written(at, copied(self.alloc, bytes)?);
+        self.changes.push(change)?;
         grow(&mut self.bytes, at, bytes.len())?;
         lay(&mut self.bytes, at, bytes);
         Ok(())
     }
 
     pub(crate) fn resize(&mut self, len: usize) -> Result<(), AllocError> {
-        self.steps.push(Step::Resized(len))?;
+        self.changes.push(FileChange::Resized(len))?;
         self.bytes.resize(len, 0)
     }
 
     pub(crate) fn sync(&mut self) -> Result<(), AllocError> {
         self.synced = copied(self.alloc, &self.bytes)?;
-        self.steps.clear();
+        self.changes.clear();
         self.syncs = self.syncs.saturating_add(1);
         Ok(())
     }
@@ -117,8 +117,8 @@ impl Contents {
     fn cut(&self, seed: u64, mixes: bool) -> Result<Vec<u8>, AllocError> {
         let mut words = Pcg32::new(seed, 1);
         let mut left = copied(self.alloc, &self.synced)?;
-        for step in &self.steps {
-            cut_step(&mut left, step, mixes, &mut words)?;
+        for change in &self.changes {
+            cut_change(&mut left, change, mixes, &mut words)?;
         }
         Ok(left)
     }
@@ -146,9 +146,9 @@ fn lay(file: &mut [u8], at: usize, bytes: &[u8]) {
     }
 }
 
-fn cut_step(
+fn cut_change(
     file: &mut Vec<u8>,
-    step: &Step,
+    change: &FileChange,
     mixes: bool,
     words: &mut Pcg32,
 ) -> Result<(), AllocError> {
@@ -157,8 +157,8 @@ fn cut_step(
     if staying == CUT {
         return Ok(());
     }
-    match step {
-        Step::Written(at, bytes) => {
+    match change {
+        FileChange::Written(at, bytes) => {
             let synced = file.len();
             grow(file, *at, bytes.len())?;
             lay_some(file, *at, bytes, staying, mixes, words);
@@ -167,7 +167,7 @@ fn cut_step(
             }
             Ok(())
         }
-        Step::Resized(len) => file.resize(*len, 0),
+        FileChange::Resized(len) => file.resize(*len, 0),
     }
 }
 

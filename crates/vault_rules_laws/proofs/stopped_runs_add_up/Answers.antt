@@ -2,4 +2,4 @@ use Rattle.vault_rules_laws.proofs.OnePlan.{runs_make}
 use Rattle.vault_rules_laws.proofs.stopped_runs_add_up.Goals as goal
 
 pub returns : goal.returns
-returns c = λ rules bucket t v w ps ns ok chronicle plan runs. runs_make rules bucket t ok ns v w ps chronicle plan runs
+returns c = λ rules bucket t v w ps ns ok order plan runs. runs_make rules bucket t ok ns v w ps order plan runs

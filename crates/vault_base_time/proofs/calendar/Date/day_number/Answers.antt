@@ -6,6 +6,7 @@ use Rattle.jiff_core.specs.Date.{epoch_day}
 use Rattle.jiff_core.specs.declared.civil.date.Date as jiff
 use Rattle.jiff_core.proofs.SignedLemmas.{signed_arith}
 use Rattle.vault_base_time.specs.Calendar.{day_of_date, IsDate}
+use Rattle.vault_base_time.specs.Days.{last_day}
 use Rattle.vault_base_time.specs.declared.calendar.Date.{Date}
 use Rattle.vault_base_time.proofs.DayNumbers.{day_of_date_is}
 use Rattle.vault_base_time.proofs.calendar.Date.day_number.Goals as goal
@@ -19,12 +20,12 @@ same_day r d year is e ey em ed =
     rw (ey ∙ e, em, ed2) (day_of_date_is d is)
 
 -- the number that jiff answers is that day, and small
-number : (z : ℤ) (n : ℕ) → IsEpochDay z → z ≡ pos n → (to_z w32 (of_z w32 z) ≡ pos n) × (n ≤ 2932896)
+number : (z : ℤ) (n : ℕ) → IsEpochDay z → z ≡ pos n → (to_z w32 (of_z w32 z) ≡ pos n) × (n ≤ last_day)
 number z n is e =
     let f : FitsSigned w32 z = omega (arith, signed_arith, is) in
     (to_z-of_z f ∙ e, omega (arith, signed_arith, is, e))
 
-day : (c : goal.After-to_unix_epoch_day) → (to_z w32 (of_z w32 c.to_unix_epoch_day.result) ≡ pos (day_of_date c.args.self)) × (day_of_date c.args.self ≤ 2932896)
+day : (c : goal.After-to_unix_epoch_day) → (to_z w32 (of_z w32 c.to_unix_epoch_day.result) ≡ pos (day_of_date c.args.self)) × (day_of_date c.args.self ≤ last_day)
 day c =
     let year : to_z w16 c.args.self.year ≡ pos c.args.self.year = omega (arith, ints, c.requires) in
     let same = same_day c.constrain.result c.args.self (to_z w16 c.args.self.year) c.requires year c.constrain.ensures.year c.constrain.ensures.month c.constrain.ensures.day in

@@ -1,6 +1,6 @@
 use Rattle.std.proofs.Common.{arith, ◌≡◌, ◌≤◌, ◌*◌, ◌-◌, ap, ℕ, Bool, true, false, not, Option, Some, None, refl, ◌++◌, ◌∷◌, [], if◌then◌else◌}
 use Rattle.std.specs.Prelude.{min}
-use Rattle.vault_tally.specs.Row.{tenure_item, size_of, admitted_size, received_size, held_size, removed_size, handed_size, weight, closed_byte_days, if_held, end_day}
+use Rattle.vault_tally.specs.Row.{tenure_item, admitted_size, received_size, held_size, removed_size, handed_size, weight, closed_byte_days, if_held, end_day}
 use Rattle.vault_tally.proofs.Bounds.{within, sum_by-middle}
 use Rattle.vault_tally.proofs.row.Row.count.Goals as goal
 
@@ -8,12 +8,16 @@ other_way : (b : Bool) (n : ℕ) → (if not b then n else 0) ≡ (if b then 0 e
 other_way true n = refl
 other_way false n = refl
 
+-- 2^64 - 1, at which a sum or a product stops
+abbrev largest_sum : ℕ
+largest_sum = 18446744073709551615
+
 -- a product that doesn't overflow where it counts
-capped : (e : Option ℕ) (p q : ℕ) → q ≡ min p 18446744073709551615 → if_held e p 0 ≤ 18446744073709551615 → if_held e q 0 ≡ if_held e p 0
+capped : (e : Option ℕ) (p q : ℕ) → q ≡ min p largest_sum → if_held e p 0 ≤ largest_sum → if_held e q 0 ≡ if_held e p 0
 capped None p q is few = omega (arith, is, few)
 capped (Some d) p q is few = refl
 
-capped_over : (e : Option ℕ) (p q : ℕ) → q ≡ min p 18446744073709551615 → if_held e 0 p ≤ 18446744073709551615 → if_held e 0 q ≡ if_held e 0 p
+capped_over : (e : Option ℕ) (p q : ℕ) → q ≡ min p largest_sum → if_held e 0 p ≤ largest_sum → if_held e 0 q ≡ if_held e 0 p
 capped_over None p q is few = refl
 capped_over (Some d) p q is few = omega (arith, is, few)
 
@@ -24,8 +28,8 @@ pub returns : goal.returns
 returns c = λ items h b.
     let x = tenure_item c.args.size c.args.first c.args.from_day c.args.ended c.args.last in
     let w = within (items ++ x ∷ []) b in
-    let light : if_held c.args.ended (c.args.size * c.args.from_day) 0 ≤ 18446744073709551615 = omega (arith, w.sizes, w.balanced, w.weighted, sum_by-middle weight items x []) in
-    let few : if_held c.args.ended 0 (c.args.size * (end_day c.args.ended 0 - c.args.from_day)) ≤ 18446744073709551615 = omega (arith, w.sizes, w.balanced, w.closed, sum_by-middle closed_byte_days items x []) in
+    let light : if_held c.args.ended (c.args.size * c.args.from_day) 0 ≤ largest_sum = omega (arith, w.sizes, w.balanced, w.weighted, sum_by-middle weight items x []) in
+    let few : if_held c.args.ended 0 (c.args.size * (end_day c.args.ended 0 - c.args.from_day)) ≤ largest_sum = omega (arith, w.sizes, w.balanced, w.closed, sum_by-middle closed_byte_days items x []) in
     record {
       admitted = omega (arith, h.admitted, w.sizes, w.got, sum_by-middle admitted_size items x [], c.size_if.ensures, c.saturating_add-self.ensures);
       received = omega (arith, h.received, w.sizes, w.got, sum_by-middle received_size items x [], c.size_if-2.ensures, other_way c.args.first c.args.size, c.saturating_add-self-2.ensures);

@@ -1,6 +1,5 @@
 use Rattle.std.proofs.Common.{arith, ◌≡◌, ◌+◌, ◌*◌, ◌≤◌, ◌++◌, map, ap, subst, ◌∙◌}
-use Rattle.std.specs.List.{sum_by, list_all}
-use Rattle.std.proofs.lemmas.Bool.{and_parts}
+use Rattle.std.specs.List.{sum_by}
 use Rattle.std.proofs.lemmas.List.Sums.{sum_by-append}
 use Rattle.vault_tally.specs.Row.{handed_item, size_of, admitted_size, received_size, held_size, removed_size, handed_size, weight, closed_byte_days, last_day}
 use Rattle.vault_tally.proofs.Bounds.{within, hands_over, handed_days, handed_late, dated_last}

@@ -1,5 +1,5 @@
 use Rattle.std.proofs.Common.{arith, ◌≡◌, ◌*◌, ◌++◌, ap, ◌∙◌}
-use Rattle.std.specs.List.{sum_by, sum}
+use Rattle.std.specs.List.{sum_by}
 use Rattle.std.proofs.lemmas.List.Sums.{sum_by-append}
 use Rattle.vault_tally.specs.Row.{received_items, admitted_size, received_size, held_size, removed_size, handed_size, weight, closed_byte_days}
 use Rattle.vault_tally.proofs.Bounds.{within, received_adds}

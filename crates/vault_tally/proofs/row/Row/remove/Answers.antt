@@ -1,5 +1,5 @@
 use Rattle.std.proofs.Common.{arith, ◌++◌, ◌∷◌}
-use Rattle.vault_tally.specs.Row.{held_item, removed_item, size_of, admitted_size, received_size, held_size, removed_size, handed_size, weight, closed_byte_days}
+use Rattle.vault_tally.specs.Row.{held_item, removed_item, admitted_size, received_size, held_size, removed_size, handed_size, weight, closed_byte_days}
 use Rattle.vault_tally.proofs.Bounds.{within, sum_by-middle}
 use Rattle.vault_tally.proofs.row.Row.remove.Goals as goal
 
