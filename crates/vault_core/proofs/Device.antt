@@ -5,7 +5,7 @@ use Rattle.std.specs.List.{list_any}
 use Rattle.std.proofs.lemmas.Bool.Decides.{nat_tests}
 use Rattle.vault_rules.proofs.Truth.{less_of_test}
 use Rattle.vault_core_model.specs.declared.reply.Reply.{Reply}
-use Rattle.vault_core_model.specs.Halts.{is_device_reply, Rose}
+use Rattle.vault_core_model.specs.Halts.{is_device_reply, largest_count, RoseOrIsFull}
 use Rattle.vault_core.specs.Told.{CountAsTold}
 
 -- it was told before, or in the last reply
@@ -27,7 +27,7 @@ none_last replies reply = both (list_any is_device_reply replies) (is_device_rep
     both false false e = (refl, refl)
 
 -- the two directions of what a reply tells, as one
-pub count_as_told : (old new : ℕ) (told : Bool) → (IsTrue told → Rose old new) → (told ≡ false → new ≡ old) → CountAsTold old new told
+pub count_as_told : (old new : ℕ) (told : Bool) → (IsTrue told → RoseOrIsFull old new) → (told ≡ false → new ≡ old) → CountAsTold old new told
 count_as_told old new true device steady = device refl
 count_as_told old new false device steady = steady refl
 
@@ -35,12 +35,12 @@ not_less_of_test : (m n : ℕ) → nat_lt m n ≡ false → n ≤ m
 not_less_of_test m n e = grind (arith, nat_tests)
 
 -- a count that rose goes on, and doesn't go back
-pub Rose-before : (old mid new : ℕ) → Rose old mid → mid ≤ new → Rose old new
-Rose-before old mid new rose le = λ room. let up = rose room in omega (arith, up, le)
+pub RoseOrIsFull-before : (old mid new : ℕ) → RoseOrIsFull old mid → mid ≤ new → RoseOrIsFull old new
+RoseOrIsFull-before old mid new rose le = λ room. let up = rose room in omega (arith, up, le)
 
-pub Rose-after : (old mid new : ℕ) → old ≤ mid → mid ≤ new → Rose mid new → Rose old new
-Rose-after old mid new low le rose = λ room. cases (nat_lt mid 18446744073709551615) refl room
+pub RoseOrIsFull-after : (old mid new : ℕ) → old ≤ mid → mid ≤ new → RoseOrIsFull mid new → RoseOrIsFull old new
+RoseOrIsFull-after old mid new low le rose = λ room. cases (nat_lt mid largest_count) refl room
   where
-    cases : (b : Bool) → nat_lt mid 18446744073709551615 ≡ b → old < 18446744073709551615 → old < new
-    cases true e room = let up = rose (less_of_test mid 18446744073709551615 e) in omega (arith, up, low)
-    cases false e room = let full = not_less_of_test mid 18446744073709551615 e in omega (arith, full, room, le)
+    cases : (b : Bool) → nat_lt mid largest_count ≡ b → old < largest_count → old < new
+    cases true e room = let up = rose (less_of_test mid largest_count e) in omega (arith, up, low)
+    cases false e room = let full = not_less_of_test mid largest_count e in omega (arith, full, room, le)

@@ -1,9 +1,9 @@
 //! A run of the history machine.
 ghost use Rattle.std.specs.Prelude.{◌≡◌, ◌≤◌, ◌+◌, ℕ, List, IsTrue, IfOk, OnErr, false};
 ghost use Rattle.std.specs.List.{list_any};
-ghost use Rattle.vault_core_model.specs.Halts.{is_device_reply, Rose};
+ghost use Rattle.vault_core_model.specs.Halts.{is_device_reply, RoseOrIsFull};
 ghost use Rattle.vault_core_model.specs.Sound.{Sound};
-ghost use Rattle.vault_core_model.specs.Step.{Run, Reached};
+ghost use Rattle.vault_core_model.specs.Step.{IsRun, Reached};
 ghost use Rattle.vault_core_worm_laws.specs.Once.{Extends};
 ghost use Rattle.vault_core_worm_laws.specs.Removals.{RemovalsWerePermitted};
 ghost use Rattle.vault_core_worm_laws.specs.Repeated.{BeginRun, CompleteRun};
@@ -25,7 +25,7 @@ pub fn run<K: Keeper>(
     keeper: &mut K,
     commands: &[Timed],
 ) -> Result<Vec<Reply>, AllocError>
-    ensures run { K.is_honest keeper.new → IfOk result (λ replies. Run (K.vault keeper.old) commands.now replies.items (K.vault keeper.new)) }
+    ensures run { K.is_honest keeper.new → IfOk result (λ replies. IsRun (K.vault keeper.old) commands.now replies.items (K.vault keeper.new)) }
     ensures err { OnErr result (K.vault keeper.new ≡ K.vault keeper.old) }
     // Nothing was asked of the keeper either.
     ensures untouched { OnErr result (keeper.new ≡ keeper.old) }
@@ -59,7 +59,7 @@ pub fn run<K: Keeper>(
     ensures honest { K.is_honest keeper.new → K.is_honest keeper.old }
     ensures counted { K.count keeper.old ≤ K.count keeper.new }
     // That the device failed is told only where its count of failures rose, or stands at its greatest value; where no reply tells it, the count is as it was.
-    ensures device { IfOk result (λ replies. IsTrue (list_any is_device_reply replies.items) → Rose (K.count keeper.old) (K.count keeper.new)) }
+    ensures device { IfOk result (λ replies. IsTrue (list_any is_device_reply replies.items) → RoseOrIsFull (K.count keeper.old) (K.count keeper.new)) }
     ensures steady { IfOk result (λ replies. list_any is_device_reply replies.items ≡ false → K.count keeper.new ≡ K.count keeper.old) }
 {
     let mut replies = Vec::with_capacity(alloc, commands.len())?;

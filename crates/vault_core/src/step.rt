@@ -2,9 +2,9 @@
 ghost use Rattle.std.specs.Prelude.{◌≡◌, ◌≤◌, ◌∷◌, [], IsTrue, Result, false};
 ghost use Rattle.vault_base.specs.declared.refusal.Refusal.{Refusal};
 ghost use Rattle.vault_core_model.specs.declared.reply.Answer.{Answer};
-ghost use Rattle.vault_core_model.specs.Halts.{Meets, is_device, is_device_reply, Rose};
+ghost use Rattle.vault_core_model.specs.Halts.{AnswersAs, is_device, is_device_reply, RoseOrIsFull};
 ghost use Rattle.vault_core_model.specs.Sound.{Sound};
-ghost use Rattle.vault_core_model.specs.Step.{Answers, Step, Reached};
+ghost use Rattle.vault_core_model.specs.Step.{Answers, IsStep, Reached};
 ghost use Rattle.vault_core_model.specs.Vault.{Vault};
 ghost use Rattle.vault_core_worm_laws.specs.Once.{Extends};
 ghost use Rattle.vault_core_worm_laws.specs.Removals.{RemovalsWerePermitted};
@@ -15,10 +15,11 @@ use std::alloc::Global;
 use vault_base::moment::Moment;
 use vault_base::name::CallerName;
 use vault_base::refusal::Refusal;
-use vault_core_entries::entries::{delete, delete_version, get, head};
+use vault_core_entries::deletions::{delete, delete_version};
 use vault_core_entries::intake::intake;
 use vault_core_entries::locks::{get_hold, get_retention, set_hold, set_retention};
 use vault_core_entries::put::put;
+use vault_core_entries::reads::{get, head};
 use vault_core_listing::certificates::certificate;
 use vault_core_listing::listings::list_versions;
 use vault_core_model::command::Command;
@@ -42,7 +43,7 @@ pub fn step<K: Keeper>(
     who: &CallerName,
     command: &Command,
 ) -> Reply
-    ensures step { K.is_honest keeper.new → Step (K.vault keeper.old) at who.now command.now result (K.vault keeper.new) }
+    ensures step { K.is_honest keeper.new → IsStep (K.vault keeper.old) at who.now command.now result (K.vault keeper.new) }
     // A vault that is reached from a new one leads to such a vault. Of each, the removals were permitted,
     // retention and holds were kept, and what was admitted is neither lost nor altered.
     ensures reached { K.is_honest keeper.new → Reached (K.vault keeper.old) → Reached (K.vault keeper.new) }
@@ -54,7 +55,7 @@ pub fn step<K: Keeper>(
     ensures completed { K.is_honest keeper.new → Sound (K.vault keeper.old) → CompleteRun (K.vault keeper.old) (one_command at who.now command.now) (result ∷ []) (K.vault keeper.new) }
     ensures honest { K.is_honest keeper.new → K.is_honest keeper.old }
     ensures counted { K.count keeper.old ≤ K.count keeper.new }
-    ensures device { IsTrue (is_device_reply result) → Rose (K.count keeper.old) (K.count keeper.new) }
+    ensures device { IsTrue (is_device_reply result) → RoseOrIsFull (K.count keeper.old) (K.count keeper.new) }
     ensures steady { is_device_reply result ≡ false → K.count keeper.new ≡ K.count keeper.old }
 {
     carry_out(alloc, keeper, at, who, command)
@@ -68,10 +69,10 @@ fn carry_out<K: Keeper>(
     who: &CallerName,
     command: &Command,
 ) -> Reply
-    ensures step { K.is_honest keeper.new → Step (K.vault keeper.old) at who.now command.now result (K.vault keeper.new) }
+    ensures step { K.is_honest keeper.new → IsStep (K.vault keeper.old) at who.now command.now result (K.vault keeper.new) }
     ensures honest { K.is_honest keeper.new → K.is_honest keeper.old }
     ensures counted { K.count keeper.old ≤ K.count keeper.new }
-    ensures device { IsTrue (is_device_reply result) → Rose (K.count keeper.old) (K.count keeper.new) }
+    ensures device { IsTrue (is_device_reply result) → RoseOrIsFull (K.count keeper.old) (K.count keeper.new) }
     ensures steady { is_device_reply result ≡ false → K.count keeper.new ≡ K.count keeper.old }
 {
     match command {
@@ -104,7 +105,7 @@ fn carry_out<K: Keeper>(
 
 /// The reply that tells what a command gave.
 fn reply_to(given: Result<Answer, Halt>) -> Reply
-    ensures told { (v v' : Vault) (judged : Result (Answer × Vault) Refusal) → Meets given v v' judged → Answers judged v result v' }
+    ensures told { (v v' : Vault) (judged : Result (Answer × Vault) Refusal) → AnswersAs given v v' judged → Answers judged v result v' }
     ensures device { is_device_reply result ≡ is_device given }
 {
     match given {

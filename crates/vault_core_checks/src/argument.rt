@@ -1,8 +1,7 @@
 //! The arguments of commands.
 ghost use Rattle.std.specs.Prelude.{◌≡◌, ◌≤◌, IsTrue, IfErr, OnOk, false, length};
 ghost use Rattle.std.specs.Str.{bytes_eq};
-ghost use Rattle.vault_core_model.specs.Halts.{Finds, is_device, is_device_refusal, Rose};
-ghost use Rattle.vault_lock.specs.Retention.{is_period};
+ghost use Rattle.vault_core_model.specs.Halts.{ChecksAs, is_device, is_device_refusal, RoseOrIsFull};
 ghost use Rattle.vault_core_model.specs.Vault.{has_department};
 ghost use Rattle.vault_rules.specs.Rules.{passes_if_given};
 ghost use Rattle.vault_core_model.specs.Checks.{small_enough, ends_later_if_given, known_department, known_department_if_given, other_department, allowed_default, has_period};
@@ -13,11 +12,9 @@ use vault_base::name::DeptName;
 use vault_base::refusal::Refusal;
 use vault_core_model::halt::Halt;
 use vault_core_model::keeper::Keeper;
+use vault_core_model::limits::MOST_CONTENT;
 use vault_core_model::records::BucketConfig;
-use vault_lock::retention::{Default, Period, Retention};
-
-/// The greatest content of one version, in bytes.
-pub const MOST_CONTENT: usize = 1_048_576;
+use vault_lock::retention::{Default, Retention};
 
 /// The content is within the limit of one version; else EntityTooLarge.
 pub fn check_size(content: &Content) -> Result<(), Refusal>
@@ -46,12 +43,12 @@ pub fn check_end(at: Moment, retention: Option<Retention>) -> Result<(), Refusal
 
 /// The department is there; else InvalidArgument.
 pub fn check_dept<K: Keeper>(keeper: &mut K, dept: &DeptName) -> Result<(), Halt>
-    ensures found { K.is_honest keeper.new → Finds result (known_department (K.vault keeper.old) dept.now) }
+    ensures found { K.is_honest keeper.new → ChecksAs result (known_department (K.vault keeper.old) dept.now) }
     ensures there { K.is_honest keeper.new → OnOk result (IsTrue (has_department (K.vault keeper.old) dept.now)) }
     ensures same { K.vault keeper.new ≡ K.vault keeper.old }
     ensures honest { K.is_honest keeper.new → K.is_honest keeper.old }
     ensures counted { K.count keeper.old ≤ K.count keeper.new }
-    ensures device { IsTrue (is_device result) → Rose (K.count keeper.old) (K.count keeper.new) }
+    ensures device { IsTrue (is_device result) → RoseOrIsFull (K.count keeper.old) (K.count keeper.new) }
     ensures steady { is_device result ≡ false → K.count keeper.new ≡ K.count keeper.old }
 {
     if keeper.dept(dept)? {
@@ -63,12 +60,12 @@ pub fn check_dept<K: Keeper>(keeper: &mut K, dept: &DeptName) -> Result<(), Halt
 
 /// The department, where one is given, is there; else InvalidArgument.
 pub fn check_dept_if_given<K: Keeper>(keeper: &mut K, dept: &Option<DeptName>) -> Result<(), Halt>
-    ensures found { K.is_honest keeper.new → Finds result (known_department_if_given (K.vault keeper.old) dept.now) }
+    ensures found { K.is_honest keeper.new → ChecksAs result (known_department_if_given (K.vault keeper.old) dept.now) }
     ensures there { K.is_honest keeper.new → OnOk result (IsTrue (passes_if_given (has_department (K.vault keeper.old)) dept.now)) }
     ensures same { K.vault keeper.new ≡ K.vault keeper.old }
     ensures honest { K.is_honest keeper.new → K.is_honest keeper.old }
     ensures counted { K.count keeper.old ≤ K.count keeper.new }
-    ensures device { IsTrue (is_device result) → Rose (K.count keeper.old) (K.count keeper.new) }
+    ensures device { IsTrue (is_device result) → RoseOrIsFull (K.count keeper.old) (K.count keeper.new) }
     ensures steady { is_device result ≡ false → K.count keeper.new ≡ K.count keeper.old }
 {
     match dept {
@@ -83,13 +80,13 @@ pub fn check_other<K: Keeper>(
     bucket: &BucketConfig,
     dept: &DeptName,
 ) -> Result<(), Halt>
-    ensures found { K.is_honest keeper.new → Finds result (other_department (K.vault keeper.old) bucket.now dept.now) }
+    ensures found { K.is_honest keeper.new → ChecksAs result (other_department (K.vault keeper.old) bucket.now dept.now) }
     ensures there { K.is_honest keeper.new → OnOk result (IsTrue (has_department (K.vault keeper.old) dept.now)) }
     ensures other { OnOk result (bytes_eq bucket.now.dept dept.now ≡ false) }
     ensures same { K.vault keeper.new ≡ K.vault keeper.old }
     ensures honest { K.is_honest keeper.new → K.is_honest keeper.old }
     ensures counted { K.count keeper.old ≤ K.count keeper.new }
-    ensures device { IsTrue (is_device result) → Rose (K.count keeper.old) (K.count keeper.new) }
+    ensures device { IsTrue (is_device result) → RoseOrIsFull (K.count keeper.old) (K.count keeper.new) }
     ensures steady { is_device result ≡ false → K.count keeper.new ≡ K.count keeper.old }
 {
     check_dept(keeper, dept)?;
@@ -108,16 +105,7 @@ pub fn check_default(default: Option<Default>) -> Result<(), Refusal>
 {
     match default {
         None => Ok(()),
-        Some(default) if is_period(default.period) => Ok(()),
+        Some(default) if default.period.is_in_range() => Ok(()),
         Some(_) => Err(Refusal::InvalidArgument),
-    }
-}
-
-fn is_period(period: Period) -> bool
-    ensures { result ≡ is_period period }
-{
-    match period {
-        Period::Days(days) => days >= 1 && days <= 36_500,
-        Period::Years(years) => years >= 1 && years <= 100,
     }
 }

@@ -1,8 +1,8 @@
 //! Which entry is meant, and whether its lock permits its removal.
 ghost use Rattle.std.specs.Prelude.{◌≡◌, ◌≤◌, IsTrue, IfOk, IfErr, IfSome, false, Some, None, Err, option_map};
-ghost use Rattle.vault_core_model.specs.Halts.{Finds, is_device, is_device_refusal, is_refused, is_device_given, Rose};
-ghost use Rattle.vault_core_model.specs.Places.{is_held_at, current};
-ghost use Rattle.vault_core_model.specs.Reads.{entry_of, lock_of, setting_of, count_by};
+ghost use Rattle.vault_core_model.specs.Halts.{ChecksAs, is_device, is_device_refusal, is_refused, is_device_given, RoseOrIsFull};
+ghost use Rattle.vault_core_model.specs.Places.{current};
+ghost use Rattle.vault_core_model.specs.Reads.{entry_of, lock_of, setting_of, count_of_settings};
 ghost use Rattle.vault_core_model.specs.Sound.{Sound};
 ghost use Rattle.vault_core_model.specs.Checks.{content_on_top, held_entry, content_version, version_meant, permitted, refusal_of, lock_at_admission};
 ghost use Rattle.vault_lock.specs.Lock.{removable, retainable};
@@ -11,17 +11,11 @@ use vault_base::moment::Moment;
 use vault_base::name::{BucketName, ObjectKey, VersionId};
 use vault_base::refusal::{Reason, Refusal};
 use vault_core_model::halt::{Fault, Halt};
+use vault_core_model::held::is_held_at;
 use vault_core_model::keeper::Keeper;
 use vault_core_model::records::{BucketConfig, Entry, LastSetting};
 use vault_lock::lock::{Denial, Lock, Permit, first_lock, may_remove, may_retain};
 use vault_lock::retention::Retention;
-
-/// Whether the entry is held in that bucket, under that key.
-fn is_held_at(bucket: &BucketName, key: &ObjectKey, entry: &Entry) -> bool
-    ensures { result ≡ is_held_at bucket.now key.now entry.now }
-{
-    entry.bucket == *bucket && entry.key == *key && entry.removal.is_none()
-}
 
 /// The entry of that id, held or removed, which has that id.
 fn read_entry<K: Keeper>(keeper: &mut K, id: VersionId) -> Result<Option<Entry>, Fault>
@@ -30,7 +24,7 @@ fn read_entry<K: Keeper>(keeper: &mut K, id: VersionId) -> Result<Option<Entry>,
     ensures same { K.vault keeper.new ≡ K.vault keeper.old }
     ensures honest { K.is_honest keeper.new → K.is_honest keeper.old }
     ensures counted { K.count keeper.old ≤ K.count keeper.new }
-    ensures device { result ≡ Err Fault.Device → Rose (K.count keeper.old) (K.count keeper.new) }
+    ensures device { result ≡ Err Fault.Device → RoseOrIsFull (K.count keeper.old) (K.count keeper.new) }
     ensures steady { is_device_given result ≡ false → K.count keeper.new ≡ K.count keeper.old }
 {
     keeper.entry(id)
@@ -43,14 +37,14 @@ pub fn find_held<K: Keeper>(
     key: &ObjectKey,
     id: VersionId,
 ) -> Result<Entry, Halt>
-    ensures found { K.is_honest keeper.new → Finds result (held_entry (K.vault keeper.old) bucket.now key.now id) }
+    ensures found { K.is_honest keeper.new → ChecksAs result (held_entry (K.vault keeper.old) bucket.now key.now id) }
     ensures there { K.is_honest keeper.new → IfOk result (λ entry. entry_of (K.vault keeper.old) id ≡ Some entry) }
     ensures own { K.is_honest keeper.new → IfOk result (λ entry. entry_of (K.vault keeper.old) entry.id ≡ Some entry) }
     ensures held { IfOk result (λ entry. entry.removal ≡ None) }
     ensures same { K.vault keeper.new ≡ K.vault keeper.old }
     ensures honest { K.is_honest keeper.new → K.is_honest keeper.old }
     ensures counted { K.count keeper.old ≤ K.count keeper.new }
-    ensures device { IsTrue (is_device result) → Rose (K.count keeper.old) (K.count keeper.new) }
+    ensures device { IsTrue (is_device result) → RoseOrIsFull (K.count keeper.old) (K.count keeper.new) }
     ensures steady { is_device result ≡ false → K.count keeper.new ≡ K.count keeper.old }
 {
     let Some(entry) = read_entry(keeper, id)? else {
@@ -91,7 +85,7 @@ fn find_newest<K: Keeper>(
     ensures same { K.vault keeper.new ≡ K.vault keeper.old }
     ensures honest { K.is_honest keeper.new → K.is_honest keeper.old }
     ensures counted { K.count keeper.old ≤ K.count keeper.new }
-    ensures device { result ≡ Err Fault.Device → Rose (K.count keeper.old) (K.count keeper.new) }
+    ensures device { result ≡ Err Fault.Device → RoseOrIsFull (K.count keeper.old) (K.count keeper.new) }
     ensures steady { is_device_given result ≡ false → K.count keeper.new ≡ K.count keeper.old }
 {
     let Some(head) = keeper.head(bucket, key)? else {
@@ -107,14 +101,14 @@ fn find_current<K: Keeper>(
     key: &ObjectKey,
 ) -> Result<Entry, Halt>
     requires { K.is_honest keeper.old → Sound (K.vault keeper.old) }
-    ensures found { K.is_honest keeper.new → Finds result (content_on_top (current (K.vault keeper.old) bucket.now key.now)) }
+    ensures found { K.is_honest keeper.new → ChecksAs result (content_on_top (current (K.vault keeper.old) bucket.now key.now)) }
     ensures own { K.is_honest keeper.new → IfOk result (λ entry. entry_of (K.vault keeper.old) entry.id ≡ Some entry) }
     ensures held { K.is_honest keeper.new → IfOk result (λ entry. entry.removal ≡ None) }
     ensures version { IfOk result (λ entry. entry.marker ≡ false) }
     ensures same { K.vault keeper.new ≡ K.vault keeper.old }
     ensures honest { K.is_honest keeper.new → K.is_honest keeper.old }
     ensures counted { K.count keeper.old ≤ K.count keeper.new }
-    ensures device { IsTrue (is_device result) → Rose (K.count keeper.old) (K.count keeper.new) }
+    ensures device { IsTrue (is_device result) → RoseOrIsFull (K.count keeper.old) (K.count keeper.new) }
     ensures steady { is_device result ≡ false → K.count keeper.new ≡ K.count keeper.old }
 {
     let Some(entry) = find_newest(keeper, bucket, key)? else {
@@ -139,14 +133,14 @@ pub fn find_version<K: Keeper>(
     id: Option<VersionId>,
 ) -> Result<Entry, Halt>
     requires { K.is_honest keeper.old → Sound (K.vault keeper.old) }
-    ensures found { K.is_honest keeper.new → Finds result (version_meant (K.vault keeper.old) bucket.now key.now id) }
+    ensures found { K.is_honest keeper.new → ChecksAs result (version_meant (K.vault keeper.old) bucket.now key.now id) }
     ensures own { K.is_honest keeper.new → IfOk result (λ entry. entry_of (K.vault keeper.old) entry.id ≡ Some entry) }
     ensures held { K.is_honest keeper.new → IfOk result (λ entry. entry.removal ≡ None) }
     ensures version { IfOk result (λ entry. entry.marker ≡ false) }
     ensures same { K.vault keeper.new ≡ K.vault keeper.old }
     ensures honest { K.is_honest keeper.new → K.is_honest keeper.old }
     ensures counted { K.count keeper.old ≤ K.count keeper.new }
-    ensures device { IsTrue (is_device result) → Rose (K.count keeper.old) (K.count keeper.new) }
+    ensures device { IsTrue (is_device result) → RoseOrIsFull (K.count keeper.old) (K.count keeper.new) }
     ensures steady { is_device result ≡ false → K.count keeper.new ≡ K.count keeper.old }
 {
     let Some(id) = id else {
@@ -159,12 +153,12 @@ pub fn find_version<K: Keeper>(
 /// The last setting of the entry of that id; a delete marker has none and is not locked. It refuses nothing.
 pub fn find_setting<K: Keeper>(keeper: &mut K, id: VersionId) -> Result<LastSetting, Halt>
     ensures lock { K.is_honest keeper.new → IfOk result (λ last. last.lock ≡ lock_of (K.vault keeper.old) id) }
-    ensures settings { K.is_honest keeper.new → IfOk result (λ last. last.count ≡ count_by (setting_of (K.vault keeper.old) id)) }
+    ensures settings { K.is_honest keeper.new → IfOk result (λ last. last.count ≡ count_of_settings (setting_of (K.vault keeper.old) id)) }
     ensures refused { is_refused result ≡ false }
     ensures same { K.vault keeper.new ≡ K.vault keeper.old }
     ensures honest { K.is_honest keeper.new → K.is_honest keeper.old }
     ensures counted { K.count keeper.old ≤ K.count keeper.new }
-    ensures device { IsTrue (is_device result) → Rose (K.count keeper.old) (K.count keeper.new) }
+    ensures device { IsTrue (is_device result) → RoseOrIsFull (K.count keeper.old) (K.count keeper.new) }
     ensures steady { is_device result ≡ false → K.count keeper.new ≡ K.count keeper.old }
 {
     match keeper.setting(id)? {

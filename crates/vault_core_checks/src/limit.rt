@@ -1,7 +1,7 @@
 //! The quota of a department, and the numbers that the vault gives.
 ghost use Rattle.std.specs.Prelude.{◌≡◌, ◌≤◌, ◌+◌, IsTrue, IfOk, IfErr, OnOk, nat_lt, ◌<◌, false, Some, None, if◌then◌else◌};
 ghost use Rattle.vault_base.specs.Name.{is_version_id};
-ghost use Rattle.vault_core_model.specs.Halts.{Finds, is_device, is_device_refusal, Rose};
+ghost use Rattle.vault_core_model.specs.Halts.{ChecksAs, is_device, is_device_refusal, RoseOrIsFull};
 ghost use Rattle.vault_core_model.specs.Vault.{next_id};
 ghost use Rattle.vault_core_model.specs.Totals.{admitted_bytes, received_bytes};
 ghost use Rattle.vault_core_model.specs.Checks.{check, within_quota, free_id, free_move, most_ids, most_moves, most_settings};
@@ -12,21 +12,16 @@ use vault_base::name::{DeptName, VersionId};
 use vault_base::refusal::Refusal;
 use vault_core_model::halt::Halt;
 use vault_core_model::keeper::Keeper;
-
-/// The settings of one version at most.
-pub const MOST_SETTINGS: u64 = 1_000_000_000;
-
-/// The moves of buckets in one vault at most.
-pub const MOST_MOVES: u32 = 1_000_000_000;
+use vault_core_model::limits::{MOST_MOVES, MOST_SETTINGS};
 
 /// The department may admit or receive so many bytes more; else QuotaExceeded.
 pub fn check_quota<K: Keeper>(keeper: &mut K, dept: &DeptName, size: u64) -> Result<(), Halt>
-    ensures found { K.is_honest keeper.new → Finds result (within_quota (K.vault keeper.old) dept.now size) }
+    ensures found { K.is_honest keeper.new → ChecksAs result (within_quota (K.vault keeper.old) dept.now size) }
     ensures fits { K.is_honest keeper.new → OnOk result (admitted_bytes (K.vault keeper.old) dept.now + received_bytes (K.vault keeper.old) dept.now + size ≤ quota) }
     ensures same { K.vault keeper.new ≡ K.vault keeper.old }
     ensures honest { K.is_honest keeper.new → K.is_honest keeper.old }
     ensures counted { K.count keeper.old ≤ K.count keeper.new }
-    ensures device { IsTrue (is_device result) → Rose (K.count keeper.old) (K.count keeper.new) }
+    ensures device { IsTrue (is_device result) → RoseOrIsFull (K.count keeper.old) (K.count keeper.new) }
     ensures steady { is_device result ≡ false → K.count keeper.new ≡ K.count keeper.old }
 {
     let row = keeper.totals(dept)?;
@@ -39,13 +34,13 @@ pub fn check_quota<K: Keeper>(keeper: &mut K, dept: &DeptName, size: u64) -> Res
 
 /// The id of the next entry, while one is left; else VaultFull.
 pub fn find_id<K: Keeper>(keeper: &mut K) -> Result<VersionId, Halt>
-    ensures found { K.is_honest keeper.new → Finds result (free_id (K.vault keeper.old)) }
+    ensures found { K.is_honest keeper.new → ChecksAs result (free_id (K.vault keeper.old)) }
     ensures few { K.is_honest keeper.new → OnOk result (next_id (K.vault keeper.old) ≤ most_ids) }
     ensures next { K.is_honest keeper.new → IfOk result (λ id. id ≡ next_id (K.vault keeper.old)) }
     ensures same { K.vault keeper.new ≡ K.vault keeper.old }
     ensures honest { K.is_honest keeper.new → K.is_honest keeper.old }
     ensures counted { K.count keeper.old ≤ K.count keeper.new }
-    ensures device { IsTrue (is_device result) → Rose (K.count keeper.old) (K.count keeper.new) }
+    ensures device { IsTrue (is_device result) → RoseOrIsFull (K.count keeper.old) (K.count keeper.new) }
     ensures steady { is_device result ≡ false → K.count keeper.new ≡ K.count keeper.old }
 {
     let next = keeper.next_id()?;
@@ -67,12 +62,12 @@ fn id_of(number: u64) -> Option<VersionId>
 
 /// One bucket more may be moved; else VaultFull.
 pub fn check_moves<K: Keeper>(keeper: &mut K) -> Result<(), Halt>
-    ensures found { K.is_honest keeper.new → Finds result (free_move (K.vault keeper.old)) }
+    ensures found { K.is_honest keeper.new → ChecksAs result (free_move (K.vault keeper.old)) }
     ensures left { K.is_honest keeper.new → OnOk result ((K.vault keeper.old).moves < most_moves) }
     ensures same { K.vault keeper.new ≡ K.vault keeper.old }
     ensures honest { K.is_honest keeper.new → K.is_honest keeper.old }
     ensures counted { K.count keeper.old ≤ K.count keeper.new }
-    ensures device { IsTrue (is_device result) → Rose (K.count keeper.old) (K.count keeper.new) }
+    ensures device { IsTrue (is_device result) → RoseOrIsFull (K.count keeper.old) (K.count keeper.new) }
     ensures steady { is_device result ≡ false → K.count keeper.new ≡ K.count keeper.old }
 {
     let made = keeper.moves()?;

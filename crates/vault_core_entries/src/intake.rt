@@ -1,9 +1,8 @@
 //! A line of an intake batch.
 ghost use Rattle.std.specs.Prelude.{◌≡◌, ◌≤◌, ◌+◌, length, IsTrue, IfOk, IfErr, OnOk, Some, None, false};
-ghost use Rattle.vault_core_model.specs.Halts.{Finds, Meets, is_device, is_device_refusal, Rose};
+ghost use Rattle.vault_core_model.specs.Halts.{ChecksAs, AnswersAs, is_device, is_device_refusal, RoseOrIsFull};
 ghost use Rattle.vault_core_model.specs.EntryOutcomes.{new_version};
 ghost use Rattle.vault_core_model.specs.IntakeOutcome as outcome;
-ghost use Rattle.vault_core_model.specs.Sound.{Sound};
 ghost use Rattle.vault_core_model.specs.Totals.{admitted_bytes, received_bytes};
 ghost use Rattle.vault_core_model.specs.Vault.{config_of, note_of};
 ghost use Rattle.vault_tally.specs.Row.{quota};
@@ -33,10 +32,10 @@ pub fn intake<K: Keeper>(
     who: &CallerName,
     command: &Intake,
 ) -> Result<Answer, Halt>
-    ensures meets { K.is_honest keeper.new → Meets result (K.vault keeper.old) (K.vault keeper.new) (outcome.intake (K.vault keeper.old) at who.now command.now) }
+    ensures meets { K.is_honest keeper.new → AnswersAs result (K.vault keeper.old) (K.vault keeper.new) (outcome.intake (K.vault keeper.old) at who.now command.now) }
     ensures honest { K.is_honest keeper.new → K.is_honest keeper.old }
     ensures counted { K.count keeper.old ≤ K.count keeper.new }
-    ensures device { IsTrue (is_device result) → Rose (K.count keeper.old) (K.count keeper.new) }
+    ensures device { IsTrue (is_device result) → RoseOrIsFull (K.count keeper.old) (K.count keeper.new) }
     ensures steady { is_device result ≡ false → K.count keeper.new ≡ K.count keeper.old }
 {
     let access = find_access_to_put(keeper, at, who, &command.put)?;
@@ -56,10 +55,10 @@ fn take_in_once<K: Keeper>(
 ) -> Result<Answer, Halt>
     requires in_time { K.is_honest keeper.old → (K.vault keeper.old).last ≤ at }
     requires there { K.is_honest keeper.old → config_of (K.vault keeper.old) command.now.put.bucket ≡ Some access.now.bucket }
-    ensures meets { K.is_honest keeper.new → Meets result (K.vault keeper.old) (K.vault keeper.new) (outcome.intake_by (K.vault keeper.old) at who.now command.now access.now (note_of (K.vault keeper.old) command.now.put.bucket command.now.batch command.now.line)) }
+    ensures meets { K.is_honest keeper.new → AnswersAs result (K.vault keeper.old) (K.vault keeper.new) (outcome.intake_by (K.vault keeper.old) at who.now command.now access.now (note_of (K.vault keeper.old) command.now.put.bucket command.now.batch command.now.line)) }
     ensures honest { K.is_honest keeper.new → K.is_honest keeper.old }
     ensures counted { K.count keeper.old ≤ K.count keeper.new }
-    ensures device { IsTrue (is_device result) → Rose (K.count keeper.old) (K.count keeper.new) }
+    ensures device { IsTrue (is_device result) → RoseOrIsFull (K.count keeper.old) (K.count keeper.new) }
     ensures steady { is_device result ≡ false → K.count keeper.new ≡ K.count keeper.old }
 {
     let Some(note) = keeper.note(&command.put.bucket, &command.batch, command.line)? else {
@@ -83,10 +82,10 @@ fn take_in<K: Keeper>(
     requires in_time { K.is_honest keeper.old → (K.vault keeper.old).last ≤ at }
     requires there { K.is_honest keeper.old → config_of (K.vault keeper.old) command.now.put.bucket ≡ Some access.now.bucket }
     requires first { K.is_honest keeper.old → note_of (K.vault keeper.old) command.now.put.bucket command.now.batch command.now.line ≡ None }
-    ensures meets { K.is_honest keeper.new → Meets result (K.vault keeper.old) (K.vault keeper.new) (outcome.take_in (K.vault keeper.old) at who.now command.now access.now) }
+    ensures meets { K.is_honest keeper.new → AnswersAs result (K.vault keeper.old) (K.vault keeper.new) (outcome.take_in (K.vault keeper.old) at who.now command.now access.now) }
     ensures honest { K.is_honest keeper.new → K.is_honest keeper.old }
     ensures counted { K.count keeper.old ≤ K.count keeper.new }
-    ensures device { IsTrue (is_device result) → Rose (K.count keeper.old) (K.count keeper.new) }
+    ensures device { IsTrue (is_device result) → RoseOrIsFull (K.count keeper.old) (K.count keeper.new) }
     ensures steady { is_device result ≡ false → K.count keeper.new ≡ K.count keeper.old }
 {
     let lock = find_lock_to_take_in(keeper, at, command, access)?;
@@ -130,14 +129,14 @@ fn find_lock_to_take_in<K: Keeper>(
     command: &Intake,
     access: &Access,
 ) -> Result<Lock, Halt>
-    ensures found { K.is_honest keeper.new → Finds result (outcome.lock_to_take_in (K.vault keeper.old) at command.now access.now) }
+    ensures found { K.is_honest keeper.new → ChecksAs result (outcome.lock_to_take_in (K.vault keeper.old) at command.now access.now) }
     ensures line { OnOk result (IsTrue (outcome.is_line command.now.line)) }
     ensures small { OnOk result (length command.now.put.content ≤ 1048576) }
     ensures fits { K.is_honest keeper.new → OnOk result (admitted_bytes (K.vault keeper.old) access.now.bucket.dept + received_bytes (K.vault keeper.old) access.now.bucket.dept + length command.now.put.content ≤ quota) }
     ensures same { K.vault keeper.new ≡ K.vault keeper.old }
     ensures honest { K.is_honest keeper.new → K.is_honest keeper.old }
     ensures counted { K.count keeper.old ≤ K.count keeper.new }
-    ensures device { IsTrue (is_device result) → Rose (K.count keeper.old) (K.count keeper.new) }
+    ensures device { IsTrue (is_device result) → RoseOrIsFull (K.count keeper.old) (K.count keeper.new) }
     ensures steady { is_device result ≡ false → K.count keeper.new ≡ K.count keeper.old }
 {
     if command.line == 0 {

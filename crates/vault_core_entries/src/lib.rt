@@ -8,7 +8,8 @@
 #![tactic(auto)]
 
 mod admission;
-pub mod entries;
+pub mod deletions;
 pub mod intake;
 pub mod locks;
 pub mod put;
+pub mod reads;

@@ -1,6 +1,6 @@
 //! Retention and legal hold of a version.
-ghost use Rattle.std.specs.Prelude.{◌≡◌, ◌≤◌, IsTrue, IfOk, OnOk, Some, false};
-ghost use Rattle.vault_core_model.specs.Halts.{Finds, Meets, is_device, Rose};
+ghost use Rattle.std.specs.Prelude.{◌≡◌, ◌≤◌, IsTrue, IfOk, Some, false};
+ghost use Rattle.vault_core_model.specs.Halts.{ChecksAs, AnswersAs, is_device, RoseOrIsFull};
 ghost use Rattle.vault_core_model.specs.Allowed.{IsNextSetting};
 ghost use Rattle.vault_core_model.specs.LockOutcomes as outcome;
 ghost use Rattle.vault_core_model.specs.Sound.{Sound};
@@ -29,10 +29,10 @@ pub fn get_retention<K: Keeper>(
     who: &CallerName,
     command: &GetRetention,
 ) -> Result<Answer, Halt>
-    ensures meets { K.is_honest keeper.new → Meets result (K.vault keeper.old) (K.vault keeper.new) (outcome.get_retention (K.vault keeper.old) at who.now command.now) }
+    ensures meets { K.is_honest keeper.new → AnswersAs result (K.vault keeper.old) (K.vault keeper.new) (outcome.get_retention (K.vault keeper.old) at who.now command.now) }
     ensures honest { K.is_honest keeper.new → K.is_honest keeper.old }
     ensures counted { K.count keeper.old ≤ K.count keeper.new }
-    ensures device { IsTrue (is_device result) → Rose (K.count keeper.old) (K.count keeper.new) }
+    ensures device { IsTrue (is_device result) → RoseOrIsFull (K.count keeper.old) (K.count keeper.new) }
     ensures steady { is_device result ≡ false → K.count keeper.new ≡ K.count keeper.old }
 {
     drop(find_access(keeper, at, who, &command.bucket, Right::Get)?);
@@ -50,10 +50,10 @@ pub fn get_hold<K: Keeper>(
     who: &CallerName,
     command: &GetHold,
 ) -> Result<Answer, Halt>
-    ensures meets { K.is_honest keeper.new → Meets result (K.vault keeper.old) (K.vault keeper.new) (outcome.get_hold (K.vault keeper.old) at who.now command.now) }
+    ensures meets { K.is_honest keeper.new → AnswersAs result (K.vault keeper.old) (K.vault keeper.new) (outcome.get_hold (K.vault keeper.old) at who.now command.now) }
     ensures honest { K.is_honest keeper.new → K.is_honest keeper.old }
     ensures counted { K.count keeper.old ≤ K.count keeper.new }
-    ensures device { IsTrue (is_device result) → Rose (K.count keeper.old) (K.count keeper.new) }
+    ensures device { IsTrue (is_device result) → RoseOrIsFull (K.count keeper.old) (K.count keeper.new) }
     ensures steady { is_device result ≡ false → K.count keeper.new ≡ K.count keeper.old }
 {
     drop(find_access(keeper, at, who, &command.bucket, Right::Get)?);
@@ -71,10 +71,10 @@ pub fn set_retention<K: Keeper>(
     who: &CallerName,
     command: &SetRetention,
 ) -> Result<Answer, Halt>
-    ensures meets { K.is_honest keeper.new → Meets result (K.vault keeper.old) (K.vault keeper.new) (outcome.set_retention (K.vault keeper.old) at who.now command.now) }
+    ensures meets { K.is_honest keeper.new → AnswersAs result (K.vault keeper.old) (K.vault keeper.new) (outcome.set_retention (K.vault keeper.old) at who.now command.now) }
     ensures honest { K.is_honest keeper.new → K.is_honest keeper.old }
     ensures counted { K.count keeper.old ≤ K.count keeper.new }
-    ensures device { IsTrue (is_device result) → Rose (K.count keeper.old) (K.count keeper.new) }
+    ensures device { IsTrue (is_device result) → RoseOrIsFull (K.count keeper.old) (K.count keeper.new) }
     ensures steady { is_device result ≡ false → K.count keeper.new ≡ K.count keeper.old }
 {
     let access = find_access(keeper, at, who, &command.bucket, Right::Retain)?;
@@ -92,10 +92,10 @@ pub fn set_hold<K: Keeper>(
     who: &CallerName,
     command: &SetHold,
 ) -> Result<Answer, Halt>
-    ensures meets { K.is_honest keeper.new → Meets result (K.vault keeper.old) (K.vault keeper.new) (outcome.set_hold (K.vault keeper.old) at who.now command.now) }
+    ensures meets { K.is_honest keeper.new → AnswersAs result (K.vault keeper.old) (K.vault keeper.new) (outcome.set_hold (K.vault keeper.old) at who.now command.now) }
     ensures honest { K.is_honest keeper.new → K.is_honest keeper.old }
     ensures counted { K.count keeper.old ≤ K.count keeper.new }
-    ensures device { IsTrue (is_device result) → Rose (K.count keeper.old) (K.count keeper.new) }
+    ensures device { IsTrue (is_device result) → RoseOrIsFull (K.count keeper.old) (K.count keeper.new) }
     ensures steady { is_device result ≡ false → K.count keeper.new ≡ K.count keeper.old }
 {
     drop(find_access(keeper, at, who, &command.bucket, Right::Hold)?);
@@ -113,12 +113,12 @@ fn find_next_retention<K: Keeper>(
     access: &Access,
 ) -> Result<NextSetting, Halt>
     requires { K.is_honest keeper.old → Sound (K.vault keeper.old) }
-    ensures found { K.is_honest keeper.new → Finds result (outcome.next_retention (K.vault keeper.old) at who.now command.now access.now) }
+    ensures found { K.is_honest keeper.new → ChecksAs result (outcome.next_retention (K.vault keeper.old) at who.now command.now access.now) }
     ensures allowed { K.is_honest keeper.new → IfOk result (λ next. IsNextSetting (K.vault keeper.old) at next.id next.setting) }
     ensures same { K.vault keeper.new ≡ K.vault keeper.old }
     ensures honest { K.is_honest keeper.new → K.is_honest keeper.old }
     ensures counted { K.count keeper.old ≤ K.count keeper.new }
-    ensures device { IsTrue (is_device result) → Rose (K.count keeper.old) (K.count keeper.new) }
+    ensures device { IsTrue (is_device result) → RoseOrIsFull (K.count keeper.old) (K.count keeper.new) }
     ensures steady { is_device result ≡ false → K.count keeper.new ≡ K.count keeper.old }
 {
     check_end(at, Some(command.retention))?;
@@ -152,12 +152,12 @@ fn find_next_hold<K: Keeper>(
     command: &SetHold,
 ) -> Result<NextSetting, Halt>
     requires { K.is_honest keeper.old → Sound (K.vault keeper.old) }
-    ensures found { K.is_honest keeper.new → Finds result (outcome.next_hold (K.vault keeper.old) at who.now command.now) }
+    ensures found { K.is_honest keeper.new → ChecksAs result (outcome.next_hold (K.vault keeper.old) at who.now command.now) }
     ensures allowed { K.is_honest keeper.new → IfOk result (λ next. IsNextSetting (K.vault keeper.old) at next.id next.setting) }
     ensures same { K.vault keeper.new ≡ K.vault keeper.old }
     ensures honest { K.is_honest keeper.new → K.is_honest keeper.old }
     ensures counted { K.count keeper.old ≤ K.count keeper.new }
-    ensures device { IsTrue (is_device result) → Rose (K.count keeper.old) (K.count keeper.new) }
+    ensures device { IsTrue (is_device result) → RoseOrIsFull (K.count keeper.old) (K.count keeper.new) }
     ensures steady { is_device result ≡ false → K.count keeper.new ≡ K.count keeper.old }
 {
     let version = find_version(keeper, &command.bucket, &command.key, command.id)?;

@@ -13,7 +13,7 @@ use Rattle.vault_core_model.specs.declared.reply.Reply.{Reply}
 use Rattle.vault_core_model.specs.Vault.{Vault}
 use Rattle.vault_rules.specs.KeyPlan.{Planned}
 use Rattle.vault_core_model.specs.Checks.{most_ids}
-use Rattle.vault_core_model.specs.Plan.{with_ids, is_mark, made, counts}
+use Rattle.vault_core_model.specs.Plan.{with_ids, is_mark, after_steps, counts}
 use Rattle.vault_core_model.specs.declared.reply.Answer.TheVariants as answer
 use Rattle.vault_core_model.specs.declared.reply.Stop.TheVariants.{Memory, Device, VaultFull}
 use Rattle.vault_core_model.specs.declared.reply.Reply.TheVariants.{Done, Refused, Stopped}
@@ -23,7 +23,7 @@ use Rattle.vault_core_model.specs.LockOutcomes as locks
 use Rattle.vault_core_model.specs.ListingOutcome.{list_versions, certificate}
 use Rattle.vault_core_model.specs.IntakeOutcome.{intake}
 use Rattle.vault_core_model.specs.RunOutcome.{planned_run, AnswersRun}
-use Rattle.vault_core_model.specs.Step.{Step, Run, Answers}
+use Rattle.vault_core_model.specs.Step.{IsStep, IsRun, Answers}
 use Rattle.vault_core_examples.specs.Outcome.{Outcome, CanBeGiven, IsOutcome, tells_fault, settled, run_made, run_settled, outcome, vault_after, replies_to}
 
 Answers-settled : (v : Vault) (judged : Result (Answer × Vault) Refusal) → Answers judged v (settled v judged).reply (settled v judged).vault
@@ -47,14 +47,14 @@ whole : {A : Type 0} (xs ys : List A) → take (length ys) xs ≡ ys → nat_lt 
 whole xs ys first all = sym first ∙ take_all (length ys) xs (ltb-false (length ys) (length xs) all)
 
 abbrev full_stop : Vault → List ℕ → ℕ → List Planned → Outcome
-full_stop v bucket t steps = record { reply = Stopped (length steps) VaultFull; vault = made v bucket t steps }
+full_stop v bucket t steps = record { reply = Stopped (length steps) VaultFull; vault = after_steps v bucket t steps }
 
 abbrev all_done : Vault → List ℕ → ℕ → List Planned → Outcome
-all_done v bucket t plan = record { reply = Done (answer.Ran (counts plan)); vault = made v bucket t plan }
+all_done v bucket t plan = record { reply = Done (answer.Ran (counts plan)); vault = after_steps v bucket t plan }
 
 -- a run stops for want of an id, or makes its whole plan
 run_cases : (v : Vault) (bucket : List ℕ) (t : ℕ) (plan : List Planned) (b : Bool) → nat_lt (length (with_ids (length v.histories) plan)) (length plan) ≡ b → AnswersRun (Ok plan) v bucket t (if b then full_stop v bucket t (with_ids (length v.histories) plan) else all_done v bucket t plan).reply (if b then full_stop v bucket t (with_ids (length v.histories) plan) else all_done v bucket t plan).vault
-run_cases v bucket t plan true e = (plan, refl, refl, ltb-true _ _ e, ap (made v bucket t) (sym (take-with_ids (length v.histories) plan)))
+run_cases v bucket t plan true e = (plan, refl, refl, ltb-true _ _ e, ap (after_steps v bucket t) (sym (take-with_ids (length v.histories) plan)))
 run_cases v bucket t plan false e = (plan, refl, refl, whole plan (with_ids (length v.histories) plan) (take-with_ids (length v.histories) plan) e, refl)
 
 AnswersRun-settled : (v : Vault) (bucket : List ℕ) (t : ℕ) (judged : Result (List Planned) Refusal) → AnswersRun judged v bucket t (run_settled v bucket t judged).reply (run_settled v bucket t judged).vault
@@ -62,36 +62,36 @@ AnswersRun-settled v bucket t (Ok plan) = run_cases v bucket t plan (nat_lt (len
 AnswersRun-settled v bucket t (Err r) = (refl, refl)
 
 -- the outcome of each command is one of its steps
-pub Step-outcome : (v : Vault) (t : ℕ) (who : List ℕ) (c : Command) → CanBeGiven c → Step v t who c (outcome v t who c).reply (outcome v t who c).vault
-Step-outcome v t who (command.AddDept c) given = Answers-settled v (records.add_dept v t who c)
-Step-outcome v t who (command.AddCaller c) given = Answers-settled v (records.add_caller v t who c)
-Step-outcome v t who (command.CloseCaller c) given = Answers-settled v (records.close_caller v t who c)
-Step-outcome v t who (command.AddBucket c) given = Answers-settled v (records.add_bucket v t who c)
-Step-outcome v t who (command.MoveBucket c) given = Answers-settled v (records.move_bucket v t who c)
-Step-outcome v t who (command.SetDefault c) given = Answers-settled v (records.set_default v t who c)
-Step-outcome v t who (command.GetDefault c) given = Answers-settled v (records.get_default v t who c)
-Step-outcome v t who (command.SetRules c) given = (given, Answers-settled v (records.set_rules v t who c))
-Step-outcome v t who (command.GetRules c) given = Answers-settled v (records.get_rules v t who c)
-Step-outcome v t who (command.DropRules c) given = Answers-settled v (records.drop_rules v t who c)
-Step-outcome v t who (command.Put c) given = Answers-settled v (entries.put v t who c)
-Step-outcome v t who (command.Get c) given = Answers-settled v (entries.get v t who c)
-Step-outcome v t who (command.Head c) given = Answers-settled v (entries.head v t who c)
-Step-outcome v t who (command.ListVersions c) given = Answers-settled v (list_versions v t who c)
-Step-outcome v t who (command.Delete c) given = Answers-settled v (entries.delete v t who c)
-Step-outcome v t who (command.DeleteVersion c) given = Answers-settled v (entries.delete_version v t who c)
-Step-outcome v t who (command.SetRetention c) given = Answers-settled v (locks.set_retention v t who c)
-Step-outcome v t who (command.GetRetention c) given = Answers-settled v (locks.get_retention v t who c)
-Step-outcome v t who (command.SetHold c) given = Answers-settled v (locks.set_hold v t who c)
-Step-outcome v t who (command.GetHold c) given = Answers-settled v (locks.get_hold v t who c)
-Step-outcome v t who (command.Run c) given = AnswersRun-settled v c.bucket t (planned_run v t who c)
-Step-outcome v t who (command.Report c) given = Answers-settled v (records.report v t who c)
-Step-outcome v t who (command.Certificate c) given = Answers-settled v (certificate v t who c)
-Step-outcome v t who (command.Intake c) given = Answers-settled v (intake v t who c)
+pub IsStep-outcome : (v : Vault) (t : ℕ) (who : List ℕ) (c : Command) → CanBeGiven c → IsStep v t who c (outcome v t who c).reply (outcome v t who c).vault
+IsStep-outcome v t who (command.AddDept c) given = Answers-settled v (records.add_dept v t who c)
+IsStep-outcome v t who (command.AddCaller c) given = Answers-settled v (records.add_caller v t who c)
+IsStep-outcome v t who (command.CloseCaller c) given = Answers-settled v (records.close_caller v t who c)
+IsStep-outcome v t who (command.AddBucket c) given = Answers-settled v (records.add_bucket v t who c)
+IsStep-outcome v t who (command.MoveBucket c) given = Answers-settled v (records.move_bucket v t who c)
+IsStep-outcome v t who (command.SetDefault c) given = Answers-settled v (records.set_default v t who c)
+IsStep-outcome v t who (command.GetDefault c) given = Answers-settled v (records.get_default v t who c)
+IsStep-outcome v t who (command.SetRules c) given = (given, Answers-settled v (records.set_rules v t who c))
+IsStep-outcome v t who (command.GetRules c) given = Answers-settled v (records.get_rules v t who c)
+IsStep-outcome v t who (command.DropRules c) given = Answers-settled v (records.drop_rules v t who c)
+IsStep-outcome v t who (command.Put c) given = Answers-settled v (entries.put v t who c)
+IsStep-outcome v t who (command.Get c) given = Answers-settled v (entries.get v t who c)
+IsStep-outcome v t who (command.Head c) given = Answers-settled v (entries.head v t who c)
+IsStep-outcome v t who (command.ListVersions c) given = Answers-settled v (list_versions v t who c)
+IsStep-outcome v t who (command.Delete c) given = Answers-settled v (entries.delete v t who c)
+IsStep-outcome v t who (command.DeleteVersion c) given = Answers-settled v (entries.delete_version v t who c)
+IsStep-outcome v t who (command.SetRetention c) given = Answers-settled v (locks.set_retention v t who c)
+IsStep-outcome v t who (command.GetRetention c) given = Answers-settled v (locks.get_retention v t who c)
+IsStep-outcome v t who (command.SetHold c) given = Answers-settled v (locks.set_hold v t who c)
+IsStep-outcome v t who (command.GetHold c) given = Answers-settled v (locks.get_hold v t who c)
+IsStep-outcome v t who (command.Run c) given = AnswersRun-settled v c.bucket t (planned_run v t who c)
+IsStep-outcome v t who (command.Report c) given = Answers-settled v (records.report v t who c)
+IsStep-outcome v t who (command.Certificate c) given = Answers-settled v (certificate v t who c)
+IsStep-outcome v t who (command.Intake c) given = Answers-settled v (intake v t who c)
 
 -- the replies and the vault of the function are a run
-pub Run-outcome : (v : Vault) (cs : List Timed) → AllByRecursion (λ c. CanBeGiven c.command) cs → Run v cs (replies_to v cs) (vault_after v cs)
-Run-outcome v [] given = refl
-Run-outcome v (c ∷ cs) given = ((outcome v c.at c.who c.command).vault, Step-outcome v c.at c.who c.command given.0, Run-outcome (outcome v c.at c.who c.command).vault cs given.1)
+pub IsRun-outcome : (v : Vault) (cs : List Timed) → AllByRecursion (λ c. CanBeGiven c.command) cs → IsRun v cs (replies_to v cs) (vault_after v cs)
+IsRun-outcome v [] given = refl
+IsRun-outcome v (c ∷ cs) given = ((outcome v c.at c.who c.command).vault, IsStep-outcome v c.at c.who c.command given.0, IsRun-outcome (outcome v c.at c.who c.command).vault cs given.1)
 
 -- ---- a reply that tells of no fault is the function's
 
@@ -121,32 +121,32 @@ AnswersRun-is_outcome judged v bucket t (Stopped n Device) v' clear h = absurd (
 AnswersRun-is_outcome judged v bucket t (Stopped n VaultFull) v' clear (plan, e, many, less, m) =
     let is = ap (λ j. run_settled v bucket t j) e ∙ run_settled-full v bucket t plan (subst (λ k. k < length plan) many less) in (
       ap (λ k. Stopped k VaultFull) many ∙ sym (ap (λ o. o.reply) is),
-      m ∙ ap (λ k. made v bucket t (take k plan)) many ∙ ap (made v bucket t) (take-with_ids (length v.histories) plan) ∙ sym (ap (λ o. o.vault) is),
+      m ∙ ap (λ k. after_steps v bucket t (take k plan)) many ∙ ap (after_steps v bucket t) (take-with_ids (length v.histories) plan) ∙ sym (ap (λ o. o.vault) is),
     )
 
 -- a step that tells of no fault is the outcome
-pub Step-is_outcome : (v : Vault) (t : ℕ) (who : List ℕ) (c : Command) (r : Reply) (v' : Vault) → tells_fault r ≡ false → Step v t who c r v' → IsOutcome (outcome v t who c) r v'
-Step-is_outcome v t who (command.AddDept c) r v' clear h = Answers-is_outcome (records.add_dept v t who c) v r v' clear h
-Step-is_outcome v t who (command.AddCaller c) r v' clear h = Answers-is_outcome (records.add_caller v t who c) v r v' clear h
-Step-is_outcome v t who (command.CloseCaller c) r v' clear h = Answers-is_outcome (records.close_caller v t who c) v r v' clear h
-Step-is_outcome v t who (command.AddBucket c) r v' clear h = Answers-is_outcome (records.add_bucket v t who c) v r v' clear h
-Step-is_outcome v t who (command.MoveBucket c) r v' clear h = Answers-is_outcome (records.move_bucket v t who c) v r v' clear h
-Step-is_outcome v t who (command.SetDefault c) r v' clear h = Answers-is_outcome (records.set_default v t who c) v r v' clear h
-Step-is_outcome v t who (command.GetDefault c) r v' clear h = Answers-is_outcome (records.get_default v t who c) v r v' clear h
-Step-is_outcome v t who (command.SetRules c) r v' clear h = Answers-is_outcome (records.set_rules v t who c) v r v' clear h.1
-Step-is_outcome v t who (command.GetRules c) r v' clear h = Answers-is_outcome (records.get_rules v t who c) v r v' clear h
-Step-is_outcome v t who (command.DropRules c) r v' clear h = Answers-is_outcome (records.drop_rules v t who c) v r v' clear h
-Step-is_outcome v t who (command.Put c) r v' clear h = Answers-is_outcome (entries.put v t who c) v r v' clear h
-Step-is_outcome v t who (command.Get c) r v' clear h = Answers-is_outcome (entries.get v t who c) v r v' clear h
-Step-is_outcome v t who (command.Head c) r v' clear h = Answers-is_outcome (entries.head v t who c) v r v' clear h
-Step-is_outcome v t who (command.ListVersions c) r v' clear h = Answers-is_outcome (list_versions v t who c) v r v' clear h
-Step-is_outcome v t who (command.Delete c) r v' clear h = Answers-is_outcome (entries.delete v t who c) v r v' clear h
-Step-is_outcome v t who (command.DeleteVersion c) r v' clear h = Answers-is_outcome (entries.delete_version v t who c) v r v' clear h
-Step-is_outcome v t who (command.SetRetention c) r v' clear h = Answers-is_outcome (locks.set_retention v t who c) v r v' clear h
-Step-is_outcome v t who (command.GetRetention c) r v' clear h = Answers-is_outcome (locks.get_retention v t who c) v r v' clear h
-Step-is_outcome v t who (command.SetHold c) r v' clear h = Answers-is_outcome (locks.set_hold v t who c) v r v' clear h
-Step-is_outcome v t who (command.GetHold c) r v' clear h = Answers-is_outcome (locks.get_hold v t who c) v r v' clear h
-Step-is_outcome v t who (command.Run c) r v' clear h = AnswersRun-is_outcome (planned_run v t who c) v c.bucket t r v' clear h
-Step-is_outcome v t who (command.Report c) r v' clear h = Answers-is_outcome (records.report v t who c) v r v' clear h
-Step-is_outcome v t who (command.Certificate c) r v' clear h = Answers-is_outcome (certificate v t who c) v r v' clear h
-Step-is_outcome v t who (command.Intake c) r v' clear h = Answers-is_outcome (intake v t who c) v r v' clear h
+pub IsStep-is_outcome : (v : Vault) (t : ℕ) (who : List ℕ) (c : Command) (r : Reply) (v' : Vault) → tells_fault r ≡ false → IsStep v t who c r v' → IsOutcome (outcome v t who c) r v'
+IsStep-is_outcome v t who (command.AddDept c) r v' clear h = Answers-is_outcome (records.add_dept v t who c) v r v' clear h
+IsStep-is_outcome v t who (command.AddCaller c) r v' clear h = Answers-is_outcome (records.add_caller v t who c) v r v' clear h
+IsStep-is_outcome v t who (command.CloseCaller c) r v' clear h = Answers-is_outcome (records.close_caller v t who c) v r v' clear h
+IsStep-is_outcome v t who (command.AddBucket c) r v' clear h = Answers-is_outcome (records.add_bucket v t who c) v r v' clear h
+IsStep-is_outcome v t who (command.MoveBucket c) r v' clear h = Answers-is_outcome (records.move_bucket v t who c) v r v' clear h
+IsStep-is_outcome v t who (command.SetDefault c) r v' clear h = Answers-is_outcome (records.set_default v t who c) v r v' clear h
+IsStep-is_outcome v t who (command.GetDefault c) r v' clear h = Answers-is_outcome (records.get_default v t who c) v r v' clear h
+IsStep-is_outcome v t who (command.SetRules c) r v' clear h = Answers-is_outcome (records.set_rules v t who c) v r v' clear h.1
+IsStep-is_outcome v t who (command.GetRules c) r v' clear h = Answers-is_outcome (records.get_rules v t who c) v r v' clear h
+IsStep-is_outcome v t who (command.DropRules c) r v' clear h = Answers-is_outcome (records.drop_rules v t who c) v r v' clear h
+IsStep-is_outcome v t who (command.Put c) r v' clear h = Answers-is_outcome (entries.put v t who c) v r v' clear h
+IsStep-is_outcome v t who (command.Get c) r v' clear h = Answers-is_outcome (entries.get v t who c) v r v' clear h
+IsStep-is_outcome v t who (command.Head c) r v' clear h = Answers-is_outcome (entries.head v t who c) v r v' clear h
+IsStep-is_outcome v t who (command.ListVersions c) r v' clear h = Answers-is_outcome (list_versions v t who c) v r v' clear h
+IsStep-is_outcome v t who (command.Delete c) r v' clear h = Answers-is_outcome (entries.delete v t who c) v r v' clear h
+IsStep-is_outcome v t who (command.DeleteVersion c) r v' clear h = Answers-is_outcome (entries.delete_version v t who c) v r v' clear h
+IsStep-is_outcome v t who (command.SetRetention c) r v' clear h = Answers-is_outcome (locks.set_retention v t who c) v r v' clear h
+IsStep-is_outcome v t who (command.GetRetention c) r v' clear h = Answers-is_outcome (locks.get_retention v t who c) v r v' clear h
+IsStep-is_outcome v t who (command.SetHold c) r v' clear h = Answers-is_outcome (locks.set_hold v t who c) v r v' clear h
+IsStep-is_outcome v t who (command.GetHold c) r v' clear h = Answers-is_outcome (locks.get_hold v t who c) v r v' clear h
+IsStep-is_outcome v t who (command.Run c) r v' clear h = AnswersRun-is_outcome (planned_run v t who c) v c.bucket t r v' clear h
+IsStep-is_outcome v t who (command.Report c) r v' clear h = Answers-is_outcome (records.report v t who c) v r v' clear h
+IsStep-is_outcome v t who (command.Certificate c) r v' clear h = Answers-is_outcome (certificate v t who c) v r v' clear h
+IsStep-is_outcome v t who (command.Intake c) r v' clear h = Answers-is_outcome (intake v t who c) v r v' clear h

@@ -11,8 +11,8 @@ use Rattle.vault_core_model.specs.Vault.{Vault}
 use Rattle.vault_core_examples.specs.Outcome.{replies_to, vault_after}
 use Rattle.std.proofs.Common.{inr, lit≤}
 use Rattle.vault_rules.specs.KeyPlan.{Planned}
-use Rattle.vault_core_model.specs.Plan.{plan, made}
-use Rattle.vault_core_model.specs.Step.{Step}
+use Rattle.vault_core_model.specs.Plan.{plan, after_steps}
+use Rattle.vault_core_model.specs.Step.{IsStep}
 use Rattle.vault_core_examples.specs.Script.{by, ann, docs, records, start, put, set_rules, run}
 
 abbrev vault : Vault
@@ -31,9 +31,9 @@ whole : vault_after vault (by ann 1709424000 run ∷ []) ≡ final
 whole = refl
 
 abbrev cut_0 : Vault
-cut_0 = made vault docs 1709424000 (take 0 four_changes)
+cut_0 = after_steps vault docs 1709424000 (take 0 four_changes)
 
-stopped_0 : Step vault 1709424000 ann run (Stopped 0 stop.Device) cut_0
+stopped_0 : IsStep vault 1709424000 ann run (Stopped 0 stop.Device) cut_0
 stopped_0 = inr (four_changes, refl, (lit≤ tt, refl))
 
 again_0 : replies_to cut_0 (by ann 1709424000 run ∷ by ann 1709424000 run ∷ []) ≡ Done (answer.Ran (record { changes = 4; marked = 2; removed = 2; lone = 0 })) ∷ Done (answer.Ran (record { changes = 0; marked = 0; removed = 0; lone = 0 })) ∷ []
@@ -46,9 +46,9 @@ repeats_0 : plan cut_0 docs 1709424000 ≡ (record { key = codes "a"; step = ste
 repeats_0 = refl
 
 abbrev cut_1 : Vault
-cut_1 = made vault docs 1709424000 (take 1 four_changes)
+cut_1 = after_steps vault docs 1709424000 (take 1 four_changes)
 
-stopped_1 : Step vault 1709424000 ann run (Stopped 1 stop.Device) cut_1
+stopped_1 : IsStep vault 1709424000 ann run (Stopped 1 stop.Device) cut_1
 stopped_1 = inr (four_changes, refl, (lit≤ tt, refl))
 
 again_1 : replies_to cut_1 (by ann 1709424000 run ∷ by ann 1709424000 run ∷ []) ≡ Done (answer.Ran (record { changes = 3; marked = 1; removed = 2; lone = 0 })) ∷ Done (answer.Ran (record { changes = 0; marked = 0; removed = 0; lone = 0 })) ∷ []
@@ -61,9 +61,9 @@ repeats_1 : plan cut_1 docs 1709424000 ≡ (record { key = codes "a"; step = ste
 repeats_1 = refl
 
 abbrev cut_2 : Vault
-cut_2 = made vault docs 1709424000 (take 2 four_changes)
+cut_2 = after_steps vault docs 1709424000 (take 2 four_changes)
 
-stopped_2 : Step vault 1709424000 ann run (Stopped 2 stop.Device) cut_2
+stopped_2 : IsStep vault 1709424000 ann run (Stopped 2 stop.Device) cut_2
 stopped_2 = inr (four_changes, refl, (lit≤ tt, refl))
 
 again_2 : replies_to cut_2 (by ann 1709424000 run ∷ by ann 1709424000 run ∷ []) ≡ Done (answer.Ran (record { changes = 2; marked = 1; removed = 1; lone = 0 })) ∷ Done (answer.Ran (record { changes = 0; marked = 0; removed = 0; lone = 0 })) ∷ []
@@ -76,9 +76,9 @@ repeats_2 : plan cut_2 docs 1709424000 ≡ (record { key = codes "b"; step = ste
 repeats_2 = refl
 
 abbrev cut_3 : Vault
-cut_3 = made vault docs 1709424000 (take 3 four_changes)
+cut_3 = after_steps vault docs 1709424000 (take 3 four_changes)
 
-stopped_3 : Step vault 1709424000 ann run (Stopped 3 stop.Device) cut_3
+stopped_3 : IsStep vault 1709424000 ann run (Stopped 3 stop.Device) cut_3
 stopped_3 = inr (four_changes, refl, (lit≤ tt, refl))
 
 again_3 : replies_to cut_3 (by ann 1709424000 run ∷ by ann 1709424000 run ∷ []) ≡ Done (answer.Ran (record { changes = 1; marked = 0; removed = 1; lone = 0 })) ∷ Done (answer.Ran (record { changes = 0; marked = 0; removed = 0; lone = 0 })) ∷ []

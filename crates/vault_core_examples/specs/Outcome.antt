@@ -12,7 +12,7 @@ use Rattle.vault_core_model.specs.declared.reply.Reply.{Reply}
 use Rattle.vault_core_model.specs.declared.reply.Reply.TheVariants.{Done, Refused, Stopped}
 use Rattle.vault_core_model.specs.Vault.{Vault}
 use Rattle.vault_rules.specs.KeyPlan.{Planned}
-use Rattle.vault_core_model.specs.Plan.{made, counts, with_ids}
+use Rattle.vault_core_model.specs.Plan.{after_steps, counts, with_ids}
 use Rattle.vault_core_model.specs.RecordOutcomes as records
 use Rattle.vault_core_model.specs.EntryOutcomes as entries
 use Rattle.vault_core_model.specs.LockOutcomes as locks
@@ -35,8 +35,8 @@ settled v (Err r) = record { reply = Refused r; vault = v }
 abbrev pub run_made : Vault → List ℕ → ℕ → List Planned → List Planned → Outcome
 run_made v bucket t plan steps =
     if nat_lt (length steps) (length plan)
-    then record { reply = Stopped (length steps) VaultFull; vault = made v bucket t steps }
-    else record { reply = Done (answer.Ran (counts plan)); vault = made v bucket t plan }
+    then record { reply = Stopped (length steps) VaultFull; vault = after_steps v bucket t steps }
+    else record { reply = Done (answer.Ran (counts plan)); vault = after_steps v bucket t plan }
 
 abbrev pub run_settled : Vault → List ℕ → ℕ → Result (List Planned) Refusal → Outcome
 run_settled v bucket t (Ok plan) = run_made v bucket t plan (with_ids (length v.histories) plan)

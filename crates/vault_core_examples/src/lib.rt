@@ -7,17 +7,17 @@ ghost use Rattle.std.specs.List.{AllByRecursion};
 ghost use Rattle.vault_core_model.specs.declared.command.Command.{Command};
 ghost use Rattle.vault_core_model.specs.declared.command.Timed.{Timed};
 ghost use Rattle.vault_core_model.specs.declared.reply.Reply.{Reply};
-ghost use Rattle.vault_core_model.specs.Step.{Run, Step};
+ghost use Rattle.vault_core_model.specs.Step.{IsRun, IsStep};
 ghost use Rattle.vault_core_model.specs.Vault.{Vault};
 ghost use Rattle.vault_core_examples.specs.Outcome.{CanBeGiven, IsOutcome, outcome, replies_to, tells_fault, vault_after};
 
 /// Every command has its reply, and every list of commands its replies.
 pub fn every_command_is_answered()
-    ensures step { (v : Vault) (t : ℕ) (who : List ℕ) (c : Command) → CanBeGiven c → Step v t who c (outcome v t who c).reply (outcome v t who c).vault }
-    ensures run { (v : Vault) (cs : List Timed) → AllByRecursion (λ c. CanBeGiven c.command) cs → Run v cs (replies_to v cs) (vault_after v cs) }
+    ensures step { (v : Vault) (t : ℕ) (who : List ℕ) (c : Command) → CanBeGiven c → IsStep v t who c (outcome v t who c).reply (outcome v t who c).vault }
+    ensures run { (v : Vault) (cs : List Timed) → AllByRecursion (λ c. CanBeGiven c.command) cs → IsRun v cs (replies_to v cs) (vault_after v cs) }
 {}
 
 /// A command has one reply and leaves one vault, but for want of memory and a failing device.
 pub fn answers_are_one()
-    ensures { (v : Vault) (t : ℕ) (who : List ℕ) (c : Command) (r : Reply) (v' : Vault) → tells_fault r ≡ false → Step v t who c r v' → IsOutcome (outcome v t who c) r v' }
+    ensures { (v : Vault) (t : ℕ) (who : List ℕ) (c : Command) (r : Reply) (v' : Vault) → tells_fault r ≡ false → IsStep v t who c r v' → IsOutcome (outcome v t who c) r v' }
 {}

@@ -22,7 +22,7 @@ one_place v dept = got (items_of v dept) ∙ sym (balance (items_of v dept))
 abbrev pub each : (Item → ℕ) → List Share → ℕ
 each f ss = sum_by (λ s. f s.item) ss
 
-last_handed : (e : Option ℕ) (size : ℕ) → if_held e 0 (if true then 0 else size) ≡ 0
+pub last_handed : (e : Option ℕ) (size : ℕ) → if_held e 0 (if true then 0 else size) ≡ 0
 last_handed None size = refl
 last_handed (Some d) size = refl
 

@@ -22,10 +22,10 @@ use Rattle.vault_core_laws.proofs.Tenures.{end-by, reaches}
 pub day-le : (s t : ℕ) → s ≤ t → day s ≤ day t
 day-le s t le = le-div (day s) t day_length (lit< tt) (omega (arith, div-mul-le_self s day_length))
 
-le_true : (m n : ℕ) → m ≤ n → nat_le m n ≡ true
+pub le_true : (m n : ℕ) → m ≤ n → nat_le m n ≡ true
 le_true m n le = grind (arith, le)
 
-both_true : (a b : Bool) → a ≡ true → b ≡ true → (a && b) ≡ true
+pub both_true : (a b : Bool) → a ≡ true → b ≡ true → (a && b) ≡ true
 both_true a b e f = rw (e, f) refl
 
 -- ---- a test of each tenure

@@ -61,7 +61,7 @@ ascending-map cmp f same (x ∷ xs) ascending =
 
 -- ---- what is free ties with nothing
 
-clash : (b : Bool) → b ≡ true → b ≡ false → ⊥
+pub clash : (b : Bool) → b ≡ true → b ≡ false → ⊥
 clash b e f = cc (sym e ∙ f)
 
 not_found : {A : Type 0} (p : A → Bool) (P : A → Type 0) → ((y : A) → p y ≡ false → P y) → (ys : List A) → find p ys ≡ None → AllByRecursion P ys

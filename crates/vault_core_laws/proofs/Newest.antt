@@ -46,7 +46,7 @@ above n (h ∷ hs) rising = (rising.0, All-weaker (λ g. h.entry.id < g.entry.id
 
 -- ---- the last of them
 
-abbrev last_of : History → List History → History
+abbrev pub last_of : History → List History → History
 last_of h [] = h
 last_of h (g ∷ gs) = last_of g gs
 

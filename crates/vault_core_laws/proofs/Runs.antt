@@ -3,13 +3,13 @@ use Rattle.std.proofs.Common.{List, [], ◌∷◌, ◌++◌, refl, subst}
 use Rattle.vault_core_model.specs.declared.command.Timed.{Timed}
 use Rattle.vault_core_model.specs.declared.reply.Reply.{Reply}
 use Rattle.vault_core_model.specs.Vault.{Vault}
-use Rattle.vault_core_model.specs.Step.{Step, Run}
+use Rattle.vault_core_model.specs.Step.{IsStep, IsRun}
 
-pub Run-append : (v mid end : Vault) (cs ds : List Timed) (rs ss : List Reply) → Run v cs rs mid → Run mid ds ss end → Run v (cs ++ ds) (rs ++ ss) end
-Run-append v mid end [] ds [] ss first second = let P : Vault → Type 0 = λ w. Run w ds ss end in subst P first second
-Run-append v mid end [] ds (r ∷ rs) ss first second = absurd first
-Run-append v mid end (c ∷ cs) ds [] ss first second = absurd first
-Run-append v mid end (c ∷ cs) ds (r ∷ rs) ss first second = (first.0, first.1, Run-append first.0 mid end cs ds rs ss first.2 second)
+pub IsRun-append : (v mid end : Vault) (cs ds : List Timed) (rs ss : List Reply) → IsRun v cs rs mid → IsRun mid ds ss end → IsRun v (cs ++ ds) (rs ++ ss) end
+IsRun-append v mid end [] ds [] ss first second = let P : Vault → Type 0 = λ w. IsRun w ds ss end in subst P first second
+IsRun-append v mid end [] ds (r ∷ rs) ss first second = absurd first
+IsRun-append v mid end (c ∷ cs) ds [] ss first second = absurd first
+IsRun-append v mid end (c ∷ cs) ds (r ∷ rs) ss first second = (first.0, first.1, IsRun-append first.0 mid end cs ds rs ss first.2 second)
 
-pub Run-push : (v mid end : Vault) (cs : List Timed) (rs : List Reply) (c : Timed) (r : Reply) → Run v cs rs mid → Step mid c.at c.who c.command r end → Run v (cs ++ c ∷ []) (rs ++ r ∷ []) end
-Run-push v mid end cs rs c r first step = Run-append v mid end cs (c ∷ []) rs (r ∷ []) first (end, step, refl)
+pub IsRun-push : (v mid end : Vault) (cs : List Timed) (rs : List Reply) (c : Timed) (r : Reply) → IsRun v cs rs mid → IsStep mid c.at c.who c.command r end → IsRun v (cs ++ c ∷ []) (rs ++ r ∷ []) end
+IsRun-push v mid end cs rs c r first step = IsRun-append v mid end cs (c ∷ []) rs (r ∷ []) first (end, step, refl)

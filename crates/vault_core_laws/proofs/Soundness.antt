@@ -14,7 +14,7 @@ use Rattle.vault_tally.proofs.Bounds.{got}
 use Rattle.vault_core_model.specs.declared.records.Bucket.{Bucket}
 use Rattle.vault_core_model.specs.declared.records.BucketConfig.{BucketConfig}
 use Rattle.vault_core_model.specs.declared.records.Entry.{Entry}
-use Rattle.vault_core_model.specs.Reads.{setting_of, last_setting, count_by}
+use Rattle.vault_core_model.specs.Reads.{setting_of, last_setting, count_of_settings}
 use Rattle.vault_core_model.specs.declared.records.History.{History}
 use Rattle.vault_core_model.specs.declared.records.Note.{Note}
 use Rattle.vault_core_model.specs.declared.records.Removal.{Removal}
@@ -272,10 +272,10 @@ HasRuleSet-department name dept b has =
 
 -- ---- one setting more
 
-entry-setting : (id : ℕ) (s : Setting) (h : History) → (with_setting id s h).entry ≡ h.entry
+pub entry-setting : (id : ℕ) (s : Setting) (h : History) → (with_setting id s h).entry ≡ h.entry
 entry-setting id s h = elim (eqb h.entry.id id) as (λ b. (if b then record h { settings = h.settings ++ s ∷ [] } else h).entry ≡ h.entry) [ true ↦ refl | false ↦ refl ]
 
-setting_count : (ss : List Setting) → count_by (last_setting ss) ≡ length ss
+pub setting_count : (ss : List Setting) → count_of_settings (last_setting ss) ≡ length ss
 setting_count [] = refl
 setting_count (s ∷ ss) = refl
 
@@ -296,7 +296,7 @@ IsWhole-setting v t id s h allowed found whole = by_id (eqb h.entry.id id) refl
         let same : Some h.entry ≡ Some allowed.entry = sym (ap (λ (o : Option History). option_map (λ g. g.entry) o) (here e)) ∙ allowed.there in
         let entry : h.entry ≡ allowed.entry = cc same in
         let version : h.entry.marker ≡ false = ap (λ (x : Entry). x.marker) entry ∙ allowed.version in
-        let count : count_by (setting_of v id) ≡ length h.settings = ap (λ (o : Option History). count_by (option_and_then (λ g. last_setting g.settings) o)) (here e) ∙ setting_count h.settings in
+        let count : count_of_settings (setting_of v id) ≡ length h.settings = ap (λ (o : Option History). count_of_settings (option_and_then (λ g. last_setting g.settings) o)) (here e) ∙ setting_count h.settings in
         whole_with_setting h.entry.marker h.entry h.content h.settings s version (omega (arith, allowed.fits, count)) whole
 
     by_id : (b : Bool) → eqb h.entry.id id ≡ b → IsWhole (if b then record h { settings = h.settings ++ s ∷ [] } else h)

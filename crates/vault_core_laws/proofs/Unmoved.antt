@@ -1,11 +1,11 @@
 -- As long as nothing moved, no department received bytes or handed any over.
-use Rattle.std.proofs.Common.{◌≡◌, ℕ, ◌+◌, List, [], ◌∷◌, true, false, Option, Some, None, refl, arith}
+use Rattle.std.proofs.Common.{◌≡◌, ℕ, ◌+◌, List, [], ◌∷◌, true, false, Option, refl, arith}
 use Rattle.std.specs.Prelude.{if◌then◌else◌, sum_by}
 use Rattle.std.specs.List.{AllByRecursion}
 use Rattle.std.specs.Str.{bytes_eq}
 use Rattle.std.proofs.lemmas.List.Sums.{sum_by-append}
 use Rattle.vault_base.specs.Days.{day}
-use Rattle.vault_tally.specs.Row.{Item, handed_size, if_held, received_size}
+use Rattle.vault_tally.specs.Row.{Item, handed_size, received_size}
 use Rattle.vault_core_model.specs.declared.change.Change.{Change}
 use Rattle.vault_core_model.specs.declared.change.Change.TheVariants.{AddDept, AddCaller, CloseCaller, AddBucket, MoveBucket, SetDefault, SetRules, Admit, AddSetting, Remove}
 use Rattle.vault_core_model.specs.declared.records.History.{History}
@@ -15,7 +15,7 @@ use Rattle.vault_core_model.specs.Change.{changed}
 use Rattle.vault_core_model.specs.Vault.{Vault}
 use Rattle.vault_core_model.specs.Sound.{FollowOn, Sound, end_of}
 use Rattle.vault_core_model.specs.Totals.{Share, admitted_bytes, handed_bytes, held_bytes, items_by, items_in, received_bytes, removal_day, removed_bytes, shares_from, shares_of}
-use Rattle.vault_core_laws.proofs.Balance.{one_place}
+use Rattle.vault_core_laws.proofs.Balance.{one_place, last_handed}
 use Rattle.vault_core_laws.proofs.Bounds.{each_version}
 use Rattle.vault_core_laws.proofs.Items.{by-cons, counted}
 
@@ -34,10 +34,6 @@ none_in : (f : Item → ℕ) (dept : List ℕ) (hs : List History) → AllByRecu
 none_in f dept [] all = refl
 none_in f dept (h ∷ hs) all = omega (arith, sum_by-append f (items_by dept (shares_of h)) (items_in dept hs), none_by f dept (shares_of h) all.0, none_in f dept hs all.1)
 
-last_stays : (e : Option ℕ) (size : ℕ) → if_held e 0 (if true then 0 else size) ≡ 0
-last_stays None size = refl
-last_stays (Some d) size = refl
-
 -- the first tenure is the last one, and no byte of it is received or handed over
 only : (f : Item → ℕ) (moves end size : ℕ) (r : Option Removal) (t : Tenure) (ts : List Tenure) → moves ≡ 0
     → ((e : Option ℕ) (from : ℕ) → f (record { size = size; first = true; from = from; ended = e; last = true }) ≡ 0)
@@ -54,7 +50,7 @@ pub none_received : (v : Vault) (dept : List ℕ) → Sound v → v.moves ≡ 0 
 none_received v dept = none_of v dept received_size (λ size e from. refl)
 
 pub none_handed : (v : Vault) (dept : List ℕ) → Sound v → v.moves ≡ 0 → handed_bytes v dept ≡ 0
-none_handed v dept = none_of v dept handed_size (λ size e from. last_stays e size)
+none_handed v dept = none_of v dept handed_size (λ size e from. last_handed e size)
 
 pub all_stays : (v : Vault) (dept : List ℕ) → Sound v → v.moves ≡ 0 → admitted_bytes v dept ≡ held_bytes v dept + removed_bytes v dept
 all_stays v dept sound unmoved = omega (arith, one_place v dept, none_received v dept sound unmoved, none_handed v dept sound unmoved)

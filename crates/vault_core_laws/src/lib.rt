@@ -15,7 +15,7 @@ ghost use Rattle.vault_core_model.specs.Vault.{Vault};
 ghost use Rattle.vault_core_model.specs.Change.{changed};
 ghost use Rattle.vault_core_model.specs.Places.{current};
 ghost use Rattle.vault_core_model.specs.Reads.{head_of, entry_of};
-ghost use Rattle.vault_core_model.specs.Step.{Run};
+ghost use Rattle.vault_core_model.specs.Step.{IsRun};
 ghost use Rattle.vault_core_model.specs.Sound.{Sound};
 ghost use Rattle.vault_core_model.specs.Allowed.{Allows};
 ghost use Rattle.vault_core_model.specs.Totals.{items_of, admitted_bytes, received_bytes, held_bytes, removed_bytes, handed_bytes, byte_days_at, over_departments, vault_byte_days, held_versions_in, bucket_bytes, bucket_weight, last_day_from};
@@ -53,7 +53,7 @@ pub fn heads_name_the_current_entry()
 /// One run after another is a run.
 pub fn runs_go_on()
     ensures { (v mid end : Vault) (cs ds : List Timed) (rs ss : List Reply) →
-        Run v cs rs mid → Run mid ds ss end → Run v (cs ++ ds) (rs ++ ss) end }
+        IsRun v cs rs mid → IsRun mid ds ss end → IsRun v (cs ++ ds) (rs ++ ss) end }
 {}
 
 /// Each byte that a department admitted or received is held, was removed, or was handed over.

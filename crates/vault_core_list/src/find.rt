@@ -10,6 +10,7 @@ ghost use Rattle.vault_core_model.specs.Vault.{bucket_in, config_in, last_lock};
 use std::alloc::{AllocError, Global};
 use vault_base::content::Content;
 use vault_base::name::{BatchName, BucketName, CallerName, DeptName, ObjectKey, VersionId};
+use vault_core_model::held::is_held_at;
 use vault_core_model::records::{
     Bucket, BucketConfig, Caller, Entry, Head, History, LastSetting, Note, Settings, Tenures,
 };
@@ -158,13 +159,6 @@ fn last_of(settings: &Settings) -> Option<LastSetting>
         lock: last.lock,
         count: settings.len() as u64,
     })
-}
-
-/// Whether the entry is held in that bucket, under that key.
-fn is_held_at(bucket: &BucketName, key: &ObjectKey, entry: &Entry) -> bool
-    ensures { result ≡ is_held_at bucket.now key.now entry.now }
-{
-    entry.bucket == *bucket && entry.key == *key && entry.removal.is_none()
 }
 
 /// The newest held entry of a key, and how many are held.

@@ -9,7 +9,7 @@ use Rattle.std.proofs.lemmas.Bool.Decides.{nat_tests}
 use Rattle.std.proofs.lemmas.Cmp.{nat_list_cmp_total, tied_itself}
 use Rattle.std.proofs.lemmas.Grind.{flat_map-append}
 use Rattle.std.proofs.lemmas.List.{append-nil, map-append, length-map, length-drop, length-take, take_all, take_more, take-append-drop}
-use Rattle.std.proofs.lemmas.Option.{get_or_from_slice_get, slice_get-get_or}
+use Rattle.std.proofs.lemmas.Option.{get_or_from_slice_get}
 use Rattle.std.proofs.lemmas.List.Elements.{filter-append}
 use Rattle.std.proofs.lemmas.Map.Text.{is_eq-slice_cmp}
 use Rattle.std.proofs.lemmas.Bool.{and_right, or_parts}
@@ -18,13 +18,13 @@ use Rattle.vault_core_model.specs.declared.command.ListVersions.{ListVersions}
 use Rattle.vault_core_model.specs.declared.records.History.{History}
 use Rattle.vault_core_model.specs.declared.reply.Listed.{Listed}
 use Rattle.vault_core_model.specs.declared.reply.Page.{Page}
-use Rattle.vault_core_model.specs.ListingOutcome.{is_below, is_asked_for, in_listing_order, asked_for}
+use Rattle.vault_core_model.specs.ListingOutcome.{is_below, is_asked_for, asked_for}
 use Rattle.vault_core_model.specs.ListingOutcome as outcome
 use Rattle.vault_core_model.specs.Places.{is_held, is_held_at, is_held_in, is_behind, held_at, key_set, keys_of, with_key, with_key_by}
 use Rattle.vault_core_model.specs.Reads.{keys_after}
 use Rattle.vault_core_model.specs.Sound.{Sound}
 use Rattle.vault_core_model.specs.Vault.{Vault}
-use Rattle.vault_core_listing.specs.Walk.{has_prefix, is_past, GoesOn, asked_at, asked_first, completed, filled, keys_behind, page_of}
+use Rattle.vault_core_listing.specs.Walk.{has_prefix, is_past, EndsOrAdvances, asked_at, asked_first, completed, filled, keys_behind, page_of}
 use Rattle.vault_core_listing.proofs.Keys.{IsOver, greater, over_behind, IsRising, among-set, behind_page, cmp, is_among, rising_set, split_at}
 use Rattle.vault_core_listing.proofs.KeyWalk.{nothing_asked, without_prefix}
 use Rattle.vault_core_listing.proofs.Prefixes.{past}
@@ -167,20 +167,20 @@ few_keys v bucket after sound =
     omega (arith, sound.enough_ids, filter_few (λ h. is_held_in bucket h.entry) v.histories, length-map held (λ (h : History). h.entry.key), set_few keys, filter_few (λ k. is_behind k after) (keys_of v bucket))
 
 pub walk_ends : (v mid : Vault) (c : ListVersions) (page0 page page' : Page) (after : List ℕ) (next : Option (List ℕ))
-    → mid ≡ v → next ≡ None → completed v c page after ≡ completed v c page0 c.after_key → GoesOn mid c page after page' next
+    → mid ≡ v → next ≡ None → completed v c page after ≡ completed v c page0 c.after_key → EndsOrAdvances mid c page after page' next
     → page' ≡ completed v c page0 c.after_key
 walk_ends v mid c page0 page page' after next same none left goes =
-    let P : Option (List ℕ) → Type 0 = λ o. GoesOn mid c page after page' o in
+    let P : Option (List ℕ) → Type 0 = λ o. EndsOrAdvances mid c page after page' o in
     let Q : Vault → Type 0 = λ w. page' ≡ completed w c page after in
     subst Q same (subst P none goes) ∙ left
 
 pub walk_goes_on : (v mid : Vault) (c : ListVersions) (page0 page page' : Page) (after : List ℕ) (next : Option (List ℕ)) (key : List ℕ)
-    → mid ≡ v → next ≡ Some key → completed v c page after ≡ completed v c page0 c.after_key → GoesOn mid c page after page' next
+    → mid ≡ v → next ≡ Some key → completed v c page after ≡ completed v c page0 c.after_key → EndsOrAdvances mid c page after page' next
     → (completed v c page' key ≡ completed v c page0 c.after_key) × (length (keys_behind v c.bucket key) + 256 ≤ length (keys_behind v c.bucket after))
 walk_goes_on v mid c page0 page page' after next key same some left goes =
-    let P : Option (List ℕ) → Type 0 = λ o. GoesOn mid c page after page' o in
-    let Q : Vault → Type 0 = λ w. GoesOn w c page after page' (Some key) in
-    let now : GoesOn v c page after page' (Some key) = subst Q same (subst P some goes) in
+    let P : Option (List ℕ) → Type 0 = λ o. EndsOrAdvances mid c page after page' o in
+    let Q : Vault → Type 0 = λ w. EndsOrAdvances w c page after page' (Some key) in
+    let now : EndsOrAdvances v c page after page' (Some key) = subst Q same (subst P some goes) in
     (now.0 ∙ left, now.1)
 
 -- a page that isn't whole is the last
@@ -199,7 +199,7 @@ pub next_page : (v mid : Vault) (c : ListVersions) (page page' : Page) (after la
     → mid ≡ v → 256 ≤ length keys → keys ≡ keys_after v c.bucket after 256
     → Some last ≡ slice_get keys (length keys - 1) → next ≡ last → (length last == 0) ≡ false
     → page' ≡ filled c.most page (flat_map (asked_at mid c) keys)
-    → GoesOn v c page after page' (Some next)
+    → EndsOrAdvances v c page after page' (Some next)
 next_page v mid c page page' after last next keys same whole is at own named now =
     let all : List (List ℕ) = keys_behind v c.bucket after in
     let i : ℕ = length keys - 1 in
@@ -211,7 +211,7 @@ next_page v mid c page page' after last next keys same whole is at own named now
     let whole_page : take 256 all ++ rest ≡ all = take-append-drop 256 all in
     let filled_page : page' ≡ filled c.most page (flat_map (asked_at v c) (take 256 all)) = now ∙ ap (λ w. filled c.most page (flat_map (asked_at w c) keys)) same ∙ ap (λ ks. filled c.most page (flat_map (asked_at v c) ks)) is in
     let fewer : length (keys_behind v c.bucket last) + 256 ≤ length all = omega (arith, ap length behind, length-drop 256 all, ap length is, length-take 256 all) in
-    let goal_at_last : GoesOn v c page after page' (Some last) = (
+    let goal_at_last : EndsOrAdvances v c page after page' (Some last) = (
       ap (λ ks. filled c.most page' (flat_map (asked_at v c) ks)) behind
           ∙ ap (λ (p : Page). filled c.most p (flat_map (asked_at v c) rest)) filled_page
           ∙ sym (filled-append c.most page (flat_map (asked_at v c) (take 256 all)) (flat_map (asked_at v c) rest))
@@ -219,15 +219,11 @@ next_page v mid c page page' after last next keys same whole is at own named now
           ∙ ap (λ ks. filled c.most page (flat_map (asked_at v c) ks)) whole_page,
       fewer,
     ) in
-    let P : List ℕ → Type 0 = λ k. GoesOn v c page after page' (Some k) in
+    let P : List ℕ → Type 0 = λ k. EndsOrAdvances v c page after page' (Some k) in
     subst P (sym own) goal_at_last
   where
     last_apart : (ks : List (List ℕ)) (i : ℕ) (k : List ℕ) → i + 1 ≡ length ks → k ≡ get_or ks i k → ks ≡ take i ks ++ k ∷ []
     last_apart ks i k e at = sym (take_all (i + 1) ks (omega arith)) ∙ take_more ks i k (omega arith) ∙ ap (λ x. take i ks ++ x ∷ []) (sym at)
-
-pub no_last : (keys : List (List ℕ)) → None ≡ slice_get keys (length keys - 1) → length keys < 256
-no_last [] none = omega arith
-no_last (k ∷ ks) none = absurd (cc (none, slice_get-get_or (k ∷ ks) (length (k ∷ ks) - 1) k (omega arith)))
 
 -- ---- the key at which the listing begins
 
@@ -253,14 +249,6 @@ no_first v c key none is = by_length (length c.after_key == 0) (sym none ∙ is)
     by_length : (b : Bool) → None ≡ (if b then None else Some c.after_key) → (if b then [] else asked_at v c c.after_key) ≡ []
     by_length true e = refl
     by_length false e = absurd (cc e)
-
--- where it begins at one
-pub key_first : (v : Vault) (c : ListVersions) (key : List ℕ) (found : Option (List ℕ)) → found ≡ Some key → found ≡ (if length c.after_key == 0 then None else Some c.after_key) → asked_first v c ≡ asked_at v c key
-key_first v c key found some is = by_length (length c.after_key == 0) (sym some ∙ is)
-  where
-    by_length : (b : Bool) → Some key ≡ (if b then None else Some c.after_key) → (if b then [] else asked_at v c c.after_key) ≡ asked_at v c key
-    by_length true e = absurd (cc e)
-    by_length false e = let same : key ≡ c.after_key = cc e in ap (asked_at v c) (sym same)
 
 -- a key isn't empty
 pub key_named : (key : List ℕ) → is_object_key key ≡ true → (length key == 0) ≡ false
@@ -299,5 +287,5 @@ past_page v mid c page page' after last keys sound ends same whole is at now =
     let parts = past_parts (is_gt (cmp last c.prefix)) (has_prefix c last) ends in
     let over : cmp last c.prefix ≡ Greater = greater last c.prefix parts.0 in
     let named : (length last == 0) ≡ false = named_past last c.prefix over in
-    let goes : GoesOn v c page after page' (Some last) = next_page v mid c page page' after last last keys same whole is at refl named now in
+    let goes : EndsOrAdvances v c page after page' (Some last) = next_page v mid c page page' after last last keys same whole is at refl named now in
     sym (ap (filled c.most page') (none_past v c last (keys_behind v c.bucket last) sound over parts.1 (over_behind last (keys_of v c.bucket) named))) ∙ goes.0

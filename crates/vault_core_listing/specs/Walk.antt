@@ -52,9 +52,9 @@ abbrev pub completed : Vault → ListVersions → Page → List ℕ → Page
 completed v c page after = filled c.most page (flat_map (asked_at v c) (keys_behind v c.bucket after))
 
 -- the walk is done with that page, or goes on behind a key after at least 256 more
-abbrev pub GoesOn : Vault → ListVersions → Page → List ℕ → Page → Option (List ℕ) → Type 0
-GoesOn v c page after page' None = page' ≡ completed v c page after
-GoesOn v c page after page' (Some next) =
+abbrev pub EndsOrAdvances : Vault → ListVersions → Page → List ℕ → Page → Option (List ℕ) → Type 0
+EndsOrAdvances v c page after page' None = page' ≡ completed v c page after
+EndsOrAdvances v c page after page' (Some next) =
     (completed v c page' next ≡ completed v c page after)
     × (length (keys_behind v c.bucket next) + 256 ≤ length (keys_behind v c.bucket after))
 

@@ -1,6 +1,6 @@
 //! Certificates of destruction.
 ghost use Rattle.std.specs.Prelude.{◌≡◌, ◌≤◌, IsTrue, false};
-ghost use Rattle.vault_core_model.specs.Halts.{Finds, Meets, is_device, Rose};
+ghost use Rattle.vault_core_model.specs.Halts.{ChecksAs, AnswersAs, is_device, RoseOrIsFull};
 ghost use Rattle.vault_core_model.specs.Reads.{entry_of};
 ghost use Rattle.vault_core_model.specs.Checks.{check};
 ghost use Rattle.vault_core_model.specs.ListingOutcome as outcome;
@@ -23,10 +23,10 @@ pub fn certificate<K: Keeper>(
     who: &CallerName,
     command: &Certificate,
 ) -> Result<Answer, Halt>
-    ensures meets { K.is_honest keeper.new → Meets result (K.vault keeper.old) (K.vault keeper.new) (outcome.certificate (K.vault keeper.old) at who.now command.now) }
+    ensures meets { K.is_honest keeper.new → AnswersAs result (K.vault keeper.old) (K.vault keeper.new) (outcome.certificate (K.vault keeper.old) at who.now command.now) }
     ensures honest { K.is_honest keeper.new → K.is_honest keeper.old }
     ensures counted { K.count keeper.old ≤ K.count keeper.new }
-    ensures device { IsTrue (is_device result) → Rose (K.count keeper.old) (K.count keeper.new) }
+    ensures device { IsTrue (is_device result) → RoseOrIsFull (K.count keeper.old) (K.count keeper.new) }
     ensures steady { is_device result ≡ false → K.count keeper.new ≡ K.count keeper.old }
 {
     drop(find_access(keeper, at, who, &command.bucket, Right::Report)?);
@@ -38,11 +38,11 @@ pub fn certificate<K: Keeper>(
 
 /// The entry of that id, held or removed, that was ever in that bucket.
 fn find_entry<K: Keeper>(keeper: &mut K, bucket: &BucketName, id: VersionId) -> Result<Entry, Halt>
-    ensures found { K.is_honest keeper.new → Finds result (outcome.entry_in bucket.now (entry_of (K.vault keeper.old) id)) }
+    ensures found { K.is_honest keeper.new → ChecksAs result (outcome.entry_in bucket.now (entry_of (K.vault keeper.old) id)) }
     ensures same { K.vault keeper.new ≡ K.vault keeper.old }
     ensures honest { K.is_honest keeper.new → K.is_honest keeper.old }
     ensures counted { K.count keeper.old ≤ K.count keeper.new }
-    ensures device { IsTrue (is_device result) → Rose (K.count keeper.old) (K.count keeper.new) }
+    ensures device { IsTrue (is_device result) → RoseOrIsFull (K.count keeper.old) (K.count keeper.new) }
     ensures steady { is_device result ≡ false → K.count keeper.new ≡ K.count keeper.old }
 {
     let Some(entry) = keeper.entry(id)? else {
@@ -58,7 +58,7 @@ fn find_entry<K: Keeper>(keeper: &mut K, bucket: &BucketName, id: VersionId) -> 
 
 /// The entry is a removed content version.
 fn check_certifiable(entry: &Entry) -> Result<(), Halt>
-    ensures found { Finds result (check (outcome.is_certifiable entry.now) Refusal.MethodNotAllowed) }
+    ensures found { ChecksAs result (check (outcome.is_certifiable entry.now) Refusal.MethodNotAllowed) }
     ensures device { is_device result ≡ false }
 {
     if entry.marker || entry.removal.is_none() {

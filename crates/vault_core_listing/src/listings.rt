@@ -1,13 +1,13 @@
 //! Listings of a bucket's versions: keys by their bytes, within a key newest first.
-ghost use Rattle.std.specs.Prelude.{◌≡◌, ◌≤◌, ◌&&◌, IsTrue, IfOk, [], Err, Some, if◌then◌else◌, flat_map, false};
-ghost use Rattle.vault_core_model.specs.Halts.{Finds, Meets, is_device, is_device_given, Rose};
+ghost use Rattle.std.specs.Prelude.{◌≡◌, ◌≤◌, ◌&&◌, IsTrue, IfOk, Err, Some, if◌then◌else◌, flat_map, false};
+ghost use Rattle.vault_core_model.specs.Halts.{ChecksAs, AnswersAs, is_device, is_device_given, RoseOrIsFull};
 ghost use Rattle.vault_core_model.specs.Checks.{check};
 ghost use Rattle.vault_core_model.specs.Reads.{entry_of};
 ghost use Rattle.std.specs.Str.{bytes_eq};
 ghost use Rattle.vault_core_model.specs.Places.{is_behind};
 ghost use Rattle.vault_core_model.specs.Sound.{Sound};
 ghost use Rattle.vault_core_model.specs.ListingOutcome as outcome;
-ghost use Rattle.vault_core_listing.specs.Walk.{GoesOn, asked_at, asked_first, completed, filled, grown, has_prefix, is_asked, is_past, page_of};
+ghost use Rattle.vault_core_listing.specs.Walk.{EndsOrAdvances, asked_at, asked_first, completed, filled, grown, has_prefix, is_asked, is_past, page_of};
 
 use std::alloc::Global;
 use vault_base::moment::Moment;
@@ -35,10 +35,10 @@ pub fn list_versions<K: Keeper>(
     who: &CallerName,
     command: &ListVersions,
 ) -> Result<Answer, Halt>
-    ensures meets { K.is_honest keeper.new → Meets result (K.vault keeper.old) (K.vault keeper.new) (outcome.list_versions (K.vault keeper.old) at who.now command.now) }
+    ensures meets { K.is_honest keeper.new → AnswersAs result (K.vault keeper.old) (K.vault keeper.new) (outcome.list_versions (K.vault keeper.old) at who.now command.now) }
     ensures honest { K.is_honest keeper.new → K.is_honest keeper.old }
     ensures counted { K.count keeper.old ≤ K.count keeper.new }
-    ensures device { IsTrue (is_device result) → Rose (K.count keeper.old) (K.count keeper.new) }
+    ensures device { IsTrue (is_device result) → RoseOrIsFull (K.count keeper.old) (K.count keeper.new) }
     ensures steady { is_device result ≡ false → K.count keeper.new ≡ K.count keeper.old }
 {
     drop(find_access(keeper, at, who, &command.bucket, Right::List)?);
@@ -48,7 +48,7 @@ pub fn list_versions<K: Keeper>(
 
 /// A page of a listing has 1 to 1,000 entries.
 fn check_most(most: u32) -> Result<(), Halt>
-    ensures found { Finds result (check (outcome.is_page most) Refusal.InvalidArgument) }
+    ensures found { ChecksAs result (check (outcome.is_page_size most) Refusal.InvalidArgument) }
     ensures device { is_device result ≡ false }
 {
     if most >= 1 && most <= 1000 {
@@ -70,7 +70,7 @@ fn find_page<K: Keeper>(
     ensures same { K.vault keeper.new ≡ K.vault keeper.old }
     ensures honest { K.is_honest keeper.new → K.is_honest keeper.old }
     ensures counted { K.count keeper.old ≤ K.count keeper.new }
-    ensures device { result ≡ Err Fault.Device → Rose (K.count keeper.old) (K.count keeper.new) }
+    ensures device { result ≡ Err Fault.Device → RoseOrIsFull (K.count keeper.old) (K.count keeper.new) }
     ensures steady { is_device_given result ≡ false → K.count keeper.new ≡ K.count keeper.old }
 {
     let mut page = Page {
@@ -93,7 +93,7 @@ fn list_first<K: Keeper>(
     ensures same { K.vault keeper.new ≡ K.vault keeper.old }
     ensures honest { K.is_honest keeper.new → K.is_honest keeper.old }
     ensures counted { K.count keeper.old ≤ K.count keeper.new }
-    ensures device { result ≡ Err Fault.Device → Rose (K.count keeper.old) (K.count keeper.new) }
+    ensures device { result ≡ Err Fault.Device → RoseOrIsFull (K.count keeper.old) (K.count keeper.new) }
     ensures steady { is_device_given result ≡ false → K.count keeper.new ≡ K.count keeper.old }
 {
     if command.after_id.is_none() {
@@ -117,7 +117,7 @@ fn list_behind<K: Keeper>(
     ensures same { K.vault keeper.new ≡ K.vault keeper.old }
     ensures honest { K.is_honest keeper.new → K.is_honest keeper.old }
     ensures counted { K.count keeper.old ≤ K.count keeper.new }
-    ensures device { result ≡ Err Fault.Device → Rose (K.count keeper.old) (K.count keeper.new) }
+    ensures device { result ≡ Err Fault.Device → RoseOrIsFull (K.count keeper.old) (K.count keeper.new) }
     ensures steady { is_device_given result ≡ false → K.count keeper.new ≡ K.count keeper.old }
 {
     let mut after = command.after_key.clone()?;
@@ -138,11 +138,11 @@ fn list_keys_behind<K: Keeper>(
     after: &KeyPrefix,
 ) -> Result<Option<KeyPrefix>, Fault>
     requires { K.is_honest keeper.old → Sound (K.vault keeper.old) }
-    ensures value { K.is_honest keeper.new → IfOk result (λ next. GoesOn (K.vault keeper.old) command.now page.old after.now page.new next) }
+    ensures value { K.is_honest keeper.new → IfOk result (λ next. EndsOrAdvances (K.vault keeper.old) command.now page.old after.now page.new next) }
     ensures same { K.vault keeper.new ≡ K.vault keeper.old }
     ensures honest { K.is_honest keeper.new → K.is_honest keeper.old }
     ensures counted { K.count keeper.old ≤ K.count keeper.new }
-    ensures device { result ≡ Err Fault.Device → Rose (K.count keeper.old) (K.count keeper.new) }
+    ensures device { result ≡ Err Fault.Device → RoseOrIsFull (K.count keeper.old) (K.count keeper.new) }
     ensures steady { is_device_given result ≡ false → K.count keeper.new ≡ K.count keeper.old }
 {
     if page.more {
@@ -171,7 +171,7 @@ fn list_keys<K: Keeper>(
     ensures same { K.vault keeper.new ≡ K.vault keeper.old }
     ensures honest { K.is_honest keeper.new → K.is_honest keeper.old }
     ensures counted { K.count keeper.old ≤ K.count keeper.new }
-    ensures device { result ≡ Err Fault.Device → Rose (K.count keeper.old) (K.count keeper.new) }
+    ensures device { result ≡ Err Fault.Device → RoseOrIsFull (K.count keeper.old) (K.count keeper.new) }
     ensures steady { is_device_given result ≡ false → K.count keeper.new ≡ K.count keeper.old }
 {
     for key in keys {
@@ -192,7 +192,7 @@ fn list_key<K: Keeper>(
     ensures same { K.vault keeper.new ≡ K.vault keeper.old }
     ensures honest { K.is_honest keeper.new → K.is_honest keeper.old }
     ensures counted { K.count keeper.old ≤ K.count keeper.new }
-    ensures device { result ≡ Err Fault.Device → Rose (K.count keeper.old) (K.count keeper.new) }
+    ensures device { result ≡ Err Fault.Device → RoseOrIsFull (K.count keeper.old) (K.count keeper.new) }
     ensures steady { is_device_given result ≡ false → K.count keeper.new ≡ K.count keeper.old }
 {
     if page.more || !has_prefix(command, key) {
@@ -221,7 +221,7 @@ fn list_entry<K: Keeper>(
     ensures same { K.vault keeper.new ≡ K.vault keeper.old }
     ensures honest { K.is_honest keeper.new → K.is_honest keeper.old }
     ensures counted { K.count keeper.old ≤ K.count keeper.new }
-    ensures device { result ≡ Err Fault.Device → Rose (K.count keeper.old) (K.count keeper.new) }
+    ensures device { result ≡ Err Fault.Device → RoseOrIsFull (K.count keeper.old) (K.count keeper.new) }
     ensures steady { is_device_given result ≡ false → K.count keeper.new ≡ K.count keeper.old }
 {
     if page.more || !is_asked(command, key, id) {

@@ -13,7 +13,7 @@ use Rattle.vault_core_model.specs.declared.change.Admission.{Admission}
 use Rattle.vault_core_model.specs.declared.change.Change.{Change}
 use Rattle.vault_core_model.specs.declared.change.Change.TheVariants.{AddDept, AddCaller, CloseCaller, AddBucket, MoveBucket, SetDefault, SetRules, Admit, AddSetting, Remove}
 use Rattle.vault_core_model.specs.Vault.{Vault, has_department, caller_of, config_of, next_id, note_of}
-use Rattle.vault_core_model.specs.Reads.{entry_of, setting_of, count_by}
+use Rattle.vault_core_model.specs.Reads.{entry_of, setting_of, count_of_settings}
 use Rattle.vault_core_model.specs.Checks.{most_ids, most_moves, most_settings, has_period}
 use Rattle.vault_core_model.specs.IntakeOutcome.{is_line}
 use Rattle.vault_core_model.specs.Sound.{IsWhole, IsNoted}
@@ -75,7 +75,7 @@ pub record IsNextSetting (v : Vault) (t id : ℕ) (s : Setting) : Type 0 where
   pub there : entry_of v id ≡ Some entry
   pub held : entry.removal ≡ None
   pub version : entry.marker ≡ false
-  pub fits : count_by (setting_of v id) < most_settings
+  pub fits : count_of_settings (setting_of v id) < most_settings
 
 -- a change that may be made at t: of a record that is there, or whose name is free and whose department is there; a bucket's move; the next entry, one setting more, or the removal of a held entry
 abbrev pub Allows : Vault → ℕ → Change → Type 0

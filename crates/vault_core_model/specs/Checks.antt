@@ -22,7 +22,7 @@ use Rattle.vault_core_model.specs.declared.access.Access.{Access}
 use Rattle.vault_core_model.specs.Rights.{has}
 use Rattle.vault_core_model.specs.Vault.{Vault, caller_of, config_of, has_department, next_id}
 use Rattle.vault_core_model.specs.Places.{is_held_at, current}
-use Rattle.vault_core_model.specs.Reads.{entry_of, setting_of, count_by}
+use Rattle.vault_core_model.specs.Reads.{entry_of, setting_of, count_of_settings}
 use Rattle.vault_core_model.specs.Totals.{admitted_bytes, received_bytes}
 
 -- one check after another: the first that fails is the answer
@@ -202,4 +202,4 @@ most_settings = 1000000000
 
 -- one setting more may be made of the version of that id
 abbrev pub free_setting : Vault → ℕ → Result ⊤ Refusal
-free_setting v id = check (nat_lt (count_by (setting_of v id)) most_settings) VaultFull
+free_setting v id = check (nat_lt (count_of_settings (setting_of v id)) most_settings) VaultFull

@@ -12,19 +12,19 @@ use Rattle.vault_core_model.specs.declared.reply.Stop.{Stop}
 use Rattle.vault_core_model.specs.declared.reply.Stop.TheVariants as stop
 
 -- a fault says nothing of the definition; a refusal is its refusal
-abbrev pub Fails : {X : Type 0} → Halt → Result X Refusal → Type 0
-Fails (halt.Fault f) judged = Unit {0}
-Fails (halt.Refused r) judged = judged ≡ Err r
+abbrev pub HaltsAs : {X : Type 0} → Halt → Result X Refusal → Type 0
+HaltsAs (halt.Fault f) judged = Unit {0}
+HaltsAs (halt.Refused r) judged = judged ≡ Err r
 
 -- what a check gives is what the definition gives, or a fault came
-abbrev pub Finds : {X : Type 0} → Result X Halt → Result X Refusal → Type 0
-Finds (Ok x) judged = judged ≡ Ok x
-Finds (Err e) judged = Fails e judged
+abbrev pub ChecksAs : {X : Type 0} → Result X Halt → Result X Refusal → Type 0
+ChecksAs (Ok x) judged = judged ≡ Ok x
+ChecksAs (Err e) judged = HaltsAs e judged
 
 -- a command answers as the definition does and leaves its vault; else the vault is as before
-abbrev pub Meets : {A V : Type 0} → Result A Halt → V → V → Result (A × V) Refusal → Type 0
-Meets (Ok a) old new judged = judged ≡ Ok (a, new)
-Meets (Err e) old new judged = (new ≡ old) × Fails e judged
+abbrev pub AnswersAs : {A V : Type 0} → Result A Halt → V → V → Result (A × V) Refusal → Type 0
+AnswersAs (Ok a) old new judged = judged ≡ Ok (a, new)
+AnswersAs (Err e) old new judged = (new ≡ old) × HaltsAs e judged
 
 abbrev pub is_device_refusal : Refusal → Bool
 is_device_refusal refusal.Device = true
@@ -64,6 +64,10 @@ is_device_reply (reply.Done a) = false
 is_device_reply (reply.Refused r) = is_device_refusal r
 is_device_reply (reply.Stopped n s) = is_device_stop s
 
+-- 2^64 - 1, the greatest value of a count
+abbrev pub largest_count : ℕ
+largest_count = 18446744073709551615
+
 -- a count of failures rose, or stands at its greatest value
-abbrev pub Rose : ℕ → ℕ → Type 0
-Rose old new = old < 18446744073709551615 → old < new
+abbrev pub RoseOrIsFull : ℕ → ℕ → Type 0
+RoseOrIsFull old new = old < largest_count → old < new

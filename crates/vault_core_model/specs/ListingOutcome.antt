@@ -44,14 +44,14 @@ abbrev pub listed : Vault → History → Listed
 listed v h = record { entry = h.entry; current = is_current v h }
 
 -- a page of a listing has 1 to 1,000 entries
-abbrev pub is_page : ℕ → Bool
-is_page most = nat_le 1 most && nat_le most 1000
+abbrev pub is_page_size : ℕ → Bool
+is_page_size most = nat_le 1 most && nat_le most 1000
 
 -- the first of the held entries that are asked for, and whether there are more (API Reference, "ListObjectVersions")
 abbrev pub list_versions : Vault → ℕ → List ℕ → ListVersions → Result (Answer × Vault) Refusal
 list_versions v t who c = do
   _ ← access v t who c.bucket right.List
-  _ ← check (is_page c.most) InvalidArgument
+  _ ← check (is_page_size c.most) InvalidArgument
   Ok (
     answer.Versions (record {
       entries = map (listed v) (take c.most (asked_for v c));

@@ -35,9 +35,9 @@ abbrev pub change_of : Vault → List ℕ → ℕ → Planned → Change
 change_of v bucket t p = change_at v bucket t p.key p.step
 
 -- the vault after these steps, one after another
-abbrev pub made : Vault → List ℕ → ℕ → List Planned → Vault
-made v bucket t [] = v
-made v bucket t (p ∷ ps) = made (changed v t (change_of v bucket t p)) bucket t ps
+abbrev pub after_steps : Vault → List ℕ → ℕ → List Planned → Vault
+after_steps v bucket t [] = v
+after_steps v bucket t (p ∷ ps) = after_steps (changed v t (change_of v bucket t p)) bucket t ps
 
 -- the steps of each phase at a key, by rising id: the mark over current content that is due, the removals of noncurrent entries that are due and not locked, the removal of a lone marker that is due
 abbrev pub marks_at : Vault → List ℕ → ℕ → List ℕ → List Planned
@@ -51,11 +51,11 @@ lone_at v bucket t key = at_key key (lone_steps (rules_in v bucket) key t (entri
 
 -- the vault after the first phase: a marker for each key whose current entry is due content, in the order of the keys
 abbrev pub after_marks : Vault → List ℕ → ℕ → Vault
-after_marks v bucket t = made v bucket t (flat_map (marks_at v bucket t) (keys_of v bucket))
+after_marks v bucket t = after_steps v bucket t (flat_map (marks_at v bucket t) (keys_of v bucket))
 
 -- the vault after the second: each noncurrent entry that is due and not locked is removed
 abbrev pub after_removals : Vault → List ℕ → ℕ → Vault
-after_removals v bucket t = made v bucket t (flat_map (removals_at v bucket t) (keys_of v bucket))
+after_removals v bucket t = after_steps v bucket t (flat_map (removals_at v bucket t) (keys_of v bucket))
 
 -- the plan, where the vaults after the first and the second phase are known
 abbrev pub plan_over : Vault → Vault → Vault → List ℕ → ℕ → List Planned

@@ -33,9 +33,9 @@ abbrev pub lock_of : Vault → ℕ → Lock
 lock_of v id = lock_by (setting_of v id)
 
 -- how many settings a version has
-abbrev pub count_by : Option LastSetting → ℕ
-count_by None = 0
-count_by (Some s) = s.count
+abbrev pub count_of_settings : Option LastSetting → ℕ
+count_of_settings None = 0
+count_of_settings (Some s) = s.count
 
 -- the tenures of the entry of that id; a marker has none
 abbrev pub tenures_of : Vault → ℕ → List Tenure

@@ -10,7 +10,7 @@ use Rattle.vault_core_model.specs.declared.reply.Stop.TheVariants as stop
 use Rattle.vault_core_model.specs.declared.reply.Reply.{Reply}
 use Rattle.vault_core_model.specs.declared.reply.Reply.TheVariants.{Done, Refused, Stopped}
 use Rattle.vault_core_model.specs.Vault.{Vault}
-use Rattle.vault_core_model.specs.Plan.{plan, made, counts, with_ids}
+use Rattle.vault_core_model.specs.Plan.{plan, after_steps, counts, with_ids}
 use Rattle.vault_core_model.specs.Checks.{◌>>=◌, access}
 
 -- the whole plan of a run that is asked for, or the first check that fails
@@ -21,7 +21,7 @@ planned_run v t who c = do
 
 -- the first n steps of the plan are made, each mark with an id that was left, and the rest isn't
 abbrev pub MakesFirst : ℕ → List Planned → Vault → List ℕ → ℕ → Vault → Type 0
-MakesFirst n ps v bucket t v' = (n ≤ length (with_ids (length v.histories) ps)) × (v' ≡ made v bucket t (take n ps))
+MakesFirst n ps v bucket t v' = (n ≤ length (with_ids (length v.histories) ps)) × (v' ≡ after_steps v bucket t (take n ps))
 
 -- a fault stops a run before any change, also where a check fails; or after the first n changes of its plan
 abbrev pub StopsByFault : Result (List Planned) Refusal → ℕ → Vault → List ℕ → ℕ → Vault → Type 0
@@ -32,7 +32,7 @@ StopsByFault judged n v bucket t v' =
 abbrev pub StopsFull : Result (List Planned) Refusal → ℕ → Vault → List ℕ → ℕ → Vault → Type 0
 StopsFull judged n v bucket t v' =
     (ps : List Planned) × (judged ≡ Ok ps) × (n ≡ length (with_ids (length v.histories) ps)) × (n < length ps)
-    × (v' ≡ made v bucket t (take n ps))
+    × (v' ≡ after_steps v bucket t (take n ps))
 
 abbrev pub Stops : Stop → Result (List Planned) Refusal → ℕ → Vault → List ℕ → ℕ → Vault → Type 0
 Stops stop.Memory = StopsByFault
@@ -43,6 +43,6 @@ Stops stop.VaultFull = StopsFull
 abbrev pub AnswersRun : Result (List Planned) Refusal → Vault → List ℕ → ℕ → Reply → Vault → Type 0
 AnswersRun judged v bucket t (Done a) v' =
     (ps : List Planned) × (judged ≡ Ok ps) × (a ≡ answer.Ran (counts ps))
-    × (with_ids (length v.histories) ps ≡ ps) × (v' ≡ made v bucket t ps)
+    × (with_ids (length v.histories) ps ≡ ps) × (v' ≡ after_steps v bucket t ps)
 AnswersRun judged v bucket t (Refused r) v' = (v' ≡ v) × (judged ≡ Err r)
 AnswersRun judged v bucket t (Stopped n s) v' = Stops s judged n v bucket t v'

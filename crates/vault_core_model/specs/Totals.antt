@@ -1,8 +1,8 @@
 -- The sums of a department, over the tenures that it has of content versions.
-use Rattle.std.specs.Prelude.{ℕ, ◌*◌, ◌-◌, Bool, true, false, not, List, [], ◌∷◌, filter, map, flat_map, Option, Some, None, option_map, sum_by}
+use Rattle.std.specs.Prelude.{ℕ, ◌*◌, ◌-◌, Bool, true, false, not, List, [], ◌∷◌, filter, map, flat_map, Option, Some, option_map, sum_by}
 use Rattle.std.specs.Str.{bytes_eq}
 use Rattle.vault_base.specs.Days.{day}
-use Rattle.vault_tally.specs.Row.{Item, IsRowOf, size_of, if_held, end_day, admitted_size, received_size, held_size, removed_size, handed_size, charge}
+use Rattle.vault_tally.specs.Row.{Item, IsRowOf, end_day, admitted_size, received_size, held_size, removed_size, handed_size, charge}
 use Rattle.vault_tally.specs.declared.row.Row.{Row}
 use Rattle.vault_core_model.specs.declared.records.History.{History}
 use Rattle.vault_core_model.specs.declared.records.Removal.{Removal}

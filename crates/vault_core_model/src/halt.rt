@@ -4,21 +4,26 @@ ghost use Rattle.vault_core_model.specs.declared.halt.Fault.TheVariants as fault
 ghost use Rattle.vault_core_model.specs.declared.halt.Halt.TheVariants as halts;
 
 use std::alloc::{AllocError, AllocFailed};
+use thiserror::Error;
 use vault_base::refusal::Refusal;
 
 /// What keeps a keeper from answering.
-#[derive(Clone, Copy, Debug, PartialEq, Eq)]
+#[derive(Clone, Copy, Debug, PartialEq, Eq, Error)]
 pub enum Fault {
     /// No memory was left for a growth.
+    #[error("out of memory")]
     Memory,
     /// The device failed.
+    #[error("the device failed")]
     Device,
 }
 
 /// Why a command stops short of its answer: a check failed, or a fault came.
-#[derive(Clone, Copy, Debug, PartialEq, Eq)]
+#[derive(Clone, Copy, Debug, PartialEq, Eq, Error)]
 pub enum Halt {
+    #[error(transparent)]
     Fault(Fault),
+    #[error("{}", .0.name())]
     Refused(Refusal),
 }
 

@@ -1,11 +1,11 @@
 //! What keeps a vault.
-ghost use Rattle.std.specs.Prelude.{◌≡◌, ◌≤◌, ◌<◌, ◌+◌, ℕ, List, length, IfOk, OnOk, OnErr, false};
+ghost use Rattle.std.specs.Prelude.{◌≡◌, ◌≤◌, ◌<◌, ℕ, IfOk, OnOk, OnErr, false};
 ghost use Rattle.vault_core_model.specs.Vault.{Vault, caller_of, config_of, has_department, next_id, note_of, rules_of};
 ghost use Rattle.vault_core_model.specs.Reads.{content_of, entries_of, entry_of, head_of, keys_after, removed_entries, setting_of, tenures_of};
 ghost use Rattle.vault_core_model.specs.Change.{changed};
 ghost use Rattle.vault_core_model.specs.Allowed.{Allows};
 ghost use Rattle.vault_core_model.specs.Sound.{Sound};
-ghost use Rattle.vault_core_model.specs.Halts.{is_device_given, Rose};
+ghost use Rattle.vault_core_model.specs.Halts.{is_device_given, RoseOrIsFull};
 ghost use Rattle.vault_core_model.specs.Handing.{Hands, Taking};
 ghost use Rattle.vault_core_model.specs.Totals.{IsRowFor, bucket_bytes, bucket_weight};
 
@@ -58,7 +58,7 @@ pub trait Keeper {
         ensures same { vault self.new ≡ vault self.old }
         ensures honest { is_honest self.new → is_honest self.old }
         ensures counted { count self.old ≤ count self.new }
-        ensures device { result ≡ Err Fault.Device → Rose (count self.old) (count self.new) }
+        ensures device { result ≡ Err Fault.Device → RoseOrIsFull (count self.old) (count self.new) }
         ensures steady { is_device_given result ≡ false → count self.new ≡ count self.old };
 
     /// The id that the next entry gets.
@@ -67,7 +67,7 @@ pub trait Keeper {
         ensures same { vault self.new ≡ vault self.old }
         ensures honest { is_honest self.new → is_honest self.old }
         ensures counted { count self.old ≤ count self.new }
-        ensures device { result ≡ Err Fault.Device → Rose (count self.old) (count self.new) }
+        ensures device { result ≡ Err Fault.Device → RoseOrIsFull (count self.old) (count self.new) }
         ensures steady { is_device_given result ≡ false → count self.new ≡ count self.old };
 
     /// The caller of that name, open or closed.
@@ -76,7 +76,7 @@ pub trait Keeper {
         ensures same { vault self.new ≡ vault self.old }
         ensures honest { is_honest self.new → is_honest self.old }
         ensures counted { count self.old ≤ count self.new }
-        ensures device { result ≡ Err Fault.Device → Rose (count self.old) (count self.new) }
+        ensures device { result ≡ Err Fault.Device → RoseOrIsFull (count self.old) (count self.new) }
         ensures steady { is_device_given result ≡ false → count self.new ≡ count self.old };
 
     /// Whether there is such a department.
@@ -85,7 +85,7 @@ pub trait Keeper {
         ensures same { vault self.new ≡ vault self.old }
         ensures honest { is_honest self.new → is_honest self.old }
         ensures counted { count self.old ≤ count self.new }
-        ensures device { result ≡ Err Fault.Device → Rose (count self.old) (count self.new) }
+        ensures device { result ≡ Err Fault.Device → RoseOrIsFull (count self.old) (count self.new) }
         ensures steady { is_device_given result ≡ false → count self.new ≡ count self.old };
 
     /// The department and the default retention of a bucket.
@@ -94,7 +94,7 @@ pub trait Keeper {
         ensures same { vault self.new ≡ vault self.old }
         ensures honest { is_honest self.new → is_honest self.old }
         ensures counted { count self.old ≤ count self.new }
-        ensures device { result ≡ Err Fault.Device → Rose (count self.old) (count self.new) }
+        ensures device { result ≡ Err Fault.Device → RoseOrIsFull (count self.old) (count self.new) }
         ensures steady { is_device_given result ≡ false → count self.new ≡ count self.old };
 
     /// The lifecycle rules of a bucket; none where it has none.
@@ -103,7 +103,7 @@ pub trait Keeper {
         ensures same { vault self.new ≡ vault self.old }
         ensures honest { is_honest self.new → is_honest self.old }
         ensures counted { count self.old ≤ count self.new }
-        ensures device { result ≡ Err Fault.Device → Rose (count self.old) (count self.new) }
+        ensures device { result ≡ Err Fault.Device → RoseOrIsFull (count self.old) (count self.new) }
         ensures steady { is_device_given result ≡ false → count self.new ≡ count self.old };
 
     /// The newest held entry of a key and how many are held; none where none is.
@@ -112,7 +112,7 @@ pub trait Keeper {
         ensures same { vault self.new ≡ vault self.old }
         ensures honest { is_honest self.new → is_honest self.old }
         ensures counted { count self.old ≤ count self.new }
-        ensures device { result ≡ Err Fault.Device → Rose (count self.old) (count self.new) }
+        ensures device { result ≡ Err Fault.Device → RoseOrIsFull (count self.old) (count self.new) }
         ensures steady { is_device_given result ≡ false → count self.new ≡ count self.old };
 
     /// The held entries of a key, oldest first.
@@ -121,7 +121,7 @@ pub trait Keeper {
         ensures same { vault self.new ≡ vault self.old }
         ensures honest { is_honest self.new → is_honest self.old }
         ensures counted { count self.old ≤ count self.new }
-        ensures device { result ≡ Err Fault.Device → Rose (count self.old) (count self.new) }
+        ensures device { result ≡ Err Fault.Device → RoseOrIsFull (count self.old) (count self.new) }
         ensures steady { is_device_given result ≡ false → count self.new ≡ count self.old };
 
     /// The entry of an id, held or removed.
@@ -130,7 +130,7 @@ pub trait Keeper {
         ensures same { vault self.new ≡ vault self.old }
         ensures honest { is_honest self.new → is_honest self.old }
         ensures counted { count self.old ≤ count self.new }
-        ensures device { result ≡ Err Fault.Device → Rose (count self.old) (count self.new) }
+        ensures device { result ≡ Err Fault.Device → RoseOrIsFull (count self.old) (count self.new) }
         ensures steady { is_device_given result ≡ false → count self.new ≡ count self.old };
 
     /// The last setting of a version, and how many it has; a marker has none.
@@ -139,7 +139,7 @@ pub trait Keeper {
         ensures same { vault self.new ≡ vault self.old }
         ensures honest { is_honest self.new → is_honest self.old }
         ensures counted { count self.old ≤ count self.new }
-        ensures device { result ≡ Err Fault.Device → Rose (count self.old) (count self.new) }
+        ensures device { result ≡ Err Fault.Device → RoseOrIsFull (count self.old) (count self.new) }
         ensures steady { is_device_given result ≡ false → count self.new ≡ count self.old };
 
     /// The bytes of a held version.
@@ -148,7 +148,7 @@ pub trait Keeper {
         ensures same { vault self.new ≡ vault self.old }
         ensures honest { is_honest self.new → is_honest self.old }
         ensures counted { count self.old ≤ count self.new }
-        ensures device { result ≡ Err Fault.Device → Rose (count self.old) (count self.new) }
+        ensures device { result ≡ Err Fault.Device → RoseOrIsFull (count self.old) (count self.new) }
         ensures steady { is_device_given result ≡ false → count self.new ≡ count self.old };
 
     /// The first of the bucket's keys behind `after` that have a held entry, by their bytes: at most `most`.
@@ -162,7 +162,7 @@ pub trait Keeper {
         ensures same { vault self.new ≡ vault self.old }
         ensures honest { is_honest self.new → is_honest self.old }
         ensures counted { count self.old ≤ count self.new }
-        ensures device { result ≡ Err Fault.Device → Rose (count self.old) (count self.new) }
+        ensures device { result ≡ Err Fault.Device → RoseOrIsFull (count self.old) (count self.new) }
         ensures steady { is_device_given result ≡ false → count self.new ≡ count self.old };
 
     /// The note of an accepted line of an intake batch.
@@ -176,7 +176,7 @@ pub trait Keeper {
         ensures same { vault self.new ≡ vault self.old }
         ensures honest { is_honest self.new → is_honest self.old }
         ensures counted { count self.old ≤ count self.new }
-        ensures device { result ≡ Err Fault.Device → Rose (count self.old) (count self.new) }
+        ensures device { result ≡ Err Fault.Device → RoseOrIsFull (count self.old) (count self.new) }
         ensures steady { is_device_given result ≡ false → count self.new ≡ count self.old };
 
     /// Hands on each removed entry by rising id: true after all of them, false where the sink refused.
@@ -185,7 +185,7 @@ pub trait Keeper {
         ensures same { vault self.new ≡ vault self.old }
         ensures honest { is_honest self.new → is_honest self.old }
         ensures counted { count self.old ≤ count self.new }
-        ensures device { result ≡ Err Fault.Device → Rose (count self.old) (count self.new) }
+        ensures device { result ≡ Err Fault.Device → RoseOrIsFull (count self.old) (count self.new) }
         ensures steady { is_device_given result ≡ false → count self.new ≡ count self.old };
 
     /// How many moves of buckets were made.
@@ -194,7 +194,7 @@ pub trait Keeper {
         ensures same { vault self.new ≡ vault self.old }
         ensures honest { is_honest self.new → is_honest self.old }
         ensures counted { count self.old ≤ count self.new }
-        ensures device { result ≡ Err Fault.Device → Rose (count self.old) (count self.new) }
+        ensures device { result ≡ Err Fault.Device → RoseOrIsFull (count self.old) (count self.new) }
         ensures steady { is_device_given result ≡ false → count self.new ≡ count self.old };
 
     /// The tenures of an entry, oldest first; a marker has none.
@@ -203,7 +203,7 @@ pub trait Keeper {
         ensures same { vault self.new ≡ vault self.old }
         ensures honest { is_honest self.new → is_honest self.old }
         ensures counted { count self.old ≤ count self.new }
-        ensures device { result ≡ Err Fault.Device → Rose (count self.old) (count self.new) }
+        ensures device { result ≡ Err Fault.Device → RoseOrIsFull (count self.old) (count self.new) }
         ensures steady { is_device_given result ≡ false → count self.new ≡ count self.old };
 
     /// The bytes of a bucket's held content, and their weight: each byte times the day from which the
@@ -213,7 +213,7 @@ pub trait Keeper {
         ensures same { vault self.new ≡ vault self.old }
         ensures honest { is_honest self.new → is_honest self.old }
         ensures counted { count self.old ≤ count self.new }
-        ensures device { result ≡ Err Fault.Device → Rose (count self.old) (count self.new) }
+        ensures device { result ≡ Err Fault.Device → RoseOrIsFull (count self.old) (count self.new) }
         ensures steady { is_device_given result ≡ false → count self.new ≡ count self.old };
 
     /// The sums of a department.
@@ -222,7 +222,7 @@ pub trait Keeper {
         ensures same { vault self.new ≡ vault self.old }
         ensures honest { is_honest self.new → is_honest self.old }
         ensures counted { count self.old ≤ count self.new }
-        ensures device { result ≡ Err Fault.Device → Rose (count self.old) (count self.new) }
+        ensures device { result ≡ Err Fault.Device → RoseOrIsFull (count self.old) (count self.new) }
         ensures steady { is_device_given result ≡ false → count self.new ≡ count self.old };
 
     /// Makes a change at a moment, which becomes the last one; or changes nothing.
@@ -233,7 +233,7 @@ pub trait Keeper {
         ensures err { OnErr result (vault self.new ≡ vault self.old) }
         ensures honest { is_honest self.new → is_honest self.old }
         ensures counted { count self.old ≤ count self.new }
-        ensures device { result ≡ Err Fault.Device → Rose (count self.old) (count self.new) }
+        ensures device { result ≡ Err Fault.Device → RoseOrIsFull (count self.old) (count self.new) }
         ensures steady { is_device_given result ≡ false → count self.new ≡ count self.old };
 }
 
@@ -247,7 +247,7 @@ pub fn make_change<K: Keeper>(keeper: &mut K, at: Moment, change: Change) -> Res
     ensures err { OnErr result (K.vault keeper.new ≡ K.vault keeper.old) }
     ensures honest { K.is_honest keeper.new → K.is_honest keeper.old }
     ensures counted { K.count keeper.old ≤ K.count keeper.new }
-    ensures device { result ≡ Err Fault.Device → Rose (K.count keeper.old) (K.count keeper.new) }
+    ensures device { result ≡ Err Fault.Device → RoseOrIsFull (K.count keeper.old) (K.count keeper.new) }
     ensures steady { is_device_given result ≡ false → K.count keeper.new ≡ K.count keeper.old }
 {
     keeper.apply(at, &change)

@@ -1,6 +1,6 @@
 //! A bucket that moves to another department.
 ghost use Rattle.std.specs.Prelude.{◌≡◌, ◌≤◌, IsTrue, IfOk, OnOk, Some, false};
-ghost use Rattle.vault_core_model.specs.Halts.{Finds, Meets, is_device, Rose};
+ghost use Rattle.vault_core_model.specs.Halts.{ChecksAs, AnswersAs, is_device, RoseOrIsFull};
 ghost use Rattle.vault_core_model.specs.Vault.{config_of};
 ghost use Rattle.vault_core_model.specs.RecordOutcomes as outcome;
 
@@ -25,10 +25,10 @@ pub fn move_bucket<K: Keeper>(
     who: &CallerName,
     command: &MoveBucket,
 ) -> Result<Answer, Halt>
-    ensures meets { K.is_honest keeper.new → Meets result (K.vault keeper.old) (K.vault keeper.new) (outcome.move_bucket (K.vault keeper.old) at who.now command.now) }
+    ensures meets { K.is_honest keeper.new → AnswersAs result (K.vault keeper.old) (K.vault keeper.new) (outcome.move_bucket (K.vault keeper.old) at who.now command.now) }
     ensures honest { K.is_honest keeper.new → K.is_honest keeper.old }
     ensures counted { K.count keeper.old ≤ K.count keeper.new }
-    ensures device { IsTrue (is_device result) → Rose (K.count keeper.old) (K.count keeper.new) }
+    ensures device { IsTrue (is_device result) → RoseOrIsFull (K.count keeper.old) (K.count keeper.new) }
     ensures steady { is_device result ≡ false → K.count keeper.new ≡ K.count keeper.old }
 {
     let bucket = find_bucket(keeper, at, who, command)?;
@@ -52,13 +52,13 @@ fn find_bucket<K: Keeper>(
     who: &CallerName,
     command: &MoveBucket,
 ) -> Result<BucketConfig, Halt>
-    ensures found { K.is_honest keeper.new → Finds result (outcome.bucket_to_move (K.vault keeper.old) at who.now command.now) }
+    ensures found { K.is_honest keeper.new → ChecksAs result (outcome.bucket_to_move (K.vault keeper.old) at who.now command.now) }
     ensures in_time { K.is_honest keeper.new → OnOk result ((K.vault keeper.old).last ≤ at) }
     ensures there { K.is_honest keeper.new → IfOk result (λ bucket. config_of (K.vault keeper.old) command.now.bucket ≡ Some bucket) }
     ensures same { K.vault keeper.new ≡ K.vault keeper.old }
     ensures honest { K.is_honest keeper.new → K.is_honest keeper.old }
     ensures counted { K.count keeper.old ≤ K.count keeper.new }
-    ensures device { IsTrue (is_device result) → Rose (K.count keeper.old) (K.count keeper.new) }
+    ensures device { IsTrue (is_device result) → RoseOrIsFull (K.count keeper.old) (K.count keeper.new) }
     ensures steady { is_device result ≡ false → K.count keeper.new ≡ K.count keeper.old }
 {
     let caller = find_caller(keeper, at, who)?;

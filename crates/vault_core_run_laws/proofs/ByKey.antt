@@ -8,16 +8,16 @@ use Rattle.vault_rules.specs.KeyPlan.{Planned, at_key, mark_steps, removal_steps
 use Rattle.vault_rules.specs.Walk.{mark_step}
 use Rattle.vault_rules_laws.specs.Histories as plain
 use Rattle.vault_rules_laws.specs.BucketPlan as plain_plan
-use Rattle.vault_rules_laws.specs.BucketLaws.{IsIn, IsChronicle, are_rules}
+use Rattle.vault_rules_laws.specs.BucketLaws.{IsIn, AreOrderly, are_rules}
 use Rattle.vault_rules_laws.proofs.KeySteps.{marked_with}
 use Rattle.vault_rules_laws.proofs.KeyByKey.{IsAway, apart, flip_eq, flat_map-in, marks_away, mark_of, marks_are, after_first, key_by_key}
 use Rattle.vault_rules_laws.proofs.OnePlan.{is_in_or_out}
 use Rattle.vault_core_model.specs.Vault.{Vault, bucket_in}
 use Rattle.vault_core_model.specs.Places.{keys_of}
 use Rattle.vault_core_model.specs.Reads.{entries_of}
-use Rattle.vault_core_model.specs.Plan.{plan, made, rules_in, marks_at, removals_at, lone_at, after_marks, after_removals}
+use Rattle.vault_core_model.specs.Plan.{plan, after_steps, rules_in, marks_at, removals_at, lone_at, after_marks, after_removals}
 use Rattle.vault_core_run_laws.specs.KeyRuns.{plan_at, plans_at}
-use Rattle.vault_core_run_laws.proofs.Plain.{plains, entries_of-plain, made-plain, buckets_stay}
+use Rattle.vault_core_run_laws.proofs.Plain.{plains, entries_of-plain, after_steps-plain, buckets_stay}
 use Rattle.vault_core_run_laws.proofs.Keys.{HasAny, keys_rise, one_list, held_key, key_held}
 
 -- what isn't among keys is away from them
@@ -38,7 +38,7 @@ any_marked m t (Some r) [] a = absurd a
 any_marked m t (Some r) (x ∷ xs) a = tt
 
 module _ (b : List ℕ) (t : ℕ) where
-  pub rules_stay : (v : Vault) (ps : List Planned) → rules_in (made v b t ps) b ≡ rules_in v b
+  pub rules_stay : (v : Vault) (ps : List Planned) → rules_in (after_steps v b t ps) b ≡ rules_in v b
   rules_stay v ps = ap (λ bs. unwrap_or (option_and_then (λ x. x.rules) (bucket_in bs b)) []) (buckets_stay v b t ps)
 
   -- the steps of a phase go by the rules and by what a run looks at
@@ -64,13 +64,13 @@ module _ (b : List ℕ) (t : ℕ) where
 
   first_plain : (v : Vault) → plains (after_marks v b t) ≡ plain_plan.after_marks (rules_in v b) b t (keys_of v b) (plains v)
   first_plain v =
-      made-plain v b t (flat_map (marks_at v b t) (keys_of v b))
-      ∙ ap (plain.made_all b t (plains v)) (flat_map-in (marks_at v b t) (plain_plan.marks_at (rules_in v b) b t (plains v)) (keys_of v b) (λ k i. marks_same v k))
+      after_steps-plain v b t (flat_map (marks_at v b t) (keys_of v b))
+      ∙ ap (plain.histories_after_steps b t (plains v)) (flat_map-in (marks_at v b t) (plain_plan.marks_at (rules_in v b) b t (plains v)) (keys_of v b) (λ k i. marks_same v k))
 
   first_entries : (v : Vault) (k : List ℕ) → entries_of (after_marks v b t) b k ≡ plain.entries b k (plain_plan.after_marks (rules_in v b) b t (keys_of v b) (plains v))
   first_entries v k = sym (entries_of-plain (after_marks v b t) b k) ∙ ap (plain.entries b k) (first_plain v)
 
-  module _ (v : Vault) (ok : IsTrue (are_rules (rules_in v b))) (c : IsChronicle 1 0 t (plains v)) where
+  module _ (v : Vault) (ok : IsTrue (are_rules (rules_in v b))) (c : AreOrderly 1 0 t (plains v)) where
     in_first : (k : List ℕ) → IsIn k (keys_of v b) → (m : ℕ) × (entries_of (after_marks v b t) b k ≡ marked_with m t (mark_of (rules_in v b) b t ok (plains v) k) (entries_of v b k))
     in_first k i =
         let h = after_first (rules_in v b) b t ok (plains v) (keys_of v b) k c (apart (keys_of v b) (keys_rise v b)) i in
@@ -81,7 +81,7 @@ module _ (b : List ℕ) (t : ℕ) where
         let o = mark_of (rules_in v b) b t ok (plains v) in
         let e = flat_map-in (plain_plan.marks_at (rules_in v b) b t (plains v)) (λ j. at_key j (mark_step (o j))) (keys_of v b) (λ j i. ap (at_key j) (marks_are (rules_in v b) b t ok (plains v) j c)) in
         first_entries v k
-        ∙ (ap (λ ps. plain.entries b k (plain.made_all b t (plains v) ps)) e
+        ∙ (ap (λ ps. plain.entries b k (plain.histories_after_steps b t (plains v) ps)) e
         ∙ (marks_away b t o k (plains v) (keys_of v b) (away_out k (keys_of v b) n)
         ∙ entries_of-plain v b k))
 
@@ -107,10 +107,10 @@ module _ (b : List ℕ) (t : ℕ) where
         let v1 = after_marks v b t in
         let hs = plain_plan.after_marks (rules_in v b) b t (keys_of v b) (plains v) in
         let rs = rules_stay v (flat_map (marks_at v b t) (keys_of v b)) in
-        made-plain v1 b t (flat_map (removals_at v1 b t) (keys_of v1 b))
-        ∙ (ap (λ ks. plain.made_all b t (plains v1) (flat_map (removals_at v1 b t) ks)) same_keys
-        ∙ (ap (plain.made_all b t (plains v1)) (flat_map-in (removals_at v1 b t) (plain_plan.removals_at (rules_in v b) b t hs) (keys_of v b) (λ k i. removals_same v1 (rules_in v b) hs rs (first_plain v) k))
-        ∙ ap (λ gs. plain.made_all b t gs (flat_map (plain_plan.removals_at (rules_in v b) b t hs) (keys_of v b))) (first_plain v)))
+        after_steps-plain v1 b t (flat_map (removals_at v1 b t) (keys_of v1 b))
+        ∙ (ap (λ ks. plain.histories_after_steps b t (plains v1) (flat_map (removals_at v1 b t) ks)) same_keys
+        ∙ (ap (plain.histories_after_steps b t (plains v1)) (flat_map-in (removals_at v1 b t) (plain_plan.removals_at (rules_in v b) b t hs) (keys_of v b) (λ k i. removals_same v1 (rules_in v b) hs rs (first_plain v) k))
+        ∙ ap (λ gs. plain.histories_after_steps b t gs (flat_map (plain_plan.removals_at (rules_in v b) b t hs) (keys_of v b))) (first_plain v)))
 
     pub plan_plain : plan v b t ≡ plain_plan.plan (rules_in v b) b t (keys_of v b) (plains v)
     plan_plain =

@@ -59,9 +59,9 @@ since_same (g ∷ gs) rise = rw (first_is_least g gs rise) refl
 pub places_agree : PlacesAgree
 places_agree v h sound =
     let all = beside v h in
-    let above : key.newer all (held_of h) ≡ map held_of (newer v h) = newer_same h.entry.id (held_at v h.entry.bucket h.entry.key) in
-    let count : length (key.newer all (held_of h)) ≡ length (newer v h) = ap length above ∙ length-map (newer v h) held_of in
-    let rise : IsTrue (key.ids_rise (key.newer all (held_of h))) = kept_rise (λ y. nat_lt h.entry.id y.id) all (entries_rise v h.entry.bucket h.entry.key sound) in
+    let above : key.newer_among all (held_of h) ≡ map held_of (newer v h) = newer_same h.entry.id (held_at v h.entry.bucket h.entry.key) in
+    let count : length (key.newer_among all (held_of h)) ≡ length (newer v h) = ap length above ∙ length-map (newer v h) held_of in
+    let rise : IsTrue (key.ids_rise (key.newer_among all (held_of h))) = kept_rise (λ y. nat_lt h.entry.id y.id) all (entries_rise v h.entry.bucket h.entry.key sound) in
     record {
       above = above;
       on_top = ap (λ n. is_held h.entry && (n == 0)) (sym count);

@@ -17,7 +17,7 @@ use Rattle.vault_core_model.specs.Places.{is_held, is_held_at}
 use Rattle.vault_core_model.specs.Reads.{held_of, entries_of}
 use Rattle.vault_core_model.specs.Change.{changed, removed_if, removed_by}
 use Rattle.vault_core_model.specs.Sound.{AreIdsFrom, AreInOrder}
-use Rattle.vault_core_model.specs.Plan.{change_at, change_of, made}
+use Rattle.vault_core_model.specs.Plan.{change_at, change_of, after_steps}
 
 abbrev pub plain_of : History → plain.History
 plain_of h = record {
@@ -71,36 +71,36 @@ entries_of-plain v b k = entries-same b k v.histories
 
 -- ---- the vault after steps
 
-removed-plain : (id : ℕ) (r : Removal) (h : History) → plain_of (removed_if id r h) ≡ plain.removed_by id (plain_of h)
+removed-plain : (id : ℕ) (r : Removal) (h : History) → plain_of (removed_if id r h) ≡ plain.gone_if id (plain_of h)
 removed-plain id r h = cases (h.entry.id == id)
   where
     cases : (c : Bool) → plain_of (if c then removed_by r h else h) ≡ (if c then record (plain_of h) { removed = true } else plain_of h)
     cases true = refl
     cases false = refl
 
-removals-plain : (id : ℕ) (r : Removal) (hs : List History) → map plain_of (map (removed_if id r) hs) ≡ map (plain.removed_by id) (map plain_of hs)
+removals-plain : (id : ℕ) (r : Removal) (hs : List History) → map plain_of (map (removed_if id r) hs) ≡ map (plain.gone_if id) (map plain_of hs)
 removals-plain id r [] = refl
 removals-plain id r (h ∷ hs) =
     ap (λ g. g ∷ map plain_of (map (removed_if id r) hs)) (removed-plain id r h)
-    ∙ ap (λ gs. plain.removed_by id (plain_of h) ∷ gs) (removals-plain id r hs)
+    ∙ ap (λ gs. plain.gone_if id (plain_of h) ∷ gs) (removals-plain id r hs)
 
-made_at-plain : (v : Vault) (b : List ℕ) (t : ℕ) (k : List ℕ) (s : Step) → plains (changed v t (change_at v b t k s)) ≡ plain.made_at b t k (plains v) s
-made_at-plain v b t k (Mark r) =
+histories_after_step_at-plain : (v : Vault) (b : List ℕ) (t : ℕ) (k : List ℕ) (s : Step) → plains (changed v t (change_at v b t k s)) ≡ plain.histories_after_step_at b t k (plains v) s
+histories_after_step_at-plain v b t k (Mark r) =
     map-append plain_of v.histories _ ∙ ap (λ n. plains v ++ plain.new_marker (n + 1) b k t ∷ []) (sym (length-map v.histories plain_of))
-made_at-plain v b t k (Remove id r) = removals-plain id _ v.histories
-made_at-plain v b t k (RemoveLone id r) = removals-plain id _ v.histories
+histories_after_step_at-plain v b t k (Remove id r) = removals-plain id _ v.histories
+histories_after_step_at-plain v b t k (RemoveLone id r) = removals-plain id _ v.histories
 
-pub made_one-plain : (v : Vault) (b : List ℕ) (t : ℕ) (p : Planned) → plains (changed v t (change_of v b t p)) ≡ plain.made b t (plains v) p
-made_one-plain v b t p = made_at-plain v b t p.key p.step
+pub histories_after_step-plain : (v : Vault) (b : List ℕ) (t : ℕ) (p : Planned) → plains (changed v t (change_of v b t p)) ≡ plain.histories_after_step b t (plains v) p
+histories_after_step-plain v b t p = histories_after_step_at-plain v b t p.key p.step
 
-pub made-plain : (v : Vault) (b : List ℕ) (t : ℕ) (ps : List Planned) → plains (made v b t ps) ≡ plain.made_all b t (plains v) ps
-made-plain v b t [] = refl
-made-plain v b t (p ∷ ps) =
-    made-plain (changed v t (change_of v b t p)) b t ps ∙ ap (λ hs. plain.made_all b t hs ps) (made_one-plain v b t p)
+pub after_steps-plain : (v : Vault) (b : List ℕ) (t : ℕ) (ps : List Planned) → plains (after_steps v b t ps) ≡ plain.histories_after_steps b t (plains v) ps
+after_steps-plain v b t [] = refl
+after_steps-plain v b t (p ∷ ps) =
+    after_steps-plain (changed v t (change_of v b t p)) b t ps ∙ ap (λ hs. plain.histories_after_steps b t hs ps) (histories_after_step-plain v b t p)
 
-pub made-append : (v : Vault) (b : List ℕ) (t : ℕ) (ps qs : List Planned) → made v b t (ps ++ qs) ≡ made (made v b t ps) b t qs
-made-append v b t [] qs = refl
-made-append v b t (p ∷ ps) qs = made-append (changed v t (change_of v b t p)) b t ps qs
+pub after_steps-append : (v : Vault) (b : List ℕ) (t : ℕ) (ps qs : List Planned) → after_steps v b t (ps ++ qs) ≡ after_steps (after_steps v b t ps) b t qs
+after_steps-append v b t [] qs = refl
+after_steps-append v b t (p ∷ ps) qs = after_steps-append (changed v t (change_of v b t p)) b t ps qs
 
 -- ---- the buckets stay
 
@@ -109,7 +109,7 @@ buckets_at v b t k (Mark r) = refl
 buckets_at v b t k (Remove id r) = refl
 buckets_at v b t k (RemoveLone id r) = refl
 
-pub buckets_stay : (v : Vault) (b : List ℕ) (t : ℕ) (ps : List Planned) → (made v b t ps).buckets ≡ v.buckets
+pub buckets_stay : (v : Vault) (b : List ℕ) (t : ℕ) (ps : List Planned) → (after_steps v b t ps).buckets ≡ v.buckets
 buckets_stay v b t [] = refl
 buckets_stay v b t (p ∷ ps) = buckets_stay (changed v t (change_of v b t p)) b t ps ∙ buckets_at v b t p.key p.step
 
@@ -123,6 +123,6 @@ last_is v b t p = last_at v b t p.key p.step
 
 -- ---- the order of admission
 
-pub chronicle_of : (n from t : ℕ) (hs : List History) → AreIdsFrom n hs → AreInOrder from t hs → plain_laws.IsChronicle n from t (map plain_of hs)
-chronicle_of n from t [] ids order = order
-chronicle_of n from t (h ∷ hs) ids order = (ids.0, order.0, chronicle_of (n + 1) h.entry.admitted t hs ids.1 order.1)
+pub orderly_of : (n from t : ℕ) (hs : List History) → AreIdsFrom n hs → AreInOrder from t hs → plain_laws.AreOrderly n from t (map plain_of hs)
+orderly_of n from t [] ids order = order
+orderly_of n from t (h ∷ hs) ids order = (ids.0, order.0, orderly_of (n + 1) h.entry.admitted t hs ids.1 order.1)

@@ -6,7 +6,7 @@ use Rattle.vault_base.specs.declared.refusal.Refusal.{Refusal}
 use Rattle.vault_rules.specs.KeyPlan.{Planned}
 use Rattle.vault_rules_laws.specs.BucketLaws as plain_laws
 use Rattle.vault_rules_laws.specs.BucketLaws.{IsPlan}
-use Rattle.vault_rules_laws.proofs.Entries.{chronicle_made_all}
+use Rattle.vault_rules_laws.proofs.Entries.{orderly_after_steps}
 use Rattle.vault_rules_laws.proofs.BucketRepeat.{repeats}
 use Rattle.vault_rules_laws.proofs.OnePlan.{unique}
 use Rattle.vault_core_model.specs.declared.records.History.{History}
@@ -22,51 +22,51 @@ use Rattle.vault_core_model.specs.Vault.{Vault}
 use Rattle.vault_core_model.specs.Places.{keys_of}
 use Rattle.vault_core_model.specs.Checks.{◌>>=◌, most_ids}
 use Rattle.vault_core_model.specs.Sound.{AreIdsFrom, AreInOrder}
-use Rattle.vault_core_model.specs.Plan.{plan, made, counts, rules_in, with_ids, is_mark}
+use Rattle.vault_core_model.specs.Plan.{plan, after_steps, counts, rules_in, with_ids, is_mark}
 use Rattle.vault_core_model.specs.RunOutcome.{planned_run, StopsByFault, MakesFirst}
-use Rattle.vault_core_model.specs.Step.{Step, Run}
-use Rattle.vault_core_run_laws.specs.Repeats.{IsChronicle, VaultPlansRepeat, IsCut, AreCut, changes_told, runs_by, IsBegun, CutRunsAddUp, IsCompleted, RunsRepeat}
-use Rattle.vault_core_run_laws.proofs.Plain.{plain_of, plains, made-plain, made-append, chronicle_of}
+use Rattle.vault_core_model.specs.Step.{IsStep, IsRun}
+use Rattle.vault_core_run_laws.specs.Repeats.{IsOrderly, VaultPlansRepeat, IsCut, AreCut, changes_told, runs_by, IsBegun, CutRunsAddUp, IsCompleted, RunsRepeat}
+use Rattle.vault_core_run_laws.proofs.Plain.{plain_of, plains, after_steps-plain, after_steps-append, orderly_of}
 use Rattle.vault_core_run_laws.proofs.Keys.{keys_rise, covers}
 use Rattle.vault_core_run_laws.proofs.ByKey.{plan_plain, rules_stay}
 
 -- ---- the plan is a plan of what a run looks at
 
-plain_chronicle : (v : Vault) (b : List ℕ) (t : ℕ) → IsChronicle v b t → plain_laws.IsChronicle 1 0 t (plains v)
-plain_chronicle v b t c = chronicle_of 1 0 t v.histories c.ids c.order
+plain_orderly : (v : Vault) (b : List ℕ) (t : ℕ) → IsOrderly v b t → plain_laws.AreOrderly 1 0 t (plains v)
+plain_orderly v b t c = orderly_of 1 0 t v.histories c.ids c.order
 
-ids_back : (n from t : ℕ) (hs : List History) → plain_laws.IsChronicle n from t (map plain_of hs) → AreIdsFrom n hs
+ids_back : (n from t : ℕ) (hs : List History) → plain_laws.AreOrderly n from t (map plain_of hs) → AreIdsFrom n hs
 ids_back n from t [] c = tt
 ids_back n from t (h ∷ hs) c = (c.0, ids_back (n + 1) h.entry.admitted t hs c.2)
 
-order_back : (n from t : ℕ) (hs : List History) → plain_laws.IsChronicle n from t (map plain_of hs) → AreInOrder from t hs
+order_back : (n from t : ℕ) (hs : List History) → plain_laws.AreOrderly n from t (map plain_of hs) → AreInOrder from t hs
 order_back n from t [] c = c
 order_back n from t (h ∷ hs) c = (c.1, order_back (n + 1) h.entry.admitted t hs c.2)
 
-is_plan : (v : Vault) (b : List ℕ) (t : ℕ) → IsChronicle v b t → IsPlan (rules_in v b) b t (plains v) (plan v b t)
+is_plan : (v : Vault) (b : List ℕ) (t : ℕ) → IsOrderly v b t → IsPlan (rules_in v b) b t (plains v) (plan v b t)
 is_plan v b t c = record {
   keys = keys_of v b;
   rising = keys_rise v b;
   covers = covers v b;
-  steps = plan_plain b t v c.rules (plain_chronicle v b t c);
+  steps = plan_plain b t v c.rules (plain_orderly v b t c);
 }
 
-chronicle_stays : (v : Vault) (b : List ℕ) (t : ℕ) (ps : List Planned) → IsChronicle v b t → IsChronicle (made v b t ps) b t
-chronicle_stays v b t ps c =
-    let p : plain_laws.IsChronicle 1 0 t (plains (made v b t ps)) = subst (plain_laws.IsChronicle 1 0 t) (sym (made-plain v b t ps)) (chronicle_made_all b t (plains v) ps (plain_chronicle v b t c)) in record {
-      ids = ids_back 1 0 t (made v b t ps).histories p;
-      order = order_back 1 0 t (made v b t ps).histories p;
+orderly_stays : (v : Vault) (b : List ℕ) (t : ℕ) (ps : List Planned) → IsOrderly v b t → IsOrderly (after_steps v b t ps) b t
+orderly_stays v b t ps c =
+    let p : plain_laws.AreOrderly 1 0 t (plains (after_steps v b t ps)) = subst (plain_laws.AreOrderly 1 0 t) (sym (after_steps-plain v b t ps)) (orderly_after_steps b t (plains v) ps (plain_orderly v b t c)) in record {
+      ids = ids_back 1 0 t (after_steps v b t ps).histories p;
+      order = order_back 1 0 t (after_steps v b t ps).histories p;
       rules = subst (λ rs. IsTrue (plain_laws.are_rules rs)) (sym (rules_stay b t v ps)) c.rules;
     }
 
 pub vault_plans_repeat : VaultPlansRepeat
 vault_plans_repeat v b t n c =
     let ps = plan v b t in
-    let v1 = made v b t (take n ps) in
-    let c1 = chronicle_stays v b t (take n ps) c in
-    let rest : IsPlan (rules_in v b) b t (plains v1) (drop n ps) = subst (λ hs. IsPlan (rules_in v b) b t hs (drop n ps)) (sym (made-plain v b t (take n ps))) (repeats (rules_in v b) b t c.rules n (plains v) ps (plain_chronicle v b t c) (is_plan v b t c)) in
+    let v1 = after_steps v b t (take n ps) in
+    let c1 = orderly_stays v b t (take n ps) c in
+    let rest : IsPlan (rules_in v b) b t (plains v1) (drop n ps) = subst (λ hs. IsPlan (rules_in v b) b t hs (drop n ps)) (sym (after_steps-plain v b t (take n ps))) (repeats (rules_in v b) b t c.rules n (plains v) ps (plain_orderly v b t c) (is_plan v b t c)) in
     let now : IsPlan (rules_in v b) b t (plains v1) (plan v1 b t) = subst (λ rs. IsPlan rs b t (plains v1) (plan v1 b t)) (rules_stay b t v (take n ps)) (is_plan v1 b t c1) in
-    unique (rules_in v b) b t c.rules (plains v1) (plan v1 b t) (drop n ps) (plain_chronicle v1 b t c1) now rest
+    unique (rules_in v b) b t c.rules (plains v1) (plan v1 b t) (drop n ps) (plain_orderly v1 b t c1) now rest
 
 -- ---- runs that were cut
 
@@ -92,13 +92,13 @@ module _ (b : List ℕ) (t : ℕ) where
   -- what a cut run has made
   record HasMade (v mid : Vault) (n : ℕ) : Type 0 where
     within : n ≤ length (plan v b t)
-    left : mid ≡ made v b t (take n (plan v b t))
+    left : mid ≡ after_steps v b t (take n (plan v b t))
 
   makes_first : (v mid : Vault) (who : List ℕ) (n : ℕ) (ps : List Planned) → planned_run v t who run_over ≡ Ok ps → MakesFirst n ps v b t mid → HasMade v mid n
   makes_first v mid who n ps e m =
       let same : ps ≡ plan v b t = planned _ (plan v b t) ps e in record {
         within = subst (λ qs. n ≤ length qs) same (omega (arith, m.0, ids_shorten (length v.histories) ps));
-        left = m.1 ∙ ap (λ qs. made v b t (take n qs)) same;
+        left = m.1 ∙ ap (λ qs. after_steps v b t (take n qs)) same;
       }
 
   stops : (v mid : Vault) (who : List ℕ) (n : ℕ) → StopsByFault (planned_run v t who run_over) n v b t mid → HasMade v mid n
@@ -108,7 +108,7 @@ module _ (b : List ℕ) (t : ℕ) where
       (λ (h : (ps : List Planned) × (planned_run v t who run_over ≡ Ok ps) × MakesFirst n ps v b t mid). makes_first v mid who n h.0 h.1 h.2)
       s
 
-  cut_made : (v mid : Vault) (who : List ℕ) (r : Reply) → IsCut r → Step v t who (command.Run run_over) r mid → HasMade v mid (changes_told r)
+  cut_made : (v mid : Vault) (who : List ℕ) (r : Reply) → IsCut r → IsStep v t who (command.Run run_over) r mid → HasMade v mid (changes_told r)
   cut_made v mid who (Done a) cut step = absurd cut
   cut_made v mid who (Refused r) cut step = absurd cut
   cut_made v mid who (Stopped n stop.Memory) cut step = stops v mid who n step
@@ -118,99 +118,99 @@ module _ (b : List ℕ) (t : ℕ) where
   -- what some cut runs have made together
   record HaveMade (v cut : Vault) (n : ℕ) : Type 0 where
     within : n ≤ length (plan v b t)
-    left : cut ≡ made v b t (take n (plan v b t))
+    left : cut ≡ after_steps v b t (take n (plan v b t))
     rest : plan cut b t ≡ drop n (plan v b t)
-    chronicle : IsChronicle cut b t
+    orderly : IsOrderly cut b t
 
-  one_after_another : (v mid cut : Vault) (n m : ℕ) → IsChronicle v b t → HaveMade v mid n → HasMade mid cut m → HaveMade v cut (n + m)
-  one_after_another v mid cut n m chron first later =
+  one_after_another : (v mid cut : Vault) (n m : ℕ) → IsOrderly v b t → HaveMade v mid n → HasMade mid cut m → HaveMade v cut (n + m)
+  one_after_another v mid cut n m ordered first later =
       let ps = plan v b t in
-      let rest : plan cut b t ≡ drop m (plan mid b t) = ap (λ w. plan w b t) later.left ∙ vault_plans_repeat mid b t m first.chronicle in record {
+      let rest : plan cut b t ≡ drop m (plan mid b t) = ap (λ w. plan w b t) later.left ∙ vault_plans_repeat mid b t m first.orderly in record {
         within = omega (arith, first.within, later.within, ap length first.rest, length-drop n ps);
         left =
             later.left
-            ∙ (ap (λ qs. made mid b t (take m qs)) first.rest
-            ∙ (ap (λ w. made w b t (take m (drop n ps))) first.left
-            ∙ (sym (made-append v b t (take n ps) (take m (drop n ps)))
-            ∙ ap (made v b t) (sym (take-add n m ps)))));
+            ∙ (ap (λ qs. after_steps mid b t (take m qs)) first.rest
+            ∙ (ap (λ w. after_steps w b t (take m (drop n ps))) first.left
+            ∙ (sym (after_steps-append v b t (take n ps) (take m (drop n ps)))
+            ∙ ap (after_steps v b t) (sym (take-add n m ps)))));
         rest = rest ∙ (ap (drop m) first.rest ∙ drop-drop m n ps);
-        chronicle = subst (λ w. IsChronicle w b t) (sym later.left) (chronicle_stays mid b t (take m (plan mid b t)) first.chronicle);
+        orderly = subst (λ w. IsOrderly w b t) (sym later.left) (orderly_stays mid b t (take m (plan mid b t)) first.orderly);
       }
 
   -- a run that is done has made the whole plan
   record HasRun (v v' : Vault) (a : Answer) : Type 0 where
     answer : a ≡ Ran (counts (plan v b t))
-    left : v' ≡ made v b t (plan v b t)
+    left : v' ≡ after_steps v b t (plan v b t)
 
-  done_run : (v v' : Vault) (who : List ℕ) (a : Answer) → Step v t who (command.Run run_over) (Done a) v' → HasRun v v' a
+  done_run : (v v' : Vault) (who : List ℕ) (a : Answer) → IsStep v t who (command.Run run_over) (Done a) v' → HasRun v v' a
   done_run v v' who a step =
       let same : step.0 ≡ plan v b t = planned _ (plan v b t) step.0 step.1 in record {
         answer = step.2 ∙ ap (λ ps. Ran (counts ps)) same;
-        left = step.4 ∙ ap (made v b t) same;
+        left = step.4 ∙ ap (after_steps v b t) same;
       }
 
   -- the whole plan is made where its first part was and then the rest
-  whole : (v cut v' : Vault) (n : ℕ) (last : Answer) → HaveMade v cut n → HasRun cut v' last → v' ≡ made v b t (plan v b t)
+  whole : (v cut v' : Vault) (n : ℕ) (last : Answer) → HaveMade v cut n → HasRun cut v' last → v' ≡ after_steps v b t (plan v b t)
   whole v cut v' n last h d =
       let ps = plan v b t in
       d.left
-      ∙ (ap (made cut b t) h.rest
-      ∙ (ap (λ w. made w b t (drop n ps)) h.left
-      ∙ (sym (made-append v b t (take n ps) (drop n ps))
-      ∙ ap (made v b t) (take-append-drop n ps))))
+      ∙ (ap (after_steps cut b t) h.rest
+      ∙ (ap (λ w. after_steps w b t (drop n ps)) h.left
+      ∙ (sym (after_steps-append v b t (take n ps) (drop n ps))
+      ∙ ap (after_steps v b t) (take-append-drop n ps))))
 
   -- then nothing is planned
-  nothing_left : (v v' : Vault) → IsChronicle v b t → v' ≡ made v b t (plan v b t) → plan v' b t ≡ []
-  nothing_left v v' chron e =
+  nothing_left : (v v' : Vault) → IsOrderly v b t → v' ≡ after_steps v b t (plan v b t) → plan v' b t ≡ []
+  nothing_left v v' ordered e =
       let ps = plan v b t in
-      let all : made v b t (take (length ps) ps) ≡ made v b t ps = ap (made v b t) (take_all (length ps) ps (omega arith)) in
-      ap (λ w. plan w b t) (e ∙ sym all) ∙ (vault_plans_repeat v b t (length ps) chron ∙ drop_all (length ps) ps (omega arith))
+      let all : after_steps v b t (take (length ps) ps) ≡ after_steps v b t ps = ap (after_steps v b t) (take_all (length ps) ps (omega arith)) in
+      ap (λ w. plan w b t) (e ∙ sym all) ∙ (vault_plans_repeat v b t (length ps) ordered ∙ drop_all (length ps) ps (omega arith))
 
-  completed : (v cut v' : Vault) (n : ℕ) (last : Answer) → IsChronicle v b t → HaveMade v cut n → HasRun cut v' last → IsCompleted v v' b t (n + changes_told (Done last))
-  completed v cut v' n last chron h d =
+  completed : (v cut v' : Vault) (n : ℕ) (last : Answer) → IsOrderly v b t → HaveMade v cut n → HasRun cut v' last → IsCompleted v v' b t (n + changes_told (Done last))
+  completed v cut v' n last ordered h d =
       let unbroken = whole v cut v' n last h d in
-      let none = nothing_left v v' chron unbroken in
+      let none = nothing_left v v' ordered unbroken in
       let changes : changes_told (Done last) ≡ length (plan cut b t) = ap (λ a. changes_told (Done a)) d.answer in record {
         unbroken = unbroken;
         changes = omega (arith, changes, ap length h.rest, length-drop n (plan v b t), h.within);
         idle = λ who a v'' step.
             let again = done_run v' v'' who a step in
-            (again.answer ∙ ap (λ qs. Ran (counts qs)) none, again.left ∙ ap (made v' b t) none);
+            (again.answer ∙ ap (λ qs. Ran (counts qs)) none, again.left ∙ ap (after_steps v' b t) none);
       }
 
-  none_made : (v : Vault) → IsChronicle v b t → HaveMade v v 0
-  none_made v chron = record { within = omega arith; left = refl; rest = refl; chronicle = chron }
+  none_made : (v : Vault) → IsOrderly v b t → HaveMade v v 0
+  none_made v ordered = record { within = omega arith; left = refl; rest = refl; orderly = ordered }
 
   -- where the runs before made so much of the first vault's plan
-  cut_runs : (first v v' : Vault) (n : ℕ) (callers : List (List ℕ)) (cut : List Reply) → IsChronicle first b t → HaveMade first v n → AreCut cut
-      → Run v (runs_by b t callers) cut v' → HaveMade first v' (n + sum_by changes_told cut)
-  cut_runs first v v' n [] [] chron h cuts run = subst (λ w. HaveMade first w (n + 0)) (sym run) (subst (HaveMade first v) (omega arith) h)
-  cut_runs first v v' n [] (r ∷ cut) chron h cuts run = absurd run
-  cut_runs first v v' n (who ∷ callers) [] chron h cuts run = absurd run
-  cut_runs first v v' n (who ∷ callers) (r ∷ cut) chron h cuts run =
-      let more = one_after_another first v run.0 n (changes_told r) chron h (cut_made v run.0 who r cuts.0 run.1) in
+  cut_runs : (first v v' : Vault) (n : ℕ) (callers : List (List ℕ)) (cut : List Reply) → IsOrderly first b t → HaveMade first v n → AreCut cut
+      → IsRun v (runs_by b t callers) cut v' → HaveMade first v' (n + sum_by changes_told cut)
+  cut_runs first v v' n [] [] ordered h cuts run = subst (λ w. HaveMade first w (n + 0)) (sym run) (subst (HaveMade first v) (omega arith) h)
+  cut_runs first v v' n [] (r ∷ cut) ordered h cuts run = absurd run
+  cut_runs first v v' n (who ∷ callers) [] ordered h cuts run = absurd run
+  cut_runs first v v' n (who ∷ callers) (r ∷ cut) ordered h cuts run =
+      let more = one_after_another first v run.0 n (changes_told r) ordered h (cut_made v run.0 who r cuts.0 run.1) in
       subst (HaveMade first v') (omega (arith, sum_by-cons changes_told r cut))
-      (cut_runs first run.0 v' (n + changes_told r) callers cut chron more cuts.1 run.2)
+      (cut_runs first run.0 v' (n + changes_told r) callers cut ordered more cuts.1 run.2)
 
-  all_runs : (first v v' : Vault) (n : ℕ) (callers : List (List ℕ)) (cut : List Reply) (last : Answer) → IsChronicle first b t → HaveMade first v n → AreCut cut
-      → Run v (runs_by b t callers) (cut ++ Done last ∷ []) v'
+  all_runs : (first v v' : Vault) (n : ℕ) (callers : List (List ℕ)) (cut : List Reply) (last : Answer) → IsOrderly first b t → HaveMade first v n → AreCut cut
+      → IsRun v (runs_by b t callers) (cut ++ Done last ∷ []) v'
       → IsCompleted first v' b t (n + sum_by changes_told (cut ++ Done last ∷ []))
-  all_runs first v v' n [] [] last chron h cuts run = absurd run
-  all_runs first v v' n [] (r ∷ cut) last chron h cuts run = absurd run
-  all_runs first v v' n (who ∷ []) [] last chron h cuts run =
+  all_runs first v v' n [] [] last ordered h cuts run = absurd run
+  all_runs first v v' n [] (r ∷ cut) last ordered h cuts run = absurd run
+  all_runs first v v' n (who ∷ []) [] last ordered h cuts run =
       let d : HasRun v v' last = subst (λ w. HasRun v w last) (sym run.2) (done_run v run.0 who last run.1) in
-      subst (IsCompleted first v' b t) (omega (arith, sum_by-cons changes_told (Done last) [])) (completed first v v' n last chron h d)
-  all_runs first v v' n (who ∷ other ∷ callers) [] last chron h cuts run = absurd run.2
-  all_runs first v v' n (who ∷ callers) (r ∷ cut) last chron h cuts run =
-      let more = one_after_another first v run.0 n (changes_told r) chron h (cut_made v run.0 who r cuts.0 run.1) in
+      subst (IsCompleted first v' b t) (omega (arith, sum_by-cons changes_told (Done last) [])) (completed first v v' n last ordered h d)
+  all_runs first v v' n (who ∷ other ∷ callers) [] last ordered h cuts run = absurd run.2
+  all_runs first v v' n (who ∷ callers) (r ∷ cut) last ordered h cuts run =
+      let more = one_after_another first v run.0 n (changes_told r) ordered h (cut_made v run.0 who r cuts.0 run.1) in
       subst (IsCompleted first v' b t) (omega (arith, sum_by-cons changes_told r (cut ++ Done last ∷ [])))
-      (all_runs first run.0 v' (n + changes_told r) callers cut last chron more cuts.1 run.2)
+      (all_runs first run.0 v' (n + changes_told r) callers cut last ordered more cuts.1 run.2)
 
 pub cut_runs_add_up : CutRunsAddUp
-cut_runs_add_up v v' b t callers cut chron cuts run =
-    let h = cut_runs b t v v v' 0 callers cut chron (none_made b t v chron) cuts run in
+cut_runs_add_up v v' b t callers cut ordered cuts run =
+    let h = cut_runs b t v v v' 0 callers cut ordered (none_made b t v ordered) cuts run in
     subst (IsBegun v v' b t) (omega arith) (record { within = h.within; left = h.left; rest = h.rest })
 
 pub runs_repeat : RunsRepeat
-runs_repeat v v' b t callers cut last chron cuts run =
-    subst (IsCompleted v v' b t) (omega arith) (all_runs b t v v v' 0 callers cut last chron (none_made b t v chron) cuts run)
+runs_repeat v v' b t callers cut last ordered cuts run =
+    subst (IsCompleted v v' b t) (omega arith) (all_runs b t v v v' 0 callers cut last ordered (none_made b t v ordered) cuts run)

@@ -7,33 +7,33 @@ use Rattle.vault_rules.specs.declared.rule.Rule.{Rule}
 use Rattle.vault_rules.specs.KeyPlan.{Planned, at_key, key_plan}
 use Rattle.vault_rules_laws.specs.Histories as plain
 use Rattle.vault_rules_laws.specs.BucketPlan.{key_plans}
-use Rattle.vault_rules_laws.specs.BucketLaws.{IsIn, IsUnder, IsRising, IsChronicle, are_rules}
+use Rattle.vault_rules_laws.specs.BucketLaws.{IsIn, IsUnder, IsRising, AreOrderly, are_rules}
 use Rattle.vault_rules.proofs.KeyRepeat.{IsInOrder, rises}
 use Rattle.vault_rules_laws.proofs.KeyByKey.{IsApart, IsAway, apart, flip_eq, away_in}
-use Rattle.vault_rules_laws.proofs.Entries.{chronicle_made, entries-away, order_entries}
+use Rattle.vault_rules_laws.proofs.Entries.{orderly_after_step, entries-away, order_entries}
 use Rattle.vault_rules_laws.proofs.OnePlan.{irreflexive, under_in}
 use Rattle.vault_rules_laws.proofs.BucketRepeat.{first_of, step_of, one_step}
 use Rattle.vault_core_model.specs.Vault.{Vault, config_in}
 use Rattle.vault_core_model.specs.Places.{keys_of, is_behind}
 use Rattle.vault_core_model.specs.Reads.{entries_of}
 use Rattle.vault_core_model.specs.Change.{changed}
-use Rattle.vault_core_model.specs.Plan.{made, change_of, rules_in, is_mark}
+use Rattle.vault_core_model.specs.Plan.{after_steps, change_of, rules_in, is_mark}
 use Rattle.vault_core_run_laws.specs.KeyRuns.{MayRun, plan_at, plans_at, HaveIds, last_key}
 use Rattle.vault_core_run_laws.specs.RunLaws.{VaultPlansAreKeyByKey, KeysRise, EntriesRise, RunsGoOn, NextStepsAreAllowed, KeyRunsGoOn, KeyStepsAreAllowed, OtherKeysStay, LaterKeysAreOthers, PagesGoOn}
-use Rattle.vault_core_run_laws.proofs.Plain.{plains, entries_of-plain, made-plain, buckets_stay, chronicle_of}
+use Rattle.vault_core_run_laws.proofs.Plain.{plains, entries_of-plain, after_steps-plain, buckets_stay, orderly_of}
 use Rattle.vault_core_run_laws.proofs.Keys.{HasAny, keys_rise, one_list, under_each, later_others, held_key, key_held, turn, turn_back}
 use Rattle.vault_core_run_laws.proofs.ByKey.{away_out, by_key, plans_plain, rules_stay}
-use Rattle.vault_core_run_laws.proofs.Steps.{chronicle, changes_in, changes_few, count_first, first_allowed, stepped, taken, has_id}
+use Rattle.vault_core_run_laws.proofs.Steps.{orderly, changes_in, changes_few, count_first, first_allowed, stepped, taken, has_id}
 
 pub plans_are_key_by_key : VaultPlansAreKeyByKey
-plans_are_key_by_key v b t may = by_key b t v may.rules (chronicle v b t may)
+plans_are_key_by_key v b t may = by_key b t v may.rules (orderly v b t may)
 
 pub bucket_keys_rise : KeysRise
 bucket_keys_rise = keys_rise
 
 pub entries_rise : EntriesRise
 entries_rise v b k sound =
-    let c : IsChronicle 1 0 v.last (plains v) = chronicle_of 1 0 v.last v.histories sound.ids sound.order in
+    let c : AreOrderly 1 0 v.last (plains v) = orderly_of 1 0 v.last v.histories sound.ids sound.order in
     rises (entries_of v b k) (subst IsInOrder (entries_of-plain v b k) (order_entries b k 1 0 v.last (plains v) c))
 
 pub later_keys_are_others : LaterKeysAreOthers
@@ -47,7 +47,7 @@ record HasGone (v : Vault) (b : List ℕ) (t : ℕ) (ks : List (List ℕ)) (ps q
   ids : length v1.histories ≡ length v.histories + count_by (λ p. is_mark p.step) ps
   counted : length ps + changes_in v.histories ≤ changes_in v1.histories
 
-go : (v : Vault) (b : List ℕ) (t : ℕ) (ks : List (List ℕ)) (ps qs : List Planned) → MayRun v b t → IsRising ks → plans_at v b t ks ≡ ps ++ qs → HaveIds v ps → HasGone v b t ks ps qs (made v b t ps)
+go : (v : Vault) (b : List ℕ) (t : ℕ) (ks : List (List ℕ)) (ps qs : List Planned) → MayRun v b t → IsRising ks → plans_at v b t ks ≡ ps ++ qs → HaveIds v ps → HasGone v b t ks ps qs (after_steps v b t ps)
 go v b t ks [] qs may rising e ids = record { may = may; rest = e; ids = omega arith; counted = omega arith }
 go v b t ks (p ∷ ps) qs may rising e ids =
     let i = has_id v b t ks may rising p ps ids in
@@ -68,13 +68,13 @@ runs_go_on v b t ks ps qs may rising e ids =
       rules = rules_stay b t v ps;
       config = ap (λ bs. config_in bs b) (buckets_stay v b t ps);
       ids = h.ids;
-      few = omega (arith, h.counted, changes_few (made v b t ps).histories, h.may.sound.enough_ids);
+      few = omega (arith, h.counted, changes_few (after_steps v b t ps).histories, h.may.sound.enough_ids);
     }
 
 pub next_steps_are_allowed : NextStepsAreAllowed
 next_steps_are_allowed v b t ks ps qs p may rising e ids few =
     let h = go v b t ks ps (p ∷ qs) may rising e ids in
-    first_allowed (made v b t ps) b t ks h.may rising p qs h.rest few
+    first_allowed (after_steps v b t ps) b t ks h.may rising p qs h.rest few
 
 -- ---- within a key
 
@@ -91,29 +91,21 @@ key_steps_are_allowed v b t k ss rest s may e ids few =
 -- ---- the other keys
 
 module _ (rules : List Rule) (b : List ℕ) (t : ℕ) (ok : IsTrue (are_rules rules)) (ks : List (List ℕ)) (are_apart : IsApart ks) (k : List ℕ) (out : IsAway k ks) where
-  stay : (ps qs : List Planned) (hs : List plain.History) → IsChronicle 1 0 t hs → key_plans rules b t ks hs ≡ ps ++ qs → plain.entries b k (plain.made_all b t hs ps) ≡ plain.entries b k hs
+  stay : (ps qs : List Planned) (hs : List plain.History) → AreOrderly 1 0 t hs → key_plans rules b t ks hs ≡ ps ++ qs → plain.entries b k (plain.histories_after_steps b t hs ps) ≡ plain.entries b k hs
   stay [] qs hs c e = refl
   stay (p ∷ ps) qs hs c e =
       let f = first_of rules b t ok hs ks p (ps ++ qs) e in
-      stay ps qs (plain.made b t hs p) (chronicle_made b t hs p c) (one_step rules b t ok hs ks p (ps ++ qs) are_apart c e)
+      stay ps qs (plain.histories_after_step b t hs p) (orderly_after_step b t hs p c) (one_step rules b t ok hs ks p (ps ++ qs) are_apart c e)
       ∙ entries-away b p.key k t hs p.step c (flip_eq p.key k (away_in k p.key ks out f.among)) (step_of rules b t ok hs ks p c f)
 
 pub other_keys_stay : OtherKeysStay
 other_keys_stay v b t ks ps qs k may rising e ids out =
-    sym (entries_of-plain (made v b t ps) b k)
-    ∙ (ap (plain.entries b k) (made-plain v b t ps)
-    ∙ (stay (rules_in v b) b t may.rules ks (apart ks rising) k (away_out k ks out) ps qs (plains v) (chronicle v b t may) (sym (plans_plain b t v ks) ∙ e)
+    sym (entries_of-plain (after_steps v b t ps) b k)
+    ∙ (ap (plain.entries b k) (after_steps-plain v b t ps)
+    ∙ (stay (rules_in v b) b t may.rules ks (apart ks rising) k (away_out k ks out) ps qs (plains v) (orderly v b t may) (sym (plans_plain b t v ks) ∙ e)
     ∙ entries_of-plain v b k))
 
 -- ---- pages
-
-pub plans-append : (v : Vault) (b : List ℕ) (t : ℕ) (ks js : List (List ℕ)) → plans_at v b t (ks ++ js) ≡ plans_at v b t ks ++ plans_at v b t js
-plans-append v b t [] js = refl
-plans-append v b t (k ∷ ks) js = ap (λ l. plan_at v b t k ++ l) (plans-append v b t ks js) ∙ sym (assoc (plan_at v b t k) (plans_at v b t ks) (plans_at v b t js))
-  where
-    assoc : (xs ys zs : List Planned) → (xs ++ ys) ++ zs ≡ xs ++ (ys ++ zs)
-    assoc [] ys zs = refl
-    assoc (x ∷ xs) ys zs = ap (λ l. x ∷ l) (assoc xs ys zs)
 
 nat_list_irreflexive : (a x : List ℕ) → slice_cmp nat_cmp a x ≡ Less → slice_cmp nat_cmp x a ≡ Less → ⊥
 nat_list_irreflexive a x l m = irreflexive a (nat_list_cmp_total.trans a x a l m)
@@ -210,17 +202,17 @@ module _ (v : Vault) (b : List ℕ) (t : ℕ) (done rest : List (List ℕ)) (may
   all_rise : IsRising (done ++ rest)
   all_rise = subst IsRising e (keys_rise v b)
 
-  as_before : (x : List ℕ) → (IsIn x done → ⊥) → entries_of (made v b t (plans_at v b t done)) b x ≡ entries_of v b x
+  as_before : (x : List ℕ) → (IsIn x done → ⊥) → entries_of (after_steps v b t (plans_at v b t done)) b x ≡ entries_of v b x
   as_before x n = other_keys_stay v b t done (plans_at v b t done) [] x may (rising_left done rest all_rise) (sym (append-nil (plans_at v b t done))) ids n
 
   -- the keys behind the last that is done are the rest, by what is among them
   page_by : (a : List ℕ) → ((x : List ℕ) → is_behind x a ≡ true → IsIn x done → ⊥) → ((x : List ℕ) → IsIn x rest → is_behind x a ≡ true)
-      → filter (λ k. is_behind k a) (keys_of (made v b t (plans_at v b t done)) b) ≡ rest
+      → filter (λ k. is_behind k a) (keys_of (after_steps v b t (plans_at v b t done)) b) ≡ rest
   page_by a later behind =
       one_list (filter (λ k. is_behind k a) (keys_of v1 b)) rest (filter_rises (λ k. is_behind k a) (keys_of v1 b) (keys_rise v1 b)) (rising_right done rest all_rise) into out
     where
       v1 : Vault
-      v1 = made v b t (plans_at v b t done)
+      v1 = after_steps v b t (plans_at v b t done)
 
       into : (x : List ℕ) → IsIn x (filter (λ k. is_behind k a) (keys_of v1 b)) → IsIn x rest
       into x i =

@@ -10,7 +10,7 @@ use Rattle.vault_rules.specs.declared.plan.Step.TheVariants.{Mark, Remove, Remov
 use Rattle.vault_rules.specs.KeyPlan.{Planned}
 use Rattle.vault_rules.proofs.Truth.{less_of_test}
 use Rattle.vault_rules_laws.specs.BucketPlan.{key_plans}
-use Rattle.vault_rules_laws.specs.BucketLaws.{IsRising, IsChronicle, are_rules}
+use Rattle.vault_rules_laws.specs.BucketLaws.{IsRising, AreOrderly, are_rules}
 use Rattle.vault_rules_laws.proofs.KeySteps.{HasId, IsStepOf}
 use Rattle.vault_rules_laws.proofs.KeyByKey.{apart}
 use Rattle.vault_rules_laws.proofs.Entries.{put_if}
@@ -30,12 +30,12 @@ use Rattle.vault_core_model.specs.Plan.{change_at, change_of, rules_in, is_mark,
 use Rattle.vault_core_laws.proofs.Soundness.{AreInOrder-later, Sound-changed}
 use Rattle.vault_core_laws.proofs.Newest.{finds_itself}
 use Rattle.vault_core_run_laws.specs.KeyRuns.{MayRun, plans_at, HaveIds}
-use Rattle.vault_core_run_laws.proofs.Plain.{plains, entries_in, entries_in-cons, entries_of-plain, made_one-plain, buckets_stay, last_is, chronicle_of}
+use Rattle.vault_core_run_laws.proofs.Plain.{plains, entries_in, entries_in-cons, entries_of-plain, histories_after_step-plain, buckets_stay, last_is, orderly_of}
 use Rattle.vault_core_run_laws.proofs.Keys.{all_three}
 use Rattle.vault_core_run_laws.proofs.ByKey.{plans_plain, rules_stay}
 
-pub chronicle : (v : Vault) (b : List ℕ) (t : ℕ) → MayRun v b t → IsChronicle 1 0 t (plains v)
-chronicle v b t may = chronicle_of 1 0 t v.histories may.sound.ids (AreInOrder-later 0 v.last t v.histories may.in_time may.sound.order)
+pub orderly : (v : Vault) (b : List ℕ) (t : ℕ) → MayRun v b t → AreOrderly 1 0 t (plains v)
+orderly v b t may = orderly_of 1 0 t v.histories may.sound.ids (AreInOrder-later 0 v.last t v.histories may.in_time may.sound.order)
 
 -- ---- what a step removes is held
 
@@ -204,7 +204,7 @@ module _ (v : Vault) (b : List ℕ) (t : ℕ) (ks : List (List ℕ)) (may : MayR
 
   is_step : (p : Planned) (ps : List Planned) → plans_at v b t ks ≡ p ∷ ps → IsStepOf (entries_of v b p.key) p.step
   is_step p ps e =
-      let c = chronicle v b t may in
+      let c = orderly v b t may in
       let f = first_of (rules_in v b) b t may.rules (plains v) ks p ps (steps_plain (p ∷ ps) e) in
       subst (λ es. IsStepOf es p.step) (entries_of-plain v b p.key) (step_of (rules_in v b) b t may.rules (plains v) ks p c f)
 
@@ -225,8 +225,8 @@ module _ (v : Vault) (b : List ℕ) (t : ℕ) (ks : List (List ℕ)) (may : MayR
         rest =
             plans_plain b t v' ks
             ∙ (ap (λ rs. key_plans rs b t ks (plains v')) (rules_stay b t v (p ∷ []))
-            ∙ (ap (key_plans (rules_in v b) b t ks) (made_one-plain v b t p)
-            ∙ one_step (rules_in v b) b t may.rules (plains v) ks p ps (apart ks rising) (chronicle v b t may) (steps_plain (p ∷ ps) e)));
+            ∙ (ap (key_plans (rules_in v b) b t ks) (histories_after_step-plain v b t p)
+            ∙ one_step (rules_in v b) b t may.rules (plains v) ks p ps (apart ks rising) (orderly v b t may) (steps_plain (p ∷ ps) e)));
         counted = step_counts v b t p.key p.step (is_step p ps e);
       }
 

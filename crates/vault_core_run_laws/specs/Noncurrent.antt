@@ -36,8 +36,8 @@ beside v h = entries_of v h.entry.bucket h.entry.key
 
 -- what a run finds of h in the list of its key is what the vault's histories tell
 pub record LooksTheSame (v : Vault) (h : History) : Type 0 where
-  pub above : key.newer (beside v h) (held_of h) ≡ map held_of (newer v h)
-  pub on_top : is_current v h ≡ (is_held h.entry && key.is_current (beside v h) (held_of h))
+  pub above : key.newer_among (beside v h) (held_of h) ≡ map held_of (newer v h)
+  pub on_top : is_current v h ≡ (is_held h.entry && key.is_current_among (beside v h) (held_of h))
   pub moment : key.since (beside v h) (held_of h) ≡ since v h
   pub place : key.rank (beside v h) (held_of h) ≡ rank v h
 

@@ -11,11 +11,11 @@ use Rattle.vault_core_model.specs.declared.reply.Reply.TheVariants.{Done, Refuse
 use Rattle.vault_core_model.specs.declared.reply.Stop.TheVariants as stop
 use Rattle.vault_core_model.specs.Vault.{Vault}
 use Rattle.vault_core_model.specs.Sound.{AreIdsFrom, AreInOrder}
-use Rattle.vault_core_model.specs.Plan.{plan, made, rules_in}
-use Rattle.vault_core_model.specs.Step.{Step, Run}
+use Rattle.vault_core_model.specs.Plan.{plan, after_steps, rules_in}
+use Rattle.vault_core_model.specs.Step.{IsStep, IsRun}
 
 -- ids are 1, 2, 3 .., no admission goes back or is after t, and the bucket has no rules or a list that it may have
-pub record IsChronicle (v : Vault) (bucket : List ℕ) (t : ℕ) : Type 0 where
+pub record IsOrderly (v : Vault) (bucket : List ℕ) (t : ℕ) : Type 0 where
   pub ids : AreIdsFrom 1 v.histories
   pub order : AreInOrder 0 t v.histories
   pub rules : IsTrue (are_rules (rules_in v bucket))
@@ -23,8 +23,8 @@ pub record IsChronicle (v : Vault) (bucket : List ℕ) (t : ℕ) : Type 0 where
 -- after the first n changes of the plan, the rest is the plan
 abbrev pub VaultPlansRepeat : Type 0
 VaultPlansRepeat =
-    (v : Vault) (bucket : List ℕ) (t n : ℕ) → IsChronicle v bucket t
-    → plan (made v bucket t (take n (plan v bucket t))) bucket t ≡ drop n (plan v bucket t)
+    (v : Vault) (bucket : List ℕ) (t n : ℕ) → IsOrderly v bucket t
+    → plan (after_steps v bucket t (take n (plan v bucket t))) bucket t ≡ drop n (plan v bucket t)
 
 -- the reply tells that a fault stopped the run
 abbrev pub IsCut : Reply → Type 0
@@ -52,15 +52,15 @@ runs_by bucket t callers = map (λ who. record { at = t; who = who; command = co
 -- what cut runs leave: so much of the first vault's plan is made as they tell, and the rest of it is the plan
 pub record IsBegun (v v' : Vault) (bucket : List ℕ) (t told : ℕ) : Type 0 where
   pub within : told ≤ length (plan v bucket t)
-  pub left : v' ≡ made v bucket t (take told (plan v bucket t))
+  pub left : v' ≡ after_steps v bucket t (take told (plan v bucket t))
   pub rest : plan v' bucket t ≡ drop told (plan v bucket t)
 
 -- runs over one bucket at one moment, each cut by a fault
 abbrev pub CutRunsAddUp : Type 0
 CutRunsAddUp =
     (v v' : Vault) (bucket : List ℕ) (t : ℕ) (callers : List (List ℕ)) (cut : List Reply)
-    → IsChronicle v bucket t → AreCut cut
-    → Run v (runs_by bucket t callers) cut v'
+    → IsOrderly v bucket t → AreCut cut
+    → IsRun v (runs_by bucket t callers) cut v'
     → IsBegun v v' bucket t (sum_by changes_told cut)
 
 -- no change at all
@@ -69,15 +69,15 @@ no_change = record { changes = 0; marked = 0; removed = 0; lone = 0 }
 
 -- what runs leave of which the last one was done: the vault of one unbroken run; the changes that they tell are those of its plan; one run more that is done changes nothing and says so
 pub record IsCompleted (v v' : Vault) (bucket : List ℕ) (t told : ℕ) : Type 0 where
-  pub unbroken : v' ≡ made v bucket t (plan v bucket t)
+  pub unbroken : v' ≡ after_steps v bucket t (plan v bucket t)
   pub changes : told ≡ length (plan v bucket t)
-  pub idle : (who : List ℕ) (a : Answer) (v'' : Vault) → Step v' t who (command.Run (record { bucket = bucket })) (Done a) v''
+  pub idle : (who : List ℕ) (a : Answer) (v'' : Vault) → IsStep v' t who (command.Run (record { bucket = bucket })) (Done a) v''
       → (a ≡ Ran no_change) × (v'' ≡ v')
 
 -- the same, and a last one that is done
 abbrev pub RunsRepeat : Type 0
 RunsRepeat =
     (v v' : Vault) (bucket : List ℕ) (t : ℕ) (callers : List (List ℕ)) (cut : List Reply) (last : Answer)
-    → IsChronicle v bucket t → AreCut cut
-    → Run v (runs_by bucket t callers) (cut ++ Done last ∷ []) v'
+    → IsOrderly v bucket t → AreCut cut
+    → IsRun v (runs_by bucket t callers) (cut ++ Done last ∷ []) v'
     → IsCompleted v v' bucket t (sum_by changes_told (cut ++ Done last ∷ []))

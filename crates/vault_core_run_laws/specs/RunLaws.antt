@@ -9,7 +9,7 @@ use Rattle.vault_core_model.specs.Reads.{entries_of, keys_after}
 use Rattle.vault_core_model.specs.Sound.{Sound}
 use Rattle.vault_core_model.specs.Allowed.{Allows}
 use Rattle.vault_core_model.specs.Checks.{most_ids}
-use Rattle.vault_core_model.specs.Plan.{plan, made, change_of, change_at, rules_in, is_mark}
+use Rattle.vault_core_model.specs.Plan.{plan, after_steps, change_of, change_at, rules_in, is_mark}
 use Rattle.vault_core_run_laws.specs.KeyRuns.{MayRun, plans_at, HaveIds, last_key}
 
 -- the plan by three phases over the whole vault is the plans of its keys, one after another
@@ -38,36 +38,36 @@ abbrev pub RunsGoOn : Type 0
 RunsGoOn =
     (v : Vault) (bucket : List ℕ) (t : ℕ) (keys : List (List ℕ)) (ps qs : List Planned)
     → MayRun v bucket t → IsRising keys → plans_at v bucket t keys ≡ ps ++ qs → HaveIds v ps
-    → Leaves v bucket t keys ps qs (made v bucket t ps)
+    → Leaves v bucket t keys ps qs (after_steps v bucket t ps)
 
 -- the next step may be made; a mark, where an id is left
 abbrev pub NextStepsAreAllowed : Type 0
 NextStepsAreAllowed =
     (v : Vault) (bucket : List ℕ) (t : ℕ) (keys : List (List ℕ)) (ps qs : List Planned) (p : Planned)
     → MayRun v bucket t → IsRising keys → plans_at v bucket t keys ≡ ps ++ p ∷ qs → HaveIds v ps
-    → (is_mark p.step ≡ true → next_id (made v bucket t ps) ≤ most_ids)
-    → Allows (made v bucket t ps) t (change_of (made v bucket t ps) bucket t p)
+    → (is_mark p.step ≡ true → next_id (after_steps v bucket t ps) ≤ most_ids)
+    → Allows (after_steps v bucket t ps) t (change_of (after_steps v bucket t ps) bucket t p)
 
 -- the same within one key
 abbrev pub KeyRunsGoOn : Type 0
 KeyRunsGoOn =
     (v : Vault) (bucket : List ℕ) (t : ℕ) (key : List ℕ) (ss rest : List Step)
     → MayRun v bucket t → key_plan (rules_in v bucket) key (entries_of v bucket key) t ≡ ss ++ rest → HaveIds v (at_key key ss)
-    → Leaves v bucket t (key ∷ []) (at_key key ss) (at_key key rest) (made v bucket t (at_key key ss))
+    → Leaves v bucket t (key ∷ []) (at_key key ss) (at_key key rest) (after_steps v bucket t (at_key key ss))
 
 abbrev pub KeyStepsAreAllowed : Type 0
 KeyStepsAreAllowed =
     (v : Vault) (bucket : List ℕ) (t : ℕ) (key : List ℕ) (ss rest : List Step) (s : Step)
     → MayRun v bucket t → key_plan (rules_in v bucket) key (entries_of v bucket key) t ≡ ss ++ s ∷ rest → HaveIds v (at_key key ss)
-    → (is_mark s ≡ true → next_id (made v bucket t (at_key key ss)) ≤ most_ids)
-    → Allows (made v bucket t (at_key key ss)) t (change_at (made v bucket t (at_key key ss)) bucket t key s)
+    → (is_mark s ≡ true → next_id (after_steps v bucket t (at_key key ss)) ≤ most_ids)
+    → Allows (after_steps v bucket t (at_key key ss)) t (change_at (after_steps v bucket t (at_key key ss)) bucket t key s)
 
 -- the steps at some keys alter no entry of another key
 abbrev pub OtherKeysStay : Type 0
 OtherKeysStay =
     (v : Vault) (bucket : List ℕ) (t : ℕ) (keys : List (List ℕ)) (ps qs : List Planned) (key : List ℕ)
     → MayRun v bucket t → IsRising keys → plans_at v bucket t keys ≡ ps ++ qs → HaveIds v ps → (IsIn key keys → ⊥)
-    → entries_of (made v bucket t ps) bucket key ≡ entries_of v bucket key
+    → entries_of (after_steps v bucket t ps) bucket key ≡ entries_of v bucket key
 
 -- a key that stands behind others in a rising list is none of them
 abbrev pub LaterKeysAreOthers : Type 0
@@ -79,4 +79,4 @@ PagesGoOn =
     (v : Vault) (bucket : List ℕ) (t most : ℕ) (done rest : List (List ℕ))
     → MayRun v bucket t → keys_of v bucket ≡ done ++ rest → HaveIds v (plans_at v bucket t done)
     → (1 ≤ length done → 1 ≤ length (last_key done))
-    → keys_after (made v bucket t (plans_at v bucket t done)) bucket (last_key done) most ≡ take most rest
+    → keys_after (after_steps v bucket t (plans_at v bucket t done)) bucket (last_key done) most ≡ take most rest

@@ -15,12 +15,12 @@ use Rattle.vault_core_model.specs.Vault.{Vault, next_id}
 use Rattle.vault_core_model.specs.Reads.{entries_of}
 use Rattle.vault_core_model.specs.Allowed.{Allows}
 use Rattle.vault_core_model.specs.Checks.{most_ids}
-use Rattle.vault_core_model.specs.Plan.{made, change_at, rules_in, is_mark}
+use Rattle.vault_core_model.specs.Plan.{after_steps, change_at, rules_in, is_mark}
 use Rattle.vault_core_run_laws.specs.KeyRuns.{MayRun, plan_at, plans_at}
 use Rattle.vault_core_run_laws.specs.RunLaws.{Leaves}
-use Rattle.vault_core_runs.specs.Making.{place_of, HaveCauses, HasId, MayBeMade, MakesAll, MakesFirst, Makes, only}
+use Rattle.vault_core_runs.specs.Making.{place_of, HaveCauses, HasId, MayBeMade, MakesAll, MakesUpTo, MakesSteps, only}
 use Rattle.vault_core_run_laws.proofs.RunLaws.{entries_rise, key_runs_go_on, key_steps_are_allowed, runs_go_on, other_keys_stay, later_keys_are_others, rising_left}
-use Rattle.vault_core_runs.proofs.Making.{MakesAll-then, MakesAll-first, MakesFirst-more, Makes-then}
+use Rattle.vault_core_runs.proofs.Making.{MakesAll-then, MakesAll-first, MakesUpTo-more, MakesSteps-then}
 
 -- ---- within one key
 
@@ -48,7 +48,7 @@ module _ (v v1 : Vault) (b : List ℕ) (t : ℕ) (key : List ℕ) (rules : List 
       → MakesAll v b t (at_key key (take i steps)) x y v1 → i < length steps → s ≡ get_or steps i s → MayBeMade v1 b t key s
   next_may s may g p m l e = λ has.
       let ss = take i steps in
-      let w = made v b t (at_key key ss) in
+      let w = after_steps v b t (at_key key ss) in
       let has' : HasId w s = subst (λ (u : Vault). HasId u s) m.left has in
       subst (λ (u : Vault). Allows u t (change_at u b t key s)) (sym m.left)
       (key_steps_are_allowed v b t key ss (drop (i + 1) steps) s may (planned g p ∙ split_at steps i s l e) m.ids (has_id w s has'))
@@ -72,11 +72,11 @@ module _ (v w : Vault) (b : List ℕ) (t : ℕ) (key : List ℕ) (rules : List R
       p rise ∙ ap (λ l. key_plan rules key l t) read ∙ ap (λ u. key_plan rules key (entries_of u b key) t) (sym same)
 
   pub made_as_planned : {X : Type 0} (r : Result X Halt) (x y : Counts) (v2 : Vault) → w ≡ v → rules_in v b ≡ rules → steps ≡ key_plan rules key (entries_of w b key) t
-      → Makes r w b t (at_key key steps) x y v2 → Makes r v b t (plan_at v b t key) x y v2
+      → MakesSteps r w b t (at_key key steps) x y v2 → MakesSteps r v b t (plan_at v b t key) x y v2
   made_as_planned r x y v2 same given p m =
       let q : at_key key steps ≡ plan_at v b t key =
       ap (at_key key) (p ∙ ap (λ u. key_plan rules key (entries_of u b key) t) same ∙ ap (λ rs. key_plan rs key (entries_of v b key) t) (sym given)) in
-      subst (λ (u : Vault). Makes r u b t (plan_at v b t key) x y v2) same (subst (λ (ps : List Planned). Makes r w b t ps x y v2) q m)
+      subst (λ (u : Vault). MakesSteps r u b t (plan_at v b t key) x y v2) same (subst (λ (ps : List Planned). MakesSteps r w b t ps x y v2) q m)
 
 at_key-more : (key : List ℕ) (steps : List Step) (i : ℕ) (s : Step) → i < length steps → s ≡ get_or steps i s → at_key key (take (i + 1) steps) ≡ at_key key (take i steps) ++ only key s
 at_key-more key steps i s l e =
@@ -97,10 +97,10 @@ module _ (v v1 v2 : Vault) (b : List ℕ) (t : ℕ) (key : List ℕ) (steps : Li
 
   -- or the steps stop there
   pub stopped_step : (h : Halt) → i < length steps → s ≡ get_or steps i s → MakesAll v b t (at_key key (take i steps)) x y v1
-      → MakesFirst v1 b t (only key s) h y z v2 → MakesFirst v b t (at_key key steps) h x z v2
+      → MakesUpTo v1 b t (only key s) h y z v2 → MakesUpTo v b t (at_key key steps) h x z v2
   stopped_step h l e m n =
-      subst (λ (ps : List Planned). MakesFirst v b t ps h x z v2) (sym (at_key-split key steps i s l e))
-      (MakesFirst-more v b t (at_key key (take i steps) ++ only key s) (at_key key (drop (i + 1) steps)) h x z v2
+      subst (λ (ps : List Planned). MakesUpTo v b t ps h x z v2) (sym (at_key-split key steps i s l e))
+      (MakesUpTo-more v b t (at_key key (take i steps) ++ only key s) (at_key key (drop (i + 1) steps)) h x z v2
       (MakesAll-first v v1 v2 b t (at_key key (take i steps)) (only key s) h x y z m n))
 
 -- ---- over keys that rise
@@ -117,7 +117,7 @@ module _ (v v1 : Vault) (b : List ℕ) (t : ℕ) (done : List (List ℕ)) (x y :
   same_plan rest k may rising i m =
       let ps = plans_at v b t done in
       let front = rising_left done rest rising in
-      let e : entries_of (made v b t ps) b k ≡ entries_of v b k =
+      let e : entries_of (after_steps v b t ps) b k ≡ entries_of v b k =
       other_keys_stay v b t done ps [] k may front (sym (append-nil ps)) m.ids (later_keys_are_others done rest k rising i) in
       let f : entries_of v1 b k ≡ entries_of v b k = ap (λ u. entries_of u b k) m.left ∙ e in
       let r = (may_go_on may front m).1 in
@@ -136,16 +136,16 @@ take_next keys i k l e = take_more keys i k l ∙ ap (λ z. take i keys ++ z ∷
 -- the plans of some keys, and then that of the next, as far as it comes
 next_key : {X : Type 0} (v v1 v2 : Vault) (b : List ℕ) (t : ℕ) (keys : List (List ℕ)) (i : ℕ) (k : List ℕ) (r : Result X Halt) (x y z : Counts)
     → MayRun v b t → IsRising keys → i < length keys → k ≡ get_or keys i k
-    → MakesAll v b t (plans_at v b t (take i keys)) x y v1 → Makes r v1 b t (plan_at v1 b t k) y z v2 → Makes r v b t (plans_at v b t (take (i + 1) keys)) x z v2
+    → MakesAll v b t (plans_at v b t (take i keys)) x y v1 → MakesSteps r v1 b t (plan_at v1 b t k) y z v2 → MakesSteps r v b t (plans_at v b t (take (i + 1) keys)) x z v2
 next_key v v1 v2 b t keys i k r x y z may rising l e m n =
     let done = take i keys in
     let s : keys ≡ done ++ k ∷ drop (i + 1) keys = split_at keys i k l e in
     let rising' : IsRising (done ++ k ∷ drop (i + 1) keys) = subst IsRising s rising in
     let p : plan_at v1 b t k ≡ plan_at v b t k = same_plan v v1 b t done x y (k ∷ drop (i + 1) keys) k may rising' (inl refl) m in
-    let n' : Makes r v1 b t (plan_at v b t k) y z v2 = subst (λ (ps : List Planned). Makes r v1 b t ps y z v2) p n in
+    let n' : MakesSteps r v1 b t (plan_at v b t k) y z v2 = subst (λ (ps : List Planned). MakesSteps r v1 b t ps y z v2) p n in
     let q : plans_at v b t done ++ plan_at v b t k ≡ plans_at v b t (take (i + 1) keys) =
     sym (ap (plans_at v b t) (take_next keys i k l e) ∙ plans_at-append v b t done (k ∷ []) ∙ ap (λ ps. plans_at v b t done ++ ps) (append-nil (plan_at v b t k))) in
-    subst (λ (ps : List Planned). Makes r v b t ps x z v2) q (Makes-then v v1 v2 b t (plans_at v b t done) (plan_at v b t k) r x y z m n')
+    subst (λ (ps : List Planned). MakesSteps r v b t ps x z v2) q (MakesSteps-then v v1 v2 b t (plans_at v b t done) (plan_at v b t k) r x y z m n')
 
 pub front_rises : (keys : List (List ℕ)) (i : ℕ) → IsRising keys → IsRising (take i keys)
 front_rises keys i r = rising_left (take i keys) (drop i keys) (subst IsRising (sym (take-append-drop i keys)) r)
@@ -153,12 +153,12 @@ front_rises keys i r = rising_left (take i keys) (drop i keys) (subst IsRising (
 -- or the run stops within its plan
 pub stopped_key : (v v1 v2 : Vault) (b : List ℕ) (t : ℕ) (keys : List (List ℕ)) (i : ℕ) (k : List ℕ) (h : Halt) (x y z : Counts)
     → MayRun v b t → IsRising keys → i < length keys → k ≡ get_or keys i k
-    → MakesAll v b t (plans_at v b t (take i keys)) x y v1 → MakesFirst v1 b t (plan_at v1 b t k) h y z v2 → MakesFirst v b t (plans_at v b t keys) h x z v2
+    → MakesAll v b t (plans_at v b t (take i keys)) x y v1 → MakesUpTo v1 b t (plan_at v1 b t k) h y z v2 → MakesUpTo v b t (plans_at v b t keys) h x z v2
 stopped_key v v1 v2 b t keys i k h x y z may rising l e m n =
     let q : plans_at v b t keys ≡ plans_at v b t (take (i + 1) keys) ++ plans_at v b t (drop (i + 1) keys) =
     ap (plans_at v b t) (sym (take-append-drop (i + 1) keys)) ∙ plans_at-append v b t (take (i + 1) keys) (drop (i + 1) keys) in
-    subst (λ (ps : List Planned). MakesFirst v b t ps h x z v2) (sym q)
-    (MakesFirst-more v b t (plans_at v b t (take (i + 1) keys)) (plans_at v b t (drop (i + 1) keys)) h x z v2
+    subst (λ (ps : List Planned). MakesUpTo v b t ps h x z v2) (sym q)
+    (MakesUpTo-more v b t (plans_at v b t (take (i + 1) keys)) (plans_at v b t (drop (i + 1) keys)) h x z v2
     (next_key {X = Unit {0}} v v1 v2 b t keys i k (Err h) x y z may rising l e m n))
 
 pub done_key : (v v1 v2 : Vault) (b : List ℕ) (t : ℕ) (keys : List (List ℕ)) (i : ℕ) (k : List ℕ) (x y z : Counts)

@@ -15,9 +15,9 @@ use Rattle.vault_core_model.specs.Places.{keys_of}
 use Rattle.vault_core_model.specs.Reads.{keys_after}
 use Rattle.vault_core_model.specs.Plan.{plan, rules_in}
 use Rattle.vault_core_run_laws.specs.KeyRuns.{MayRun, plans_at, last_key}
-use Rattle.vault_core_runs.specs.Making.{IsLastKey, MakesAll, MakesFirst}
+use Rattle.vault_core_runs.specs.Making.{IsLastKey, MakesAll, MakesUpTo}
 use Rattle.vault_core_run_laws.proofs.RunLaws.{plans_are_key_by_key, bucket_keys_rise, pages_go_on, rising_left, rising_right}
-use Rattle.vault_core_runs.proofs.Making.{MakesAll-none, MakesAll-then, MakesAll-first, MakesFirst-fault, MakesFirst-more}
+use Rattle.vault_core_runs.proofs.Making.{MakesAll-then, MakesAll-first, MakesUpTo-fault, MakesUpTo-more}
 use Rattle.vault_core_runs.proofs.OverKeys.{may_go_on, same_plans, plans_at-append}
 
 -- the plans of the first keys of the bucket are made, up to the last one seen
@@ -28,16 +28,6 @@ pub record PagesDone (v : Vault) (b : List ℕ) (t : ℕ) (after : List ℕ) (x 
   pub last : after ≡ last_key done
   pub known : 1 ≤ length done → 1 ≤ length after
   pub makes : MakesAll v b t (plans_at v b t done) x y v1
-
-pub PagesDone-none : (v : Vault) (b : List ℕ) (t : ℕ) (x : Counts) → PagesDone v b t [] x x v
-PagesDone-none v b t x = record {
-  done = [];
-  rest = keys_of v b;
-  split = refl;
-  last = refl;
-  known = λ h. absurd (omega arith);
-  makes = MakesAll-none v b t x;
-}
 
 last_key-append : (xs : List (List ℕ)) (y : List ℕ) (ys : List (List ℕ)) → last_key (xs ++ y ∷ ys) ≡ last_key (y ∷ ys)
 last_key-append [] y ys = refl
@@ -111,33 +101,33 @@ module _ (v v1 : Vault) (b : List ℕ) (t : ℕ) (after : List ℕ) (x y : Count
 
   -- a stop within a page
   pub stopped_within : (most : ℕ) (keys : List (List ℕ)) (h : Halt) (z : Counts) (v2 : Vault) → keys ≡ take most d.rest
-      → MakesFirst v1 b t (plans_at v1 b t keys) h y z v2 → MakesFirst v b t (plan v b t) h x z v2
+      → MakesUpTo v1 b t (plans_at v1 b t keys) h y z v2 → MakesUpTo v b t (plan v b t) h x z v2
   stopped_within most keys h z v2 e m =
       let front = plans_at v b t d.done ++ plans_at v b t keys in
       let later = plans_at v b t (drop most d.rest) in
-      subst (λ (ps : List Planned). MakesFirst v b t ps h x z v2) (in_parts most keys e)
-      (MakesFirst-more v b t front later h x z v2
+      subst (λ (ps : List Planned). MakesUpTo v b t ps h x z v2) (in_parts most keys e)
+      (MakesUpTo-more v b t front later h x z v2
       (MakesAll-first v v1 v2 b t (plans_at v b t d.done) (plans_at v b t keys) h x y z d.makes
-      (subst (λ (ps : List Planned). MakesFirst v1 b t ps h y z v2) (page_plans most keys e) m)))
+      (subst (λ (ps : List Planned). MakesUpTo v1 b t ps h y z v2) (page_plans most keys e) m)))
 
   -- a fault behind a page
   pub stopped_behind : (most : ℕ) (keys : List (List ℕ)) (f : Fault) (z : Counts) (v2 : Vault) → keys ≡ take most d.rest
-      → MakesAll v1 b t (plans_at v1 b t keys) y z v2 → MakesFirst v b t (plan v b t) (halt.Fault f) x z v2
+      → MakesAll v1 b t (plans_at v1 b t keys) y z v2 → MakesUpTo v b t (plan v b t) (halt.Fault f) x z v2
   stopped_behind most keys f z v2 e m =
       let done = plans_at v b t d.done in
       let page = plans_at v b t keys in
       let later = plans_at v b t (drop most d.rest) in
-      subst (λ (ps : List Planned). MakesFirst v b t ps (halt.Fault f) x z v2) (in_parts most keys e)
+      subst (λ (ps : List Planned). MakesUpTo v b t ps (halt.Fault f) x z v2) (in_parts most keys e)
       (MakesAll-first v v2 v2 b t (done ++ page) later (halt.Fault f) x z z
       (MakesAll-then v v1 v2 b t done page x y z d.makes (subst (λ (ps : List Planned). MakesAll v1 b t ps y z v2) (page_plans most keys e) m))
-      (MakesFirst-fault v2 b t later f z v2 refl))
+      (MakesUpTo-fault v2 b t later f z v2 refl))
 
   -- a fault between pages
-  pub stopped_between : (f : Fault) (v2 : Vault) → v2 ≡ v1 → MakesFirst v b t (plan v b t) (halt.Fault f) x y v2
+  pub stopped_between : (f : Fault) (v2 : Vault) → v2 ≡ v1 → MakesUpTo v b t (plan v b t) (halt.Fault f) x y v2
   stopped_between f v2 e =
-      subst (λ (ps : List Planned). MakesFirst v b t ps (halt.Fault f) x y v2) (sym whole)
+      subst (λ (ps : List Planned). MakesUpTo v b t ps (halt.Fault f) x y v2) (sym whole)
       (MakesAll-first v v1 v2 b t (plans_at v b t d.done) (plans_at v b t d.rest) (halt.Fault f) x y y d.makes
-      (MakesFirst-fault v1 b t (plans_at v b t d.rest) f y v2 e))
+      (MakesUpTo-fault v1 b t (plans_at v b t d.rest) f y v2 e))
 
 -- the last of these keys is that at the last place
 last_key-at : (keys : List (List ℕ)) (d : List ℕ) → 1 ≤ length keys → last_key keys ≡ get_or keys (length keys - 1) d

@@ -8,7 +8,7 @@ use Rattle.vault_rules.specs.KeyPlan.{Planned}
 use Rattle.vault_core_model.specs.Vault.{Vault}
 use Rattle.vault_core_model.specs.Change.{changed}
 use Rattle.vault_core_model.specs.Checks.{most_ids}
-use Rattle.vault_core_model.specs.Plan.{made, change_at, change_of, counts, with_ids, is_mark, is_removal, is_lone_removal}
+use Rattle.vault_core_model.specs.Plan.{after_steps, change_at, change_of, counts, with_ids, is_mark, is_removal, is_lone_removal}
 use Rattle.vault_core_runs.specs.Making.{plus}
 
 -- how many ids are taken after these steps, where so many were
@@ -23,7 +23,7 @@ taken_at v b t key (Mark r) = length_push v.histories _
 taken_at v b t key (Remove id r) = length-map v.histories _
 taken_at v b t key (RemoveLone id r) = length-map v.histories _
 
-pub length-made : (v : Vault) (b : List ℕ) (t : ℕ) (ps : List Planned) → length (made v b t ps).histories ≡ taken (length v.histories) ps
+pub length-made : (v : Vault) (b : List ℕ) (t : ℕ) (ps : List Planned) → length (after_steps v b t ps).histories ≡ taken (length v.histories) ps
 unfolding taken
 length-made v b t [] = refl
 length-made v b t (p ∷ ps) =

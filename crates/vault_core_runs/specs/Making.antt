@@ -12,7 +12,7 @@ use Rattle.vault_core_model.specs.declared.reply.Counts.{Counts}
 use Rattle.vault_core_model.specs.Vault.{Vault, next_id}
 use Rattle.vault_core_model.specs.Allowed.{Allows}
 use Rattle.vault_core_model.specs.Checks.{most_ids}
-use Rattle.vault_core_model.specs.Plan.{change_at, made, counts, with_ids}
+use Rattle.vault_core_model.specs.Plan.{change_at, after_steps, counts, with_ids}
 use Rattle.vault_core_run_laws.specs.KeyRuns.{HaveIds, last_key}
 
 -- the place of the rule that is the cause of a step
@@ -57,7 +57,7 @@ plus a b = record { changes = a.changes + b.changes; marked = a.marked + b.marke
 -- all steps are made, each mark with an id that was left
 pub record MakesAll (v : Vault) (bucket : List ℕ) (t : ℕ) (ps : List Planned) (old new : Counts) (v' : Vault) : Type 0 where
   pub ids : HaveIds v ps
-  pub left : v' ≡ made v bucket t ps
+  pub left : v' ≡ after_steps v bucket t ps
   pub counted : new ≡ plus old (counts ps)
 
 -- why no more than the first n steps are made: a fault came, or the next is the first mark that finds no id
@@ -66,17 +66,17 @@ StopsAt (halt.Fault f) n v ps = Unit {0}
 StopsAt (halt.Refused r) n v ps = (r ≡ VaultFull) × (n ≡ length (with_ids (length v.histories) ps)) × (n < length ps)
 
 -- the first n steps are made, and the rest isn't
-pub record MakesFirst (v : Vault) (bucket : List ℕ) (t : ℕ) (ps : List Planned) (e : Halt) (old new : Counts) (v' : Vault) : Type 0 where
+pub record MakesUpTo (v : Vault) (bucket : List ℕ) (t : ℕ) (ps : List Planned) (e : Halt) (old new : Counts) (v' : Vault) : Type 0 where
   pub n : ℕ
   pub within : n ≤ length (with_ids (length v.histories) ps)
-  pub left : v' ≡ made v bucket t (take n ps)
+  pub left : v' ≡ after_steps v bucket t (take n ps)
   pub counted : new.changes ≡ old.changes + n
   pub why : StopsAt e n v ps
 
 -- from v, these steps are made: all of them, or the first up to a halt; the counts went from old to new
-abbrev pub Makes : {X : Type 0} → Result X Halt → Vault → List ℕ → ℕ → List Planned → Counts → Counts → Vault → Type 0
-Makes (Ok x) v bucket t ps old new v' = MakesAll v bucket t ps old new v'
-Makes (Err e) v bucket t ps old new v' = MakesFirst v bucket t ps e old new v'
+abbrev pub MakesSteps : {X : Type 0} → Result X Halt → Vault → List ℕ → ℕ → List Planned → Counts → Counts → Vault → Type 0
+MakesSteps (Ok x) v bucket t ps old new v' = MakesAll v bucket t ps old new v'
+MakesSteps (Err e) v bucket t ps old new v' = MakesUpTo v bucket t ps e old new v'
 
 -- the last of these keys, which has a byte
 pub record IsLastKey (keys : List (List ℕ)) (k : List ℕ) : Type 0 where

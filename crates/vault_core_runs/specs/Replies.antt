@@ -11,7 +11,7 @@ use Rattle.vault_core_model.specs.declared.reply.Stop.TheVariants as stop
 use Rattle.vault_core_model.specs.declared.reply.Reply.{Reply}
 use Rattle.vault_core_model.specs.declared.reply.Reply.TheVariants as reply
 use Rattle.vault_core_model.specs.Vault.{Vault}
-use Rattle.vault_core_model.specs.Halts.{Fails}
+use Rattle.vault_core_model.specs.Halts.{HaltsAs}
 use Rattle.vault_core_model.specs.Plan.{plan, rules_in}
 use Rattle.vault_core_run_laws.specs.KeyRuns.{MayRun}
 use Rattle.vault_core_runs.specs.declared.change.BucketRun.{BucketRun}
@@ -31,7 +31,7 @@ Begins (Some r) v bucket t judged = IsRunOver v bucket t r × (judged ≡ Ok (pl
 -- a run begins as it is judged, or a fault came
 abbrev pub BeginsAs : Result (Option BucketRun) Halt → Vault → List ℕ → ℕ → Result (List Planned) Refusal → Type 0
 BeginsAs (Ok found) v bucket t judged = Begins found v bucket t judged
-BeginsAs (Err e) v bucket t judged = Fails e judged
+BeginsAs (Err e) v bucket t judged = HaltsAs e judged
 
 -- the reply where no run began
 abbrev pub not_begun : Halt → Reply

@@ -1,13 +1,11 @@
 //! One step of a run, made as one change.
 ghost use Rattle.std.specs.Prelude.{◌≡◌, ◌≤◌, ◌<◌, ◌+◌, ℕ, List, length, IsTrue, IfOk, IfErr, IfSome, OnOk, false};
-ghost use Rattle.vault_base.specs.declared.refusal.Refusal.TheVariants as refusals;
 ghost use Rattle.vault_core_model.specs.declared.records.Author.TheVariants as author;
 ghost use Rattle.vault_core_model.specs.declared.records.Cause.TheVariants as cause;
-ghost use Rattle.vault_core_model.specs.Halts.{is_device, Rose};
+ghost use Rattle.vault_core_model.specs.Halts.{is_device, RoseOrIsFull};
 ghost use Rattle.vault_core_model.specs.EntryOutcomes.{new_marker};
 ghost use Rattle.vault_core_model.specs.Plan.{rules_in, rule_id, change_at, counts as counts_of};
-ghost use Rattle.vault_core_model.specs.Vault.{next_id};
-ghost use Rattle.vault_core_runs.specs.Making.{place_of, HasId, MayBeMade, Hinders, Makes, only, plus};
+ghost use Rattle.vault_core_runs.specs.Making.{place_of, HasId, MayBeMade, Hinders, MakesSteps, only, plus};
 
 use std::alloc::{AllocError, Global};
 use vault_base::moment::Moment;
@@ -42,10 +40,10 @@ pub fn make_step<K: Keeper>(
     requires given { K.is_honest keeper.old → rules_in (K.vault keeper.old) run.now.bucket ≡ run.now.rules }
     requires in_time { K.is_honest keeper.old → (K.vault keeper.old).last ≤ run.now.at }
     requires allowed { K.is_honest keeper.old → MayBeMade (K.vault keeper.old) run.now.bucket run.now.at key.now step.now }
-    ensures makes { K.is_honest keeper.new → Makes result (K.vault keeper.old) run.now.bucket run.now.at (only key.now step.now) counts.old counts.new (K.vault keeper.new) }
+    ensures makes { K.is_honest keeper.new → MakesSteps result (K.vault keeper.old) run.now.bucket run.now.at (only key.now step.now) counts.old counts.new (K.vault keeper.new) }
     ensures honest { K.is_honest keeper.new → K.is_honest keeper.old }
     ensures counted { K.count keeper.old ≤ K.count keeper.new }
-    ensures device { IsTrue (is_device result) → Rose (K.count keeper.old) (K.count keeper.new) }
+    ensures device { IsTrue (is_device result) → RoseOrIsFull (K.count keeper.old) (K.count keeper.new) }
     ensures steady { is_device result ≡ false → K.count keeper.new ≡ K.count keeper.old }
 {
     let Some(more) = one_more(counts, step) else {
@@ -117,7 +115,7 @@ fn find_change<K: Keeper>(
     ensures same { K.vault keeper.new ≡ K.vault keeper.old }
     ensures honest { K.is_honest keeper.new → K.is_honest keeper.old }
     ensures counted { K.count keeper.old ≤ K.count keeper.new }
-    ensures device { IsTrue (is_device result) → Rose (K.count keeper.old) (K.count keeper.new) }
+    ensures device { IsTrue (is_device result) → RoseOrIsFull (K.count keeper.old) (K.count keeper.new) }
     ensures steady { is_device result ≡ false → K.count keeper.new ≡ K.count keeper.old }
 {
     match *step {
@@ -143,7 +141,7 @@ fn find_mark<K: Keeper>(
     ensures same { K.vault keeper.new ≡ K.vault keeper.old }
     ensures honest { K.is_honest keeper.new → K.is_honest keeper.old }
     ensures counted { K.count keeper.old ≤ K.count keeper.new }
-    ensures device { IsTrue (is_device result) → Rose (K.count keeper.old) (K.count keeper.new) }
+    ensures device { IsTrue (is_device result) → RoseOrIsFull (K.count keeper.old) (K.count keeper.new) }
     ensures steady { is_device result ≡ false → K.count keeper.new ≡ K.count keeper.old }
 {
     let id = find_id(keeper)?;

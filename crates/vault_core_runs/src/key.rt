@@ -1,10 +1,10 @@
 //! The steps of a run at one key.
-ghost use Rattle.std.specs.Prelude.{◌≡◌, ◌≤◌, ℕ, List, IsTrue, IfOk, OnOk, false};
-ghost use Rattle.vault_core_model.specs.Halts.{is_device, Rose};
+ghost use Rattle.std.specs.Prelude.{◌≡◌, ◌≤◌, IsTrue, IfOk, false};
+ghost use Rattle.vault_core_model.specs.Halts.{is_device, RoseOrIsFull};
 ghost use Rattle.vault_core_model.specs.Plan.{rules_in};
 ghost use Rattle.vault_core_model.specs.Reads.{entries_of};
 ghost use Rattle.vault_core_run_laws.specs.KeyRuns.{MayRun, plan_at};
-ghost use Rattle.vault_core_runs.specs.Making.{HaveCauses, Makes};
+ghost use Rattle.vault_core_runs.specs.Making.{HaveCauses, MakesSteps};
 ghost use Rattle.vault_rules.specs.KeyPlan.{at_key, ids_rise, key_plan};
 
 use crate::change::{BucketRun, make_step};
@@ -25,10 +25,10 @@ pub fn run_key<K: Keeper>(
 ) -> Result<(), Halt>
     requires may { K.is_honest keeper.old → MayRun (K.vault keeper.old) run.now.bucket run.now.at }
     requires given { K.is_honest keeper.old → rules_in (K.vault keeper.old) run.now.bucket ≡ run.now.rules }
-    ensures makes { K.is_honest keeper.new → Makes result (K.vault keeper.old) run.now.bucket run.now.at (plan_at (K.vault keeper.old) run.now.bucket run.now.at key.now) counts.old counts.new (K.vault keeper.new) }
+    ensures makes { K.is_honest keeper.new → MakesSteps result (K.vault keeper.old) run.now.bucket run.now.at (plan_at (K.vault keeper.old) run.now.bucket run.now.at key.now) counts.old counts.new (K.vault keeper.new) }
     ensures honest { K.is_honest keeper.new → K.is_honest keeper.old }
     ensures counted { K.count keeper.old ≤ K.count keeper.new }
-    ensures device { IsTrue (is_device result) → Rose (K.count keeper.old) (K.count keeper.new) }
+    ensures device { IsTrue (is_device result) → RoseOrIsFull (K.count keeper.old) (K.count keeper.new) }
     ensures steady { is_device result ≡ false → K.count keeper.new ≡ K.count keeper.old }
 {
     let held = keeper.entries(&run.bucket, key)?;
@@ -82,10 +82,10 @@ fn make_steps<K: Keeper>(
     requires given { K.is_honest keeper.old → rules_in (K.vault keeper.old) run.now.bucket ≡ run.now.rules }
     requires planned { K.is_honest keeper.old → steps.now ≡ key_plan run.now.rules key.now (entries_of (K.vault keeper.old) run.now.bucket key.now) run.now.at }
     requires causes { HaveCauses run.now.rules steps.now }
-    ensures makes { K.is_honest keeper.new → Makes result (K.vault keeper.old) run.now.bucket run.now.at (at_key key.now steps.now) counts.old counts.new (K.vault keeper.new) }
+    ensures makes { K.is_honest keeper.new → MakesSteps result (K.vault keeper.old) run.now.bucket run.now.at (at_key key.now steps.now) counts.old counts.new (K.vault keeper.new) }
     ensures honest { K.is_honest keeper.new → K.is_honest keeper.old }
     ensures counted { K.count keeper.old ≤ K.count keeper.new }
-    ensures device { IsTrue (is_device result) → Rose (K.count keeper.old) (K.count keeper.new) }
+    ensures device { IsTrue (is_device result) → RoseOrIsFull (K.count keeper.old) (K.count keeper.new) }
     ensures steady { is_device result ≡ false → K.count keeper.new ≡ K.count keeper.old }
 {
     for step in steps {

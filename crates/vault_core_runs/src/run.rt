@@ -1,6 +1,6 @@
 //! The command that runs the lifecycle rules over a bucket.
 ghost use Rattle.std.specs.Prelude.{◌≡◌, ◌≤◌, IsTrue, false};
-ghost use Rattle.vault_core_model.specs.Halts.{is_device, is_device_halt, is_device_reply, is_device_stop, Rose};
+ghost use Rattle.vault_core_model.specs.Halts.{is_device, is_device_halt, is_device_reply, is_device_stop, RoseOrIsFull};
 ghost use Rattle.vault_core_model.specs.Plan.{plan, rules_in};
 ghost use Rattle.vault_core_model.specs.RunOutcome.{planned_run, AnswersRun};
 ghost use Rattle.vault_core_run_laws.specs.KeyRuns.{MayRun};
@@ -34,7 +34,7 @@ pub fn run_rules<K: Keeper>(
     ensures step { K.is_honest keeper.new → AnswersRun (planned_run (K.vault keeper.old) at who.now command.now) (K.vault keeper.old) command.now.bucket at result (K.vault keeper.new) }
     ensures honest { K.is_honest keeper.new → K.is_honest keeper.old }
     ensures counted { K.count keeper.old ≤ K.count keeper.new }
-    ensures device { IsTrue (is_device_reply result) → Rose (K.count keeper.old) (K.count keeper.new) }
+    ensures device { IsTrue (is_device_reply result) → RoseOrIsFull (K.count keeper.old) (K.count keeper.new) }
     ensures steady { is_device_reply result ≡ false → K.count keeper.new ≡ K.count keeper.old }
 {
     match find_run(keeper, at, who, command) {
@@ -62,7 +62,7 @@ fn find_run<K: Keeper>(
     ensures same { K.vault keeper.new ≡ K.vault keeper.old }
     ensures honest { K.is_honest keeper.new → K.is_honest keeper.old }
     ensures counted { K.count keeper.old ≤ K.count keeper.new }
-    ensures device { IsTrue (is_device result) → Rose (K.count keeper.old) (K.count keeper.new) }
+    ensures device { IsTrue (is_device result) → RoseOrIsFull (K.count keeper.old) (K.count keeper.new) }
     ensures steady { is_device result ≡ false → K.count keeper.new ≡ K.count keeper.old }
 {
     drop(find_access(keeper, at, who, &command.bucket, Right::Run)?);
@@ -107,7 +107,7 @@ fn run_bucket<K: Keeper>(alloc: Global, keeper: &mut K, run: &BucketRun) -> Repl
     ensures step { K.is_honest keeper.new → AnswersRun (Ok (plan (K.vault keeper.old) run.now.bucket run.now.at)) (K.vault keeper.old) run.now.bucket run.now.at result (K.vault keeper.new) }
     ensures honest { K.is_honest keeper.new → K.is_honest keeper.old }
     ensures counted { K.count keeper.old ≤ K.count keeper.new }
-    ensures device { IsTrue (is_device_reply result) → Rose (K.count keeper.old) (K.count keeper.new) }
+    ensures device { IsTrue (is_device_reply result) → RoseOrIsFull (K.count keeper.old) (K.count keeper.new) }
     ensures steady { is_device_reply result ≡ false → K.count keeper.new ≡ K.count keeper.old }
 {
     let mut counts = NO_CHANGE;

@@ -155,7 +155,7 @@ intake-changes v t who c =
 pub list_versions-changes : (v : Vault) (t : ℕ) (who : List ℕ) (c : ListVersions) → Changes v t who (listings.list_versions v t who c)
 list_versions-changes v t who c =
     bind_if (access v t who c.bucket right.List) (λ a. Unit {0}) _ _ (any-is (access v t who c.bucket right.List))
-    (λ a at. bind_if (check (listings.is_page c.most) InvalidArgument) (λ u. Unit {0}) _ _ (any-is (check (listings.is_page c.most) InvalidArgument))
+    (λ a at. bind_if (check (listings.is_page_size c.most) InvalidArgument) (λ u. Unit {0}) _ _ (any-is (check (listings.is_page_size c.most) InvalidArgument))
     (λ u page. unchanged v t who))
 
 pub certificate-changes : (v : Vault) (t : ℕ) (who : List ℕ) (c : Certificate) → Changes v t who (listings.certificate v t who c)

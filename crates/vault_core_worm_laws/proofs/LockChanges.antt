@@ -20,7 +20,7 @@ use Rattle.vault_core_model.specs.declared.command.GetRetention.{GetRetention}
 use Rattle.vault_core_model.specs.declared.command.SetHold.{SetHold}
 use Rattle.vault_core_model.specs.declared.command.GetHold.{GetHold}
 use Rattle.vault_core_model.specs.Vault.{Vault, caller_of}
-use Rattle.vault_core_model.specs.Reads.{setting_of, lock_of, count_by}
+use Rattle.vault_core_model.specs.Reads.{setting_of, lock_of, count_of_settings}
 use Rattle.vault_core_model.specs.Sound.{Sound}
 use Rattle.vault_core_model.specs.Allowed.{IsNextSetting, IsHeldId}
 use Rattle.vault_core_model.specs.Checks.{access, ends_later, version_meant, permitted, free_setting, most_settings}
@@ -95,9 +95,9 @@ next_retention-is v t who c a sound there =
     bind_if (ends_later t c.retention) (λ u. nat_lt t c.retention.until ≡ true) _ _ (check-is (nat_lt t c.retention.until) InvalidArgument)
     (λ u later. bind_if (version_meant v c.bucket c.key c.id) (IsHeldVersion v) _ _ (version_meant-is v c.bucket c.key c.id sound)
     (λ e held. bind_if (permitted (retainable (lock_of v e.id) c.retention t c.bypass a.caller.rights.bypass)) (Retained (lock_of v e.id).retention c.retention t a.caller.rights.bypass) _ _ (retainable-is (lock_of v e.id).retention c.retention t c.bypass a.caller.rights.bypass)
-    (λ p may. bind_if (free_setting v e.id) (λ u. nat_lt (count_by (setting_of v e.id)) most_settings ≡ true) _ _ (check-is (nat_lt (count_by (setting_of v e.id)) most_settings) VaultFull)
+    (λ p may. bind_if (free_setting v e.id) (λ u. nat_lt (count_of_settings (setting_of v e.id)) most_settings ≡ true) _ _ (check-is (nat_lt (count_of_settings (setting_of v e.id)) most_settings) VaultFull)
     (λ w free. record {
-      allowed = record { now = refl; entry = e; there = held.there; held = held.held; version = held.version; fits = ltb-true (count_by (setting_of v e.id)) most_settings free };
+      allowed = record { now = refl; entry = e; there = held.there; held = held.held; version = held.version; fits = ltb-true (count_of_settings (setting_of v e.id)) most_settings free };
       held = (e, held.there, held.held);
       permitted = (refl, inl (setting-retains v t who a (lock_of v e.id) c.retention p there (ltb-true t c.retention.until later) may));
     }))))
@@ -111,9 +111,9 @@ set_retention-changes v t who c sound =
 next_hold-is : (v : Vault) (t : ℕ) (who : List ℕ) (c : SetHold) → Sound v → IfOk (locks.next_hold v t who c) (IsNext v t who)
 next_hold-is v t who c sound =
     bind_if (version_meant v c.bucket c.key c.id) (IsHeldVersion v) _ _ (version_meant-is v c.bucket c.key c.id sound)
-    (λ e held. bind_if (free_setting v e.id) (λ u. nat_lt (count_by (setting_of v e.id)) most_settings ≡ true) _ _ (check-is (nat_lt (count_by (setting_of v e.id)) most_settings) VaultFull)
+    (λ e held. bind_if (free_setting v e.id) (λ u. nat_lt (count_of_settings (setting_of v e.id)) most_settings ≡ true) _ _ (check-is (nat_lt (count_of_settings (setting_of v e.id)) most_settings) VaultFull)
     (λ w free. record {
-      allowed = record { now = refl; entry = e; there = held.there; held = held.held; version = held.version; fits = ltb-true (count_by (setting_of v e.id)) most_settings free };
+      allowed = record { now = refl; entry = e; there = held.there; held = held.held; version = held.version; fits = ltb-true (count_of_settings (setting_of v e.id)) most_settings free };
       held = (e, held.there, held.held);
       permitted = (refl, inr (refl, refl));
     }))

@@ -29,12 +29,12 @@ use Rattle.vault_core_model.specs.Change.{changed}
 use Rattle.vault_core_model.specs.Totals.{admitted_bytes, received_bytes, bucket_bytes}
 use Rattle.vault_core_model.specs.Checks.{check, found, needs, access, allowed_default, has_period, asking, administrator, known_department, known_department_if_given, other_department, within_quota, free_move, most_moves, may_report}
 use Rattle.vault_core_model.specs.RecordOutcomes as records
-use Rattle.vault_core_worm_laws.specs.Chains.{MayMake, Makes}
+use Rattle.vault_core_worm_laws.specs.Chains.{MayMake, MayMakeAll}
 use Rattle.vault_core_worm_laws.proofs.Checked.{bind_if, if_weaker, any-is, check-is, found-is, not-true, not_some, some_is, IsAsking, asking-is, administrator-is, HasAccess, access-is}
 
 -- one permitted change at most leads from v to v'
 abbrev pub LeadsOnce : Vault → ℕ → List ℕ → Vault → Type 0
-LeadsOnce v t who v' = (cs : List Change) × Makes v t who cs v' × (length cs ≤ 1)
+LeadsOnce v t who v' = (cs : List Change) × MayMakeAll v t who cs v' × (length cs ≤ 1)
 
 pub unchanged : (v : Vault) (t : ℕ) (who : List ℕ) → LeadsOnce v t who v
 unchanged v t who = ([], refl, omega arith)

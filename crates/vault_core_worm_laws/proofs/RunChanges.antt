@@ -33,17 +33,17 @@ use Rattle.vault_core_model.specs.Change.{changed}
 use Rattle.vault_core_model.specs.Checks.{most_ids, access}
 use Rattle.vault_core_model.specs.Sound.{IsWhole, IsWholeAs, Sound}
 use Rattle.vault_core_model.specs.Places.{keys_of}
-use Rattle.vault_core_model.specs.Plan.{rules_in, change_at, change_of, made, plan, is_mark, with_ids}
+use Rattle.vault_core_model.specs.Plan.{rules_in, change_at, change_of, after_steps, plan, is_mark, with_ids}
 use Rattle.vault_core_model.specs.RunOutcome.{planned_run, AnswersRun, StopsByFault}
 use Rattle.vault_core_laws.proofs.Newest.{finds_itself}
 use Rattle.vault_core_laws.proofs.Soundness.{AreInOrder-later, Sound-changed}
 use Rattle.vault_core_run_laws.specs.KeyRuns.{MayRun}
 use Rattle.vault_core_run_laws.proofs.ByKey.{plans_plain}
 use Rattle.vault_core_run_laws.proofs.Keys.{covers, keys_rise}
-use Rattle.vault_core_run_laws.proofs.Plain.{plain_of, plains, made_one-plain, chronicle_of}
+use Rattle.vault_core_run_laws.proofs.Plain.{plain_of, plains, histories_after_step-plain, orderly_of}
 use Rattle.vault_core_run_laws.proofs.RunLaws.{plans_are_key_by_key}
-use Rattle.vault_core_run_laws.proofs.Steps.{chronicle}
-use Rattle.vault_core_worm_laws.specs.Chains.{MayMake, Makes}
+use Rattle.vault_core_run_laws.proofs.Steps.{orderly}
+use Rattle.vault_core_worm_laws.specs.Chains.{MayMake, MayMakeAll}
 use Rattle.vault_core_worm_laws.proofs.Checked.{some_is, bind_if, HasAccess, access-is}
 use Rattle.vault_core_worm_laws.proofs.Kept.{lock_of-found}
 
@@ -166,15 +166,15 @@ last_after v bucket t key (Mark r) = omega arith
 last_after v bucket t key (Remove id r) = omega arith
 last_after v bucket t key (RemoveLone id r) = omega arith
 
-pub makes_first : (rules : List Rule) (bucket : List ℕ) (config : BucketConfig) (t : ℕ) (who : List ℕ) (ok : IsTrue (are_rules rules)) (n : ℕ) (v : Vault) (ps : List Planned) → Sound v → v.last ≤ t → config_of v bucket ≡ Some config → IsPlan rules bucket t (plains v) ps → n ≤ length (with_ids (length v.histories) ps) → (cs : List Change) × Makes v t who cs (made v bucket t (take n ps))
+pub makes_first : (rules : List Rule) (bucket : List ℕ) (config : BucketConfig) (t : ℕ) (who : List ℕ) (ok : IsTrue (are_rules rules)) (n : ℕ) (v : Vault) (ps : List Planned) → Sound v → v.last ≤ t → config_of v bucket ≡ Some config → IsPlan rules bucket t (plains v) ps → n ≤ length (with_ids (length v.histories) ps) → (cs : List Change) × MayMakeAll v t who cs (after_steps v bucket t (take n ps))
 makes_first rules bucket config t who ok zero v ps sound le placed plan few = ([], refl)
 makes_first rules bucket config t who ok (suc n) v [] sound le placed plan few = absurd (omega (arith, few))
 makes_first rules bucket config t who ok (suc n) v (p ∷ ps) sound le placed plan few =
-    let c = chronicle_of 1 0 t v.histories sound.ids (AreInOrder-later 0 v.last t v.histories le sound.order) in
+    let c = orderly_of 1 0 t v.histories sound.ids (AreInOrder-later 0 v.last t v.histories le sound.order) in
     let ids = first_id v n p ps p.step refl few in
     let may = may_step v bucket config t who p.key p.step sound le placed ids.0 (first_free rules bucket t (plains v) p ps ok c plan) in
     let w = changed v t (change_of v bucket t p) in
-    let rest : IsPlan rules bucket t (plains w) ps = subst (λ ls. IsPlan rules bucket t ls ps) (sym (made_one-plain v bucket t p)) (repeats rules bucket t ok 1 (plains v) (p ∷ ps) c plan) in
+    let rest : IsPlan rules bucket t (plains w) ps = subst (λ ls. IsPlan rules bucket t ls ps) (sym (histories_after_step-plain v bucket t p)) (repeats rules bucket t ok 1 (plains v) (p ∷ ps) c plan) in
     let later = makes_first rules bucket config t who ok n w ps
     (Sound-changed v t (change_of v bucket t p) sound le may.allowed)
     (last_after v bucket t p.key p.step)
@@ -192,7 +192,7 @@ plans_are_plans v bucket t may =
       keys = ks;
       rising = keys_rise v bucket;
       covers = covers v bucket;
-      steps = plans_are_key_by_key v bucket t may ∙ (plans_plain bucket t v ks ∙ sym (key_by_key (rules_in v bucket) bucket t may.rules ks (plains v) (chronicle v bucket t may) (apart ks (keys_rise v bucket))));
+      steps = plans_are_key_by_key v bucket t may ∙ (plans_plain bucket t v ks ∙ sym (key_by_key (rules_in v bucket) bucket t may.rules ks (plains v) (orderly v bucket t may) (apart ks (keys_rise v bucket))));
     }
 
 -- a run that is asked for in time, at a bucket
@@ -213,12 +213,12 @@ is_run v t who c ps e =
 
 -- any number of permitted changes lead from v to v'
 abbrev pub LeadsOn : Vault → ℕ → List ℕ → Vault → Type 0
-LeadsOn v t who v' = (cs : List Change) × Makes v t who cs v'
+LeadsOn v t who v' = (cs : List Change) × MayMakeAll v t who cs v'
 
 nothing : (v v' : Vault) (t : ℕ) (who : List ℕ) → v' ≡ v → LeadsOn v t who v'
 nothing v v' t who e = ([], e)
 
-first_of_run : (v v' : Vault) (t : ℕ) (who : List ℕ) (c : Run) (n : ℕ) (ps : List Planned) → Sound v → IsTrue (are_rules (rules_in v c.bucket)) → planned_run v t who c ≡ Ok ps → n ≤ length (with_ids (length v.histories) ps) → v' ≡ made v c.bucket t (take n ps) → LeadsOn v t who v'
+first_of_run : (v v' : Vault) (t : ℕ) (who : List ℕ) (c : Run) (n : ℕ) (ps : List Planned) → Sound v → IsTrue (are_rules (rules_in v c.bucket)) → planned_run v t who c ≡ Ok ps → n ≤ length (with_ids (length v.histories) ps) → v' ≡ after_steps v c.bucket t (take n ps) → LeadsOn v t who v'
 first_of_run v v' t who c n ps sound ok judged few left =
     let run = is_run v t who c ps judged in
     let P : Vault → Type 0 = λ w. LeadsOn v t who w in
@@ -231,7 +231,7 @@ by_fault v v' t who c n sound ok (inr some) = first_of_run v v' t who c n some.0
 
 pub run-leads : (v v' : Vault) (t : ℕ) (who : List ℕ) (c : Run) (r : Reply) → Sound v → IsTrue (are_rules (rules_in v c.bucket)) → AnswersRun (planned_run v t who c) v c.bucket t r v' → LeadsOn v t who v'
 run-leads v v' t who c (Done a) sound ok run =
-    let all : made v c.bucket t run.0 ≡ made v c.bucket t (take (length run.0) run.0) = ap (made v c.bucket t) (sym (take_all (length run.0) run.0 (omega arith))) in
+    let all : after_steps v c.bucket t run.0 ≡ after_steps v c.bucket t (take (length run.0) run.0) = ap (after_steps v c.bucket t) (sym (take_all (length run.0) run.0 (omega arith))) in
     let few : length run.0 ≤ length (with_ids (length v.histories) run.0) = omega (arith, ap length run.3) in
     first_of_run v v' t who c (length run.0) run.0 sound ok run.1 few (run.4 ∙ all)
 run-leads v v' t who c (Refused r) sound ok run = nothing v v' t who run.0

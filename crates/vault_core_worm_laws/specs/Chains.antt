@@ -15,9 +15,9 @@ pub record MayMake (v : Vault) (t : ℕ) (who : List ℕ) (c : Change) : Type 0 
   pub permitted : Permits v t who c
 
 -- changes that the caller may make at t, one after another, lead from v to v'
-abbrev pub Makes : Vault → ℕ → List ℕ → List Change → Vault → Type 0
-Makes v t who [] v' = v' ≡ v
-Makes v t who (c ∷ cs) v' = MayMake v t who c × Makes (changed v t c) t who cs v'
+abbrev pub MayMakeAll : Vault → ℕ → List ℕ → List Change → Vault → Type 0
+MayMakeAll v t who [] v' = v' ≡ v
+MayMakeAll v t who (c ∷ cs) v' = MayMake v t who c × MayMakeAll (changed v t c) t who cs v'
 
 -- a command makes one change at most; a run of the lifecycle rules any number
 abbrev pub AreFew : Command → List Change → Type 0
@@ -26,4 +26,4 @@ AreFew _ cs = length cs ≤ 1
 
 -- permitted changes lead from v to v', not more than the command may make
 abbrev pub Leads : Vault → ℕ → List ℕ → Command → Vault → Type 0
-Leads v t who c v' = (cs : List Change) × Makes v t who cs v' × AreFew c cs
+Leads v t who c v' = (cs : List Change) × MayMakeAll v t who cs v' × AreFew c cs

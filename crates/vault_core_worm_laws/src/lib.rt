@@ -7,7 +7,7 @@ ghost use Rattle.vault_core_model.specs.declared.command.Command.{Command};
 ghost use Rattle.vault_core_model.specs.declared.command.Timed.{Timed};
 ghost use Rattle.vault_core_model.specs.declared.reply.Reply.{Reply};
 ghost use Rattle.vault_core_model.specs.Vault.{Vault};
-ghost use Rattle.vault_core_model.specs.Step.{Step, Run, Reached};
+ghost use Rattle.vault_core_model.specs.Step.{IsStep, IsRun, Reached};
 ghost use Rattle.vault_core_model.specs.Sound.{Sound};
 ghost use Rattle.vault_core_model.specs.Totals.{admitted_bytes, received_bytes, removed_bytes, handed_bytes, over_departments};
 ghost use Rattle.vault_core_worm_laws.specs.Callers.{KeepsCallers};
@@ -23,7 +23,7 @@ ghost use Rattle.vault_core_worm_laws.specs.Worm.{Worm};
 /// permit the caller; a run of the lifecycle rules makes any number of them.
 pub fn steps_make_permitted_changes()
     ensures { (v after : Vault) (t : ℕ) (who : List ℕ) (c : Command) (reply : Reply) →
-        Sound v → Step v t who c reply after → Leads v t who c after }
+        Sound v → IsStep v t who c reply after → Leads v t who c after }
 {}
 
 /// Every vault that is reached from a new one is sound.
@@ -66,14 +66,14 @@ pub fn sums_stay_far_below()
 /// one removal; its bytes stand as long as it is held; and settings and tenures are only added.
 pub fn histories_are_written_once()
     ensures { (v after : Vault) (commands : List Timed) (replies : List Reply) →
-        Sound v → Run v commands replies after → Extends v.histories after.histories }
+        Sound v → IsRun v commands replies after → Extends v.histories after.histories }
 {}
 
 /// Over any run from a sound vault, who was a caller still is, with the same rights; a closed caller
 /// stays closed.
 pub fn callers_keep_their_rights()
     ensures { (v after : Vault) (commands : List Timed) (replies : List Reply) →
-        Sound v → Run v commands replies after → KeepsCallers v after }
+        Sound v → IsRun v commands replies after → KeepsCallers v after }
 {}
 
 /// Lifecycle runs over one bucket at one moment, each cut by a fault, are together the beginning of one
@@ -81,7 +81,7 @@ pub fn callers_keep_their_rights()
 /// stopped, and one run more changes nothing.
 pub fn cut_runs_are_completed()
     ensures begun { (v after : Vault) (commands : List Timed) (replies : List Reply) →
-        Sound v → Run v commands replies after → BeginRun v commands replies after }
+        Sound v → IsRun v commands replies after → BeginRun v commands replies after }
     ensures done { (v after : Vault) (commands : List Timed) (replies : List Reply) →
-        Sound v → Run v commands replies after → CompleteRun v commands replies after }
+        Sound v → IsRun v commands replies after → CompleteRun v commands replies after }
 {}

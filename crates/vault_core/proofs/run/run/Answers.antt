@@ -4,15 +4,15 @@ use Rattle.std.proofs.lemmas.List.Folds.{list_any-append}
 use Rattle.vault_core_model.specs.Halts.{is_device_reply}
 use Rattle.std.proofs.lemmas.List.{take_more}
 use Rattle.vault_core_model.specs.declared.command.Timed.{Timed}
-use Rattle.vault_core_model.specs.Step.{Run}
-use Rattle.vault_core_laws.proofs.Runs.{Run-push, Run-append}
+use Rattle.vault_core_model.specs.Step.{IsRun}
+use Rattle.vault_core_laws.proofs.Runs.{IsRun-push, IsRun-append}
 use Rattle.vault_core_laws.proofs.Balance.{conserved, moved, one_place}
 use Rattle.vault_core_laws.proofs.Telescope.{days_joined}
 use Rattle.vault_core_worm_laws.proofs.Once.{extends_itself}
 use Rattle.vault_core_worm_laws.proofs.Repeated.{run-begins, run-completes}
 use Rattle.vault_core_worm_laws.proofs.Reached.{reached-permitted, reached-Worm, run-Sound, run-extends}
 use Rattle.vault_core_worm_laws.proofs.Stored.{Sound-stands_once, Sound-conserved, Sound-all_conserved}
-use Rattle.vault_core.proofs.Device.{any_last, none_last, Rose-before, Rose-after}
+use Rattle.vault_core.proofs.Device.{any_last, none_last, RoseOrIsFull-before, RoseOrIsFull-after}
 use Rattle.vault_core.proofs.run.run.Goals as goal
 
 -- the run so far goes on by this step
@@ -22,14 +22,14 @@ loop-timed-preserved g c = record {
   counted = search rules;
   so_far = λ h. let lt : c.loop-timed.timed-index < length c.args.commands.now = c.loop-timed-test.true in
       rw (take_more c.args.commands.now c.loop-timed.timed-index c.timed-item.result lt, ← c.timed-item.is, c.in_ok-push.ensures.items)
-      (Run-push _ _ _ _ _ c.timed-item.result c.step-reply.result (c.loop-timed.invariant.so_far (c.step-reply.ensures.honest h)) (c.step-reply.ensures.step h));
+      (IsRun-push _ _ _ _ _ c.timed-item.result c.step-reply.result (c.loop-timed.invariant.so_far (c.step-reply.ensures.honest h)) (c.step-reply.ensures.step h));
   room = search rules;
   told = search rules;
   device = λ any.
       let split = sym (list_any-append is_device_reply c.loop-timed.replies.items (c.step-reply.result ∷ [])) ∙ (sym (ap (list_any is_device_reply) c.in_ok-push.ensures.items) ∙ any) in
       elim (any_last c.loop-timed.replies.items c.step-reply.result split) [
-        | inl before ↦ Rose-before _ _ _ (c.loop-timed.invariant.device before) c.step-reply.ensures.counted
-        | inr now ↦ Rose-after _ _ _ c.loop-timed.invariant.counted c.step-reply.ensures.counted (c.step-reply.ensures.device now)
+        | inl before ↦ RoseOrIsFull-before _ _ _ (c.loop-timed.invariant.device before) c.step-reply.ensures.counted
+        | inr now ↦ RoseOrIsFull-after _ _ _ c.loop-timed.invariant.counted c.step-reply.ensures.counted (c.step-reply.ensures.device now)
       ];
   steady = λ none.
       let split = sym (list_any-append is_device_reply c.loop-timed.replies.items (c.step-reply.result ∷ [])) ∙ (sym (ap (list_any is_device_reply) c.in_ok-push.ensures.items) ∙ none) in
@@ -39,7 +39,7 @@ loop-timed-preserved g c = record {
 
 -- the run to the vault before, and then this one
 pub returns-clause-reached : goal.returns-clause-reached
-returns-clause-reached g c = λ h before. (before.0 ++ _, before.1 ++ _, Run-append _ _ _ before.0 _ before.1 _ before.2 (c.loop-timed.invariant.so_far h))
+returns-clause-reached g c = λ h before. (before.0 ++ _, before.1 ++ _, IsRun-append _ _ _ before.0 _ before.1 _ before.2 (c.loop-timed.invariant.so_far h))
 
 pub returns-in_err-replies-clause-conserved : goal.returns-in_err-replies-clause-conserved
 returns-in_err-replies-clause-conserved g c = one_place (g.K.Keeper.vault c.args.keeper.now)
@@ -106,9 +106,9 @@ returns-clause-days g c = λ h sound t late. days_joined _ t (run-Sound _ _ _ _ 
 pub returns-clause-begun : goal.returns-clause-begun
 returns-clause-begun g c = λ h sound.
     let all = take_all c.loop-timed.timed-index c.args.commands.now c.loop-timed-test.false in
-    run-begins _ _ _ _ sound (subst (λ (cs : List Timed). Run (g.K.Keeper.vault c.args.keeper.now) cs c.loop-timed.replies.items (g.K.Keeper.vault c.loop-timed.keeper)) all (c.loop-timed.invariant.so_far h))
+    run-begins _ _ _ _ sound (subst (λ (cs : List Timed). IsRun (g.K.Keeper.vault c.args.keeper.now) cs c.loop-timed.replies.items (g.K.Keeper.vault c.loop-timed.keeper)) all (c.loop-timed.invariant.so_far h))
 
 pub returns-clause-completed : goal.returns-clause-completed
 returns-clause-completed g c = λ h sound.
     let all = take_all c.loop-timed.timed-index c.args.commands.now c.loop-timed-test.false in
-    run-completes _ _ _ _ sound (subst (λ (cs : List Timed). Run (g.K.Keeper.vault c.args.keeper.now) cs c.loop-timed.replies.items (g.K.Keeper.vault c.loop-timed.keeper)) all (c.loop-timed.invariant.so_far h))
+    run-completes _ _ _ _ sound (subst (λ (cs : List Timed). IsRun (g.K.Keeper.vault c.args.keeper.now) cs c.loop-timed.replies.items (g.K.Keeper.vault c.loop-timed.keeper)) all (c.loop-timed.invariant.so_far h))

@@ -1,6 +1,6 @@
 use Rattle.std.proofs.Common.{rules}
 use Rattle.vault_rules.specs.KeyPlan.{at_key}
-use Rattle.vault_core_runs.proofs.Making.{Makes-err}
+use Rattle.vault_core_runs.proofs.Making.{MakesSteps-err}
 use Rattle.vault_core_runs.proofs.OverKeys.{has_cause, next_may, still_may, next_step, stopped_step}
 use Rattle.vault_core_runs.proofs.key.make_steps.Goals as goal
 
@@ -44,6 +44,6 @@ returns-in_err-make_step-clause-makes g c = λ h.
     let b = c.args.run.now.bucket in
     let t = c.args.run.now.at in
     let e = c.in_err-make_step.field-0.0 in
-    Makes-err c.from_residual.result e v b t (at_key c.args.key.now c.args.steps.now) c.args.counts.now c.make_step.new.counts v2 c.from_residual.ensures.1
+    MakesSteps-err c.from_residual.result e v b t (at_key c.args.key.now c.args.steps.now) c.args.counts.now c.make_step.new.counts v2 c.from_residual.ensures.1
     (stopped_step v (g.K.Keeper.vault c.loop-step.keeper) v2 b t c.args.key.now c.args.steps.now c.loop-step.step-index c.step-item.result c.args.counts.now c.loop-step.counts c.make_step.new.counts e
     c.loop-step-test.true c.step-item.is (c.loop-step.invariant.makes (c.make_step.ensures.honest h)) (c.in_err-make_step.ensures.makes h))

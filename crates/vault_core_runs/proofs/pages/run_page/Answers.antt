@@ -1,6 +1,6 @@
 use Rattle.std.proofs.Common.{rules, take, ◌∙◌}
 use Rattle.vault_core_run_laws.specs.KeyRuns.{plans_at}
-use Rattle.vault_core_runs.proofs.Making.{Makes-err}
+use Rattle.vault_core_runs.proofs.Making.{MakesSteps-err}
 use Rattle.vault_core_runs.proofs.OverKeys.{may_go_on, front_rises, done_key, stopped_key}
 use Rattle.vault_core_runs.proofs.pages.run_page.Goals as goal
 
@@ -38,6 +38,6 @@ returns-in_err-run_key-clause-makes g c = λ h.
     let b = c.args.run.now.bucket in
     let t = c.args.run.now.at in
     let e = c.in_err-run_key.field-0.0 in
-    Makes-err c.from_residual.result e v b t (plans_at v b t c.args.keys.now) c.args.counts.now c.run_key.new.counts v2 c.from_residual.ensures.1
+    MakesSteps-err c.from_residual.result e v b t (plans_at v b t c.args.keys.now) c.args.counts.now c.run_key.new.counts v2 c.from_residual.ensures.1
     (stopped_key v (g.K.Keeper.vault c.loop-key.keeper) v2 b t c.args.keys.now c.loop-key.key-index c.key-item.result e c.args.counts.now c.loop-key.counts c.run_key.new.counts
     (c.requires.may h0) (c.requires.rising h0) c.loop-key-test.true c.key-item.is (c.loop-key.invariant.makes h1) (c.in_err-run_key.ensures.makes h))

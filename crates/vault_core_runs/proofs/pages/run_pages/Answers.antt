@@ -5,8 +5,8 @@ use Rattle.vault_core_model.specs.declared.halt.Halt.TheVariants as halt
 use Rattle.vault_core_model.specs.Vault.{Vault}
 use Rattle.vault_core_model.specs.Plan.{plan, rules_in}
 use Rattle.vault_core_run_laws.specs.KeyRuns.{MayRun, plans_at}
-use Rattle.vault_core_runs.specs.Making.{IsLastKey, MakesAll, MakesFirst}
-use Rattle.vault_core_runs.proofs.Making.{Makes-err}
+use Rattle.vault_core_runs.specs.Making.{IsLastKey, MakesAll, MakesUpTo}
+use Rattle.vault_core_runs.proofs.Making.{MakesSteps-err}
 use Rattle.vault_core_runs.proofs.OverPages.{page_is, page_rises, page_may, page_done, all_done, stopped_within, stopped_behind, stopped_between}
 use Rattle.vault_core_runs.proofs.pages.run_pages.Goals as goal
 
@@ -20,7 +20,7 @@ returns-in_err-keys-clause-makes g c = λ h.
     let b = c.args.run.now.bucket in
     let t = c.args.run.now.at in
     let f = c.in_err-keys.field-0.0 in
-    Makes-err c.from_residual-in_err-keys.result (halt.Fault f) v b t (plan v b t) c.args.counts.now c.loop.counts w c.from_residual-in_err-keys.ensures.1
+    MakesSteps-err c.from_residual-in_err-keys.result (halt.Fault f) v b t (plan v b t) c.args.counts.now c.loop.counts w c.from_residual-in_err-keys.ensures.1
     (stopped_between v v1 b t c.loop.after c.args.counts.now c.loop.counts (c.requires.may h0) (c.loop.invariant.done h1) f w c.keys.ensures.same)
 
 pub run_page-requires-clause-may : goal.run_page-requires-clause-may
@@ -74,9 +74,9 @@ returns-in_err-run_page-clause-makes g c = λ h.
     let keys = c.deref.result.now in
     let e = c.in_err-run_page.field-0.0 in
     let page = page_is v v1 b t c.loop.after x y may d 256 keys (c.deref.ensures.value ∙ c.in_ok-keys.ensures.value hk) in
-    Makes-err c.from_residual-in_err-run_page.result e v b t (plan v b t) x z v2 c.from_residual-in_err-run_page.ensures.1
+    MakesSteps-err c.from_residual-in_err-run_page.result e v b t (plan v b t) x z v2 c.from_residual-in_err-run_page.ensures.1
     (stopped_within v v1 b t c.loop.after x y may d 256 keys e z v2 page
-    (subst (λ (u : Vault). MakesFirst u b t (plans_at u b t keys) e y z v2) c.keys.ensures.same (c.in_err-run_page.ensures.makes h)))
+    (subst (λ (u : Vault). MakesUpTo u b t (plans_at u b t keys) e y z v2) c.keys.ensures.same (c.in_err-run_page.ensures.makes h)))
 
 pub returns-clause-makes : goal.returns-clause-makes
 returns-clause-makes g c = λ h.
@@ -102,7 +102,7 @@ returns-in_err-last-clause-makes g c = λ h.
     let keys = c.deref.result.now in
     let page = page_is v v1 b t c.loop.after x y may d 256 keys (c.deref.ensures.value ∙ c.in_ok-keys.ensures.value hk) in
     let made = subst (λ (u : Vault). MakesAll u b t (plans_at u b t keys) y z v2) c.keys.ensures.same (c.in_ok-run_page.ensures.makes h) in
-    Makes-err c.from_residual-in_err-last.result (halt.Fault fault.Memory) v b t (plan v b t) x z v2 c.from_residual-in_err-last.ensures.1
+    MakesSteps-err c.from_residual-in_err-last.result (halt.Fault fault.Memory) v b t (plan v b t) x z v2 c.from_residual-in_err-last.ensures.1
     (stopped_behind v v1 b t c.loop.after x y may d 256 keys fault.Memory z v2 page made)
 
 -- fewer keys came than a page has, so they were the last

@@ -1,82 +1,25 @@
-//! Entries: reading, delete markers, removal.
-ghost use Rattle.std.specs.Prelude.{◌≡◌, ◌≤◌, [], IsTrue, IfOk, OnOk, None, unwrap_or, false};
-ghost use Rattle.vault_core_model.specs.Halts.{Finds, Meets, is_device, is_device_given, Rose};
+//! Delete markers, and entries that are removed for good.
+ghost use Rattle.std.specs.Prelude.{◌≡◌, ◌≤◌, IsTrue, IfOk, OnOk, None, false};
+ghost use Rattle.vault_core_model.specs.Halts.{ChecksAs, AnswersAs, is_device, RoseOrIsFull};
 ghost use Rattle.vault_core_model.specs.declared.records.Author.TheVariants as author;
 ghost use Rattle.vault_core_model.specs.Allowed.{IsAdmission, IsHeldId};
 ghost use Rattle.vault_core_model.specs.EntryOutcomes as outcome;
-ghost use Rattle.vault_core_model.specs.Reads.{content_of};
 
 use std::alloc::{AllocError, Global};
-use vault_base::content::Content;
 use vault_base::moment::Moment;
 use vault_base::name::{CallerName, VersionId};
 use vault_base::right::Right;
 use vault_core_checks::caller::find_access;
-use vault_core_checks::entry::{check_removal, find_held, find_setting, find_version};
+use vault_core_checks::entry::{check_removal, find_held, find_setting};
 use vault_core_checks::limit::find_id;
 use vault_core_model::access::Access;
 use vault_core_model::change::{Admission, Change};
-use vault_core_model::command::{Delete, DeleteVersion, Get, Head};
-use vault_core_model::halt::{Fault, Halt};
+use vault_core_model::command::{Delete, DeleteVersion};
+use vault_core_model::halt::Halt;
 use vault_core_model::keeper::{Keeper, make_change};
 use vault_core_model::records::{Author, Cause, Entry, History, Removal, Settings, Tenures};
-use vault_core_model::reply::{Answer, Removed, Version};
+use vault_core_model::reply::{Answer, Removed};
 use vault_lock::lock::Permit;
-
-/// Reads a content version: its entry, the lock that counts and its bytes.
-pub fn get<K: Keeper>(
-    alloc: Global,
-    keeper: &mut K,
-    at: Moment,
-    who: &CallerName,
-    command: &Get,
-) -> Result<Answer, Halt>
-    ensures meets { K.is_honest keeper.new → Meets result (K.vault keeper.old) (K.vault keeper.new) (outcome.get (K.vault keeper.old) at who.now command.now) }
-    ensures honest { K.is_honest keeper.new → K.is_honest keeper.old }
-    ensures counted { K.count keeper.old ≤ K.count keeper.new }
-    ensures device { IsTrue (is_device result) → Rose (K.count keeper.old) (K.count keeper.new) }
-    ensures steady { is_device result ≡ false → K.count keeper.new ≡ K.count keeper.old }
-{
-    drop(find_access(keeper, at, who, &command.bucket, Right::Get)?);
-    let entry = find_version(keeper, &command.bucket, &command.key, command.id)?;
-    let lock = find_setting(keeper, entry.id)?.lock;
-    let content = read_content(alloc, keeper, entry.id)?;
-    Ok(Answer::Version(Version { entry, lock }, content))
-}
-
-/// The bytes that stand under an id, or none.
-fn read_content<K: Keeper>(alloc: Global, keeper: &mut K, id: VersionId) -> Result<Content, Fault>
-    ensures value { K.is_honest keeper.new → IfOk result (λ content. content ≡ unwrap_or (content_of (K.vault keeper.old) id) []) }
-    ensures same { K.vault keeper.new ≡ K.vault keeper.old }
-    ensures honest { K.is_honest keeper.new → K.is_honest keeper.old }
-    ensures counted { K.count keeper.old ≤ K.count keeper.new }
-    ensures device { result ≡ Err Fault.Device → Rose (K.count keeper.old) (K.count keeper.new) }
-    ensures steady { is_device_given result ≡ false → K.count keeper.new ≡ K.count keeper.old }
-{
-    match keeper.content(id)? {
-        Some(content) => Ok(content),
-        None => Ok(Content::new(Vec::new(alloc))),
-    }
-}
-
-/// Reads a content version without its bytes.
-pub fn head<K: Keeper>(
-    keeper: &mut K,
-    at: Moment,
-    who: &CallerName,
-    command: &Head,
-) -> Result<Answer, Halt>
-    ensures meets { K.is_honest keeper.new → Meets result (K.vault keeper.old) (K.vault keeper.new) (outcome.head (K.vault keeper.old) at who.now command.now) }
-    ensures honest { K.is_honest keeper.new → K.is_honest keeper.old }
-    ensures counted { K.count keeper.old ≤ K.count keeper.new }
-    ensures device { IsTrue (is_device result) → Rose (K.count keeper.old) (K.count keeper.new) }
-    ensures steady { is_device result ≡ false → K.count keeper.new ≡ K.count keeper.old }
-{
-    drop(find_access(keeper, at, who, &command.bucket, Right::Get)?);
-    let entry = find_version(keeper, &command.bucket, &command.key, command.id)?;
-    let lock = find_setting(keeper, entry.id)?.lock;
-    Ok(Answer::Head(Version { entry, lock }))
-}
 
 /// Admits a delete marker on top of a key, also over a locked version, a marker or nothing.
 pub fn delete<K: Keeper>(
@@ -86,10 +29,10 @@ pub fn delete<K: Keeper>(
     who: &CallerName,
     command: &Delete,
 ) -> Result<Answer, Halt>
-    ensures meets { K.is_honest keeper.new → Meets result (K.vault keeper.old) (K.vault keeper.new) (outcome.delete (K.vault keeper.old) at who.now command.now) }
+    ensures meets { K.is_honest keeper.new → AnswersAs result (K.vault keeper.old) (K.vault keeper.new) (outcome.delete (K.vault keeper.old) at who.now command.now) }
     ensures honest { K.is_honest keeper.new → K.is_honest keeper.old }
     ensures counted { K.count keeper.old ≤ K.count keeper.new }
-    ensures device { IsTrue (is_device result) → Rose (K.count keeper.old) (K.count keeper.new) }
+    ensures device { IsTrue (is_device result) → RoseOrIsFull (K.count keeper.old) (K.count keeper.new) }
     ensures steady { is_device result ≡ false → K.count keeper.new ≡ K.count keeper.old }
 {
     let id = find_marker_id(keeper, at, who, command)?;
@@ -108,13 +51,13 @@ fn find_marker_id<K: Keeper>(
     who: &CallerName,
     command: &Delete,
 ) -> Result<VersionId, Halt>
-    ensures found { K.is_honest keeper.new → Finds result (outcome.marker_id (K.vault keeper.old) at who.now command.now) }
+    ensures found { K.is_honest keeper.new → ChecksAs result (outcome.marker_id (K.vault keeper.old) at who.now command.now) }
     ensures in_time { K.is_honest keeper.new → OnOk result ((K.vault keeper.old).last ≤ at) }
     ensures allowed { K.is_honest keeper.new → IfOk result (λ id. IsAdmission (K.vault keeper.old) at (record { history = outcome.new_marker id command.now.bucket command.now.key at (author.Caller who.now); note = None })) }
     ensures same { K.vault keeper.new ≡ K.vault keeper.old }
     ensures honest { K.is_honest keeper.new → K.is_honest keeper.old }
     ensures counted { K.count keeper.old ≤ K.count keeper.new }
-    ensures device { IsTrue (is_device result) → Rose (K.count keeper.old) (K.count keeper.new) }
+    ensures device { IsTrue (is_device result) → RoseOrIsFull (K.count keeper.old) (K.count keeper.new) }
     ensures steady { is_device result ≡ false → K.count keeper.new ≡ K.count keeper.old }
 {
     drop(find_access(keeper, at, who, &command.bucket, Right::Delete)?);
@@ -157,10 +100,10 @@ pub fn delete_version<K: Keeper>(
     who: &CallerName,
     command: &DeleteVersion,
 ) -> Result<Answer, Halt>
-    ensures meets { K.is_honest keeper.new → Meets result (K.vault keeper.old) (K.vault keeper.new) (outcome.delete_version (K.vault keeper.old) at who.now command.now) }
+    ensures meets { K.is_honest keeper.new → AnswersAs result (K.vault keeper.old) (K.vault keeper.new) (outcome.delete_version (K.vault keeper.old) at who.now command.now) }
     ensures honest { K.is_honest keeper.new → K.is_honest keeper.old }
     ensures counted { K.count keeper.old ≤ K.count keeper.new }
-    ensures device { IsTrue (is_device result) → Rose (K.count keeper.old) (K.count keeper.new) }
+    ensures device { IsTrue (is_device result) → RoseOrIsFull (K.count keeper.old) (K.count keeper.new) }
     ensures steady { is_device result ≡ false → K.count keeper.new ≡ K.count keeper.old }
 {
     let access = find_access(keeper, at, who, &command.bucket, Right::DeleteVersion)?;
@@ -179,12 +122,12 @@ fn find_removable<K: Keeper>(
     access: &Access,
     command: &DeleteVersion,
 ) -> Result<Removed, Halt>
-    ensures found { K.is_honest keeper.new → Finds result (outcome.removal_permitted (K.vault keeper.old) at command.now access.now) }
+    ensures found { K.is_honest keeper.new → ChecksAs result (outcome.removal_permitted (K.vault keeper.old) at command.now access.now) }
     ensures there { K.is_honest keeper.new → OnOk result (IsHeldId (K.vault keeper.old) command.now.id) }
     ensures same { K.vault keeper.new ≡ K.vault keeper.old }
     ensures honest { K.is_honest keeper.new → K.is_honest keeper.old }
     ensures counted { K.count keeper.old ≤ K.count keeper.new }
-    ensures device { IsTrue (is_device result) → Rose (K.count keeper.old) (K.count keeper.new) }
+    ensures device { IsTrue (is_device result) → RoseOrIsFull (K.count keeper.old) (K.count keeper.new) }
     ensures steady { is_device result ≡ false → K.count keeper.new ≡ K.count keeper.old }
 {
     let entry = find_held(keeper, &command.bucket, &command.key, command.id)?;

@@ -1,0 +1,72 @@
+//! Content versions that are read, with their bytes or without.
+ghost use Rattle.std.specs.Prelude.{◌≡◌, ◌≤◌, [], IsTrue, IfOk, unwrap_or, false};
+ghost use Rattle.vault_core_model.specs.Halts.{AnswersAs, is_device, is_device_given, RoseOrIsFull};
+ghost use Rattle.vault_core_model.specs.EntryOutcomes as outcome;
+ghost use Rattle.vault_core_model.specs.Reads.{content_of};
+
+use std::alloc::Global;
+use vault_base::content::Content;
+use vault_base::moment::Moment;
+use vault_base::name::{CallerName, VersionId};
+use vault_base::right::Right;
+use vault_core_checks::caller::find_access;
+use vault_core_checks::entry::{find_setting, find_version};
+use vault_core_model::command::{Get, Head};
+use vault_core_model::halt::{Fault, Halt};
+use vault_core_model::keeper::Keeper;
+use vault_core_model::reply::{Answer, Version};
+
+/// Reads a content version: its entry, the lock that counts and its bytes.
+pub fn get<K: Keeper>(
+    alloc: Global,
+    keeper: &mut K,
+    at: Moment,
+    who: &CallerName,
+    command: &Get,
+) -> Result<Answer, Halt>
+    ensures meets { K.is_honest keeper.new → AnswersAs result (K.vault keeper.old) (K.vault keeper.new) (outcome.get (K.vault keeper.old) at who.now command.now) }
+    ensures honest { K.is_honest keeper.new → K.is_honest keeper.old }
+    ensures counted { K.count keeper.old ≤ K.count keeper.new }
+    ensures device { IsTrue (is_device result) → RoseOrIsFull (K.count keeper.old) (K.count keeper.new) }
+    ensures steady { is_device result ≡ false → K.count keeper.new ≡ K.count keeper.old }
+{
+    drop(find_access(keeper, at, who, &command.bucket, Right::Get)?);
+    let entry = find_version(keeper, &command.bucket, &command.key, command.id)?;
+    let lock = find_setting(keeper, entry.id)?.lock;
+    let content = read_content(alloc, keeper, entry.id)?;
+    Ok(Answer::Version(Version { entry, lock }, content))
+}
+
+/// The bytes that stand under an id, or none.
+fn read_content<K: Keeper>(alloc: Global, keeper: &mut K, id: VersionId) -> Result<Content, Fault>
+    ensures value { K.is_honest keeper.new → IfOk result (λ content. content ≡ unwrap_or (content_of (K.vault keeper.old) id) []) }
+    ensures same { K.vault keeper.new ≡ K.vault keeper.old }
+    ensures honest { K.is_honest keeper.new → K.is_honest keeper.old }
+    ensures counted { K.count keeper.old ≤ K.count keeper.new }
+    ensures device { result ≡ Err Fault.Device → RoseOrIsFull (K.count keeper.old) (K.count keeper.new) }
+    ensures steady { is_device_given result ≡ false → K.count keeper.new ≡ K.count keeper.old }
+{
+    match keeper.content(id)? {
+        Some(content) => Ok(content),
+        None => Ok(Content::new(Vec::new(alloc))),
+    }
+}
+
+/// Reads a content version without its bytes.
+pub fn head<K: Keeper>(
+    keeper: &mut K,
+    at: Moment,
+    who: &CallerName,
+    command: &Head,
+) -> Result<Answer, Halt>
+    ensures meets { K.is_honest keeper.new → AnswersAs result (K.vault keeper.old) (K.vault keeper.new) (outcome.head (K.vault keeper.old) at who.now command.now) }
+    ensures honest { K.is_honest keeper.new → K.is_honest keeper.old }
+    ensures counted { K.count keeper.old ≤ K.count keeper.new }
+    ensures device { IsTrue (is_device result) → RoseOrIsFull (K.count keeper.old) (K.count keeper.new) }
+    ensures steady { is_device result ≡ false → K.count keeper.new ≡ K.count keeper.old }
+{
+    drop(find_access(keeper, at, who, &command.bucket, Right::Get)?);
+    let entry = find_version(keeper, &command.bucket, &command.key, command.id)?;
+    let lock = find_setting(keeper, entry.id)?.lock;
+    Ok(Answer::Head(Version { entry, lock }))
+}
