@@ -13,11 +13,13 @@ use Rattle.vault_base.specs.declared.refusal.Table.TheVariants.{Meta, Department
 use Rattle.vault_core_model.specs.Vault.{Vault}
 use Rattle.vault_audit_model.specs.declared.schema.Edition.{Edition}
 use Rattle.vault_audit_model.specs.declared.rows.MetaRow.{MetaRow}
+use Rattle.vault_audit_model.specs.Order.{place_of}
 use Rattle.vault_audit_model.specs.Rows.{meta_row, entry_row, entry_columns}
 use Rattle.vault_audit_model.specs.Spells.{AreSoundAs, meta_told}
 use Rattle.vault_audit_model.specs.Tables.{schema_of, entries_tree}
+use Rattle.vault_audit_model.proofs.PlaceLemmas.{one_table}
 use Rattle.vault_audit_model.proofs.SameRows.{same_meta}
-use Rattle.vault_audit_schema.specs.Places.{place_of, BeginTo, IsToldIn}
+use Rattle.vault_audit_schema.specs.Places.{BeginTo, IsToldIn}
 use Rattle.vault_audit_schema.proofs.DifferenceLemmas.{in_place, place_below}
 use Rattle.vault_audit_records.specs.Entries.{IsEntryBy}
 use Rattle.vault_audit_records.specs.Meta.{IsMetaOf}
@@ -25,35 +27,6 @@ use Rattle.vault_audit_walk.specs.Records.{AreRecords}
 use Rattle.vault_audit.specs.InOrder.{AreRowsRight, IsRight, IsToldInOrder, ToldInOrder}
 
 -- ---- places
-
-abbrev at : ℕ → Table
-at zero = Meta
-at (suc zero) = Departments
-at (suc (suc zero)) = Callers
-at (suc (suc (suc zero))) = Buckets
-at (suc (suc (suc (suc zero)))) = Rules
-at (suc (suc (suc (suc (suc zero))))) = Entries
-at (suc (suc (suc (suc (suc (suc zero)))))) = Contents
-at (suc (suc (suc (suc (suc (suc (suc zero))))))) = Settings
-at (suc (suc (suc (suc (suc (suc (suc (suc zero)))))))) = Intake
-at (suc (suc (suc (suc (suc (suc (suc (suc (suc zero))))))))) = Heads
-at (suc (suc (suc (suc (suc (suc (suc (suc (suc (suc n)))))))))) = Tenures
-
-at_place : (t : Table) → at (place_of t) ≡ t
-at_place Meta = refl
-at_place Departments = refl
-at_place Callers = refl
-at_place Buckets = refl
-at_place Rules = refl
-at_place Entries = refl
-at_place Contents = refl
-at_place Settings = refl
-at_place Intake = refl
-at_place Heads = refl
-at_place Tenures = refl
-
-same_table : (t u : Table) → place_of t ≡ place_of u → t ≡ u
-same_table t u e = sym (at_place t) ∙ ap at e ∙ at_place u
 
 -- the tables behind meta
 abbrev pub behind_meta : List Table
@@ -99,7 +72,7 @@ from_behind (Some Tenures) other = omega arith
 pub from_next : (difference : Option Table) (t : Table) (place : ℕ) → place_of t ≡ place → IsFrom place difference → difference ≢ Some t → IsFrom (place + 1) difference
 from_next None t place here from other = tt
 from_next (Some d) t place here from other = elim (cases_order (place_of d) place) [
-  | inl e ↦ absurd (other (ap (λ (u : Table). Some u) (same_table d t (e ∙ sym here))))
+  | inl e ↦ absurd (other (ap (λ (u : Table). Some u) (one_table d t (e ∙ sym here))))
   | inr (inl less) ↦ absurd (omega (arith, less, from))
   | inr (inr more) ↦ omega (arith, more)
 ]
@@ -137,7 +110,7 @@ module _ (n : Edition) (db : Database) where
 
   pub right_more : (t : Table) (place : ℕ) → place_of t ≡ place → AreRightTo place → IsRight n db t → AreRightTo (place + 1)
   right_more t place here before it u less = elim (cases_order (place_of u) place) [
-    | inl e ↦ subst (IsRight n db) (same_table t u (here ∙ sym e)) it
+    | inl e ↦ subst (IsRight n db) (one_table t u (here ∙ sym e)) it
     | inr (inl lower) ↦ before u lower
     | inr (inr more) ↦ absurd (omega (arith, less, more))
   ]

@@ -6,17 +6,21 @@ use Rattle.sqlite.specs.Schema.{Schema}
 use Rattle.sqlite.specs.Table.{Table as Made}
 use Rattle.sqlite.specs.Listing.{understood, reads_listing}
 use Rattle.sqlite.proofs.Callers.{IsPlain, command_of}
-use Rattle.sqlite_value.specs.declared.value.Value.TheVariants.{Null, Int}
+use Rattle.sqlite_value.specs.declared.value.Value.TheVariants.{Int}
 use Rattle.sqlite_sql.specs.Term.{Term, col, lit}
 use Rattle.vault_base.specs.declared.refusal.Table.{Table}
 use Rattle.vault_base.specs.declared.refusal.Table.TheVariants as table
 use Rattle.vault_audit_model.specs.declared.schema.Edition.{Edition}
 use Rattle.vault_audit_model.specs.declared.schema.Edition.TheVariants.{First, Second, Third}
+use Rattle.vault_audit_tenures.proofs.SumTextLemmas.{moved_shown}
 use Rattle.vault_audit.specs.MetaQuery.{meta_query}
 use Rattle.vault_audit.specs.RulesQuery.{rules_text}
+use Rattle.vault_audit_model.specs.Order.{place_of}
 use Rattle.vault_audit_model.specs.Tables.{schema_of, contents_tree, heads_tree, intake_tree, settings_tree, tenures_tree}
-use Rattle.vault_audit_schema.specs.Places.{place_of, BeginTo}
+use Rattle.vault_audit_schema.specs.Places.{BeginTo}
 use Rattle.vault_audit_records.specs.DepartmentsQuery.{departments_query}
+use Rattle.vault_audit_records.proofs.RuleTextLemmas.{bounds_shown, bound_names}
+use Rattle.vault_audit_records.proofs.NameTextLemmas.{moved_names}
 use Rattle.vault_audit_walk.proofs.RecordLemmas.{Scans}
 use Rattle.vault_audit_walk.proofs.ScanLemmas.{walk_of}
 use Rattle.vault_audit_walk.specs.Health.{Asks}
@@ -29,17 +33,6 @@ with_tables s tables = record { tables = tables; indexes = s.indexes; views = s.
 as_begun : (P : Schema → Type 0) (n : Edition) (s : Schema) (t : Table) → BeginTo n s.tables t → P (with_tables s (take (place_of t + 1) (schema_of n).tables ++ drop (place_of t + 1) s.tables)) → P s
 as_begun P n s t begin =
     subst (λ (tables : List Made). P (with_tables s tables)) (sym (ap (λ (first : List Made). first ++ drop (place_of t + 1) s.tables) begin) ∙ take-append-drop (place_of t + 1) s.tables)
-
--- what is shown of the bytes that came and went with buckets
-abbrev pub moved_shown : Edition → List Term
-moved_shown First = lit (Int (pos 0)) ∷ lit (Int (pos 0)) ∷ []
-moved_shown Second = lit (Int (pos 0)) ∷ lit (Int (pos 0)) ∷ []
-moved_shown Third = col 1 7 ∷ col 1 8 ∷ []
-
-abbrev pub moved_names : Edition → List (List ℕ)
-moved_names First = codes "0" ∷ codes "0" ∷ []
-moved_names Second = codes "0" ∷ codes "0" ∷ []
-moved_names Third = codes "received" ∷ codes "handed" ∷ []
 
 abbrev pub DepartmentsScan : Edition → Schema → Type 0
 DepartmentsScan n s = Scans s (departments_query n) 1 (col 1 1 ∷ col 1 2 ∷ col 1 3 ∷ col 1 4 ∷ col 1 5 ∷ col 1 6 ∷ moved_shown n) (codes "name" ∷ codes "admitted" ∷ codes "held" ∷ codes "removed" ∷ codes "weighted" ∷ codes "closed" ∷ moved_names n)
@@ -83,17 +76,6 @@ buckets_scan n s begin = as_begun BucketsScan n s table.Buckets begin (record { 
 pub buckets_asks : (n : Edition) (s : Schema) → BeginTo n s.tables table.Buckets → Asks s buckets_text
 unfolding understood everything
 buckets_asks n s begin = as_begun (λ x. Asks x buckets_text) n s table.Buckets begin (record { is = (omega (arith), refl, (refl, refl, refl, refl)); unlisted = refl })
-
--- what is shown of the bounds of sizes
-abbrev pub bounds_shown : Edition → List Term
-bounds_shown First = lit Null ∷ lit Null ∷ []
-bounds_shown Second = col 1 10 ∷ col 1 11 ∷ []
-bounds_shown Third = col 1 10 ∷ col 1 11 ∷ []
-
-abbrev pub bound_names : Edition → List (List ℕ)
-bound_names First = codes "NULL" ∷ codes "NULL" ∷ []
-bound_names Second = codes "larger" ∷ codes "smaller" ∷ []
-bound_names Third = codes "larger" ∷ codes "smaller" ∷ []
 
 abbrev pub RulesScan : Edition → Schema → Type 0
 RulesScan n s = Scans s (rules_text n) 7 (col 1 1 ∷ col 1 2 ∷ col 1 3 ∷ col 1 4 ∷ col 1 5 ∷ col 1 6 ∷ col 1 7 ∷ col 1 8 ∷ col 1 9 ∷ bounds_shown n) (codes "bucket" ∷ codes "n" ∷ codes "id" ∷ codes "prefix" ∷ codes "enabled" ∷ codes "days" ∷ codes "lone" ∷ codes "nc_days" ∷ codes "nc_keep" ∷ bound_names n)

@@ -13,12 +13,12 @@ use Rattle.vault_audit_model.specs.Editions.{number_of}
 use Rattle.vault_audit_model.specs.declared.rows.DepartmentRow.{DepartmentRow}
 use Rattle.vault_audit_model.specs.declared.rows.MetaRow.{MetaRow}
 use Rattle.vault_audit_model.specs.Limits.{IsMetaRow}
-use Rattle.vault_audit_model.specs.Relations.{AreEntries, AreContents, AreSettings, AreNotes, AreTenuresOf, AreBuckets, AreSums, IsPast}
+use Rattle.vault_audit_model.specs.Relations.{AreCallers, AreEntries, AreContents, AreSettings, AreNotes, AreTenuresOf, AreBuckets, AreSums, IsPast}
 use Rattle.vault_audit_model.specs.Rows.{meta_row, meta_columns_as, department_row, department_columns_as}
 use Rattle.vault_audit_model.specs.Spells.{department_in, entries_in}
 use Rattle.vault_audit_model.specs.Tables.{schema_of, meta_tree, departments_tree}
 use Rattle.vault_audit_laws.specs.Ties.{AreTied}
-use Rattle.vault_audit_records.specs.ByName.{AreCallersByName, AreDepartmentsByName}
+use Rattle.vault_audit_records.specs.ByName.{AreDepartmentsByName}
 use Rattle.vault_audit_laws.specs.Parts.{vault_of, versions_at}
 
 -- the names of departments
@@ -42,7 +42,7 @@ pub record AreFound (ed : Edition) (db : Database) (m : MetaRow) (departments : 
   pub meta : IsPermutation (meta_row m ∷ []) (map (meta_columns_as ed) (db.trees meta_tree)) × IsMetaRow m × (m.schema ≡ number_of ed)
   pub next : m.next ≡ length entries + 1
   pub departments_are : AreDepartmentsByName ed db departments
-  pub callers_are : AreCallersByName db callers
+  pub callers_are : AreCallers db callers
   pub buckets_are : AreBuckets ed db buckets
   pub entries_are : AreEntries db entries
   pub past : AllByRecursion (IsPast m.last) entries

@@ -13,14 +13,14 @@ use Rattle.vault_core_model.specs.Vault.{Vault}
 use Rattle.vault_audit_model.specs.declared.schema.Edition.{Edition}
 use Rattle.vault_audit_model.specs.declared.rows.DepartmentRow.{DepartmentRow}
 use Rattle.vault_audit_model.specs.declared.rows.MetaRow.{MetaRow}
-use Rattle.vault_audit_model.specs.Relations.{AreBuckets, AreContents, AreEntries, AreNotes, AreSettings, AreSums, AreTenuresOf, AreTenuresWith, IsPast}
+use Rattle.vault_audit_model.specs.Relations.{AreCallers, AreBuckets, AreContents, AreEntries, AreNotes, AreSettings, AreSums, AreTenuresOf, AreTenuresWith, IsPast}
 use Rattle.vault_audit_model.specs.Rows.{entry_row, entry_columns}
 use Rattle.vault_audit_model.specs.Spells.{AreSoundAs, entries_in}
 use Rattle.vault_audit_model.specs.Tables.{entries_tree}
 use Rattle.vault_audit_walk.specs.Records.{AreRecords}
 use Rattle.vault_audit_records.specs.Entries.{IsEntryBy}
 use Rattle.vault_audit_records.specs.Meta.{IsMetaOf}
-use Rattle.vault_audit_records.specs.ByName.{AreCallersByName, AreDepartmentsByName}
+use Rattle.vault_audit_records.specs.ByName.{AreDepartmentsByName}
 
 -- no table is damaged, and this is found; or one is, and the tables are sound for no vault
 abbrev pub Told : Edition → Database → Type 0 → Option Table → Type 0
@@ -45,7 +45,7 @@ pub record DepartmentsFound (n : Edition) (db : Database) (m : MetaRow) : Type 0
 
 -- callers, and buckets with their rules
 pub record NamesFound (n : Edition) (db : Database) : Type 0 where
-  pub callers : (cs : List Caller) × AreCallersByName db cs
+  pub callers : (cs : List Caller) × AreCallers db cs
   pub buckets : (bs : List Bucket) × AreBuckets n db bs
 
 -- the contents, the settings and the notes of these entries

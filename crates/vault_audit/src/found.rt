@@ -1,7 +1,7 @@
 //! The vault that the looks at the tables find, each by itself. Its one law is the contract of a public
 //! function that does nothing.
 
-ghost use Rattle.std.specs.Prelude.{ℕ, List, map};
+ghost use Rattle.std.specs.Prelude.{ℕ, List};
 ghost use Rattle.sqlite.specs.Effect.{Database};
 ghost use Rattle.vault_core_model.specs.declared.records.Bucket.{Bucket};
 ghost use Rattle.vault_core_model.specs.declared.records.Caller.{Caller};

@@ -5,30 +5,20 @@ ghost use Rattle.sqlite.specs.Held.{state};
 ghost use Rattle.vault_base.specs.declared.refusal.Table.{Table};
 ghost use Rattle.vault_core_model.specs.Vault.{Vault};
 ghost use Rattle.vault_audit_model.specs.Spells.{AreSoundAs};
-ghost use Rattle.vault_audit_model.specs.Faults.{refusal_of};
 ghost use Rattle.vault_audit.specs.InOrder.{IsToldInOrder};
 ghost use Rattle.vault_audit.specs.Whole.{IsAudited, IsJudged, IsTold};
-ghost use Rattle.vault_audit_walk.specs.Health.{IsHealthy, IsMemory};
+ghost use Rattle.vault_audit_walk.specs.Health.{IsHealthy, IsMemory, OnlyLooks};
 
 use crate::first_pass::in_order::{is_at, look_at_tables};
 use crate::first_pass::meta::check_meta;
 use crate::second_pass::look_again;
-use sqlite::{Alter, Connection, Error, ErrorCode};
+use sqlite::{Alter, Connection, Error};
 use std::alloc::Global;
 use vault_audit_laws::ties::check_ties;
+use vault_audit_model::faults::refusal_of;
 use vault_audit_model::schema::Edition;
 use vault_audit_schema::check_schema;
 use vault_base::refusal::{Refusal, Table};
-
-/// What an error of the store is told as.
-fn refusal_of(error: Error) -> Refusal
-    ensures { result ≡ refusal_of error }
-{
-    match error {
-        Error::SqliteFailure(ErrorCode::OutOfMemory) => Refusal::Memory,
-        _ => Refusal::Device,
-    }
-}
 
 /// The first table of a file that is damaged.
 fn find_damage<S: Alter>(
@@ -80,9 +70,8 @@ pub fn audit<S: Alter>(
     ensures faults { IfErr result IsTold }
     // A store that works is never told as one that failed.
     ensures healthy { IsHealthy (state S.Store conn.new) → IfErr result (λ r. r ≢ Refusal.Device) }
-    ensures same { HasCleanDisk (state S.Store conn.new) → OnOk result (IsUnchanged (state S.Store conn.old) (state S.Store conn.new)) }
+    ensures look { OnlyLooks S.Store conn.old conn.new result }
     ensures kept { HasCleanDisk (state S.Store conn.new) → IsJudged result → (state S.Store conn.new).now ≡ (state S.Store conn.old).now }
-    ensures crash { Survives (state S.Store conn.old) (state S.Store conn.new) (λ _. ⊥) }
 {
     match find_damage(alloc, conn, edition) {
         Ok(None) => Ok(()),

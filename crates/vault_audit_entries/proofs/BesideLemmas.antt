@@ -83,7 +83,7 @@ row_beside (Some e) = entry_row e
 abbrev pub beside : List Entry → Value → Row
 beside es v = row_beside (find (is_id v) es)
 
-find_same : (p q : Entry → Bool) → ((e : Entry) → p e ≡ q e) → (es : List Entry) → find p es ≡ find q es
+pub find_same : (p q : Entry → Bool) → ((e : Entry) → p e ≡ q e) → (es : List Entry) → find p es ≡ find q es
 find_same p q same [] = refl
 find_same p q same (e ∷ es) = rw (same e, find_same p q same es) refl
 

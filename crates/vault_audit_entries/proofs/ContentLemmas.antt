@@ -28,7 +28,7 @@ use Rattle.vault_audit_model.specs.Spells.{contents_in}
 use Rattle.vault_audit_model.specs.Tables.{schema_of, contents_tree, entries_tree}
 use Rattle.vault_audit_model.specs.Values.{number, bytes_or_null}
 use Rattle.vault_audit_model.proofs.ValueLemmas.{int_less}
-use Rattle.vault_audit_model.proofs.SameRows.{cell}
+use Rattle.vault_audit_model.proofs.SameRows.{cell, number_same}
 use Rattle.vault_audit_walk.specs.Pass.{Takes, Refuses, AllFit, after}
 use Rattle.vault_audit_walk.specs.Walk.{Walked}
 use Rattle.vault_audit_walk.proofs.ScanLemmas.{first_cmp}
@@ -37,7 +37,8 @@ use Rattle.vault_audit_entries.specs.declared.contents.beside.ContentPass.{Conte
 use Rattle.vault_audit_entries.specs.Contents.{IsContentOf, IsContentIn, AreRisingFrom, AreOfHeld, TellOfHeld, held_row}
 use Rattle.vault_audit_entries.specs.ContentPasses.{ComesLater, with_content}
 use Rattle.vault_audit_entries.proofs.BesideLemmas.{is_of, row_beside, beside, beside_is, beside_number}
-use Rattle.vault_audit_entries.proofs.JoinLemmas.{beside_of, shown_beside, join_rows, joined, IsOrderOf}
+use Rattle.vault_audit_walk.proofs.JoinLemmas.{IsOrderOf}
+use Rattle.vault_audit_entries.proofs.JoinLemmas.{beside_of, shown_beside, join_rows, joined}
 use Rattle.vault_audit_entries.proofs.ContentMergeLemmas.{IsGiven, taken}
 use Rattle.vault_audit_entries.proofs.ContentRowLemmas.{same_row}
 use Rattle.vault_audit_entries.proofs.ContentTextLemmas.{contents_walk, contents_shown, contents_walk_is, contents_walk_plain}
@@ -109,9 +110,6 @@ source_is db es are =
 
 -- ---- rows of contents that passed
 
-length_same : (a b : ℕ) → number a ≡ number b → a ≡ b
-length_same a b e = cc
-
 pub digest_same : (a : List ℕ) (d : Option (List ℕ)) → ◌≡◌ {A = Value} (Blob a) (bytes_or_null d) → d ≡ Some a
 digest_same a None e = absurd cc
 digest_same a (Some b) e = let same : b ≡ a = cc in ap Some same
@@ -125,7 +123,7 @@ no_number n e = cc
 
 told_by : (o : Option Entry) (c : ContentRow) → number (length c.content) ≡ column (row_beside o) 4 → ◌≡◌ {A = Value} (Blob (sha256 c.content)) (column (row_beside o) 5) → Null ≡ column (row_beside o) 9 → IsContentOf o c
 told_by None c size digest removal = absurd (no_number (length c.content) size)
-told_by (Some e) c size digest removal = (unremoved e.removal removal, length_same (length c.content) e.size size, digest_same (sha256 c.content) e.digest digest)
+told_by (Some e) c size digest removal = (unremoved e.removal removal, number_same (length c.content) e.size size, digest_same (sha256 c.content) e.digest digest)
 
 is_extended : (es : List Entry) (c : ContentRow) → held_row c ≡ extended es (content_row c) → IsContentIn es c
 is_extended es c e =

@@ -138,7 +138,7 @@ shows_if heads r it none = flagged heads r ∙ ap flag (it none)
 
 -- ---- the entries and the heads of the rows
 
-ints : (a b : ℕ) → int_cmp (pos a) (pos b) ≡ nat_cmp a b
+pub ints : (a b : ℕ) → int_cmp (pos a) (pos b) ≡ nat_cmp a b
 ints a b = grind arith
 
 at_least : (a b : ℕ) → is_true (binary (Compare Ge Binary) (number a) (number b)) ≡ is_ge (nat_cmp a b)

@@ -24,7 +24,8 @@ use Rattle.vault_audit_walk.specs.Walk.{Walked}
 use Rattle.vault_audit_walk.proofs.PassLemmas.{pass_yes, pass_no}
 use Rattle.vault_audit_entries.proofs.BesideLemmas.{is_of, row_beside, beside, beside_is, beside_number}
 use Rattle.vault_audit_entries.proofs.ContentLemmas.{one_each, unremoved}
-use Rattle.vault_audit_entries.proofs.JoinLemmas.{beside_of, shown_beside, join_rows, joined, IsOrderOf}
+use Rattle.vault_audit_walk.proofs.JoinLemmas.{IsOrderOf}
+use Rattle.vault_audit_entries.proofs.JoinLemmas.{beside_of, shown_beside, join_rows, joined}
 use Rattle.vault_audit_entries.specs.declared.heads.by_key.HeadPass.{HeadPass}
 use Rattle.vault_audit_entries.specs.Heads.{headed_row, head_cmp, IsHeldFor, NamesHeld, AreHeadsByKey, TellHeadsByKey}
 use Rattle.vault_audit_entries.specs.HeadPasses.{ComesAfter, with_head}

@@ -1,6 +1,6 @@
 -- The walk over intake beside the entries.
-use Rattle.std.specs.Ordering.{int_cmp, nat_cmp, ordering_then}
-use Rattle.std.proofs.Common.{◌≡◌, ℕ, pos, List, [], ◌∷◌, ◌==◌, map, filter, find, Bool, true, false, Some, None, Option, Ordering, Less, Equal, IsPermutation, IsSorted, refl, sym, ap, subst, ◌∙◌, arith}
+use Rattle.std.specs.Ordering.{nat_cmp, ordering_then}
+use Rattle.std.proofs.Common.{◌≡◌, ℕ, pos, List, [], ◌∷◌, ◌==◌, map, filter, find, Bool, true, false, Some, None, Option, Ordering, Less, Equal, IsPermutation, IsSorted, refl, sym, ap, subst, ◌∙◌}
 use Rattle.std.specs.List.{AllByRecursion}
 use Rattle.std.specs.Cmp.{IsTotalOrder}
 use Rattle.std.proofs.lemmas.List.Elements.{All-from_recursion, recursion_from_All}
@@ -37,13 +37,15 @@ use Rattle.vault_audit_walk.specs.Walk.{Walked}
 use Rattle.vault_audit_walk.proofs.PassLemmas.{pass_yes, pass_no}
 use Rattle.vault_audit_entries.proofs.BesideLemmas.{is_of, row_beside, beside, beside_is, beside_number}
 use Rattle.vault_audit_entries.proofs.ContentLemmas.{one_each, digest_same}
-use Rattle.vault_audit_entries.proofs.JoinLemmas.{beside_of, shown_beside, join_rows, joined, IsOrderOf}
+use Rattle.vault_audit_walk.proofs.JoinLemmas.{IsOrderOf}
+use Rattle.vault_audit_entries.proofs.JoinLemmas.{beside_of, shown_beside, join_rows, joined}
 use Rattle.vault_audit_entries.proofs.ContentSoundLemmas.{sound_entries}
 use Rattle.vault_audit_entries.specs.declared.intake.NotePass.{NotePass}
 use Rattle.vault_audit_entries.specs.Notes.{noted_row, IsAfter}
 use Rattle.vault_audit_entries.specs.NotePasses.{ComesAfter, with_note}
 use Rattle.vault_audit_entries.proofs.NoteRowLemmas.{first_ten, same_row}
 use Rattle.vault_audit_entries.proofs.NoteTextLemmas.{notes_walk, notes_shown, notes_order, notes_walk_is, notes_walk_plain}
+use Rattle.vault_audit_entries.proofs.HeadNewestLemmas.{ints}
 use Rattle.vault_audit_model.specs.declared.schema.Edition.{Edition}
 
 abbrev Fit : NotePass → List Note → Type 0
@@ -56,9 +58,6 @@ row_order = key_cmp 0 (ascending Binary ∷ ascending Binary ∷ ascending Binar
 
 row_order_total : IsTotalOrder row_order
 row_order_total = key_cmp_total (ascending Binary ∷ ascending Binary ∷ ascending Binary ∷ []) 0
-
-ints : (a b : ℕ) → int_cmp (pos a) (pos b) ≡ nat_cmp a b
-ints a b = grind arith
 
 thens : (a b c d e f : Ordering) → a ≡ d → b ≡ e → c ≡ f → ordering_then a (ordering_then b c) ≡ ordering_then d (ordering_then e f)
 thens a b c d e f p q r = rw (p, q, r) refl

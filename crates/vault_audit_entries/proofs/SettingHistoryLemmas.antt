@@ -36,7 +36,7 @@ placed n low p (e ∷ es) (h ∷ hs) below are same all =
     first_fits p h.entry.id h.settings (flat_map settings_in hs) (omega (arith, below, id)) is (count h.entry.marker h all.0.0) all.0.1
     (λ k. placed (n + 1) e.admitted (at_place h.entry.id k) es hs (omega (arith, id)) are.1 rest all.1) (placed (n + 1) e.admitted p es hs (omega (arith, below)) are.1 rest all.1)
 
-higher : (n low : ℕ) (es : List Entry) → AreNumbered n low es → AllByRecursion (λ e. n ≤ e.id) es
+pub higher : (n low : ℕ) (es : List Entry) → AreNumbered n low es → AllByRecursion (λ e. n ≤ e.id) es
 higher n low [] are = tt
 higher n low (e ∷ es) are = (omega (arith, are.0.1.0), lower es (higher (n + 1) e.admitted es are.1))
   where
@@ -146,10 +146,6 @@ behind_run P (x ∷ xs) ys all = behind_run P xs ys all.1
 
 shifted : (m n : ℕ) (xs : List SettingRow) → m ≡ n → AllByRecursion (λ x. x.id < m) xs → AllByRecursion (λ x. x.id < n) xs
 shifted m n xs same all = subst (λ k. AllByRecursion (λ x. x.id < k) xs) same all
-
-or_false : (a b : Bool) → b ≡ false → (a || b) ≡ a
-or_false true b e = refl
-or_false false b e = e
 
 pub record Made (es : List Entry) (xs : List SettingRow) : Type 0 where
   pub histories : List History

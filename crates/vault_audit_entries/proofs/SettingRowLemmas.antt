@@ -27,7 +27,7 @@ Fit = AllFit setting_row ComesNext with_setting
 abbrev IsBelow : ℕ → ℕ → ℕ → ℕ → Type 0
 IsBelow a b c d = (a < c) ⊎ ((a ≡ c) × (b < d))
 
-int_same : (a b : ℕ) → a ≡ b → int_cmp (pos a) (pos b) ≡ Equal
+pub int_same : (a b : ℕ) → a ≡ b → int_cmp (pos a) (pos b) ≡ Equal
 int_same a b same = grind arith
 
 pair_less : (x y : SettingRow) → IsBelow x.id x.place y.id y.place → pair_cmp (setting_row x) (setting_row y) ≡ Less

@@ -1,5 +1,5 @@
 -- The settings by their versions and places.
-use Rattle.std.specs.Prelude.{◌≡◌, ◌+◌, ◌<◌, ◌⊎◌, Bool, true, false, not, ◌==◌, List, map, IsPermutation, MatchBool}
+use Rattle.std.specs.Prelude.{◌≡◌, ◌+◌, ◌<◌, ◌⊎◌, Bool, true, false, not, ◌==◌, List, map, IsPermutation}
 use Rattle.std.specs.List.{AllByRecursion, list_any}
 use Rattle.sqlite.specs.Effect.{Database}
 use Rattle.vault_core_model.specs.declared.records.Entry.{Entry}
@@ -8,6 +8,7 @@ use Rattle.vault_audit_model.specs.Limits.{IsSettingRow}
 use Rattle.vault_audit_model.specs.Relations.{AreEntries}
 use Rattle.vault_audit_model.specs.Rows.{setting_row, setting_columns}
 use Rattle.vault_audit_model.specs.Tables.{settings_tree}
+use Rattle.vault_audit_walk.specs.Beside.{Tell}
 use Rattle.vault_audit_walk.specs.Pass.{AllFit}
 use Rattle.vault_audit_entries.specs.declared.settings.placed.SettingPass.{SettingPass}
 
@@ -41,9 +42,6 @@ IsSetAs xs e = list_any (λ x. x.id == e.id) xs ≡ not e.marker
 -- the setting is of one of the entries
 abbrev pub IsOfOne : List Entry → SettingRow → Type 0
 IsOfOne es x = list_any (λ e. e.id == x.id) es ≡ true
-
-abbrev pub Tell : Bool → Type 0 → Type 0
-Tell b P = MatchBool b P (¬ P)
 
 -- whether each version has a setting and no marker has one
 abbrev pub TellPresence : Database → Bool → Type 0

@@ -1,10 +1,10 @@
 //! The second look at `intake`: each note tells of a version of its bucket, key, size and digest, and no
 //! line of a batch has two.
 
-ghost use Rattle.std.specs.Prelude.{◌≡◌, ◌≢◌, ◌↔◌, false, List, Option, IsTrue, IfOk, IfErr, OnOk};
+ghost use Rattle.std.specs.Prelude.{◌≡◌, ◌≢◌, ◌↔◌, false, List, Option, IsTrue, IfOk, IfErr};
 ghost use Rattle.sqlite_value.specs.declared.value.Value.TheVariants.{Text, Blob};
 ghost use Rattle.sqlite_value.specs.Order.{column};
-ghost use Rattle.sqlite.specs.State.{HasCleanDisk, IsUnchanged, Survives};
+ghost use Rattle.sqlite.specs.State.{HasCleanDisk};
 ghost use Rattle.sqlite.specs.Held.{state};
 ghost use Rattle.vault_core_model.specs.declared.records.Entry.{Entry};
 ghost use Rattle.vault_core_model.specs.declared.records.Note.{Note as Told};
@@ -14,21 +14,21 @@ ghost use Rattle.vault_audit_model.specs.Limits.{IsNote};
 ghost use Rattle.vault_audit_model.specs.Relations.{AreEntries, TellNotes};
 ghost use Rattle.vault_audit_model.specs.Rows.{retention_mode, retention_until};
 ghost use Rattle.vault_audit_model.specs.Spells.{AreSoundAs};
-ghost use Rattle.vault_audit_model.specs.Tables.{schema_of};
 ghost use Rattle.vault_audit_model.specs.Values.{number as value, flag_or_null as hold_value};
 ghost use Rattle.vault_audit_entries.specs.Notes.{noted_row, IsAfter};
-ghost use Rattle.vault_audit_walk.specs.Health.{IsHealthy, IsMemory};
+ghost use Rattle.vault_audit_walk.specs.Health.{IsHealthy, IsMemory, IsOfEdition, OnlyLooks};
 
 use sqlite::{Alter, Connection, Error, ErrorCode, Row};
 use std::cmp::Ordering;
 use vault_audit_model::schema::Edition;
 use vault_audit_rows::cell::{
-    MOST_CONTENT, bytes, digest, flag_or_null, number, number_within, text, version_id,
+    bytes, digest, flag_or_null, number, number_within, text, version_id,
 };
 use vault_audit_rows::misread::Misread;
 use vault_audit_rows::name::{batch_name, bucket_name, object_key};
-use vault_audit_rows::part::retention;
+use vault_audit_rows::several_columns::retention;
 use vault_audit_walk::walk::{Pass, walk};
+use vault_core_model::limits::MOST_CONTENT;
 use vault_core_model::records::Note;
 
 /// The check of notes in their order.
@@ -149,12 +149,11 @@ impl Pass for NotePass {
 /// Whether each row of `intake` tells a note of a version of its bucket, key, size and digest, and no
 /// two are of one line of a batch. It is told of entries whose ids are 1, 2, 3 and so on.
 pub fn check_notes<S: Alter>(conn: &mut Connection<S>, edition: Edition) -> Result<bool, Error>
-    requires { HasCleanDisk (state S.Store conn.old) → (state S.Store conn.old).now.schema ≡ schema_of edition }
+    requires { IsOfEdition S.Store conn.old edition }
     ensures told { HasCleanDisk (state S.Store conn.new) → IfOk result (λ found. (es : List Entry) → AreEntries (state S.Store conn.new).now es → TellNotes (state S.Store conn.new).now es found) }
     ensures damaged { HasCleanDisk (state S.Store conn.new) → IfOk result (λ found. found ≡ false → (v : Vault) → ¬ AreSoundAs edition (state S.Store conn.new).now v) }
-    ensures same { HasCleanDisk (state S.Store conn.new) → OnOk result (IsUnchanged (state S.Store conn.old) (state S.Store conn.new)) }
+    ensures look { OnlyLooks S.Store conn.old conn.new result }
     ensures err { IsHealthy (state S.Store conn.new) → IfErr result IsMemory }
-    ensures crash { Survives (state S.Store conn.old) (state S.Store conn.new) (λ _. ⊥) }
 {
     let mut pass = NotePass { last: None };
     let found = walk(

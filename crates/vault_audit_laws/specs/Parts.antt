@@ -11,28 +11,22 @@ use Rattle.vault_core_model.specs.declared.records.Caller.{Caller}
 use Rattle.vault_core_model.specs.declared.records.Entry.{Entry}
 use Rattle.vault_core_model.specs.declared.records.History.{History}
 use Rattle.vault_core_model.specs.declared.records.Note.{Note}
-use Rattle.vault_core_model.specs.Order.{IsAscending, name_cmp, caller_cmp}
+use Rattle.vault_core_model.specs.Order.{IsAscending, name_cmp}
 use Rattle.vault_core_model.specs.Vault.{Vault, config_in}
 use Rattle.vault_audit_model.specs.declared.schema.Edition.{Edition}
 use Rattle.vault_audit_model.specs.Editions.{number_of}
 use Rattle.vault_audit_model.specs.declared.rows.MetaRow.{MetaRow}
-use Rattle.vault_audit_model.specs.Limits.{IsMetaRow, IsPlainName, IsCaller}
-use Rattle.vault_audit_model.specs.Relations.{AreEntries, AreContents, AreSettings, AreNotes, AreTenuresOf, AreBuckets, IsPast, IsWithin}
-use Rattle.vault_audit_model.specs.Rows.{meta_row, caller_row, meta_columns_as, caller_columns}
+use Rattle.vault_audit_model.specs.Limits.{IsMetaRow, IsPlainName}
+use Rattle.vault_audit_model.specs.Relations.{AreCallers, AreEntries, AreContents, AreSettings, AreNotes, AreTenuresOf, AreBuckets, IsPast, IsWithin}
+use Rattle.vault_audit_model.specs.Rows.{meta_row, meta_columns_as}
 use Rattle.vault_audit_model.specs.Spells.{entries_in}
-use Rattle.vault_audit_model.specs.Tables.{schema_of, meta_tree, departments_tree, callers_tree}
+use Rattle.vault_audit_model.specs.Tables.{schema_of, meta_tree, departments_tree}
 
 -- the rows of departments have these names
 abbrev pub AreDepartments : Database → List (List ℕ) → Type 0
 AreDepartments db ds =
     IsPermutation (map (λ d. Text d) ds) (map (λ r. column r 1) (db.trees departments_tree)) × IsAscending name_cmp ds
     × AllByRecursion IsPlainName ds
-
--- the rows of callers are these
-abbrev pub AreCallers : Database → List Caller → Type 0
-AreCallers db cs =
-    IsPermutation (map caller_row cs) (map caller_columns (db.trees callers_tree)) × IsAscending caller_cmp cs
-    × AllByRecursion IsCaller cs
 
 -- the row of meta is this one, of that edition, whose next id is behind all entries
 abbrev pub IsMeta : Edition → Database → List Entry → MetaRow → Type 0

@@ -1,5 +1,6 @@
 pub mod SameRows
-pub mod TextLemmas
 pub mod ValueLemmas
 pub mod OutcomeLemmas
 pub mod ListLemmas
+pub mod PlaceLemmas
+pub mod CommandLemmas

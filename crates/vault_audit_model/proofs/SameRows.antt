@@ -59,13 +59,13 @@ flag_or_null_same None (Some b) e = absurd (no_flag b e)
 flag_or_null_same (Some a) None e = absurd (no_flag a (sym e))
 flag_or_null_same (Some a) (Some b) e = ap Some (flag_same a b e)
 
-number_or_null_same : (a b : Option ℕ) → number_or_null a ≡ number_or_null b → a ≡ b
+pub number_or_null_same : (a b : Option ℕ) → number_or_null a ≡ number_or_null b → a ≡ b
 number_or_null_same None None e = refl
 number_or_null_same None (Some b) e = absurd cc
 number_or_null_same (Some a) None e = absurd cc
 number_or_null_same (Some a) (Some b) e = let same : a ≡ b = cc in ap Some same
 
-text_or_null_same : (a b : Option (List ℕ)) → text_or_null a ≡ text_or_null b → a ≡ b
+pub text_or_null_same : (a b : Option (List ℕ)) → text_or_null a ≡ text_or_null b → a ≡ b
 text_or_null_same None None e = refl
 text_or_null_same None (Some b) e = absurd cc
 text_or_null_same (Some a) None e = absurd cc

@@ -1,17 +1,21 @@
 -- How values compare in WHERE and ORDER BY, and which a column takes as they are.
-use Rattle.std.proofs.Common.{◌≡◌, ◌<◌, ◌==◌, ◌&&◌, ℕ, ℤ, pos, List, Bool, true, false, cond, Some, Less, refl, sym, ap, ◌∙◌, arith}
+use Rattle.std.proofs.Common.{◌≡◌, ◌<◌, ◌==◌, ◌&&◌, ℕ, ℤ, pos, List, Bool, true, false, cond, Option, Some, None, Less, refl, sym, ap, ◌∙◌, arith}
+use Rattle.std.specs.Prelude.{is_none}
 use Rattle.std.specs.Ordering.{int_cmp, is_eq}
 use Rattle.std.specs.Str.{bytes_eq}
 use Rattle.std.proofs.lemmas.Map.Text.{is_eq-slice_cmp}
 use Rattle.sqlite_value.specs.declared.value.Value.{Value}
 use Rattle.sqlite_value.specs.declared.value.Value.TheVariants.{Null, Int, Text}
 use Rattle.sqlite_value.specs.declared.keys.Collation.TheVariants.{Binary}
-use Rattle.sqlite_value.proofs.OrderLemmas.{value_cmp-Int, value_cmp-Text}
-use Rattle.sqlite_sql.specs.declared.ops.BinaryOp.TheVariants.{Compare}
+use Rattle.sqlite_value.specs.Order.{value_cmp}
+use Rattle.sqlite_value.proofs.OrderLemmas.{value_cmp-Int, value_cmp-Text, value_cmp-apart, value_cmp-Null}
+use Rattle.sqlite_sql.specs.declared.ops.BinaryOp.TheVariants.{Compare, Is}
 use Rattle.sqlite_sql.specs.declared.ops.CompareOp.TheVariants.{Eq}
 use Rattle.sqlite_sql.specs.Ops.{unary, binary, is_true, from_truth}
 use Rattle.sqlite_schema.specs.declared.schema.Kind.TheVariants as kind
 use Rattle.sqlite.specs.Cast.{cast}
+use Rattle.vault_core_model.specs.declared.records.Removal.{Removal}
+use Rattle.vault_audit_model.specs.Rows.{removal_at}
 use Rattle.vault_audit_model.specs.Values.{number}
 
 -- ---- tests
@@ -34,6 +38,15 @@ same_int a b = grind arith
 pub same_number : (a b : ℕ) → is_true (binary (Compare Eq Binary) (number a) (number b)) ≡ (a == b)
 unfolding binary
 same_number a b = truth_back _ ∙ ap is_eq (value_cmp-Int (pos a) (pos b)) ∙ same_int a b
+
+pub null_removal : (r : Option Removal) → is_eq (value_cmp (removal_at r) Null) ≡ is_none r
+null_removal None = ap is_eq (value_cmp-Null Null)
+null_removal (Some r) = ap is_eq (value_cmp-apart (number r.at) Null (λ e. absurd (omega (arith, e))))
+
+-- what is held has no moment of removal
+pub none_removed : (r : Option Removal) → is_true (binary (Is Binary) (removal_at r) Null) ≡ is_none r
+unfolding binary
+none_removed r = truth_back _ ∙ null_removal r
 
 -- three tests, each of which is another
 pub three : (a b c d e f : Bool) → a ≡ d → b ≡ e → c ≡ f → (a && (b && (c && true))) ≡ (d && (e && f))

@@ -1,7 +1,8 @@
 pub mod Values
 pub mod Editions
 pub mod Tables
-pub mod Texts
+pub mod Order
+pub mod Commands
 pub mod Rows
 pub mod Limits
 pub mod Tenures

@@ -5,21 +5,22 @@ use Rattle.std.specs.declared.cmp.Ordering.TheVariants.{Less}
 use Rattle.sqlite.specs.Effect.{Database}
 use Rattle.vault_tally.specs.Row.{admitted_size, received_size, quota}
 use Rattle.vault_core_model.specs.declared.records.Bucket.{Bucket}
+use Rattle.vault_core_model.specs.declared.records.Caller.{Caller}
 use Rattle.vault_core_model.specs.declared.records.Entry.{Entry}
 use Rattle.vault_core_model.specs.declared.records.History.{History}
 use Rattle.vault_core_model.specs.declared.records.Note.{Note}
 use Rattle.vault_core_model.specs.Checks.{most_settings}
-use Rattle.vault_core_model.specs.Order.{IsAscending, name_cmp, bucket_cmp, note_cmp}
+use Rattle.vault_core_model.specs.Order.{IsAscending, name_cmp, caller_cmp, bucket_cmp, note_cmp}
 use Rattle.vault_core_model.specs.Sound.{AreTenures, HasItsBytes, IsNoted, IsWithBucket, LiesBetween}
 use Rattle.vault_core_model.specs.Totals.{items_in}
 use Rattle.vault_core_model.specs.Vault.{Vault}
 use Rattle.vault_audit_model.specs.declared.rows.DepartmentRow.{DepartmentRow}
 use Rattle.vault_audit_model.specs.declared.schema.Edition.{Edition}
-use Rattle.vault_audit_model.specs.Limits.{IsBucket, IsEntry, IsNote, IsPlainName, IsSetting, IsTenure}
-use Rattle.vault_audit_model.specs.Rows.{bucket_row, rule_row, entry_row, content_row, setting_row, note_row, department_row, head_row, bucket_columns, rule_columns_as, entry_columns, content_columns, setting_columns, note_columns, department_columns_as, head_columns}
+use Rattle.vault_audit_model.specs.Limits.{IsCaller, IsBucket, IsEntry, IsNote, IsPlainName, IsSetting, IsTenure}
+use Rattle.vault_audit_model.specs.Rows.{caller_row, bucket_row, rule_row, entry_row, content_row, setting_row, note_row, department_row, head_row, caller_columns, bucket_columns, rule_columns_as, entry_columns, content_columns, setting_columns, note_columns, department_columns_as, head_columns}
 use Rattle.vault_audit_model.specs.Spells.{bucket_of, rules_in, contents_in, settings_in, entries_in, tenure_rows_of, tenure_rows_in, sums_over, heads_in}
 use Rattle.vault_audit_model.specs.Tenures.{IsUnmovedIn}
-use Rattle.vault_audit_model.specs.Tables.{departments_tree, buckets_tree, rules_tree, entries_tree, contents_tree, settings_tree, intake_tree, heads_tree}
+use Rattle.vault_audit_model.specs.Tables.{departments_tree, callers_tree, buckets_tree, rules_tree, entries_tree, contents_tree, settings_tree, intake_tree, heads_tree}
 
 -- ---- names
 
@@ -27,16 +28,23 @@ use Rattle.vault_audit_model.specs.Tables.{departments_tree, buckets_tree, rules
 abbrev pub IsAfter : Option (List ℕ) → List ℕ → Type 0
 IsAfter before name = IfSome before (λ n. name_cmp n name ≡ Less)
 
+-- ---- callers
+
+-- the rows of callers are these, in their limits and by rising name
+abbrev pub AreCallers : Database → List Caller → Type 0
+AreCallers db cs =
+    IsPermutation (map caller_row cs) (map caller_columns (db.trees callers_tree)) × IsAscending caller_cmp cs × AllByRecursion IsCaller cs
+
 -- ---- entries
 
 -- the entry has the next id, and wasn't admitted before the one before it
-abbrev pub GoesOn : ℕ → ℕ → Entry → Type 0
-GoesOn next low e = (e.id ≡ next) × (low ≤ e.admitted)
+abbrev pub IsNextEntry : ℕ → ℕ → Entry → Type 0
+IsNextEntry next low e = (e.id ≡ next) × (low ≤ e.admitted)
 
 -- the ids go on from `next` without a gap, and no admission goes back
 abbrev pub AreNumbered : ℕ → ℕ → List Entry → Type 0
 AreNumbered next low [] = Unit {0}
-AreNumbered next low (e ∷ es) = (IsEntry e × GoesOn next low e) × AreNumbered (next + 1) e.admitted es
+AreNumbered next low (e ∷ es) = (IsEntry e × IsNextEntry next low e) × AreNumbered (next + 1) e.admitted es
 
 -- the rows of the entries are these, which have the ids 1, 2, 3 and so on
 abbrev pub AreEntries : Database → List Entry → Type 0

@@ -1,6 +1,5 @@
 -- The vault that the rows of a database spell, and when its tables are sound.
-use Rattle.std.specs.Prelude.{◌≡◌, ℕ, ◌+◌, false, List, [], ◌∷◌, length, map, filter, flat_map, sum_by, Option, Some, None, IsPermutation}
-use Rattle.std.specs.List.{AllByRecursion}
+use Rattle.std.specs.Prelude.{◌≡◌, ℕ, ◌+◌, List, [], ◌∷◌, length, map, filter, flat_map, sum_by, Option, Some, None, IsPermutation}
 use Rattle.sqlite_value.specs.declared.value.Value.TheVariants.{Text}
 use Rattle.sqlite_value.specs.Order.{Row, column}
 use Rattle.sqlite.specs.Effect.{Database}
@@ -10,11 +9,9 @@ use Rattle.vault_rules.specs.declared.rule.Rule.{Rule}
 use Rattle.vault_core_model.specs.declared.records.Bucket.{Bucket}
 use Rattle.vault_core_model.specs.declared.records.Entry.{Entry}
 use Rattle.vault_core_model.specs.declared.records.History.{History}
-use Rattle.vault_core_model.specs.declared.records.Note.{Note}
 use Rattle.vault_core_model.specs.declared.records.Setting.{Setting}
 use Rattle.vault_core_model.specs.declared.records.Tenure.{Tenure}
 use Rattle.vault_core_model.specs.Places.{held_at, is_current}
-use Rattle.vault_core_model.specs.Reads.{entry_of}
 use Rattle.vault_core_model.specs.Sound.{Sound}
 use Rattle.vault_core_model.specs.Totals.{items_of}
 use Rattle.vault_core_model.specs.Vault.{Vault, next_id}

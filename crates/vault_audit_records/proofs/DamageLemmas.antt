@@ -25,7 +25,7 @@ use Rattle.vault_audit_model.specs.Rows.{department_row, caller_row, bucket_row,
 use Rattle.vault_audit_model.specs.Spells.{AreSoundAs, meta_told, bucket_of, rules_from, rules_if_given, rules_in, content_if_given, contents_in, settings_from, settings_in, IsKeptAs, tenures_in, tenure_at, tenure_rows_of, tenure_rows_in, department_in, head_in, heads_in}
 use Rattle.vault_audit_model.specs.Tables.{departments_tree, callers_tree, buckets_tree, rules_tree, entries_tree, contents_tree, settings_tree, intake_tree, heads_tree}
 use Rattle.vault_audit_walk.specs.Records.{AreRecords}
-use Rattle.vault_audit_rows.proofs.PartLemmas.{few}
+use Rattle.vault_audit_rows.proofs.ColumnLemmas.{few}
 use Rattle.vault_audit_records.specs.Entries.{IsEntryBy}
 use Rattle.vault_audit_records.specs.Meta.{IsMetaOf}
 use Rattle.vault_audit_model.specs.Relations.{AreNumbered, AreTenuresInLimits}

@@ -7,7 +7,7 @@ pub mod NameRiseLemmas
 pub mod NameRowLemmas
 pub mod NameTellLemmas
 pub mod NameTextLemmas
-pub mod OnlyLemmas
+pub mod WholeWalkLemmas
 pub mod RuleGroupLemmas
 pub mod RuleRiseLemmas
 pub mod RuleRowLemmas

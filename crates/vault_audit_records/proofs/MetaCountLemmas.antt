@@ -75,6 +75,3 @@ told db count next all some = by (count == next - 1) refl
     by : (b : Bool) → (count == next - 1) ≡ b → TellNext db next b
     by true is = grind (arith, nat_tests, all, some, is)
     by false is = λ same. let n : count ≡ next - 1 = omega (arith, all, same) in absurd (let yes : (count == next - 1) ≡ true = grind (arith, nat_tests, n) in cc)
-
-pub told_of_none : (db : Database) → TellNext db 0 false
-told_of_none db = λ same. absurd (omega (arith, same))

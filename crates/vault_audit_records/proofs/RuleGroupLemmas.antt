@@ -15,11 +15,11 @@ use Rattle.vault_audit_model.specs.declared.rows.BucketRow.{BucketRow}
 use Rattle.vault_audit_model.specs.declared.rows.RuleRow.{RuleRow}
 use Rattle.vault_audit_model.specs.Limits.{IsBucket, IsBucketRow, IsRule, IsRuleRow, AreRules, IsBucketName}
 use Rattle.vault_audit_model.specs.Spells.{bucket_of, rules_from, rules_if_given, rules_in}
-use Rattle.vault_audit_rows.proofs.PartLemmas.{few}
-use Rattle.vault_audit_records.specs.RulesByPlace.{Run, IsAfter, IsWhole, with_rule, no_rule, AreRuns, IsOfOne}
+use Rattle.vault_audit_rows.proofs.ColumnLemmas.{few}
+use Rattle.vault_audit_records.specs.RulesByPlace.{RulesSoFar, IsAfter, IsWhole, with_rule, no_rule, AreWholeSets, IsOfOne}
 use Rattle.vault_audit_records.proofs.RuleRiseLemmas.{FitBuckets, FitRules, end_of, names_rise, later_buckets, begun}
 
-abbrev pub at_rules : List ℕ → List Rule → Run
+abbrev pub at_rules : List ℕ → List Rule → RulesSoFar
 at_rules name rules = record { bucket = Some name; rules = rules }
 
 -- rules that begin a bucket behind that one
@@ -29,10 +29,10 @@ Begins before (x ∷ xs) = (IsRuleRow x × IsAfter before x.bucket × (x.place �
 
 -- ---- into the rules of one bucket, and the others
 
-begun_by : (p : Run) (x : RuleRow) (xs : List RuleRow) → IsRuleRow x → IsAfter p.bucket x.bucket → x.place ≡ 1 → FitRules (with_rule p x) xs → IsWhole (end_of (with_rule p x) xs) → Begins p.bucket (x ∷ xs)
+begun_by : (p : RulesSoFar) (x : RuleRow) (xs : List RuleRow) → IsRuleRow x → IsAfter p.bucket x.bucket → x.place ≡ 1 → FitRules (with_rule p x) xs → IsWhole (end_of (with_rule p x) xs) → Begins p.bucket (x ∷ xs)
 begun_by p x xs is up place fit whole = ((is, up, place), subst (λ q. FitRules q xs) (sym (begun p x place)) fit, subst (λ q. IsWhole (end_of q xs)) (sym (begun p x place)) whole)
 
-pub start : (xs : List RuleRow) → AreRuns xs → Begins None xs
+pub start : (xs : List RuleRow) → AreWholeSets xs → Begins None xs
 start [] runs = tt
 start (x ∷ xs) (((is, inl (none, place)), fit), whole) = absurd cc
 start (x ∷ xs) (((is, inr (up, place)), fit), whole) = begun_by no_rule x xs is up.0 place fit whole
@@ -82,13 +82,6 @@ cut name gone (x ∷ xs) some ((is, inr (up, place)), fit) whole =
 -- each rule is of a bucket behind that one
 abbrev AreLater : List ℕ → List RuleRow → Type 0
 AreLater name = AllByRecursion (λ x. name_cmp name x.bucket ≡ Less)
-
-pub still : (a b : List ℕ) (xs : List RuleRow) → name_cmp a b ≡ Less → AreLater b xs → AreLater a xs
-still a b [] low all = tt
-still a b (x ∷ xs) low all = (names_rise a b x.bucket low all.0, still a b xs low all.1)
-
-moved : (m n : List ℕ) (xs : List RuleRow) → AreLater m xs → m ≡ n → AreLater n xs
-moved m n xs all same = subst (λ k. AreLater k xs) same all
 
 -- from a bucket on, the rules are of it or of later ones
 from_bucket : (before name : List ℕ) (gone : List Rule) (xs : List RuleRow) → name_cmp before name ≡ Less → FitRules (at_rules name gone) xs → AreLater before xs
@@ -218,7 +211,7 @@ pub after_none : (cs : List Bucket) → AllByRecursion (λ c. IsAfter None c.nam
 after_none [] = tt
 after_none (c ∷ cs) = (tt, after_none cs)
 
-abbrev Ends : Run → List RuleRow → Type 0
+abbrev Ends : RulesSoFar → List RuleRow → Type 0
 Ends p xs = FitRules p xs × IsWhole (end_of p xs)
 
 run_fits : (name : List ℕ) (gone rs : List Rule) (rest : List RuleRow) → IsBucketName name → 1 ≤ length gone → length gone + length rs ≤ 1000 → AllByRecursion IsRule rs → Ends (at_rules name (gone ++ rs)) rest
@@ -233,7 +226,7 @@ run_fits name gone (r ∷ rs) rest is some few all ends =
     subst (λ q. Ends q (rules_from name (length gone + 1 + 1) rs ++ rest)) (sym state) (subst (λ n. Ends (at_rules name (gone ++ r ∷ [])) (rules_from name (n + 1) rs ++ rest)) more later) in
     (((record { bucket = is; place = (omega arith, omega (arith, few)); rule = all.0 }, inl (refl, refl)), on.0), on.1)
 
-given_fit : (p : Run) (name : List ℕ) (rules : Option (List Rule)) (rest : List RuleRow) → IsBucketName name → IsAfter p.bucket name → IsWhole p → IfSome rules AreRules → Ends p rest → ((rs : List Rule) → IsTrue (is_rule_set rs) → Ends (at_rules name rs) rest)
+given_fit : (p : RulesSoFar) (name : List ℕ) (rules : Option (List Rule)) (rest : List RuleRow) → IsBucketName name → IsAfter p.bucket name → IsWhole p → IfSome rules AreRules → Ends p rest → ((rs : List Rule) → IsTrue (is_rule_set rs) → Ends (at_rules name rs) rest)
     → Ends p (rules_if_given name rules ++ rest)
 given_fit p name None rest is up whole are here behind = here
 given_fit p name (Some []) rest is up whole are here behind = absurd (let none = are.0 in cc)
@@ -243,7 +236,7 @@ given_fit p name (Some (r ∷ rs)) rest is up whole are here behind =
     (((record { bucket = is; place = (omega arith, omega arith); rule = are.1.0 }, inr ((up, whole), refl)), later.0), later.1)
 
 -- the rules of buckets come one after the other
-pub rules_fit : (p : Run) (cs : List Bucket) → IsWhole p → AllByRecursion (λ c. IsAfter p.bucket c.name) cs → IsAscending bucket_cmp cs → AllByRecursion IsBucket cs → Ends p (flat_map rules_in cs)
+pub rules_fit : (p : RulesSoFar) (cs : List Bucket) → IsWhole p → AllByRecursion (λ c. IsAfter p.bucket c.name) cs → IsAscending bucket_cmp cs → AllByRecursion IsBucket cs → Ends p (flat_map rules_in cs)
 rules_fit p [] whole after up are = (tt, whole)
 rules_fit p (c ∷ cs) whole after up are =
     given_fit p c.name c.rules (flat_map rules_in cs) are.0.name after.0 whole are.0.rules (rules_fit p cs whole after.1 up.1 are.1)

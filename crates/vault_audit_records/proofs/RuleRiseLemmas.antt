@@ -15,15 +15,15 @@ use Rattle.vault_audit_model.proofs.ValueLemmas.{int_less}
 use Rattle.vault_audit_walk.specs.Pass.{AllFit, after}
 use Rattle.vault_audit_walk.proofs.ScanLemmas.{first_cmp}
 use Rattle.vault_audit_walk.proofs.PairLemmas.{pair_cmp}
-use Rattle.vault_audit_records.specs.RulesByPlace.{Run, IsAfter, IsNextBucket, with_bucket, IsNext, ComesNext, with_rule}
+use Rattle.vault_audit_records.specs.RulesByPlace.{RulesSoFar, IsAfter, IsNextBucket, with_bucket, IsNext, ComesNext, with_rule}
 
 abbrev pub FitBuckets : Option (List ℕ) → List BucketRow → Type 0
 FitBuckets = AllFit bucket_row IsNextBucket with_bucket
 
-abbrev pub FitRules : Run → List RuleRow → Type 0
+abbrev pub FitRules : RulesSoFar → List RuleRow → Type 0
 FitRules = AllFit rule_row ComesNext with_rule
 
-abbrev pub end_of : Run → List RuleRow → Run
+abbrev pub end_of : RulesSoFar → List RuleRow → RulesSoFar
 end_of = after rule_row ComesNext with_rule
 
 pub names_rise : (a b c : List ℕ) → name_cmp a b ≡ Less → name_cmp b c ≡ Less → name_cmp a c ≡ Less
@@ -49,7 +49,7 @@ buckets_rise p (b ∷ bs) fit = (as_rows b bs (later_buckets b.name bs fit.1), b
 
 -- ---- rules
 
-pub grown : (p : Run) (r : RuleRow) → IsNext p r → length (with_rule p r).rules ≡ r.place
+pub grown : (p : RulesSoFar) (r : RuleRow) → IsNext p r → length (with_rule p r).rules ≡ r.place
 grown p r (inl (same, place)) = by (r.place == 1) refl
   where
     by : (b : Bool) → (r.place == 1) ≡ b → length (cond b (r.rule ∷ []) (p.rules ++ r.rule ∷ [])) ≡ r.place
@@ -58,10 +58,10 @@ grown p r (inl (same, place)) = by (r.place == 1) refl
 grown p r (inr (up, place)) = rw place refl
 
 -- the state behind a rule that goes on, and behind one that begins a bucket
-abbrev run_of : RuleRow → List Rule → Run
+abbrev run_of : RuleRow → List Rule → RulesSoFar
 run_of r rules = record { bucket = Some r.bucket; rules = rules }
 
-pub joined : (p : Run) (r : RuleRow) → r.place ≡ length p.rules + 1 → run_of r (p.rules ++ r.rule ∷ []) ≡ with_rule p r
+pub joined : (p : RulesSoFar) (r : RuleRow) → r.place ≡ length p.rules + 1 → run_of r (p.rules ++ r.rule ∷ []) ≡ with_rule p r
 joined p r place = by (r.place == 1) refl
   where
     none : (rs : List Rule) → 1 ≡ length rs + 1 → rs ++ r.rule ∷ [] ≡ r.rule ∷ []
@@ -74,7 +74,7 @@ joined p r place = by (r.place == 1) refl
         ap (run_of r) (none p.rules (sym one ∙ place))
     by false is = refl
 
-pub begun : (p : Run) (r : RuleRow) → r.place ≡ 1 → run_of r (r.rule ∷ []) ≡ with_rule p r
+pub begun : (p : RulesSoFar) (r : RuleRow) → r.place ≡ 1 → run_of r (r.rule ∷ []) ≡ with_rule p r
 begun p r place = rw place refl
 
 -- one that is below the last place of a bucket
@@ -90,7 +90,7 @@ rules_less x y (inr (same, low)) =
     let tied : name_cmp x.bucket y.bucket ≡ Equal = subst (λ n. name_cmp x.bucket n ≡ Equal) same (tied_itself nat_list_cmp_total x.bucket) in
     rw (value_cmp-Text x.bucket y.bucket, tied, value_cmp-Int (pos x.place) (pos y.place), int_less x.place y.place low) refl
 
-below_next : (x : RuleRow) (name : List ℕ) (p : Run) (y : RuleRow) → p.bucket ≡ Some name → IsBefore x name (length p.rules) → IsNext p y → IsBelow x y
+below_next : (x : RuleRow) (name : List ℕ) (p : RulesSoFar) (y : RuleRow) → p.bucket ≡ Some name → IsBefore x name (length p.rules) → IsNext p y → IsBelow x y
 below_next x name p y is low (inl (same, place)) = go low
   where
     here : name ≡ y.bucket
@@ -112,13 +112,13 @@ as_before : (x y : RuleRow) (count : ℕ) → count ≡ y.place → IsBelow x y 
 as_before x y count same (inl low) = inl low
 as_before x y count same (inr (tied, low)) = inr (tied, omega (arith, low, same))
 
-above : (x : RuleRow) (name : List ℕ) (p : Run) (xs : List RuleRow) → p.bucket ≡ Some name → IsBefore x name (length p.rules) → FitRules p xs → AllByRecursion (λ row. pair_cmp (rule_row x) row ≡ Less) (map rule_row xs)
+above : (x : RuleRow) (name : List ℕ) (p : RulesSoFar) (xs : List RuleRow) → p.bucket ≡ Some name → IsBefore x name (length p.rules) → FitRules p xs → AllByRecursion (λ row. pair_cmp (rule_row x) row ≡ Less) (map rule_row xs)
 above x name p [] is low fit = tt
 above x name p (y ∷ xs) is low fit =
     let here = below_next x name p y is low fit.0.1 in
     (rules_less x y here, above x y.bucket (with_rule p y) xs refl (as_before x y (length (with_rule p y).rules) (grown p y fit.0.1) here) fit.1)
 
-pub rules_rise : (p : Run) (xs : List RuleRow) → FitRules p xs → IsAscending (λ a b. pair_cmp a b ≡ Less) (map rule_row xs)
+pub rules_rise : (p : RulesSoFar) (xs : List RuleRow) → FitRules p xs → IsAscending (λ a b. pair_cmp a b ≡ Less) (map rule_row xs)
 rules_rise p [] fit = tt
 rules_rise p (x ∷ xs) fit =
     let count = grown p x fit.0.1 in

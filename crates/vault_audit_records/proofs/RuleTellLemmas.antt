@@ -29,9 +29,9 @@ use Rattle.vault_audit_walk.proofs.PassLemmas.{walk_yes, walk_no, pass_yes, pass
 use Rattle.vault_audit_walk.specs.Beside.{TellsAbsence}
 use Rattle.vault_audit_model.proofs.ValueLemmas.{agrees}
 use Rattle.vault_audit_walk.proofs.BesideLemmas.{agree_texts, beside_row, beside_yes, beside_no, met_yes, met_no, met_as, of_records, of_stored, each}
-use Rattle.vault_audit_records.specs.RulesByPlace.{Run, IsNextBucket, with_bucket, AreBucketRows, TellBucketRows, IsWhole, ComesNext, with_rule, no_rule, AreRowsOf, TellRuns, IsOfOne, TellOwners}
+use Rattle.vault_audit_records.specs.RulesByPlace.{RulesSoFar, IsNextBucket, with_bucket, AreBucketRows, TellBucketRows, IsWhole, ComesNext, with_rule, no_rule, AreRowsOf, TellRuns, IsOfOne, TellOwners}
 use Rattle.vault_audit_records.proofs.RuleRiseLemmas.{buckets_rise, rules_rise}
-use Rattle.vault_audit_records.proofs.OnlyLemmas.{pass_only}
+use Rattle.vault_audit_records.proofs.WholeWalkLemmas.{pass_only}
 use Rattle.vault_audit_records.proofs.RuleGroupLemmas.{start, make, ascend, rows_fit, after_none, rules_fit, rules_owned}
 use Rattle.vault_audit_records.proofs.RuleTextLemmas.{buckets_walk, buckets_walk_is, buckets_walk_plain, rules_walk_is, rules_walk_plain, buckets_beside, buckets_beside_is}
 use Rattle.vault_audit_model.specs.declared.schema.Edition.{Edition}
@@ -67,24 +67,24 @@ module _ (n : Edition) (old new : State) (has : old.now.schema ≡ schema_of n) 
       walk_no bucket_row IsNextBucket with_bucket same_bucket (schema_of n) buckets_walk _ _ (buckets_walk_is n).0 bucket_source (bucket_answers n) old new has same None r (buckets_rise None) h bs are.0 are.1
 
   -- the walk of rules, from before the first bucket, with these rules
-  abbrev LooksFrom : List Rule → Run → Bool → Type 0
+  abbrev LooksFrom : List Rule → RulesSoFar → Bool → Type 0
   LooksFrom rs r b = Walked (Takes rule_row ComesNext with_rule) (Refuses rule_row ComesNext with_rule) (rules_walk n) old new (record { bucket = None; rules = rs }) r b
 
-  rules_whole : (r : Run) → LooksFrom [] r true → IsWhole r → TellRuns n new.now true
+  rules_whole : (r : RulesSoFar) → LooksFrom [] r true → IsWhole r → TellRuns n new.now true
   rules_whole r h whole =
       let it = pass_yes rule_row ComesNext with_rule same_rule pair_cmp pair_cmp_total (schema_of n) (rules_walk n) _ _ (rules_walk_is n).0 (rule_source n) (rule_answers n) old new has same no_rule r h in
       (it.0, it.1, (it.2, subst IsWhole it.3 whole))
 
-  rules_open : (r : Run) → LooksFrom [] r true → ¬ IsWhole r → TellRuns n new.now false
+  rules_open : (r : RulesSoFar) → LooksFrom [] r true → ¬ IsWhole r → TellRuns n new.now false
   rules_open r h none xs are runs =
       none (subst IsWhole (sym (pass_only rule_row ComesNext with_rule same_rule pair_cmp pair_cmp_total (schema_of n) (rules_walk n) (rule_source n) (rule_answers n) old new has same no_rule r (rules_rise no_rule) h xs are runs.0)) runs.1)
 
-  pub rules_stopped : (rs : List Rule) → rs ≡ [] → (r : Run) → LooksFrom rs r false → TellRuns n new.now false
+  pub rules_stopped : (rs : List Rule) → rs ≡ [] → (r : RulesSoFar) → LooksFrom rs r false → TellRuns n new.now false
   rules_stopped rs none r h xs are runs =
       pass_no rule_row ComesNext with_rule same_rule pair_cmp pair_cmp_total (schema_of n) (rules_walk n) _ _ (rules_walk_is n).0 (rule_source n) (rule_answers n) old new has same no_rule r (rules_rise no_rule) (subst (λ l. LooksFrom l r false) none h) xs are runs.0
 
   -- by whether the last rules are all of their bucket's
-  pub rules_closed : (rs : List Rule) → rs ≡ [] → (r : Run) → LooksFrom rs r true → (b : Bool) → (IsTrue b ↔ IsWhole r) → TellRuns n new.now b
+  pub rules_closed : (rs : List Rule) → rs ≡ [] → (r : RulesSoFar) → LooksFrom rs r true → (b : Bool) → (IsTrue b ↔ IsWhole r) → TellRuns n new.now b
   rules_closed rs none r h true is = rules_whole r (subst (λ l. LooksFrom l r true) none h) (is.0 refl)
   rules_closed rs none r h false is = rules_open r (subst (λ l. LooksFrom l r true) none h) (λ whole. absurd (let no : false ≡ true = is.1 whole in cc))
 

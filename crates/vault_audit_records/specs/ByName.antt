@@ -4,13 +4,13 @@ use Rattle.std.specs.List.{AllByRecursion}
 use Rattle.std.specs.declared.cmp.Ordering.{Ordering}
 use Rattle.sqlite.specs.Effect.{Database}
 use Rattle.vault_core_model.specs.declared.records.Caller.{Caller}
-use Rattle.vault_core_model.specs.Order.{IsAscending, name_cmp, caller_cmp}
+use Rattle.vault_core_model.specs.Order.{IsAscending, name_cmp}
 use Rattle.vault_audit_model.specs.declared.rows.DepartmentRow.{DepartmentRow}
 use Rattle.vault_audit_model.specs.declared.schema.Edition.{Edition}
 use Rattle.vault_audit_model.specs.Limits.{IsCaller, IsDepartmentRow}
-use Rattle.vault_audit_model.specs.Rows.{caller_row, department_row, caller_columns, department_columns_as}
-use Rattle.vault_audit_model.specs.Tables.{callers_tree, departments_tree}
-use Rattle.vault_audit_model.specs.Relations.{IsAfter}
+use Rattle.vault_audit_model.specs.Rows.{department_row, department_columns_as}
+use Rattle.vault_audit_model.specs.Tables.{departments_tree}
+use Rattle.vault_audit_model.specs.Relations.{AreCallers, IsAfter}
 
 -- ---- callers
 
@@ -21,14 +21,9 @@ IsNextCaller before c = IsCaller c × IsAfter before c.name
 abbrev pub with_caller : Option (List ℕ) → Caller → Option (List ℕ)
 with_caller before c = Some c.name
 
--- the rows of callers are these, in their limits and by rising name
-abbrev pub AreCallersByName : Database → List Caller → Type 0
-AreCallersByName db cs =
-    IsPermutation (map caller_row cs) (map caller_columns (db.trees callers_tree)) × IsAscending caller_cmp cs × AllByRecursion IsCaller cs
-
 abbrev pub TellCallers : Database → Bool → Type 0
-TellCallers db true = (cs : List Caller) × AreCallersByName db cs
-TellCallers db false = (cs : List Caller) → ¬ AreCallersByName db cs
+TellCallers db true = (cs : List Caller) × AreCallers db cs
+TellCallers db false = (cs : List Caller) → ¬ AreCallers db cs
 
 -- ---- departments
 

@@ -4,13 +4,13 @@ use Rattle.sqlite.specs.Effect.{Database}
 use Rattle.vault_core_model.specs.declared.records.Entry.{Entry}
 use Rattle.vault_audit_model.specs.Limits.{IsEntry}
 use Rattle.vault_audit_model.specs.Rows.{entry_row, entry_columns}
-use Rattle.vault_audit_model.specs.Relations.{GoesOn, AreNumbered}
+use Rattle.vault_audit_model.specs.Relations.{IsNextEntry, AreNumbered}
 use Rattle.vault_audit_model.specs.Tables.{entries_tree}
 use Rattle.vault_audit_records.specs.declared.entries.second_look.NumberPass.{NumberPass}
 
 -- one entry of a walk
 abbrev pub ComesNext : NumberPass → Entry → Type 0
-ComesNext p e = IsEntry e × GoesOn p.next p.low e
+ComesNext p e = IsEntry e × IsNextEntry p.next p.low e
 
 abbrev pub with_entry : NumberPass → Entry → NumberPass
 with_entry p e = record { next = p.next + 1; low = e.admitted }

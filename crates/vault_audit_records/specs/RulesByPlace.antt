@@ -1,5 +1,5 @@
 -- The rules by their buckets and places.
-use Rattle.std.specs.Prelude.{◌≡◌, ℕ, ◌+◌, ◌⊎◌, Bool, true, false, ◌==◌, if◌then◌else◌, List, [], ◌∷◌, ◌++◌, length, map, Option, Some, None, IfSome, IsTrue, IsPermutation, MatchBool}
+use Rattle.std.specs.Prelude.{◌≡◌, ℕ, ◌+◌, ◌⊎◌, Bool, true, false, ◌==◌, if◌then◌else◌, List, [], ◌∷◌, ◌++◌, length, map, Option, Some, None, IfSome, IsTrue, IsPermutation}
 use Rattle.std.specs.List.{AllByRecursion, list_any}
 use Rattle.std.specs.Ordering.{is_eq}
 use Rattle.sqlite.specs.Effect.{Database}
@@ -12,6 +12,7 @@ use Rattle.vault_audit_model.specs.declared.schema.Edition.{Edition}
 use Rattle.vault_audit_model.specs.Limits.{IsBucketRow, IsRuleRow}
 use Rattle.vault_audit_model.specs.Rows.{bucket_row, rule_row, bucket_columns, rule_columns_as}
 use Rattle.vault_audit_model.specs.Tables.{buckets_tree, rules_tree}
+use Rattle.vault_audit_walk.specs.Beside.{Tell}
 use Rattle.vault_audit_walk.specs.Pass.{AllFit, after}
 pub use Rattle.vault_audit_model.specs.Relations.{IsAfter}
 
@@ -37,28 +38,28 @@ TellBucketRows db false = (bs : List BucketRow) → ¬ AreBucketRows db bs
 -- ---- rules
 
 -- the last bucket that has come, and its rules so far
-pub record Run : Type 0 where
+pub record RulesSoFar : Type 0 where
   pub bucket : Option (List ℕ)
   pub rules : List Rule
 
 -- they are all the rules of a bucket, or there was none yet
-abbrev pub IsWhole : Run → Type 0
+abbrev pub IsWhole : RulesSoFar → Type 0
 IsWhole p = IfSome p.bucket (λ _. IsTrue (is_rule_set p.rules))
 
 -- at the next place of the same bucket, or the first of a later one
-abbrev pub IsNext : Run → RuleRow → Type 0
+abbrev pub IsNext : RulesSoFar → RuleRow → Type 0
 IsNext p r = ((p.bucket ≡ Some r.bucket) × (r.place ≡ length p.rules + 1)) ⊎ ((IsAfter p.bucket r.bucket × IsWhole p) × (r.place ≡ 1))
 
 -- it is a rule in its limits, and may come now
-abbrev pub ComesNext : Run → RuleRow → Type 0
+abbrev pub ComesNext : RulesSoFar → RuleRow → Type 0
 ComesNext p r = IsRuleRow r × IsNext p r
 
 -- the rules of the last bucket, behind this rule
-abbrev pub with_rule : Run → RuleRow → Run
+abbrev pub with_rule : RulesSoFar → RuleRow → RulesSoFar
 with_rule p r = record { bucket = Some r.bucket; rules = if r.place == 1 then r.rule ∷ [] else p.rules ++ r.rule ∷ [] }
 
 -- before the first rule
-abbrev pub no_rule : Run
+abbrev pub no_rule : RulesSoFar
 no_rule = record { bucket = None; rules = [] }
 
 -- the rows of rules are these, in any order
@@ -66,21 +67,17 @@ abbrev pub AreRowsOf : Edition → Database → List RuleRow → Type 0
 AreRowsOf n db xs = IsPermutation (map rule_row xs) (map (rule_columns_as n) (db.trees rules_tree))
 
 -- each comes next behind those before it, and the last bucket's are whole
-abbrev pub AreRuns : List RuleRow → Type 0
-AreRuns xs = AllFit rule_row ComesNext with_rule no_rule xs × IsWhole (after rule_row ComesNext with_rule no_rule xs)
+abbrev pub AreWholeSets : List RuleRow → Type 0
+AreWholeSets xs = AllFit rule_row ComesNext with_rule no_rule xs × IsWhole (after rule_row ComesNext with_rule no_rule xs)
 
 -- whether the rules of each bucket stand at the places 1, 2, 3 and so on, and are a set that it may have
 abbrev pub TellRuns : Edition → Database → Bool → Type 0
-TellRuns n db true = (xs : List RuleRow) × AreRowsOf n db xs × AreRuns xs
-TellRuns n db false = (xs : List RuleRow) → AreRowsOf n db xs → ¬ AreRuns xs
+TellRuns n db true = (xs : List RuleRow) × AreRowsOf n db xs × AreWholeSets xs
+TellRuns n db false = (xs : List RuleRow) → AreRowsOf n db xs → ¬ AreWholeSets xs
 
 -- the rule is of one of the buckets
 abbrev pub IsOfOne : List BucketRow → RuleRow → Type 0
 IsOfOne bs r = list_any (λ b. is_eq (name_cmp b.name r.bucket)) bs ≡ true
-
--- an answer to whether that holds
-abbrev pub Tell : Bool → Type 0 → Type 0
-Tell b P = MatchBool b P (¬ P)
 
 -- whether each rule has its bucket
 abbrev pub TellOwners : Edition → Database → Bool → Type 0

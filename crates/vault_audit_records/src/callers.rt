@@ -1,13 +1,12 @@
 //! Whether the rows of `callers` are callers, by rising name.
-ghost use Rattle.std.specs.Prelude.{◌≡◌, ◌↔◌, false, IsTrue, IfOk, IfErr, OnOk};
-ghost use Rattle.sqlite.specs.State.{HasCleanDisk, IsUnchanged, Survives};
+ghost use Rattle.std.specs.Prelude.{◌≡◌, ◌↔◌, false, IsTrue, IfOk, IfErr};
+ghost use Rattle.sqlite.specs.State.{HasCleanDisk};
 ghost use Rattle.sqlite.specs.Held.{state};
 ghost use Rattle.vault_core_model.specs.Vault.{Vault};
 ghost use Rattle.vault_audit_model.specs.Spells.{AreSoundAs};
-ghost use Rattle.vault_audit_model.specs.Tables.{schema_of};
 ghost use Rattle.vault_audit_model.specs.Relations.{IsAfter};
 ghost use Rattle.vault_audit_records.specs.ByName.{TellCallers};
-ghost use Rattle.vault_audit_walk.specs.Health.{IsHealthy, IsMemory};
+ghost use Rattle.vault_audit_walk.specs.Health.{IsHealthy, IsMemory, IsOfEdition, OnlyLooks};
 
 use crate::row_check::refused;
 use sqlite::{Alter, Connection, Error, Row};
@@ -70,12 +69,11 @@ pub fn check_callers_by_name<S: Alter>(
     conn: &mut Connection<S>,
     edition: Edition,
 ) -> Result<bool, Error>
-    requires { HasCleanDisk (state S.Store conn.old) → (state S.Store conn.old).now.schema ≡ schema_of edition }
+    requires { IsOfEdition S.Store conn.old edition }
     ensures told { HasCleanDisk (state S.Store conn.new) → IfOk result (TellCallers (state S.Store conn.new).now) }
     ensures damaged { HasCleanDisk (state S.Store conn.new) → IfOk result (λ told. told ≡ false → (v : Vault) → ¬ AreSoundAs edition (state S.Store conn.new).now v) }
-    ensures same { HasCleanDisk (state S.Store conn.new) → OnOk result (IsUnchanged (state S.Store conn.old) (state S.Store conn.new)) }
+    ensures look { OnlyLooks S.Store conn.old conn.new result }
     ensures err { IsHealthy (state S.Store conn.new) → IfErr result IsMemory }
-    ensures crash { Survives (state S.Store conn.old) (state S.Store conn.new) (λ _. ⊥) }
 {
     let mut pass = CallerPass { last: None };
     walk(

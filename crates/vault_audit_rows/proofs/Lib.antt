@@ -1,2 +1,2 @@
-pub mod PartLemmas
+pub mod ColumnLemmas
 pub mod RowLemmas

@@ -1,5 +1,5 @@
 //! Numbers, truth values and bytes in the columns of a row.
-ghost use Rattle.std.specs.Prelude.{◌≡◌, ◌≢◌, ◌↔◌, ◌^◌, ℕ, Bool, List, Option, ◌≤◌, ◌<◌, length, pos, IsTrue, IsUtf8, IfOk, IfErr, IfSome, MatchOption};
+ghost use Rattle.std.specs.Prelude.{◌≡◌, ◌≢◌, ◌↔◌, ◌^◌, ℕ, Bool, List, Option, ◌≤◌, ◌<◌, length, IsTrue, IsUtf8, IfOk, IfErr, IfSome, MatchOption};
 ghost use Rattle.sqlite_value.specs.declared.value.Value.TheVariants.{Null, Text, Blob};
 ghost use Rattle.sqlite_value.specs.Order.{column};
 ghost use Rattle.vault_base.specs.Days.{last_moment};
@@ -13,12 +13,6 @@ use std::alloc::Global;
 use vault_base::content::{Content, Digest};
 use vault_base::moment::Moment;
 use vault_base::name::VersionId;
-
-/// The bytes of the greatest content.
-pub const MOST_CONTENT: usize = 1_048_576;
-
-/// The most moves of buckets that a vault counts.
-pub const MOST_MOVES: u32 = 1_000_000_000;
 
 /// The memory that a row's values are copied into: any column reads as it.
 #[derive(Drop)]
@@ -148,6 +142,17 @@ pub fn moment(row: &Row, at: usize) -> Option<Moment>
         Ok(ValueRef::Int(n)) => Moment::from_secs(n),
         _ => None,
     }
+}
+
+/// The same, or NULL.
+pub fn moment_or_null(row: &Row, at: usize) -> Option<Option<Moment>>
+    ensures { MatchOption result ((o : Option ℕ) → IfSome o (λ t. t ≤ last_moment) → column row.now at ≢ number_or_null o) (λ o. (column row.now at ≡ number_or_null o) × IfSome o (λ t. t ≤ last_moment)) }
+{
+    if is_null(row, at) {
+        return Some(None);
+    }
+    let moment = moment(row, at)?;
+    Some(Some(moment))
 }
 
 /// The version id in a column.

@@ -6,5 +6,5 @@
 pub mod cell;
 pub mod misread;
 pub mod name;
-pub mod part;
 pub mod records;
+pub mod several_columns;

@@ -3,13 +3,16 @@ ghost use Rattle.std.specs.Prelude.{◌≡◌};
 ghost use Rattle.vault_audit_rows.specs.declared.misread.Misread.TheVariants as misreads;
 
 use std::alloc::AllocError;
+use thiserror::Error;
 
 /// Why a row, or a value in one, isn't read.
-#[derive(Clone, Copy, Debug, PartialEq, Eq)]
+#[derive(Clone, Copy, Debug, PartialEq, Eq, Error)]
 pub enum Misread {
     /// It tells no record of that kind, in its limits.
+    #[error("the row tells no record of its kind")]
     Wrong,
     /// No memory was left for what it tells.
+    #[error("out of memory")]
     Memory,
 }
 

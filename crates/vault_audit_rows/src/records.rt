@@ -17,16 +17,13 @@ ghost use Rattle.vault_audit_model.specs.declared.rows.TenureRow.{TenureRow};
 ghost use Rattle.vault_audit_model.specs.Limits.{IsMetaRow, IsDepartmentRow, IsCaller, IsBucketRow, IsRuleRow, IsEntry, IsContentRow, IsSettingRow, IsNote, IsHeadRow, IsTenureRow};
 ghost use Rattle.vault_audit_model.specs.Rows.{meta_row, department_row, caller_row, bucket_row, rule_row, entry_row, content_row, setting_row, note_row, head_row, tenure_row};
 
-use crate::cell::{
-    MOST_CONTENT, MOST_MOVES, content, digest, flag, flag_or_null, moment, number, number_within,
-    version_id,
-};
+use crate::cell::{content, digest, flag, flag_or_null, moment, number, number_within, version_id};
 use crate::misread::Misread;
 use crate::name::{
     batch_name, bucket_name, caller_name, dept_name, dept_name_or_null, key_prefix, object_key,
     rule_id,
 };
-use crate::part::{
+use crate::several_columns::{
     Bounds, Extent, author, bounds_of, days_or_null, default, extent_of, noncurrent, removal,
     retention, rights,
 };
@@ -34,6 +31,7 @@ use sqlite::Row;
 use vault_audit_model::rows::{
     BucketRow, ContentRow, DepartmentRow, HeadRow, MetaRow, RuleRow, SettingRow, TenureRow,
 };
+use vault_core_model::limits::{MOST_CONTENT, MOST_MOVES};
 use vault_core_model::records::{BucketConfig, Caller, Entry, Head, Note, Setting, Tenure};
 use vault_lock::lock::Lock;
 use vault_rules::rule::Rule;

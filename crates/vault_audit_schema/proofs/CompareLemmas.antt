@@ -2,7 +2,6 @@
 use Rattle.std.proofs.Common.{◌≡◌, ◌↔◌, ℕ, suc, zero, ◌+◌, ◌<◌, ◌≤◌, List, [], ◌∷◌, length, take, get_or, map, Bool, IsTrue, Some, None, refl, sym, ap, ◌∙◌, arith, add-one, min, inl, inr}
 use Rattle.std.specs.List.{slice_get}
 use Rattle.std.specs.Option.{option_map}
-use Rattle.std.proofs.Math.Seq.{take-length}
 use Rattle.std.proofs.lemmas.List.{length-map, length-take}
 use Rattle.std.proofs.lemmas.Option.{slice_get-map, slice_get_read, slice_get_past, slice_get_cases, none-some, same_Some}
 use Rattle.vault_audit_schema.specs.Compare.{IsFirstUnlike}
@@ -25,9 +24,6 @@ agree_next (x ∷ xs) (y ∷ ys) (suc i) p q =
     let next = agree_next xs ys i tails q in
     cc
 
-all_agree : {X : Type 0} (xs ys : List X) → length xs ≡ length ys → take (length ys) xs ≡ take (length ys) ys → xs ≡ ys
-all_agree xs ys e h = sym (take-length xs) ∙ ap (λ n. take n xs) e ∙ h ∙ take-length ys
-
 -- a list that is as long as it must be at least, and no longer than that
 no_more : {X : Type 0} (xs ys : List X) → take (length ys) xs ≡ take (length ys) ys → slice_get xs (length ys) ≡ slice_get ys (length ys) → length xs ≡ length ys
 no_more xs ys h e =
@@ -46,18 +42,6 @@ pub unlike_step : {X F : Type 0} (shape : F → X) (xs : List X) (forms : List F
     → take (i + 1) xs ≡ take (i + 1) (map shape forms)
 unlike_step shape xs forms i form inside is found before =
     rw add-one (agree_next xs (map shape forms) i before (found ∙ sym (shape_at shape forms i form inside is)))
-
-pub unlike_stop : {X F : Type 0} (shape : F → X) (xs : List X) (forms : List F) (i : ℕ) (form : F)
-    → i < length forms → form ≡ get_or forms i form → (slice_get xs i ≡ Some (shape form) → ⊥) → take i xs ≡ take i (map shape forms)
-    → IsFirstUnlike xs (map shape forms) i
-unlike_stop shape xs forms i form inside is other before =
-    record { before = before; differs = λ e. other (e ∙ shape_at shape forms i form inside is) }
-
-pub unlike_none : {X F : Type 0} (shape : F → X) (xs : List X) (forms : List F)
-    → length xs ≡ length forms → take (length forms) xs ≡ take (length forms) (map shape forms) → xs ≡ map shape forms
-unlike_none shape xs forms e h =
-    let n : length (map shape forms) ≡ length forms = length-map forms shape in
-    all_agree xs (map shape forms) (e ∙ sym n) (rw n h)
 
 pub unlike_end : {X F : Type 0} (shape : F → X) (xs : List X) (forms : List F)
     → (length xs ≡ length forms → ⊥) → take (length forms) xs ≡ take (length forms) (map shape forms)

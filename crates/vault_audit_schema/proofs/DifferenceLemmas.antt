@@ -6,13 +6,13 @@ use Rattle.std.proofs.lemmas.Bool.{cases_order}
 use Rattle.std.proofs.lemmas.Option.{slice_get-map, same_Some}
 use Rattle.vault_base.specs.declared.refusal.Table.{Table}
 use Rattle.vault_base.specs.declared.refusal.Table.TheVariants.{Meta, Departments, Callers, Buckets, Rules, Entries, Contents, Settings, Intake, Heads, Tenures}
-use Rattle.sqlite.specs.Schema.{Schema}
 use Rattle.sqlite.specs.Table.{Table as Made}
 use Rattle.vault_audit_model.specs.declared.schema.Edition.{Edition}
 use Rattle.vault_audit_model.specs.declared.schema.Edition.TheVariants.{First, Second, Third}
+use Rattle.vault_audit_model.specs.Order.{place_of, made_in}
 use Rattle.vault_audit_model.specs.Tables.{schema_of}
 use Rattle.vault_audit_schema.specs.Compare.{IsFirstUnlike}
-use Rattle.vault_audit_schema.specs.Places.{place_of, made_in, HasTable, IsInPlace, AreInPlace, BeginTo, IsToldOf, IsToldIn}
+use Rattle.vault_audit_schema.specs.Places.{HasTable, IsInPlace, AreInPlace, BeginTo, IsToldOf, IsToldIn}
 use Rattle.vault_audit_schema.proofs.CompareLemmas.{unlike_not}
 
 pub place_below : (t : Table) → place_of t < 11
@@ -155,15 +155,3 @@ module _ (n : Edition) (tables : List Made) (at : ℕ) (told : Table) (unlike : 
         here = it.1;
         first = λ t before here. named t (has_out n tables t here) (same_place n tables at t unlike before here);
       }
-
--- the tables are told of the schema
-pub told_in : (n : Edition) (s : Schema) (told : Table) → IsToldOf n s.tables told → IsToldIn n s told
-told_in n s told it = record { differs = λ e. it.differs (ap (λ (x : Schema). x.tables) e); begin = it.begin; here = it.here }
-
--- the tables are the vault's, and an index or a view differs
-pub told_beside : (n : Edition) (s : Schema) (told : Table) → s.tables ≡ (schema_of n).tables → ¬ (s ≡ schema_of n) → IsToldIn n s told
-told_beside n s told are other = record {
-  differs = other;
-  begin = λ t less. ap (take (place_of t + 1)) are;
-  here = inr (λ t has. ap (λ (l : List Made). slice_get l (place_of t)) are);
-}

@@ -59,4 +59,4 @@ table_of form =
 -- the index of a form
 abbrev pub index_of : IndexForm → Index
 index_of form =
-    record { name = form.name.now; tree = form.tree; table = form.table_tree; columns = form.places.now; order = form.order; is_unique = form.is_unique }
+    record { name = form.name.now; tree = form.tree; table = form.of.tree; columns = form.places.now; order = form.order; is_unique = form.is_unique }

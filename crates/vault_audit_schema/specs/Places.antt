@@ -1,36 +1,11 @@
 -- The tables in their places.
-use Rattle.std.specs.Prelude.{ℕ, ◌+◌, ◌<◌, ◌⊎◌, List, [], ◌∷◌, length, slice_get, take, ◌≡◌}
+use Rattle.std.specs.Prelude.{◌+◌, ◌<◌, ◌⊎◌, List, length, slice_get, take, ◌≡◌}
 use Rattle.vault_base.specs.declared.refusal.Table.{Table}
-use Rattle.vault_base.specs.declared.refusal.Table.TheVariants.{Meta, Departments, Callers, Buckets, Rules, Entries, Contents, Settings, Intake, Heads, Tenures}
 use Rattle.sqlite.specs.Schema.{Schema}
 use Rattle.sqlite.specs.Table.{Table as Made}
 use Rattle.vault_audit_model.specs.declared.schema.Edition.{Edition}
-use Rattle.vault_audit_model.specs.declared.schema.Edition.TheVariants.{First, Second, Third}
+use Rattle.vault_audit_model.specs.Order.{place_of}
 use Rattle.vault_audit_model.specs.Tables.{schema_of}
-
--- the place of a table in the order in which they are made
-abbrev pub place_of : Table → ℕ
-place_of Meta = 0
-place_of Departments = 1
-place_of Callers = 2
-place_of Buckets = 3
-place_of Rules = 4
-place_of Entries = 5
-place_of Contents = 6
-place_of Settings = 7
-place_of Intake = 8
-place_of Heads = 9
-place_of Tenures = 10
-
--- the tables that an edition has besides those of the first
-abbrev pub made_later : Edition → List Table
-made_later First = []
-made_later Second = []
-made_later Third = Tenures ∷ []
-
--- the tables of an edition, in their order
-abbrev pub made_in : Edition → List Table
-made_in n = Meta ∷ Departments ∷ Callers ∷ Buckets ∷ Rules ∷ Entries ∷ Contents ∷ Settings ∷ Intake ∷ Heads ∷ made_later n
 
 -- the edition has the table
 abbrev pub HasTable : Edition → Table → Type 0

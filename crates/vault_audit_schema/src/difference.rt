@@ -1,10 +1,11 @@
 //! At which table a schema differs from the vault's.
 
-ghost use Rattle.std.specs.Prelude.{◌≡◌, ◌↔◌, ◌<◌, ◌≤◌, ℕ, length, None, Some, MatchOption, IfSome};
+ghost use Rattle.std.specs.Prelude.{◌≡◌, ◌↔◌, ◌<◌, ◌≤◌, length, None, Some, MatchOption, IfSome};
 ghost use Rattle.sqlite.specs.Held.{state};
 ghost use Rattle.vault_base.specs.declared.refusal.Table.{Table};
+ghost use Rattle.vault_audit_model.specs.Order.{place_of};
 ghost use Rattle.vault_audit_model.specs.Tables.{schema_of};
-ghost use Rattle.vault_audit_schema.specs.Places.{place_of, HasTable, IsInPlace, IsToldOf, IsToldIn};
+ghost use Rattle.vault_audit_schema.specs.Places.{HasTable, IsInPlace, IsToldOf, IsToldIn};
 
 use crate::compare::first_unlike;
 use crate::index::indexes_of;
@@ -46,7 +47,7 @@ fn owner(edition: Edition, index: &Index) -> Table {
 /// The table whose index is to stand at this place, or past the last that of the index that stands there.
 fn index_table(edition: Edition, indexes: &[Index], at: usize) -> Table {
     if let Some(form) = indexes_of(edition).get(at) {
-        return form.table;
+        return form.of.table;
     }
     match indexes.get(at) {
         Some(index) => owner(edition, index),

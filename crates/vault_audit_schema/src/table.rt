@@ -1,11 +1,11 @@
 //! The tables of each edition, and the parts of a table that are no column.
 
 ghost use Rattle.std.specs.Prelude.{◌≡◌, ◌↔◌, [], ◌∷◌, Some, None, IsTrue, map};
+ghost use Rattle.vault_audit_model.specs.Order.{made_in};
 ghost use Rattle.vault_audit_model.specs.Tables.{schema_of};
 ghost use Rattle.sqlite_value.specs.Keys.{plain};
 ghost use Rattle.vault_audit_schema.specs.Forms.{table_of, key_of, primary_of, uniques_of, orders_of};
 ghost use Rattle.vault_audit_schema.specs.Parts.{HasKey, IsBare};
-ghost use Rattle.vault_audit_schema.specs.Places.{made_in};
 
 use crate::column::ColumnForm::{Has, MayHave};
 use crate::column::{ColumnForm, ReferenceForm};
@@ -35,329 +35,279 @@ pub(crate) struct TableForm {
     pub(crate) key: KeyForm,
     pub(crate) columns: &'static [ColumnForm],
     pub(crate) references: &'static [ReferenceForm],
+    /// The statement that makes it.
+    pub(crate) creation: &'static str,
+}
+
+/// The kind of a column, by its word in SQL.
+macro_rules! kind {
+    (INTEGER) => {
+        Kind::Integer
+    };
+    (TEXT) => {
+        Kind::Text
+    };
+    (BLOB) => {
+        Kind::Blob
+    };
+}
+
+/// The form of a column, by the words that define it.
+macro_rules! column {
+    ($name:ident $kind:ident NOT NULL $($more:ident)*) => {
+        Has(stringify!($name), kind!($kind))
+    };
+    ($name:ident $kind:ident $($more:ident)*) => {
+        MayHave(stringify!($name), kind!($kind))
+    };
+}
+
+/// A table, by the words that define its columns: its form, and the statement that makes it.
+macro_rules! table {
+    (
+        $table:ident($title:ident), tree $tree:literal, key $key:expr, references $references:expr,
+        columns(
+            $first:ident $first_kind:ident $($first_word:ident)* $(($first_at:ident))?
+            $(, $name:ident $kind:ident $($word:ident)* $(($at:ident))?)*
+        )
+        $(, $constraint:literal)?
+    ) => {
+        TableForm {
+            table: Table::$table,
+            tree: $tree,
+            key: $key,
+            columns: &[
+                column!($first $first_kind $($first_word)*),
+                $(column!($name $kind $($word)*)),*
+            ],
+            references: $references,
+            creation: concat!(
+                "CREATE TABLE ", stringify!($title), " (",
+                stringify!($first), " ", stringify!($first_kind),
+                $(" ", stringify!($first_word),)* $(" (", stringify!($first_at), ")",)?
+                $(
+                    ", ", stringify!($name), " ", stringify!($kind),
+                    $(" ", stringify!($word),)* $(" (", stringify!($at), ")",)?
+                )*
+                $(", ", $constraint,)? ") STRICT"
+            ),
+        }
+    };
+}
+
+/// A column, by its number, that refers to a column of another table.
+macro_rules! refers {
+    ($at:literal, $parent:ident, $column:literal) => {
+        ReferenceForm {
+            at: $at,
+            parent: Table::$parent,
+            column: $column,
+        }
+    };
+}
+
+/// `meta`, with the columns that an edition has besides those of the first.
+macro_rules! meta {
+    ($($name:ident $kind:ident $($word:ident)*),*) => {
+        table!(
+            Meta(meta), tree 0, key KeyForm::Number, references &[],
+            columns(
+                one INTEGER PRIMARY KEY,
+                schema INTEGER NOT NULL,
+                last INTEGER NOT NULL,
+                next INTEGER NOT NULL
+                $(, $name $kind $($word)*)*
+            )
+        )
+    };
+}
+
+/// The departments, with the columns that an edition has besides those of the first.
+macro_rules! departments {
+    ($($name:ident $kind:ident $($word:ident)*),*) => {
+        table!(
+            Departments(departments), tree 1, key KeyForm::Places(&[1]), references &[],
+            columns(
+                name TEXT NOT NULL,
+                admitted INTEGER NOT NULL,
+                held INTEGER NOT NULL,
+                removed INTEGER NOT NULL,
+                weighted INTEGER NOT NULL,
+                closed INTEGER NOT NULL
+                $(, $name $kind $($word)*)*
+            ),
+            "PRIMARY KEY (name)"
+        )
+    };
+}
+
+/// The rules, with the columns that an edition has besides those of the first.
+macro_rules! rules {
+    ($($name:ident $kind:ident $($word:ident)*),*) => {
+        table!(
+            Rules(rules), tree 7, key KeyForm::Places(&[1, 2]),
+            references &[refers!(1, Buckets, "name")],
+            columns(
+                bucket TEXT NOT NULL REFERENCES buckets (name),
+                n INTEGER NOT NULL,
+                id TEXT NOT NULL,
+                prefix TEXT NOT NULL,
+                enabled INTEGER NOT NULL,
+                days INTEGER,
+                lone INTEGER NOT NULL,
+                nc_days INTEGER,
+                nc_keep INTEGER
+                $(, $name $kind $($word)*)*
+            ),
+            "PRIMARY KEY (bucket, n)"
+        )
+    };
 }
 
 /// `meta` of the first two editions.
-const META: TableForm = TableForm {
-    table: Table::Meta,
-    tree: 0,
-    key: KeyForm::Number,
-    columns: &[
-        MayHave("one", Kind::Integer),
-        Has("schema", Kind::Integer),
-        Has("last", Kind::Integer),
-        Has("next", Kind::Integer),
-    ],
-    references: &[],
-};
+const FIRST_META: TableForm = meta!();
 
-const THIRD_META: TableForm = TableForm {
-    table: Table::Meta,
-    tree: 0,
-    key: KeyForm::Number,
-    columns: &[
-        MayHave("one", Kind::Integer),
-        Has("schema", Kind::Integer),
-        Has("last", Kind::Integer),
-        Has("next", Kind::Integer),
-        Has("moves", Kind::Integer),
-    ],
-    references: &[],
-};
+pub(crate) const META: TableForm = meta!(moves INTEGER NOT NULL);
 
 /// The departments of the first two editions.
-const DEPARTMENTS: TableForm = TableForm {
-    table: Table::Departments,
-    tree: 1,
-    key: KeyForm::Places(&[1]),
-    columns: &[
-        Has("name", Kind::Text),
-        Has("admitted", Kind::Integer),
-        Has("held", Kind::Integer),
-        Has("removed", Kind::Integer),
-        Has("weighted", Kind::Integer),
-        Has("closed", Kind::Integer),
-    ],
-    references: &[],
-};
+const FIRST_DEPARTMENTS: TableForm = departments!();
 
-const THIRD_DEPARTMENTS: TableForm = TableForm {
-    table: Table::Departments,
-    tree: 1,
-    key: KeyForm::Places(&[1]),
-    columns: &[
-        Has("name", Kind::Text),
-        Has("admitted", Kind::Integer),
-        Has("held", Kind::Integer),
-        Has("removed", Kind::Integer),
-        Has("weighted", Kind::Integer),
-        Has("closed", Kind::Integer),
-        Has("received", Kind::Integer),
-        Has("handed", Kind::Integer),
-    ],
-    references: &[],
-};
+pub(crate) const DEPARTMENTS: TableForm =
+    departments!(received INTEGER NOT NULL, handed INTEGER NOT NULL);
 
-const CALLERS: TableForm = TableForm {
-    table: Table::Callers,
-    tree: 3,
-    key: KeyForm::Places(&[1]),
-    columns: &[
-        Has("name", Kind::Text),
-        MayHave("dept", Kind::Text),
-        Has("rights", Kind::Integer),
-        Has("closed", Kind::Integer),
-    ],
-    references: &[ReferenceForm {
-        at: 2,
-        parent: Table::Departments,
-        column: "name",
-    }],
-};
+pub(crate) const CALLERS: TableForm = table!(
+    Callers(callers), tree 3, key KeyForm::Places(&[1]),
+    references &[refers!(2, Departments, "name")],
+    columns(
+        name TEXT NOT NULL,
+        dept TEXT REFERENCES departments (name),
+        rights INTEGER NOT NULL,
+        closed INTEGER NOT NULL
+    ),
+    "PRIMARY KEY (name)"
+);
 
-const BUCKETS: TableForm = TableForm {
-    table: Table::Buckets,
-    tree: 5,
-    key: KeyForm::Places(&[1]),
-    columns: &[
-        Has("name", Kind::Text),
-        Has("dept", Kind::Text),
-        Has("mode", Kind::Integer),
-        MayHave("days", Kind::Integer),
-        MayHave("years", Kind::Integer),
-    ],
-    references: &[ReferenceForm {
-        at: 2,
-        parent: Table::Departments,
-        column: "name",
-    }],
-};
+pub(crate) const BUCKETS: TableForm = table!(
+    Buckets(buckets), tree 5, key KeyForm::Places(&[1]),
+    references &[refers!(2, Departments, "name")],
+    columns(
+        name TEXT NOT NULL,
+        dept TEXT NOT NULL REFERENCES departments (name),
+        mode INTEGER NOT NULL,
+        days INTEGER,
+        years INTEGER
+    ),
+    "PRIMARY KEY (name)"
+);
 
 /// The rules of the first edition.
-const FIRST_RULES: TableForm = TableForm {
-    table: Table::Rules,
-    tree: 7,
-    key: KeyForm::Places(&[1, 2]),
-    columns: &[
-        Has("bucket", Kind::Text),
-        Has("n", Kind::Integer),
-        Has("id", Kind::Text),
-        Has("prefix", Kind::Text),
-        Has("enabled", Kind::Integer),
-        MayHave("days", Kind::Integer),
-        Has("lone", Kind::Integer),
-        MayHave("nc_days", Kind::Integer),
-        MayHave("nc_keep", Kind::Integer),
-    ],
-    references: &[ReferenceForm {
-        at: 1,
-        parent: Table::Buckets,
-        column: "name",
-    }],
-};
+const FIRST_RULES: TableForm = rules!();
 
-const RULES: TableForm = TableForm {
-    table: Table::Rules,
-    tree: 7,
-    key: KeyForm::Places(&[1, 2]),
-    columns: &[
-        Has("bucket", Kind::Text),
-        Has("n", Kind::Integer),
-        Has("id", Kind::Text),
-        Has("prefix", Kind::Text),
-        Has("enabled", Kind::Integer),
-        MayHave("days", Kind::Integer),
-        Has("lone", Kind::Integer),
-        MayHave("nc_days", Kind::Integer),
-        MayHave("nc_keep", Kind::Integer),
-        MayHave("larger", Kind::Integer),
-        MayHave("smaller", Kind::Integer),
-    ],
-    references: &[ReferenceForm {
-        at: 1,
-        parent: Table::Buckets,
-        column: "name",
-    }],
-};
+pub(crate) const RULES: TableForm = rules!(larger INTEGER, smaller INTEGER);
 
-const ENTRIES: TableForm = TableForm {
-    table: Table::Entries,
-    tree: 9,
-    key: KeyForm::NumberAnd(&[2, 3, 0]),
-    columns: &[
-        MayHave("id", Kind::Integer),
-        Has("bucket", Kind::Text),
-        Has("key", Kind::Text),
-        Has("marker", Kind::Integer),
-        Has("size", Kind::Integer),
-        MayHave("digest", Kind::Blob),
-        Has("admitted", Kind::Integer),
-        Has("by_rule", Kind::Integer),
-        Has("admitted_by", Kind::Text),
-        MayHave("removed", Kind::Integer),
-        MayHave("cause", Kind::Integer),
-        MayHave("cause_by", Kind::Text),
-    ],
-    references: &[ReferenceForm {
-        at: 2,
-        parent: Table::Buckets,
-        column: "name",
-    }],
-};
+pub(crate) const ENTRIES: TableForm = table!(
+    Entries(entries), tree 9, key KeyForm::NumberAnd(&[2, 3, 0]),
+    references &[refers!(2, Buckets, "name")],
+    columns(
+        id INTEGER PRIMARY KEY,
+        bucket TEXT NOT NULL REFERENCES buckets (name),
+        key TEXT NOT NULL,
+        marker INTEGER NOT NULL,
+        size INTEGER NOT NULL,
+        digest BLOB,
+        admitted INTEGER NOT NULL,
+        by_rule INTEGER NOT NULL,
+        admitted_by TEXT NOT NULL,
+        removed INTEGER,
+        cause INTEGER,
+        cause_by TEXT
+    ),
+    "UNIQUE (bucket, key, id)"
+);
 
-const CONTENTS: TableForm = TableForm {
-    table: Table::Contents,
-    tree: 11,
-    key: KeyForm::Number,
-    columns: &[MayHave("id", Kind::Integer), Has("bytes", Kind::Blob)],
-    references: &[ReferenceForm {
-        at: 0,
-        parent: Table::Entries,
-        column: "id",
-    }],
-};
+pub(crate) const CONTENTS: TableForm = table!(
+    Contents(contents), tree 11, key KeyForm::Number,
+    references &[refers!(0, Entries, "id")],
+    columns(
+        id INTEGER PRIMARY KEY REFERENCES entries (id),
+        bytes BLOB NOT NULL
+    )
+);
 
-const SETTINGS: TableForm = TableForm {
-    table: Table::Settings,
-    tree: 12,
-    key: KeyForm::Places(&[1, 2]),
-    columns: &[
-        Has("id", Kind::Integer),
-        Has("n", Kind::Integer),
-        Has("moment", Kind::Integer),
-        Has("caller", Kind::Text),
-        Has("mode", Kind::Integer),
-        MayHave("until", Kind::Integer),
-        Has("hold", Kind::Integer),
-        Has("bypass", Kind::Integer),
-    ],
-    references: &[ReferenceForm {
-        at: 1,
-        parent: Table::Entries,
-        column: "id",
-    }],
-};
+pub(crate) const SETTINGS: TableForm = table!(
+    Settings(settings), tree 12, key KeyForm::Places(&[1, 2]),
+    references &[refers!(1, Entries, "id")],
+    columns(
+        id INTEGER NOT NULL REFERENCES entries (id),
+        n INTEGER NOT NULL,
+        moment INTEGER NOT NULL,
+        caller TEXT NOT NULL,
+        mode INTEGER NOT NULL,
+        until INTEGER,
+        hold INTEGER NOT NULL,
+        bypass INTEGER NOT NULL
+    ),
+    "PRIMARY KEY (id, n)"
+);
 
-const INTAKE: TableForm = TableForm {
-    table: Table::Intake,
-    tree: 14,
-    key: KeyForm::Places(&[1, 2, 3]),
-    columns: &[
-        Has("bucket", Kind::Text),
-        Has("batch", Kind::Text),
-        Has("line", Kind::Integer),
-        Has("key", Kind::Text),
-        Has("size", Kind::Integer),
-        Has("digest", Kind::Blob),
-        Has("mode", Kind::Integer),
-        MayHave("until", Kind::Integer),
-        MayHave("hold", Kind::Integer),
-        Has("id", Kind::Integer),
-    ],
-    references: &[
-        ReferenceForm {
-            at: 1,
-            parent: Table::Buckets,
-            column: "name",
-        },
-        ReferenceForm {
-            at: 10,
-            parent: Table::Entries,
-            column: "id",
-        },
-    ],
-};
+pub(crate) const INTAKE: TableForm = table!(
+    Intake(intake), tree 14, key KeyForm::Places(&[1, 2, 3]),
+    references &[refers!(1, Buckets, "name"), refers!(10, Entries, "id")],
+    columns(
+        bucket TEXT NOT NULL REFERENCES buckets (name),
+        batch TEXT NOT NULL,
+        line INTEGER NOT NULL,
+        key TEXT NOT NULL,
+        size INTEGER NOT NULL,
+        digest BLOB NOT NULL,
+        mode INTEGER NOT NULL,
+        until INTEGER,
+        hold INTEGER,
+        id INTEGER NOT NULL REFERENCES entries (id)
+    ),
+    "PRIMARY KEY (bucket, batch, line)"
+);
 
-const HEADS: TableForm = TableForm {
-    table: Table::Heads,
-    tree: 16,
-    key: KeyForm::Places(&[1, 2]),
-    columns: &[
-        Has("bucket", Kind::Text),
-        Has("key", Kind::Text),
-        Has("newest", Kind::Integer),
-        Has("count", Kind::Integer),
-    ],
-    references: &[
-        ReferenceForm {
-            at: 1,
-            parent: Table::Buckets,
-            column: "name",
-        },
-        ReferenceForm {
-            at: 3,
-            parent: Table::Entries,
-            column: "id",
-        },
-    ],
-};
+pub(crate) const HEADS: TableForm = table!(
+    Heads(heads), tree 16, key KeyForm::Places(&[1, 2]),
+    references &[refers!(1, Buckets, "name"), refers!(3, Entries, "id")],
+    columns(
+        bucket TEXT NOT NULL REFERENCES buckets (name),
+        key TEXT NOT NULL,
+        newest INTEGER NOT NULL REFERENCES entries (id),
+        count INTEGER NOT NULL
+    ),
+    "PRIMARY KEY (bucket, key)"
+);
 
-const TENURES: TableForm = TableForm {
-    table: Table::Tenures,
-    tree: 18,
-    key: KeyForm::Places(&[1, 2]),
-    columns: &[
-        Has("id", Kind::Integer),
-        Has("n", Kind::Integer),
-        Has("dept", Kind::Text),
-        Has("moment", Kind::Integer),
-    ],
-    references: &[
-        ReferenceForm {
-            at: 1,
-            parent: Table::Entries,
-            column: "id",
-        },
-        ReferenceForm {
-            at: 3,
-            parent: Table::Departments,
-            column: "name",
-        },
-    ],
-};
+pub(crate) const TENURES: TableForm = table!(
+    Tenures(tenures), tree 18, key KeyForm::Places(&[1, 2]),
+    references &[refers!(1, Entries, "id"), refers!(3, Departments, "name")],
+    columns(
+        id INTEGER NOT NULL REFERENCES entries (id),
+        n INTEGER NOT NULL,
+        dept TEXT NOT NULL REFERENCES departments (name),
+        moment INTEGER NOT NULL
+    ),
+    "PRIMARY KEY (id, n)"
+);
 
-/// The tables of the first edition, in the order in which they are made.
-static FIRST_TABLES: [TableForm; 10] = [
-    META,
-    DEPARTMENTS,
-    CALLERS,
-    BUCKETS,
-    FIRST_RULES,
-    ENTRIES,
-    CONTENTS,
-    SETTINGS,
-    INTAKE,
-    HEADS,
-];
+/// The tables in the order in which they are made: those of which editions have forms of their own, between the others,
+/// and behind them those that an edition has besides.
+macro_rules! tables {
+    ($meta:ident, $departments:ident, $rules:ident $(, $later:ident)*) => {
+        [
+            $meta, $departments, CALLERS, BUCKETS, $rules, ENTRIES, CONTENTS, SETTINGS, INTAKE, HEADS,
+            $($later),*
+        ]
+    };
+}
 
-/// Those of the second.
-static SECOND_TABLES: [TableForm; 10] = [
-    META,
-    DEPARTMENTS,
-    CALLERS,
-    BUCKETS,
-    RULES,
-    ENTRIES,
-    CONTENTS,
-    SETTINGS,
-    INTAKE,
-    HEADS,
-];
+static FIRST_TABLES: [TableForm; 10] = tables!(FIRST_META, FIRST_DEPARTMENTS, FIRST_RULES);
 
-/// Those of the third.
-static THIRD_TABLES: [TableForm; 11] = [
-    THIRD_META,
-    THIRD_DEPARTMENTS,
-    CALLERS,
-    BUCKETS,
-    RULES,
-    ENTRIES,
-    CONTENTS,
-    SETTINGS,
-    INTAKE,
-    HEADS,
-    TENURES,
-];
+static SECOND_TABLES: [TableForm; 10] = tables!(FIRST_META, FIRST_DEPARTMENTS, RULES);
+
+static THIRD_TABLES: [TableForm; 11] = tables!(META, DEPARTMENTS, RULES, TENURES);
 
 /// The tables of an edition, in the order in which they are made.
 pub(crate) fn tables_of(edition: Edition) -> &'static [TableForm]

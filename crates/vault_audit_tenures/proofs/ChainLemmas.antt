@@ -13,7 +13,8 @@ use Rattle.vault_audit_model.specs.declared.rows.TenureRow.{TenureRow}
 use Rattle.vault_audit_model.specs.Limits.{IsTenure}
 use Rattle.vault_audit_model.specs.Relations.{AreNumbered}
 use Rattle.vault_audit_model.specs.Spells.{tenure_at}
-use Rattle.vault_audit_tenures.specs.declared.owned.OwnedTenure.{OwnedTenure}
+use Rattle.vault_audit_entries.proofs.SettingHistoryLemmas.{higher}
+use Rattle.vault_audit_tenures.specs.declared.owned_tenures.OwnedTenure.{OwnedTenure}
 use Rattle.vault_audit_tenures.specs.declared.chain.TenurePass.{TenurePass}
 use Rattle.vault_audit_tenures.specs.OwnedTenures.{IsOwned}
 use Rattle.vault_audit_tenures.specs.Chain.{end_at, IsTimely, IsFirst, EndsAs, Fit, AreEnded}
@@ -56,14 +57,6 @@ none_above i (t ∷ ts) all = rw (apart_above t.id i all.0) (none_above i ts all
 
 abbrev pub found_among : List Entry → ℕ → Option Entry
 found_among es i = find (λ e. e.id == i) es
-
-pub higher : (n low : ℕ) (es : List Entry) → AreNumbered n low es → AllByRecursion (λ e. n ≤ e.id) es
-higher n low [] are = tt
-higher n low (e ∷ es) are = (omega (arith, are.0.1.0), lower es (higher (n + 1) e.admitted es are.1))
-  where
-    lower : (xs : List Entry) → AllByRecursion (λ x. n + 1 ≤ x.id) xs → AllByRecursion (λ x. n ≤ x.id) xs
-    lower [] all = tt
-    lower (x ∷ xs) all = (omega (arith, all.0), lower xs all.1)
 
 pub each_found : (n low : ℕ) (es : List Entry) → AreNumbered n low es → AllByRecursion (λ e. found_among es e.id ≡ Some e) es
 each_found n low [] are = tt

@@ -1,9 +1,8 @@
 -- The tenures of histories follow one another.
-use Rattle.std.proofs.Common.{◌≡◌, ◌≤◌, ◌<◌, ◌+◌, inl, inr, ℕ, List, [], ◌∷◌, ◌++◌, map, flat_map, find, cond, Bool, true, false, not, Option, Some, None, option_map, IfSome, refl, sym, subst, ◌∙◌, arith}
+use Rattle.std.proofs.Common.{◌≡◌, ◌≤◌, ◌<◌, ◌+◌, inl, inr, ℕ, List, [], ◌∷◌, ◌++◌, map, flat_map, Bool, true, false, not, Option, Some, None, option_map, IfSome, refl, sym, subst, ◌∙◌, arith}
 use Rattle.std.specs.List.{AllByRecursion}
 use Rattle.std.specs.Str.{bytes_eq}
 use Rattle.sqlite_keyed.proofs.ListLemmas.{map-map, map-flat_map, flat_map_same_on}
-use Rattle.vault_base.specs.Days.{last_moment}
 use Rattle.vault_core_model.specs.declared.records.Bucket.{Bucket}
 use Rattle.vault_core_model.specs.declared.records.Entry.{Entry}
 use Rattle.vault_core_model.specs.declared.records.History.{History}
@@ -11,33 +10,19 @@ use Rattle.vault_core_model.specs.declared.records.Removal.{Removal}
 use Rattle.vault_core_model.specs.declared.records.Tenure.{Tenure}
 use Rattle.vault_core_model.specs.Sound.{AreTenures, FollowOn, IsWithBucket, end_of, last_tenure}
 use Rattle.vault_core_model.specs.Vault.{Vault, bucket_in}
-use Rattle.vault_audit_model.specs.Limits.{IsBucket, IsEntry, IsPlainName, IsRemoval, IsTenure}
+use Rattle.vault_audit_model.specs.Limits.{IsBucket, IsEntry, IsTenure}
 use Rattle.vault_audit_model.specs.Relations.{AreNumbered, AreTenuresInLimits, IsTenured, IsTenuredAs}
 use Rattle.vault_audit_model.specs.Spells.{entries_in, tenures_in}
-use Rattle.vault_audit_tenures.specs.declared.owned.OwnedTenure.{OwnedTenure}
+use Rattle.vault_audit_entries.proofs.SettingHistoryLemmas.{higher}
+use Rattle.vault_audit_tenures.specs.declared.owned_tenures.OwnedTenure.{OwnedTenure}
 use Rattle.vault_audit_tenures.specs.OwnedTenures.{owned_in, IsOwned}
 use Rattle.vault_audit_tenures.specs.Chain.{IsTimely, EndsAs, IsLast, Follows, Fit, AreEnded}
 use Rattle.vault_audit_tenures.specs.Presence.{HasSome}
-use Rattle.vault_audit_tenures.proofs.ChainLemmas.{has_id, is_some_of, apart_above, skip, own, higher, removed_of, owner_of, end_same, row_of, at}
+use Rattle.vault_audit_tenures.proofs.ChainLemmas.{has_id, is_some_of, apart_above, skip, own, removed_of, owner_of, end_same, row_of, at}
 use Rattle.vault_audit_tenures.proofs.HistoryLemmas.{set_more}
+use Rattle.vault_audit_tenures.proofs.OwnedEntryLemmas.{first_holds, dept_named, removed_by}
 
 -- ---- limits
-
-pub first_holds : (P : Bucket → Type 0) (test : Bucket → Bool) (bs : List Bucket) → AllByRecursion P bs → IfSome (find test bs) P
-first_holds P test [] all = tt
-first_holds P test (b ∷ bs) all = of (test b) (first_holds P test bs all.1)
-  where
-    of : (t : Bool) → IfSome (find test bs) P → IfSome (cond t (Some b) (find test bs)) P
-    of true more = all.0
-    of false more = more
-
-dept_named : (o : Option Bucket) → IfSome o IsBucket → IfSome (option_map (λ c. c.dept) (option_map (λ (b : Bucket). b.config) o)) IsPlainName
-dept_named None is = tt
-dept_named (Some b) is = is.config.dept
-
-removed_by : (o : Option Removal) → IfSome o IsRemoval → IfSome (option_map (λ r. r.at) o) (λ t. t ≤ last_moment)
-removed_by None is = tt
-removed_by (Some r) is = is.at
 
 is_owned : (bs : List Bucket) (e : Entry) (t : Tenure) → AllByRecursion IsBucket bs → IsEntry e → IsTenure t → IsOwned (owned_in bs e t)
 is_owned bs e t all is limits = record {

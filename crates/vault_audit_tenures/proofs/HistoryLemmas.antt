@@ -12,10 +12,11 @@ use Rattle.vault_audit_model.specs.Limits.{IsTenure}
 use Rattle.vault_audit_model.specs.Relations.{AreNumbered, AreTenuresInLimits, IsTenured, IsTenuredAs}
 use Rattle.vault_audit_model.specs.Spells.{entries_in, tenures_in}
 use Rattle.vault_audit_model.proofs.ListLemmas.{all_as}
-use Rattle.vault_audit_tenures.specs.declared.owned.OwnedTenure.{OwnedTenure}
+use Rattle.vault_audit_entries.proofs.SettingHistoryLemmas.{higher}
+use Rattle.vault_audit_tenures.specs.declared.owned_tenures.OwnedTenure.{OwnedTenure}
 use Rattle.vault_audit_tenures.specs.Chain.{end_at, EndsAs}
 use Rattle.vault_audit_tenures.specs.Presence.{HasSome}
-use Rattle.vault_audit_tenures.proofs.ChainLemmas.{has_id, run_of, apart, alike, skip, none_above, found_among, higher, removed_of, owner_of, IsOf, IsOfOne, end_same, row_of, Anew, ids_above, Cut, cut}
+use Rattle.vault_audit_tenures.proofs.ChainLemmas.{has_id, run_of, apart, alike, skip, none_above, found_among, removed_of, owner_of, IsOf, IsOfOne, end_same, row_of, Anew, ids_above, Cut, cut}
 
 below_or : (a b : ℕ) → a < b → (b ≡ a + 1) ⊎ (a + 1 < b)
 below_or a zero low = absurd (omega (arith, low))

@@ -2,7 +2,6 @@ pub mod ChainLemmas
 pub mod DepartmentSumLemmas
 pub mod FitLemmas
 pub mod HistoryLemmas
-pub mod KeyJoinLemmas
 pub mod OwnedEntryLemmas
 pub mod OwnedTenureLemmas
 pub mod PresenceLemmas

@@ -35,38 +35,38 @@ use Rattle.vault_audit_model.proofs.ValueLemmas.{agrees, same_text}
 use Rattle.vault_audit_walk.specs.Records.{TellsOne}
 use Rattle.vault_audit_walk.proofs.ScanLemmas.{first_cmp}
 use Rattle.vault_audit_records.proofs.EntryNumberLemmas.{rising}
-use Rattle.vault_audit_tenures.proofs.KeyJoinLemmas.{joined_of, shown_joined, shown_by_join, joined_with, IsOrderOf}
+use Rattle.vault_audit_walk.proofs.JoinLemmas.{joined_of, shown_joined, shown_by_join, joined_with, IsOrderOf}
 use Rattle.vault_audit_tenures.specs.OwnedEntries.{owned_row, owned_in, IsOwned}
 use Rattle.vault_audit_tenures.proofs.SumTextLemmas.{owned_text, owned_shown, owned_order, owned_is, owned_plain}
 
 -- ---- a list of no length, and one of one row, under a map
 
-none_mapped : (columns : Values → Values) (rows : List Values) → IsPermutation [] (map columns rows) → rows ≡ []
+pub none_mapped : (columns : Values → Values) (rows : List Values) → IsPermutation [] (map columns rows) → rows ≡ []
 none_mapped columns [] h = refl
 none_mapped columns (r ∷ rows) h = absurd (let n = length_permutation _ _ h in omega (arith, n))
 
-given_rows : (columns : Values → Values) (rows : List Values) (x : Values) → map columns rows ≡ x ∷ [] → map columns (or_nulls rows) ≡ x ∷ []
+pub given_rows : (columns : Values → Values) (rows : List Values) (x : Values) → map columns rows ≡ x ∷ [] → map columns (or_nulls rows) ≡ x ∷ []
 given_rows columns [] x h = absurd cc
 given_rows columns (r ∷ rows) x h = h
 
 -- ---- the bucket of a name
 
-abbrev is_bucket : List ℕ → Bucket → Bool
+abbrev pub is_bucket : List ℕ → Bucket → Bool
 is_bucket name b = bytes_eq b.name name
 
-abbrev row_of_bucket : Bucket → Values
+abbrev pub row_of_bucket : Bucket → Values
 row_of_bucket b = bucket_row (bucket_of b)
 
 -- the row of the bucket, or NULLs
-abbrev row_beside : Option Bucket → Values
-row_beside None = bucket_columns []
-row_beside (Some b) = row_of_bucket b
+abbrev pub bucket_beside : Option Bucket → Values
+bucket_beside None = bucket_columns []
+bucket_beside (Some b) = row_of_bucket b
 
-abbrev alone : Option Bucket → List Bucket
+abbrev pub alone : Option Bucket → List Bucket
 alone None = []
 alone (Some b) = b ∷ []
 
-not_named : (name other bucket : List ℕ) → slice_cmp nat_cmp name other ≡ Less → name ≡ bucket → bytes_eq other bucket ≡ false
+pub not_named : (name other bucket : List ℕ) → slice_cmp nat_cmp name other ≡ Less → name ≡ bucket → bytes_eq other bucket ≡ false
 not_named name other bucket less is =
     false_from_ne_true (bytes_eq other bucket) (λ yes.
     let same : other ≡ bucket = (bytes_eq-Decides other bucket).0 yes in
@@ -75,7 +75,7 @@ not_named name other bucket less is =
     let both : ◌≡◌ {A = Bool} true false = sym one ∙ sym (is_eq-slice_cmp name other) ∙ two in
     absurd cc)
 
-none_later : (name : List ℕ) (b : Bucket) (bs : List Bucket) → AllByRecursion (λ c. bucket_cmp b c ≡ Less) bs → b.name ≡ name → AllByRecursion (λ c. is_bucket name c ≡ false) bs
+pub none_later : (name : List ℕ) (b : Bucket) (bs : List Bucket) → AllByRecursion (λ c. bucket_cmp b c ≡ Less) bs → b.name ≡ name → AllByRecursion (λ c. is_bucket name c ≡ false) bs
 none_later name b [] all is = tt
 none_later name b (c ∷ cs) all is = (not_named b.name c.name name all.0 is, none_later name b cs all.1 is)
 
@@ -101,10 +101,10 @@ module _ (source : List Values) (bs : List Bucket) (are : IsPermutation (map row
       (subst (IsPermutation (filter test (map row_of_bucket bs))) (filter-map test bucket_columns source) (IsPermutation-filter test _ _ are))
 
   -- what the join finds for a name is the bucket of that name, or a row of NULLs
-  found : (name : List ℕ) → map bucket_columns (or_nulls (filter (is_at name) source)) ≡ row_beside (bucket_in bs name) ∷ []
+  found : (name : List ℕ) → map bucket_columns (or_nulls (filter (is_at name) source)) ≡ bucket_beside (bucket_in bs name) ∷ []
   found name = of (bucket_in bs name) (subst (λ xs. IsPermutation (map row_of_bucket xs) (map bucket_columns (filter (is_at name) source))) (only_one name bs up) (matched name))
     where
-      of : (o : Option Bucket) → IsPermutation (map row_of_bucket (alone o)) (map bucket_columns (filter (is_at name) source)) → map bucket_columns (or_nulls (filter (is_at name) source)) ≡ row_beside o ∷ []
+      of : (o : Option Bucket) → IsPermutation (map row_of_bucket (alone o)) (map bucket_columns (filter (is_at name) source)) → map bucket_columns (or_nulls (filter (is_at name) source)) ≡ bucket_beside o ∷ []
       of None none = let empty = none_mapped bucket_columns (filter (is_at name) source) none in rw empty refl
       of (Some b) one = given_rows bucket_columns (filter (is_at name) source) (row_of_bucket b) (one_permutation (row_of_bucket b) (map bucket_columns (filter (is_at name) source)) one)
 
@@ -126,7 +126,7 @@ source_is db =
     (λ r. sym (map-map (beside_bucket (entry_columns r)) bucket_columns (or_nulls (filter (λ b. agrees (column b 1) (column r 2)) (db.trees buckets_tree))))) (db.trees entries_tree)
     ∙ sym (flat_map-map (shown_for (db.trees buckets_tree)) entry_columns (db.trees entries_tree))
 
-dept_shown : (o : Option Bucket) → column (row_beside o) 1 ≡ text_or_null (option_map (λ c. c.dept) (option_map (λ (b : Bucket). b.config) o))
+dept_shown : (o : Option Bucket) → column (bucket_beside o) 1 ≡ text_or_null (option_map (λ c. c.dept) (option_map (λ (b : Bucket). b.config) o))
 dept_shown None = refl
 dept_shown (Some b) = refl
 
@@ -166,7 +166,7 @@ answers n a b schema rows shown =
 
 -- ---- limits
 
-first_holds : (P : Bucket → Type 0) (test : Bucket → Bool) (bs : List Bucket) → AllByRecursion P bs → IfSome (find test bs) P
+pub first_holds : (P : Bucket → Type 0) (test : Bucket → Bool) (bs : List Bucket) → AllByRecursion P bs → IfSome (find test bs) P
 first_holds P test [] all = tt
 first_holds P test (b ∷ bs) all = of (test b) (first_holds P test bs all.1)
   where
@@ -174,11 +174,11 @@ first_holds P test (b ∷ bs) all = of (test b) (first_holds P test bs all.1)
     of true more = all.0
     of false more = more
 
-dept_named : (o : Option Bucket) → IfSome o IsBucket → IfSome (option_map (λ c. c.dept) (option_map (λ (b : Bucket). b.config) o)) IsPlainName
+pub dept_named : (o : Option Bucket) → IfSome o IsBucket → IfSome (option_map (λ c. c.dept) (option_map (λ (b : Bucket). b.config) o)) IsPlainName
 dept_named None is = tt
 dept_named (Some b) is = is.config.dept
 
-removed_by : (o : Option Removal) → IfSome o IsRemoval → IfSome (option_map (λ r. r.at) o) (λ t. t ≤ last_moment)
+pub removed_by : (o : Option Removal) → IfSome o IsRemoval → IfSome (option_map (λ r. r.at) o) (λ t. t ≤ last_moment)
 removed_by None is = tt
 removed_by (Some r) is = is.at
 

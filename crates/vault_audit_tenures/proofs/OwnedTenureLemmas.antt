@@ -1,11 +1,7 @@
 -- What the query on tenures shows: each tenure once, beside the entry of its id and that entry's bucket, where they are there.
-use Rattle.std.proofs.Common.{◌≡◌, ◌==◌, ℕ, List, [], ◌∷◌, ◌++◌, map, filter, flat_map, find, cond, option_map, Bool, true, false, Option, Some, None, Less, is_eq, nat_cmp, IsPermutation, refl, sym, ap, subst, ◌∙◌, append-nil, arith}
+use Rattle.std.proofs.Common.{◌≡◌, ◌==◌, ℕ, List, [], ◌∷◌, ◌++◌, map, filter, flat_map, find, cond, option_map, Bool, true, false, Option, Some, None, IsPermutation, refl, sym, ap, subst, ◌∙◌, append-nil}
 use Rattle.std.specs.List.{AllByRecursion}
-use Rattle.std.specs.Cmp.Lexicographic.{slice_cmp}
-use Rattle.std.specs.Str.{bytes_eq}
-use Rattle.std.proofs.lemmas.Bool.{false_from_ne_true}
-use Rattle.std.proofs.lemmas.List.Sorted.{length_permutation, IsPermutation-map, IsPermutation-sym}
-use Rattle.std.proofs.lemmas.Map.Text.{is_eq-slice_cmp}
+use Rattle.std.proofs.lemmas.List.Sorted.{IsPermutation-map, IsPermutation-sym}
 use Rattle.std.proofs.lemmas.Slice.Eq.{bytes_eq-Decides}
 use Rattle.sqlite_trees.proofs.ListLemmas.{all-permutation, all_from_map}
 use Rattle.sqlite_keyed.proofs.ListLemmas.{map-map, flat_map-map, filter-map, filter_same, filter_none, IsPermutation-filter}
@@ -25,59 +21,24 @@ use Rattle.vault_core_model.specs.Vault.{Vault, bucket_in}
 use Rattle.vault_audit_model.specs.declared.rows.TenureRow.{TenureRow}
 use Rattle.vault_audit_model.specs.declared.schema.Edition.{Edition}
 use Rattle.vault_audit_model.specs.Relations.{AreBuckets, AreEntries}
-use Rattle.vault_audit_model.specs.Rows.{bucket_row, bucket_columns, entry_columns, tenure_row, tenure_columns, removal_at}
-use Rattle.vault_audit_model.specs.Spells.{bucket_of, entries_in, tenures_in}
+use Rattle.vault_audit_model.specs.Rows.{bucket_columns, entry_columns, tenure_row, tenure_columns, removal_at}
+use Rattle.vault_audit_model.specs.Spells.{entries_in, tenures_in}
 use Rattle.vault_audit_model.specs.Tables.{buckets_tree, entries_tree, tenures_tree}
 use Rattle.vault_audit_model.specs.Values.{number, text_or_null}
-use Rattle.vault_audit_model.proofs.SameRows.{cell, number_same}
+use Rattle.vault_audit_model.proofs.SameRows.{cell, number_same, number_or_null_same, text_or_null_same}
 use Rattle.vault_audit_model.proofs.ValueLemmas.{agrees, same_text}
-use Rattle.vault_audit_entries.proofs.BesideLemmas.{is_of, is_id, is_id_number, row_beside, beside_is}
-use Rattle.vault_audit_tenures.specs.declared.owned.OwnedTenure.{OwnedTenure}
+use Rattle.vault_audit_entries.proofs.BesideLemmas.{is_of, is_id, is_id_number, row_beside, beside_is, find_same}
+use Rattle.vault_audit_tenures.specs.declared.owned_tenures.OwnedTenure.{OwnedTenure}
 use Rattle.vault_audit_tenures.specs.OwnedTenures.{owned_row, owned_in}
 use Rattle.vault_audit_tenures.specs.Chain.{shown_beside, shown_in}
 use Rattle.vault_audit_tenures.specs.Presence.{AreRowsOf}
-use Rattle.vault_audit_tenures.proofs.TenureRowLemmas.{number_or_null_same, text_or_null_same}
 use Rattle.vault_audit_tenures.proofs.ChainLemmas.{found_among, each_found, owner_of, IsOf, IsOfOne, row_of}
 use Rattle.vault_audit_tenures.proofs.FitLemmas.{all_owned, rows_owned}
+use Rattle.vault_audit_tenures.proofs.OwnedEntryLemmas.{none_mapped, given_rows, is_bucket, row_of_bucket, none_later, alone, bucket_beside}
 
 -- ---- a list of no length, and one of one row, under a map
 
-none_mapped : (columns : Values → Values) (rows : List Values) → IsPermutation [] (map columns rows) → rows ≡ []
-none_mapped columns [] h = refl
-none_mapped columns (r ∷ rows) h = absurd (let n = length_permutation _ _ h in omega (arith, n))
-
-given_rows : (columns : Values → Values) (rows : List Values) (x : Values) → map columns rows ≡ x ∷ [] → map columns (or_nulls rows) ≡ x ∷ []
-given_rows columns [] x h = absurd cc
-given_rows columns (r ∷ rows) x h = h
-
 -- ---- the bucket of a name
-
-abbrev is_bucket : List ℕ → Bucket → Bool
-is_bucket name b = bytes_eq b.name name
-
-abbrev row_of_bucket : Bucket → Values
-row_of_bucket b = bucket_row (bucket_of b)
-
-abbrev bucket_beside : Option Bucket → Values
-bucket_beside None = bucket_columns []
-bucket_beside (Some b) = row_of_bucket b
-
-abbrev alone : Option Bucket → List Bucket
-alone None = []
-alone (Some b) = b ∷ []
-
-not_named : (name other bucket : List ℕ) → slice_cmp nat_cmp name other ≡ Less → name ≡ bucket → bytes_eq other bucket ≡ false
-not_named name other bucket less is =
-    false_from_ne_true (bytes_eq other bucket) (λ yes.
-    let same : other ≡ bucket = (bytes_eq-Decides other bucket).0 yes in
-    let one : bytes_eq name other ≡ true = (bytes_eq-Decides name other).1 (is ∙ sym same) in
-    let two : is_eq (slice_cmp nat_cmp name other) ≡ false = ap is_eq less in
-    let both : ◌≡◌ {A = Bool} true false = sym one ∙ sym (is_eq-slice_cmp name other) ∙ two in
-    absurd cc)
-
-none_later : (name : List ℕ) (b : Bucket) (bs : List Bucket) → AllByRecursion (λ c. bucket_cmp b c ≡ Less) bs → b.name ≡ name → AllByRecursion (λ c. is_bucket name c ≡ false) bs
-none_later name b [] all is = tt
-none_later name b (c ∷ cs) all is = (not_named b.name c.name name all.0 is, none_later name b cs all.1 is)
 
 -- buckets in the order of their names have at most one of a name
 only_one : (name : List ℕ) (bs : List Bucket) → IsAscending bucket_cmp bs → filter (is_bucket name) bs ≡ alone (bucket_in bs name)
@@ -158,10 +119,6 @@ is_shown bs None c t e = absurd (let none : number t.admitted ≡ Null = cell (o
 is_shown bs (Some x) c t e =
     let one = λ (at : ℕ). cell (owned_row t) (shown_for bs (Some x) c) at e in
     (number_same _ _ (one 4), number_or_null_same _ _ (one 5), text_or_null_same _ _ (one 6))
-
-find_same : (p q : Entry → Bool) → ((e : Entry) → p e ≡ q e) → (es : List Entry) → find p es ≡ find q es
-find_same p q same [] = refl
-find_same p q same (e ∷ es) = rw (same e, find_same p q same es) refl
 
 found_number : (es : List Entry) (i : ℕ) → find (is_id (number i)) es ≡ found_among es i
 found_number es i = find_same (is_id (number i)) (λ e. e.id == i) (is_id_number i) es

@@ -12,7 +12,7 @@ use Rattle.vault_core_model.specs.declared.records.Tenure.{Tenure}
 use Rattle.vault_core_model.specs.Sound.{AreTenures, FollowOn, end_of}
 use Rattle.vault_core_model.specs.Totals.{Share, share, removal_day, shares_from, shares_of, items_by, items_in}
 use Rattle.vault_core_model.specs.Vault.{Vault}
-use Rattle.vault_core_laws.proofs.Bounds.{day-le}
+use Rattle.vault_core_laws.proofs.Bounds.{day-le, both_true, le_true}
 use Rattle.vault_audit_model.specs.Limits.{IsRemoval, IsTenure}
 use Rattle.vault_audit_model.specs.Relations.{AreNumbered, AreTenuresInLimits, IsTenured, IsTenuredAs}
 use Rattle.vault_audit_model.specs.Spells.{entries_in}
@@ -37,7 +37,7 @@ other_id m n low = grind (arith, nat_tests, low)
 not_first : (m n : ℕ) → m < n → (n == 0) ≡ false
 not_first m n low = grind (arith, nat_tests, low)
 
-removal_days : (o : Option Removal) → option_map day (option_map (λ (r : Removal). r.at) o) ≡ removal_day o
+pub removal_days : (o : Option Removal) → option_map day (option_map (λ (r : Removal). r.at) o) ≡ removal_day o
 removal_days None = refl
 removal_days (Some r) = refl
 
@@ -111,12 +111,6 @@ items_are name [] = refl
 items_are name (h ∷ hs) = items_after name (shares_of h) (flat_map shares_of hs) ∙ ap (λ (is : List Item). items_by name (shares_of h) ++ is) (items_are name hs)
 
 -- ---- their days
-
-le_true : (m n : ℕ) → m ≤ n → nat_le m n ≡ true
-le_true m n le = grind (arith, le)
-
-both_true : (a b : Bool) → a ≡ true → b ≡ true → (a && b) ≡ true
-both_true a b e f = rw (e, f) refl
 
 abbrev pub IsDated : Share → Type 0
 IsDated s = IsTrue (is_dated s.item)

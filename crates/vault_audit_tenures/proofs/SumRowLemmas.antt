@@ -1,31 +1,18 @@
 -- One row tells one entry beside its bucket, one tenure beside its version, or one department.
-use Rattle.std.proofs.Common.{◌≡◌, ℕ, List, [], ◌∷◌, length, Bool, Option, Some, None, refl, sym, ap, ◌∙◌}
+use Rattle.std.proofs.Common.{◌≡◌, ℕ, List, [], ◌∷◌, length, Bool, Option, refl, sym, ◌∙◌}
 use Rattle.sqlite_value.specs.declared.value.Value.{Value}
 use Rattle.sqlite_value.specs.Order.{Row, column}
 use Rattle.vault_audit_model.specs.declared.rows.DepartmentRow.{DepartmentRow}
 use Rattle.vault_audit_model.specs.Rows.{department_row}
-use Rattle.vault_audit_model.specs.Values.{number_or_null, text_or_null}
-use Rattle.vault_audit_model.proofs.SameRows.{cell, number_same, flag_same, text_same}
+use Rattle.vault_audit_model.proofs.SameRows.{cell, number_same, number_or_null_same, flag_same, text_same, text_or_null_same}
 use Rattle.vault_audit_rows.proofs.RowLemmas as rows
-use Rattle.vault_audit_tenures.specs.declared.sums.owned.OwnedEntry.{OwnedEntry}
+use Rattle.vault_audit_tenures.specs.declared.sums.owned_entries.OwnedEntry.{OwnedEntry}
 use Rattle.vault_audit_tenures.specs.declared.sums.tenures.ToldTenure.{ToldTenure}
 use Rattle.vault_audit_tenures.specs.OwnedEntries.{owned_row}
 use Rattle.vault_audit_tenures.specs.TenureSums.{told_row}
 
 pub row_of_6 : (r : Row) (v0 v1 v2 v3 v4 v5 : Value) → length r ≡ 6 → column r 0 ≡ v0 → column r 1 ≡ v1 → column r 2 ≡ v2 → column r 3 ≡ v3 → column r 4 ≡ v4 → column r 5 ≡ v5 → r ≡ v0 ∷ v1 ∷ v2 ∷ v3 ∷ v4 ∷ v5 ∷ []
 row_of_6 = rows.row_of_6
-
-number_or_null_same : (a b : Option ℕ) → number_or_null a ≡ number_or_null b → a ≡ b
-number_or_null_same None None e = refl
-number_or_null_same None (Some b) e = absurd cc
-number_or_null_same (Some a) None e = absurd cc
-number_or_null_same (Some a) (Some b) e = let same : a ≡ b = cc in ap Some same
-
-text_or_null_same : (a b : Option (List ℕ)) → text_or_null a ≡ text_or_null b → a ≡ b
-text_or_null_same None None e = refl
-text_or_null_same None (Some b) e = absurd cc
-text_or_null_same (Some a) None e = absurd cc
-text_or_null_same (Some a) (Some b) e = let same : a ≡ b = cc in ap Some same
 
 abbrev owned_as : ℕ → Bool → ℕ → ℕ → Option ℕ → Option (List ℕ) → OwnedEntry
 owned_as id marker size admitted removed dept = record { id = id; marker = marker; size = size; admitted = admitted; removed = removed; dept = dept }

@@ -16,7 +16,8 @@ use Rattle.vault_audit_model.specs.Rows.{department_columns_as}
 use Rattle.vault_audit_model.specs.Tables.{schema_of, departments_tree, buckets_tree, entries_tree, tenures_tree}
 use Rattle.vault_audit_entries.proofs.JoinLemmas.{beside_of}
 use Rattle.vault_audit_records.specs.DepartmentsQuery.{departments_query}
-use Rattle.vault_audit_tenures.proofs.KeyJoinLemmas.{joined_of}
+use Rattle.vault_audit_records.proofs.NameTextLemmas.{moved_names}
+use Rattle.vault_audit_walk.proofs.JoinLemmas.{joined_of}
 use Rattle.vault_audit_walk.proofs.RecordLemmas.{Scans}
 use Rattle.vault_audit_walk.proofs.ScanLemmas.{shows}
 use Rattle.vault_audit_walk.specs.Health.{Asks}
@@ -26,11 +27,6 @@ abbrev pub moved_shown : Edition → List Term
 moved_shown First = lit (Int (pos 0)) ∷ lit (Int (pos 0)) ∷ []
 moved_shown Second = lit (Int (pos 0)) ∷ lit (Int (pos 0)) ∷ []
 moved_shown Third = col 1 7 ∷ col 1 8 ∷ []
-
-abbrev pub moved_names : Edition → List (List ℕ)
-moved_names First = codes "0" ∷ codes "0" ∷ []
-moved_names Second = codes "0" ∷ codes "0" ∷ []
-moved_names Third = codes "received" ∷ codes "handed" ∷ []
 
 abbrev pub departments_shown : Edition → List Term
 departments_shown n = col 1 1 ∷ col 1 2 ∷ col 1 3 ∷ col 1 4 ∷ col 1 5 ∷ col 1 6 ∷ moved_shown n

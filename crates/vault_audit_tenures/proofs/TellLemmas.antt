@@ -22,7 +22,7 @@ use Rattle.vault_audit_walk.specs.Walk.{Walked}
 use Rattle.vault_audit_walk.proofs.PairLemmas.{pair_cmp, pair_cmp_total}
 use Rattle.vault_audit_walk.proofs.PassLemmas.{pass_yes, pass_no}
 use Rattle.vault_audit_walk.specs.Beside.{TellsAbsence}
-use Rattle.vault_audit_tenures.specs.declared.owned.OwnedTenure.{OwnedTenure}
+use Rattle.vault_audit_tenures.specs.declared.owned_tenures.OwnedTenure.{OwnedTenure}
 use Rattle.vault_audit_tenures.specs.declared.chain.TenurePass.{TenurePass}
 use Rattle.vault_audit_tenures.specs.OwnedTenures.{owned_row}
 use Rattle.vault_audit_tenures.specs.Chain.{ComesNext, Fit, AreEnded, IsLast, no_tenure, with_tenure, shown_in, TellChains}

@@ -1,6 +1,6 @@
 -- The query that shows each tenure beside the entry of its id and that entry's bucket, or beside NULLs.
 use Rattle.std.specs.Ordering.{is_lt}
-use Rattle.std.proofs.Common.{◌≡◌, ◌<◌, ℕ, ◌+◌, pos, negsuc, List, [], ◌∷◌, length, map, filter, flat_map, Bool, true, false, ◌&&◌, None, All, IsPermutation, IsSorted, refl, sym, ap, subst, ◌∙◌, arith}
+use Rattle.std.proofs.Common.{◌≡◌, ◌<◌, ℕ, ◌+◌, pos, negsuc, List, [], ◌∷◌, length, map, filter, flat_map, false, None, All, IsPermutation, IsSorted, refl, sym, ap, subst, ◌∙◌, arith}
 use Rattle.std.specs.List.{AllByRecursion, list_all}
 use Rattle.std.proofs.lemmas.List.{get_or-map, length-map}
 use Rattle.std.proofs.lemmas.List.Elements.{All-from_recursion}
@@ -23,6 +23,7 @@ use Rattle.sqlite.specs.State.{State, Shown}
 use Rattle.sqlite.proofs.Callers.{IsPlain, command_of, reads_as}
 use Rattle.vault_audit_model.specs.Tables.{tenures_tree, entries_tree, buckets_tree}
 use Rattle.vault_audit_model.proofs.ValueLemmas.{agrees}
+use Rattle.vault_audit_walk.proofs.JoinLemmas.{with_true, singles}
 use Rattle.vault_audit_walk.proofs.PairLemmas.{pair_cmp}
 use Rattle.vault_audit_tenures.specs.Chain.{beside, shown_beside, shown_in}
 
@@ -46,14 +47,6 @@ chain_query = record {
 }
 
 -- ---- which rows
-
-with_true : (b : Bool) → (b && true) ≡ b
-with_true true = refl
-with_true false = refl
-
-singles : (g : Env → Row) (h : Row → Env) (rows : List Row) → map g (flat_map (λ e. h e ∷ []) rows) ≡ map (λ e. g (h e)) rows
-singles g h [] = refl
-singles g h (r ∷ rows) = ap (λ xs. g (h r) ∷ xs) (singles g h rows)
 
 abbrev shows : Env → Row
 shows = eval_all chain_query.project

@@ -1,16 +1,16 @@
 -- One row tells one tenure beside its version, and the rows of tenures that come one after the other rise.
-use Rattle.std.proofs.Common.{◌≡◌, ◌<◌, ◌⊎◌, inl, inr, ℕ, pos, List, [], ◌∷◌, length, map, Option, Some, None, Less, Equal, refl, sym, ap, ◌∙◌, arith}
+use Rattle.std.proofs.Common.{◌≡◌, ◌<◌, ◌⊎◌, inl, inr, ℕ, pos, List, [], ◌∷◌, length, map, Option, Some, Less, refl, sym, ◌∙◌, arith}
 use Rattle.std.specs.List.{AllByRecursion}
-use Rattle.std.specs.Ordering.{int_cmp}
 use Rattle.sqlite_value.specs.declared.value.Value.{Value}
 use Rattle.sqlite_value.specs.Order.{Row, column}
 use Rattle.sqlite_value.proofs.OrderLemmas.{value_cmp-Int}
 use Rattle.sqlite_trees.specs.Tree.{IsAscending}
-use Rattle.vault_audit_model.specs.Values.{number_or_null, text_or_null}
-use Rattle.vault_audit_model.proofs.SameRows.{cell, number_same, text_same}
+use Rattle.vault_audit_model.proofs.SameRows.{cell, number_same, number_or_null_same, text_same, text_or_null_same}
 use Rattle.vault_audit_model.proofs.ValueLemmas.{int_less}
+use Rattle.vault_audit_rows.proofs.RowLemmas as rows
 use Rattle.vault_audit_walk.proofs.PairLemmas.{pair_cmp}
-use Rattle.vault_audit_tenures.specs.declared.owned.OwnedTenure.{OwnedTenure}
+use Rattle.vault_audit_entries.proofs.SettingRowLemmas.{int_same}
+use Rattle.vault_audit_tenures.specs.declared.owned_tenures.OwnedTenure.{OwnedTenure}
 use Rattle.vault_audit_tenures.specs.declared.chain.TenurePass.{TenurePass}
 use Rattle.vault_audit_tenures.specs.OwnedTenures.{owned_row}
 use Rattle.vault_audit_tenures.specs.Chain.{Follows, Fit, with_tenure}
@@ -18,27 +18,7 @@ use Rattle.vault_audit_tenures.specs.Chain.{Follows, Fit, with_tenure}
 -- ---- one row tells one tenure
 
 pub row_of_7 : (r : Row) (v0 v1 v2 v3 v4 v5 v6 : Value) → length r ≡ 7 → column r 0 ≡ v0 → column r 1 ≡ v1 → column r 2 ≡ v2 → column r 3 ≡ v3 → column r 4 ≡ v4 → column r 5 ≡ v5 → column r 6 ≡ v6 → r ≡ v0 ∷ v1 ∷ v2 ∷ v3 ∷ v4 ∷ v5 ∷ v6 ∷ []
-row_of_7 [] v0 v1 v2 v3 v4 v5 v6 size h0 h1 h2 h3 h4 h5 h6 = absurd (omega arith)
-row_of_7 (a0 ∷ []) v0 v1 v2 v3 v4 v5 v6 size h0 h1 h2 h3 h4 h5 h6 = absurd (omega arith)
-row_of_7 (a0 ∷ a1 ∷ []) v0 v1 v2 v3 v4 v5 v6 size h0 h1 h2 h3 h4 h5 h6 = absurd (omega arith)
-row_of_7 (a0 ∷ a1 ∷ a2 ∷ []) v0 v1 v2 v3 v4 v5 v6 size h0 h1 h2 h3 h4 h5 h6 = absurd (omega arith)
-row_of_7 (a0 ∷ a1 ∷ a2 ∷ a3 ∷ []) v0 v1 v2 v3 v4 v5 v6 size h0 h1 h2 h3 h4 h5 h6 = absurd (omega arith)
-row_of_7 (a0 ∷ a1 ∷ a2 ∷ a3 ∷ a4 ∷ []) v0 v1 v2 v3 v4 v5 v6 size h0 h1 h2 h3 h4 h5 h6 = absurd (omega arith)
-row_of_7 (a0 ∷ a1 ∷ a2 ∷ a3 ∷ a4 ∷ a5 ∷ []) v0 v1 v2 v3 v4 v5 v6 size h0 h1 h2 h3 h4 h5 h6 = absurd (omega arith)
-row_of_7 (a0 ∷ a1 ∷ a2 ∷ a3 ∷ a4 ∷ a5 ∷ a6 ∷ []) v0 v1 v2 v3 v4 v5 v6 size h0 h1 h2 h3 h4 h5 h6 = cc (h0, h1, h2, h3, h4, h5, h6)
-row_of_7 (a0 ∷ a1 ∷ a2 ∷ a3 ∷ a4 ∷ a5 ∷ a6 ∷ a7 ∷ r) v0 v1 v2 v3 v4 v5 v6 size h0 h1 h2 h3 h4 h5 h6 = absurd (omega arith)
-
-pub number_or_null_same : (a b : Option ℕ) → number_or_null a ≡ number_or_null b → a ≡ b
-number_or_null_same None None e = refl
-number_or_null_same None (Some b) e = absurd cc
-number_or_null_same (Some a) None e = absurd cc
-number_or_null_same (Some a) (Some b) e = let same : a ≡ b = cc in ap Some same
-
-pub text_or_null_same : (a b : Option (List ℕ)) → text_or_null a ≡ text_or_null b → a ≡ b
-text_or_null_same None None e = refl
-text_or_null_same None (Some b) e = absurd cc
-text_or_null_same (Some a) None e = absurd cc
-text_or_null_same (Some a) (Some b) e = let same : a ≡ b = cc in ap Some same
+row_of_7 = rows.row_of_7
 
 abbrev owned_as : ℕ → ℕ → List ℕ → ℕ → ℕ → Option ℕ → Option (List ℕ) → OwnedTenure
 owned_as id number dept from admitted removed owner =
@@ -69,9 +49,6 @@ same_list (x ∷ xs) (y ∷ ys) e =
 
 abbrev IsBelow : OwnedTenure → OwnedTenure → Type 0
 IsBelow x y = (x.id < y.id) ⊎ ((x.id ≡ y.id) × (x.tenure.number < y.tenure.number))
-
-int_same : (a b : ℕ) → a ≡ b → int_cmp (pos a) (pos b) ≡ Equal
-int_same a b same = grind arith
 
 pair_less : (x y : OwnedTenure) → IsBelow x y → pair_cmp (owned_row x) (owned_row y) ≡ Less
 pair_less x y (inl low) = rw (value_cmp-Int (pos x.id) (pos y.id), int_less x.id y.id low) refl

@@ -33,7 +33,8 @@ use Rattle.vault_audit_model.proofs.ValueLemmas.{int_less}
 use Rattle.vault_audit_walk.specs.Records.{TellsOne}
 use Rattle.vault_audit_entries.proofs.BesideLemmas.{is_of, row_beside, beside, beside_is, beside_number}
 use Rattle.vault_audit_entries.proofs.ContentLemmas.{one_each}
-use Rattle.vault_audit_entries.proofs.JoinLemmas.{beside_of, shown_beside, join_rows, joined, IsOrderOf}
+use Rattle.vault_audit_walk.proofs.JoinLemmas.{IsOrderOf}
+use Rattle.vault_audit_entries.proofs.JoinLemmas.{beside_of, shown_beside, join_rows, joined}
 use Rattle.vault_audit_tenures.specs.declared.sums.tenures.ToldTenure.{ToldTenure}
 use Rattle.vault_audit_tenures.specs.TenureSums.{told_row, IsTold}
 use Rattle.vault_audit_tenures.proofs.ShareLemmas.{told, told_in, same_id, other_id, all_later}

@@ -25,7 +25,7 @@ use Rattle.vault_audit_model.specs.Tenures.{HasFirstTenures, IsUnmoved, first_te
 use Rattle.vault_audit_model.proofs.SameRows.{cell, number_same}
 use Rattle.vault_audit_records.specs.Meta.{IsMetaOf}
 use Rattle.vault_audit_tenures.proofs.HistoryLemmas.{tenured_alike}
-use Rattle.vault_audit_tenures.proofs.FitLemmas.{first_holds}
+use Rattle.vault_audit_tenures.proofs.OwnedEntryLemmas.{first_holds}
 
 -- ---- the row of meta
 

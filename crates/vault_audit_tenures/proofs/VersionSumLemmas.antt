@@ -31,7 +31,7 @@ use Rattle.vault_audit_walk.specs.Records.{TellsOne}
 use Rattle.vault_audit_walk.specs.Walk.{Goes, Walked}
 use Rattle.vault_audit_walk.proofs.RecordLemmas.{between, front}
 use Rattle.vault_audit_walk.proofs.ScanLemmas.{first_cmp, first_cmp_total, goes_on_to}
-use Rattle.vault_audit_tenures.specs.declared.sums.owned.OwnedEntry.{OwnedEntry}
+use Rattle.vault_audit_tenures.specs.declared.sums.owned_entries.OwnedEntry.{OwnedEntry}
 use Rattle.vault_audit_tenures.specs.declared.sums.versions.SumPass.{SumPass}
 use Rattle.vault_audit_tenures.specs.OwnedEntries.{owned_row, owned_in, IsOwned}
 use Rattle.vault_audit_tenures.specs.Totals.{total_of, empty_sums, IsTotal, IsCounted, AreTotals}
@@ -40,18 +40,15 @@ use Rattle.vault_audit_tenures.proofs.SumRowLemmas.{same_owned}
 use Rattle.vault_audit_tenures.proofs.SumTextLemmas.{owned_text, owned_is}
 use Rattle.vault_audit_tenures.proofs.OwnedEntryLemmas.{source, shown_are, owned_rise, answers, each_tells}
 use Rattle.vault_audit_tenures.proofs.TotalLemmas.{no_item}
+use Rattle.vault_audit_tenures.proofs.ShareLemmas.{removal_days}
 
 -- ---- versions and their days
 
 abbrev item_as : ℕ → ℕ → Option ℕ → Item
 item_as size from ended = record { size = size; first = true; from = from; ended = ended; last = true }
 
-days_alike : (o : Option Removal) → option_map day (option_map (λ (r : Removal). r.at) o) ≡ removal_day o
-days_alike None = refl
-days_alike (Some r) = refl
-
 told_is : (bs : List Bucket) (e : Entry) → item_told (owned_in bs e) ≡ item_as e.size (day e.admitted) (removal_day e.removal)
-told_is bs e = ap (item_as e.size (day e.admitted)) (days_alike e.removal)
+told_is bs e = ap (item_as e.size (day e.admitted)) (removal_days e.removal)
 
 abbrev IsDated : OwnedEntry → Type 0
 IsDated e = IsTrue (is_dated (item_told e))

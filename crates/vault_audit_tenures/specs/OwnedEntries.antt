@@ -8,7 +8,7 @@ use Rattle.vault_core_model.specs.declared.records.Entry.{Entry}
 use Rattle.vault_core_model.specs.Vault.{config_in}
 use Rattle.vault_audit_model.specs.Limits.{IsPlainName}
 use Rattle.vault_audit_model.specs.Values.{number, number_or_null, text_or_null, flag}
-use Rattle.vault_audit_tenures.specs.declared.sums.owned.OwnedEntry.{OwnedEntry}
+use Rattle.vault_audit_tenures.specs.declared.sums.owned_entries.OwnedEntry.{OwnedEntry}
 
 -- what is shown of an entry beside its bucket
 abbrev pub owned_row : OwnedEntry → Values

@@ -10,7 +10,7 @@ use Rattle.vault_core_model.specs.declared.records.Tenure.{Tenure}
 use Rattle.vault_core_model.specs.Vault.{config_in}
 use Rattle.vault_audit_model.specs.Limits.{IsPlainName, IsTenure}
 use Rattle.vault_audit_model.specs.Values.{number, number_or_null, text_or_null}
-use Rattle.vault_audit_tenures.specs.declared.owned.OwnedTenure.{OwnedTenure}
+use Rattle.vault_audit_tenures.specs.declared.owned_tenures.OwnedTenure.{OwnedTenure}
 
 -- what is shown of a tenure beside its version and the version's bucket
 abbrev pub owned_row : OwnedTenure → Values

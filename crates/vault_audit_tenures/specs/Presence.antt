@@ -1,5 +1,5 @@
 -- The versions by their tenures.
-use Rattle.std.specs.Prelude.{◌≡◌, ◌==◌, Bool, not, List, map, IsPermutation, MatchBool}
+use Rattle.std.specs.Prelude.{◌≡◌, ◌==◌, Bool, not, List, map, IsPermutation}
 use Rattle.std.specs.List.{AllByRecursion, list_any}
 use Rattle.sqlite.specs.Effect.{Database}
 use Rattle.vault_core_model.specs.declared.records.Entry.{Entry}
@@ -7,6 +7,7 @@ use Rattle.vault_audit_model.specs.declared.rows.TenureRow.{TenureRow}
 use Rattle.vault_audit_model.specs.Relations.{AreEntries}
 use Rattle.vault_audit_model.specs.Rows.{tenure_row, tenure_columns}
 use Rattle.vault_audit_model.specs.Tables.{tenures_tree}
+use Rattle.vault_audit_walk.specs.Beside.{Tell}
 
 -- the rows of tenures are these, in any order
 abbrev pub AreRowsOf : Database → List TenureRow → Type 0
@@ -18,6 +19,4 @@ HasSome ts e = list_any (λ t. t.id == e.id) ts ≡ not e.marker
 
 -- whether each version has a tenure and no marker has one
 abbrev pub TellPresence : Database → Bool → Type 0
-TellPresence db b =
-    (es : List Entry) → AreEntries db es → (ts : List TenureRow) → AreRowsOf db ts →
-    MatchBool b (AllByRecursion (HasSome ts) es) (¬ AllByRecursion (HasSome ts) es)
+TellPresence db b = (es : List Entry) → AreEntries db es → (ts : List TenureRow) → AreRowsOf db ts → Tell b (AllByRecursion (HasSome ts) es)

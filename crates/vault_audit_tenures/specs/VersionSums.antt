@@ -3,7 +3,7 @@ use Rattle.std.specs.Prelude.{◌≡◌, ◌≢◌, ℕ, Bool, true, false, not,
 use Rattle.std.specs.Str.{bytes_eq}
 use Rattle.sqlite_value.specs.Order.{Row as Values}
 use Rattle.vault_tally.specs.Row.{Item}
-use Rattle.vault_audit_tenures.specs.declared.sums.owned.OwnedEntry.{OwnedEntry}
+use Rattle.vault_audit_tenures.specs.declared.sums.owned_entries.OwnedEntry.{OwnedEntry}
 use Rattle.vault_audit_tenures.specs.declared.sums.totals.Span.{Span}
 use Rattle.vault_audit_tenures.specs.declared.sums.totals.Totals.{Totals}
 use Rattle.vault_audit_tenures.specs.declared.sums.versions.SumPass.{SumPass}

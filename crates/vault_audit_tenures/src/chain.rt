@@ -1,13 +1,12 @@
 //! Whether the tenures of each version follow one another, from its admission to its end.
-ghost use Rattle.std.specs.Prelude.{◌≡◌, ◌↔◌, IsTrue, IfSome, IfOk, IfErr, OnOk};
-ghost use Rattle.sqlite.specs.State.{HasCleanDisk, IsUnchanged, Survives};
+ghost use Rattle.std.specs.Prelude.{◌≡◌, ◌↔◌, IsTrue, IfSome, IfOk, IfErr};
+ghost use Rattle.sqlite.specs.State.{HasCleanDisk};
 ghost use Rattle.sqlite.specs.Held.{state};
-ghost use Rattle.vault_audit_model.specs.Tables.{schema_of};
 ghost use Rattle.vault_audit_model.specs.declared.schema.Edition.TheVariants.{Third};
 ghost use Rattle.vault_audit_tenures.specs.Chain.{end_at, IsTimely, IsFirst, IsNext, IsLast, Follows, TellChains};
-ghost use Rattle.vault_audit_walk.specs.Health.{IsHealthy, IsMemory};
+ghost use Rattle.vault_audit_walk.specs.Health.{IsHealthy, IsMemory, IsOfEdition, OnlyLooks};
 
-use crate::owned::{OwnedTenure, read_owned};
+use crate::owned_tenures::{OwnedTenure, read_owned};
 use sqlite::{Alter, Connection, Error, ErrorCode, Row};
 use vault_audit_rows::misread::Misread;
 use vault_audit_walk::walk::{Pass, walk};
@@ -127,11 +126,10 @@ pub(crate) fn are_chains<S: Alter>(
     moves: u64,
     last: Moment,
 ) -> Result<bool, Error>
-    requires { HasCleanDisk (state S.Store conn.old) → (state S.Store conn.old).now.schema ≡ schema_of Third }
+    requires { IsOfEdition S.Store conn.old Third }
     ensures told { HasCleanDisk (state S.Store conn.new) → IfOk result (TellChains moves last (state S.Store conn.new).now) }
-    ensures same { HasCleanDisk (state S.Store conn.new) → OnOk result (IsUnchanged (state S.Store conn.old) (state S.Store conn.new)) }
+    ensures look { OnlyLooks S.Store conn.old conn.new result }
     ensures err { IsHealthy (state S.Store conn.new) → IfErr result IsMemory }
-    ensures crash { Survives (state S.Store conn.old) (state S.Store conn.new) (λ _. ⊥) }
 {
     let mut pass = TenurePass {
         moves,

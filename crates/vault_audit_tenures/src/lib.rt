@@ -5,7 +5,7 @@
 #![tactic(auto)]
 
 pub mod chain;
-pub mod owned;
+pub mod owned_tenures;
 pub mod present;
 pub mod second_look;
 pub mod sums;

@@ -5,3 +5,4 @@ pub mod RecordLemmas
 pub mod PairLemmas
 pub mod CauseLemmas
 pub mod BesideLemmas
+pub mod JoinLemmas

@@ -1,5 +1,5 @@
 -- Rows that tell whether a row of another table stands beside one.
-use Rattle.std.specs.Prelude.{◌≡◌, ◌≢◌, Bool, true, false}
+use Rattle.std.specs.Prelude.{◌≡◌, ◌≢◌, Bool, true, false, MatchBool}
 use Rattle.sqlite_value.specs.declared.value.Value.{Value}
 use Rattle.sqlite_value.specs.declared.value.Value.TheVariants.{Null}
 use Rattle.sqlite_value.specs.Order.{Row, column}
@@ -13,3 +13,7 @@ IsAbsentAs false v = v ≢ Null
 -- the first value tells whether the second is absent
 abbrev pub TellsAbsence : Row → Type 0
 TellsAbsence row = (b : Bool) × (column row 0 ≡ flag b) × IsAbsentAs b (column row 1)
+
+-- an answer to whether that holds
+abbrev pub Tell : Bool → Type 0 → Type 0
+Tell b P = MatchBool b P (¬ P)

@@ -1,5 +1,5 @@
--- A store that works, and texts that it answers for as long as it does.
-use Rattle.std.specs.Prelude.{◌≡◌, ◌≤◌, ℕ, true, false, List, [], length, Result, Ok, Err, None, IsTrue}
+-- A store that works, texts that it answers for as long as it does, and what a look at its tables leaves.
+use Rattle.std.specs.Prelude.{◌≡◌, ◌≤◌, ℕ, true, false, List, [], length, Result, Ok, Err, None, IsTrue, OnOk}
 use Rattle.sqlite_sql.specs.Query.{has_no_fold}
 use Rattle.sqlite_schema.specs.declared.schema.Schema.{Schema}
 use Rattle.sqlite_schema.specs.declared.command.Command.{Command}
@@ -12,7 +12,11 @@ use Rattle.sqlite.specs.declared.error.ErrorCode.TheVariants.{OutOfMemory}
 use Rattle.sqlite.specs.declared.error.Error.{Error}
 use Rattle.sqlite.specs.declared.error.Error.TheVariants.{SqliteFailure}
 use Rattle.sqlite.specs.Listing.{understood, reads_listing}
-use Rattle.sqlite.specs.State.{State, HasCleanDisk}
+use Rattle.sqlite.specs.State.{State, HasCleanDisk, IsUnchanged, Survives}
+use Rattle.sqlite_trees.specs.declared.store.Store.{Ghosts}
+use Rattle.sqlite.specs.Held.{Held, state}
+use Rattle.vault_audit_model.specs.declared.schema.Edition.{Edition}
+use Rattle.vault_audit_model.specs.Tables.{schema_of}
 
 -- the disk returns what was written and has refused nothing, the connection is open, and no query has a limit on its steps
 pub record IsHealthy (s : State) : Type 0 where
@@ -39,3 +43,12 @@ IsRead schema sql (Err e) = ⊥
 pub record Asks (schema : Schema) (sql : List ℕ) : Type 0 where
   pub is : IsRead schema sql (understood schema sql)
   pub unlisted : reads_listing schema sql ≡ false
+
+-- unless the disk returned what wasn't written, the tables have the schema of this edition
+abbrev pub IsOfEdition : {S : Type 0} → Ghosts S → Held S → Edition → Type 0
+IsOfEdition g h edition = HasCleanDisk (state g h) → (state g h).now.schema ≡ schema_of edition
+
+-- a look changes nothing: where it is answered the connection is as it was, and a crash leaves what it left before
+pub record OnlyLooks {S A E : Type 0} (g : Ghosts S) (old new : Held S) (result : Result A E) : Type 0 where
+  pub same : HasCleanDisk (state g new) → OnOk result (IsUnchanged (state g old) (state g new))
+  pub crash : Survives (state g old) (state g new) (λ _. ⊥)

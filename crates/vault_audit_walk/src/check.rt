@@ -1,11 +1,11 @@
 //! A query each of whose rows is looked at by itself.
 
-ghost use Rattle.std.specs.Prelude.{◌≡◌, [], IfOk, IfErr, OnOk};
-ghost use Rattle.sqlite.specs.State.{HasCleanDisk, IsUnchanged, Survives};
+ghost use Rattle.std.specs.Prelude.{[], IfOk, IfErr};
+ghost use Rattle.sqlite.specs.State.{HasCleanDisk};
 ghost use Rattle.sqlite.specs.Held.{state};
 ghost use Rattle.sqlite.specs.Given.{IsPlain};
 ghost use Rattle.sqlite.specs.Listing.{understood};
-ghost use Rattle.vault_audit_walk.specs.Health.{IsHealthy, IsMemory, Asks};
+ghost use Rattle.vault_audit_walk.specs.Health.{IsHealthy, IsMemory, Asks, OnlyLooks};
 ghost use Rattle.vault_audit_walk.specs.Records.{Checked};
 
 use sqlite::{Alter, Connection, Error, ErrorCode, Row};
@@ -33,10 +33,9 @@ pub fn check_rows<S: Alter, C: Check>(
 ) -> Result<bool, Error>
     requires { HasCleanDisk (state S.Store conn.old) → IsPlain (understood conn.old.schema sql.now) }
     ensures checked { HasCleanDisk (state S.Store conn.new) → IfOk result (Checked (C.takes check.now) sql.now (state S.Store conn.old) (state S.Store conn.new)) }
-    ensures same { HasCleanDisk (state S.Store conn.new) → OnOk result (IsUnchanged (state S.Store conn.old) (state S.Store conn.new)) }
+    ensures look { OnlyLooks S.Store conn.old conn.new result }
     // A store that works answers such a text, or wants memory.
     ensures err { IsHealthy (state S.Store conn.new) → (HasCleanDisk (state S.Store conn.old) → Asks conn.old.schema sql.now) → IfErr result IsMemory }
-    ensures crash { Survives (state S.Store conn.old) (state S.Store conn.new) (λ _. ⊥) }
 {
     let mut rows = conn.query(sql, &[])?;
     'rows: for _ in 0..u64::MAX {

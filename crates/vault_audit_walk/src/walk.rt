@@ -1,11 +1,11 @@
 //! A query whose rows go one at a time through a running check.
 
-ghost use Rattle.std.specs.Prelude.{◌≡◌, [], IfOk, IfErr, OnOk};
-ghost use Rattle.sqlite.specs.State.{HasCleanDisk, IsUnchanged, Survives};
+ghost use Rattle.std.specs.Prelude.{[], IfOk, IfErr};
+ghost use Rattle.sqlite.specs.State.{HasCleanDisk};
 ghost use Rattle.sqlite.specs.Held.{state};
 ghost use Rattle.sqlite.specs.Given.{IsPlain};
 ghost use Rattle.sqlite.specs.Listing.{understood};
-ghost use Rattle.vault_audit_walk.specs.Health.{IsHealthy, IsMemory, Asks};
+ghost use Rattle.vault_audit_walk.specs.Health.{IsHealthy, IsMemory, Asks, OnlyLooks};
 ghost use Rattle.vault_audit_walk.specs.Walk.{Walked};
 
 use sqlite::{Alter, Connection, Error, ErrorCode, Row};
@@ -34,10 +34,9 @@ pub fn walk<S: Alter, P: Pass>(
 ) -> Result<bool, Error>
     requires { HasCleanDisk (state S.Store conn.old) → IsPlain (understood conn.old.schema sql.now) }
     ensures walked { HasCleanDisk (state S.Store conn.new) → IfOk result (Walked P.goes P.stops sql.now (state S.Store conn.old) (state S.Store conn.new) pass.old pass.new) }
-    ensures same { HasCleanDisk (state S.Store conn.new) → OnOk result (IsUnchanged (state S.Store conn.old) (state S.Store conn.new)) }
+    ensures look { OnlyLooks S.Store conn.old conn.new result }
     // A store that works answers such a text, or wants memory.
     ensures err { IsHealthy (state S.Store conn.new) → (HasCleanDisk (state S.Store conn.old) → Asks conn.old.schema sql.now) → IfErr result IsMemory }
-    ensures crash { Survives (state S.Store conn.old) (state S.Store conn.new) (λ _. ⊥) }
 {
     let mut rows = conn.query(sql, &[])?;
     'rows: for _ in 0..u64::MAX {

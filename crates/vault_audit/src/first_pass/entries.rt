@@ -1,6 +1,6 @@
 //! The first look at `entries`: its rows tell entries, none after the last moment.
-ghost use Rattle.std.specs.Prelude.{◌≡◌, false, map, IfOk, IfErr, OnOk};
-ghost use Rattle.sqlite.specs.State.{HasCleanDisk, IsUnchanged, Survives};
+ghost use Rattle.std.specs.Prelude.{◌≡◌, false, map, IfOk, IfErr};
+ghost use Rattle.sqlite.specs.State.{HasCleanDisk};
 ghost use Rattle.sqlite.specs.Held.{state};
 ghost use Rattle.vault_audit_walk.specs.Records.{AreRecords};
 ghost use Rattle.vault_audit_model.specs.Tables.{entries_tree};
@@ -10,7 +10,7 @@ ghost use Rattle.vault_audit_model.specs.Spells.{AreSoundAs};
 ghost use Rattle.vault_audit_records.specs.Entries.{IsEntryBy};
 ghost use Rattle.vault_base.specs.declared.refusal.Table.TheVariants as table;
 ghost use Rattle.vault_audit_schema.specs.Places.{BeginTo};
-ghost use Rattle.vault_audit_walk.specs.Health.{IsHealthy, IsMemory};
+ghost use Rattle.vault_audit_walk.specs.Health.{IsHealthy, IsMemory, OnlyLooks};
 
 use sqlite::{Alter, Connection, Error};
 use vault_audit_model::schema::Edition;
@@ -28,9 +28,8 @@ pub fn check_entries<S: Alter>(
     requires { HasCleanDisk (state S.Store conn.old) → BeginTo edition (state S.Store conn.old).now.schema.tables table.Entries }
     ensures told { HasCleanDisk (state S.Store conn.new) → IfOk result (AreRecords entry_row (IsEntryBy last) (map entry_columns ((state S.Store conn.new).now.trees entries_tree))) }
     ensures damaged { HasCleanDisk (state S.Store conn.new) → IfOk result (λ told. told ≡ false → (v : Vault) → v.last ≡ last → ¬ AreSoundAs edition (state S.Store conn.new).now v) }
-    ensures same { HasCleanDisk (state S.Store conn.new) → OnOk result (IsUnchanged (state S.Store conn.old) (state S.Store conn.new)) }
+    ensures look { OnlyLooks S.Store conn.old conn.new result }
     ensures err { IsHealthy (state S.Store conn.new) → IfErr result IsMemory }
-    ensures crash { Survives (state S.Store conn.old) (state S.Store conn.new) (λ _. ⊥) }
 {
     check_rows(
         conn,

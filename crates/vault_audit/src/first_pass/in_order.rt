@@ -1,6 +1,6 @@
 //! All tables, one after the other.
-ghost use Rattle.std.specs.Prelude.{◌≡◌, ◌≢◌, ◌↔◌, false, Some, IsTrue, IfOk, IfErr, OnOk, MatchOption};
-ghost use Rattle.sqlite.specs.State.{HasCleanDisk, IsUnchanged, Survives};
+ghost use Rattle.std.specs.Prelude.{◌≡◌, ◌≢◌, ◌↔◌, false, Some, IsTrue, IfOk, IfErr, MatchOption};
+ghost use Rattle.sqlite.specs.State.{HasCleanDisk};
 ghost use Rattle.sqlite.specs.Held.{state};
 ghost use Rattle.vault_base.specs.declared.refusal.Table.TheVariants as table;
 ghost use Rattle.vault_core_model.specs.Vault.{Vault};
@@ -9,7 +9,7 @@ ghost use Rattle.vault_audit_model.specs.Tables.{schema_of};
 ghost use Rattle.vault_audit_schema.specs.Places.{BeginTo, IsToldIn};
 ghost use Rattle.vault_audit_records.specs.Meta.{IsMetaOf};
 ghost use Rattle.vault_audit.specs.InOrder.{AreRowsRight, ToldInOrder};
-ghost use Rattle.vault_audit_walk.specs.Health.{IsHealthy, IsMemory};
+ghost use Rattle.vault_audit_walk.specs.Health.{IsHealthy, IsMemory, OnlyLooks};
 
 use crate::first_pass::entries::check_entries;
 use crate::first_pass::meta::check_meta;
@@ -55,9 +55,8 @@ fn check_rows_of<S: Alter>(
     requires open { HasCleanDisk (state S.Store conn.old) → IsTrue (state S.Store conn.old).is_open }
     ensures told { HasCleanDisk (state S.Store conn.new) → IfOk result (AreRowsRight edition (state S.Store conn.new).now table) }
     ensures damaged { HasCleanDisk (state S.Store conn.new) → IfOk result (λ right. right ≡ false → (v : Vault) → ¬ AreSoundAs edition (state S.Store conn.new).now v) }
-    ensures same { HasCleanDisk (state S.Store conn.new) → OnOk result (IsUnchanged (state S.Store conn.old) (state S.Store conn.new)) }
+    ensures look { OnlyLooks S.Store conn.old conn.new result }
     ensures err { IsHealthy (state S.Store conn.new) → IfErr result IsMemory }
-    ensures crash { Survives (state S.Store conn.old) (state S.Store conn.new) (λ _. ⊥) }
 {
     match table {
         Table::Meta => {
@@ -90,9 +89,8 @@ pub fn look_at_tables<S: Alter>(
     requires meta { HasCleanDisk (state S.Store conn.old) → IsMetaOf edition (state S.Store conn.old).now (Some meta.now) }
     requires open { HasCleanDisk (state S.Store conn.old) → IsTrue (state S.Store conn.old).is_open }
     ensures told { HasCleanDisk (state S.Store conn.new) → IfOk result (ToldInOrder edition (state S.Store conn.new).now) }
-    ensures same { HasCleanDisk (state S.Store conn.new) → OnOk result (IsUnchanged (state S.Store conn.old) (state S.Store conn.new)) }
+    ensures look { OnlyLooks S.Store conn.old conn.new result }
     ensures err { IsHealthy (state S.Store conn.new) → IfErr result IsMemory }
-    ensures crash { Survives (state S.Store conn.old) (state S.Store conn.new) (λ _. ⊥) }
 {
     for table in &BEHIND_META {
         if is_at(difference, *table) {

@@ -1,21 +1,21 @@
 //! The rows of `contents`, each beside the entry of its id.
-ghost use Rattle.std.specs.Prelude.{◌≡◌, ◌≢◌, ◌↔◌, ◌≤◌, List, IsTrue, IfOk, IfErr, OnOk};
-ghost use Rattle.sqlite.specs.State.{HasCleanDisk, IsUnchanged, Survives};
+ghost use Rattle.std.specs.Prelude.{◌≡◌, ◌≢◌, ◌↔◌, ◌≤◌, List, IsTrue, IfOk, IfErr};
+ghost use Rattle.sqlite.specs.State.{HasCleanDisk};
 ghost use Rattle.sqlite.specs.Held.{state};
 ghost use Rattle.vault_core_model.specs.declared.records.Entry.{Entry};
 ghost use Rattle.vault_audit_model.specs.declared.rows.ContentRow.{ContentRow as Given};
 ghost use Rattle.vault_audit_model.specs.Limits.{IsContentRow};
 ghost use Rattle.vault_audit_model.specs.Relations.{AreEntries};
-ghost use Rattle.vault_audit_model.specs.Tables.{schema_of};
 ghost use Rattle.vault_audit_entries.specs.Contents.{held_row, TellOfHeld};
-ghost use Rattle.vault_audit_walk.specs.Health.{IsHealthy, IsMemory};
+ghost use Rattle.vault_audit_walk.specs.Health.{IsHealthy, IsMemory, IsOfEdition, OnlyLooks};
 
 use sqlite::{Alter, Connection, Error, ErrorCode, Row};
 use vault_audit_model::rows::ContentRow;
 use vault_audit_model::schema::Edition;
-use vault_audit_rows::cell::{MOST_CONTENT, bytes, content, is_null, number, version_id};
+use vault_audit_rows::cell::{bytes, content, is_null, number, version_id};
 use vault_audit_rows::misread::Misread;
 use vault_audit_walk::walk::{Pass, walk};
+use vault_core_model::limits::MOST_CONTENT;
 
 /// The check of bytes by rising id.
 #[derive(Drop)]
@@ -96,11 +96,10 @@ pub fn check_bytes<S: Alter>(
     conn: &mut Connection<S>,
     edition: Edition,
 ) -> Result<Option<u64>, Error>
-    requires { HasCleanDisk (state S.Store conn.old) → (state S.Store conn.old).now.schema ≡ schema_of edition }
+    requires { IsOfEdition S.Store conn.old edition }
     ensures told { HasCleanDisk (state S.Store conn.new) → IfOk result (λ found. (es : List Entry) → AreEntries (state S.Store conn.new).now es → TellOfHeld (state S.Store conn.new).now es found) }
-    ensures same { HasCleanDisk (state S.Store conn.new) → OnOk result (IsUnchanged (state S.Store conn.old) (state S.Store conn.new)) }
+    ensures look { OnlyLooks S.Store conn.old conn.new result }
     ensures err { IsHealthy (state S.Store conn.new) → IfErr result IsMemory }
-    ensures crash { Survives (state S.Store conn.old) (state S.Store conn.new) (λ _. ⊥) }
 {
     let mut pass = ContentPass { next: 1, count: 0 };
     let whole = walk(

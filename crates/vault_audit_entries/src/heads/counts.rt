@@ -1,15 +1,15 @@
 //! A part of the second look at `heads`: each counts the held entries of its key.
 
-ghost use Rattle.std.specs.Prelude.{◌≡◌, List, map, IsPermutation, IfOk, IfErr, OnOk};
-ghost use Rattle.sqlite.specs.State.{HasCleanDisk, IsUnchanged, Survives};
+ghost use Rattle.std.specs.Prelude.{List, map, IsPermutation, IfOk, IfErr};
+ghost use Rattle.sqlite.specs.State.{HasCleanDisk};
 ghost use Rattle.sqlite.specs.Held.{state};
 ghost use Rattle.vault_core_model.specs.declared.records.Entry.{Entry};
 ghost use Rattle.vault_audit_model.specs.declared.rows.HeadRow.{HeadRow};
 ghost use Rattle.vault_audit_model.specs.Relations.{AreEntries};
 ghost use Rattle.vault_audit_model.specs.Rows.{head_row, head_columns};
-ghost use Rattle.vault_audit_model.specs.Tables.{schema_of, heads_tree};
+ghost use Rattle.vault_audit_model.specs.Tables.{heads_tree};
 ghost use Rattle.vault_audit_entries.specs.HeadCounts.{TellCounts};
-ghost use Rattle.vault_audit_walk.specs.Health.{IsHealthy, IsMemory};
+ghost use Rattle.vault_audit_walk.specs.Health.{IsHealthy, IsMemory, IsOfEdition, OnlyLooks};
 
 use sqlite::{Alter, Connection, Error, Row};
 use vault_audit_model::schema::Edition;
@@ -39,11 +39,10 @@ impl Check for CountCheck {
 /// Whether each row of `heads` has the number of held entries of its bucket and key. It is told of
 /// entries whose ids are 1, 2, 3 and so on, and of heads that the rows tell.
 pub fn check_counts<S: Alter>(conn: &mut Connection<S>, edition: Edition) -> Result<bool, Error>
-    requires { HasCleanDisk (state S.Store conn.old) → (state S.Store conn.old).now.schema ≡ schema_of edition }
+    requires { IsOfEdition S.Store conn.old edition }
     ensures told { HasCleanDisk (state S.Store conn.new) → IfOk result (λ found. (es : List Entry) (hs : List HeadRow) → AreEntries (state S.Store conn.new).now es → IsPermutation (map head_row hs) (map head_columns ((state S.Store conn.new).now.trees heads_tree)) → TellCounts es hs found) }
-    ensures same { HasCleanDisk (state S.Store conn.new) → OnOk result (IsUnchanged (state S.Store conn.old) (state S.Store conn.new)) }
+    ensures look { OnlyLooks S.Store conn.old conn.new result }
     ensures err { IsHealthy (state S.Store conn.new) → IfErr result IsMemory }
-    ensures crash { Survives (state S.Store conn.old) (state S.Store conn.new) (λ _. ⊥) }
 {
     let found = check_rows(
         conn,

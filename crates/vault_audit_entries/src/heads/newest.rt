@@ -1,14 +1,14 @@
 //! Whether each held entry has a head of its key that names it or a newer one.
-ghost use Rattle.std.specs.Prelude.{◌≡◌, List, map, IsPermutation, IfOk, IfErr, OnOk};
-ghost use Rattle.sqlite.specs.State.{HasCleanDisk, IsUnchanged, Survives};
+ghost use Rattle.std.specs.Prelude.{List, map, IsPermutation, IfOk, IfErr};
+ghost use Rattle.sqlite.specs.State.{HasCleanDisk};
 ghost use Rattle.sqlite.specs.Held.{state};
 ghost use Rattle.vault_core_model.specs.declared.records.Entry.{Entry};
 ghost use Rattle.vault_audit_model.specs.declared.rows.HeadRow.{HeadRow};
 ghost use Rattle.vault_audit_model.specs.Relations.{AreEntries};
 ghost use Rattle.vault_audit_model.specs.Rows.{head_row, head_columns};
-ghost use Rattle.vault_audit_model.specs.Tables.{schema_of, heads_tree};
+ghost use Rattle.vault_audit_model.specs.Tables.{heads_tree};
 ghost use Rattle.vault_audit_entries.specs.Newest.{TellHeaded};
-ghost use Rattle.vault_audit_walk.specs.Health.{IsHealthy, IsMemory};
+ghost use Rattle.vault_audit_walk.specs.Health.{IsHealthy, IsMemory, IsOfEdition, OnlyLooks};
 
 use sqlite::{Alter, Connection, Error, Row};
 use vault_audit_model::schema::Edition;
@@ -40,11 +40,10 @@ pub fn check_each_is_headed<S: Alter>(
     conn: &mut Connection<S>,
     edition: Edition,
 ) -> Result<bool, Error>
-    requires { HasCleanDisk (state S.Store conn.old) → (state S.Store conn.old).now.schema ≡ schema_of edition }
+    requires { IsOfEdition S.Store conn.old edition }
     ensures told { HasCleanDisk (state S.Store conn.new) → IfOk result (λ found. (es : List Entry) (hs : List HeadRow) → AreEntries (state S.Store conn.new).now es → IsPermutation (map head_row hs) (map head_columns ((state S.Store conn.new).now.trees heads_tree)) → TellHeaded es hs found) }
-    ensures same { HasCleanDisk (state S.Store conn.new) → OnOk result (IsUnchanged (state S.Store conn.old) (state S.Store conn.new)) }
+    ensures look { OnlyLooks S.Store conn.old conn.new result }
     ensures err { IsHealthy (state S.Store conn.new) → IfErr result IsMemory }
-    ensures crash { Survives (state S.Store conn.old) (state S.Store conn.new) (λ _. ⊥) }
 {
     let found = check_rows(
         conn,

@@ -1,14 +1,13 @@
 //! The second look at `heads`: its rows are the heads of the vault's keys.
 
-ghost use Rattle.std.specs.Prelude.{◌≡◌, false, IfOk, IfErr, OnOk};
-ghost use Rattle.sqlite.specs.State.{HasCleanDisk, IsUnchanged, Survives};
+ghost use Rattle.std.specs.Prelude.{◌≡◌, false, IfOk, IfErr};
+ghost use Rattle.sqlite.specs.State.{HasCleanDisk};
 ghost use Rattle.sqlite.specs.Held.{state};
 ghost use Rattle.vault_core_model.specs.Vault.{Vault};
 ghost use Rattle.vault_audit_model.specs.Relations.{AreEntries, TellHeads};
 ghost use Rattle.vault_audit_model.specs.Spells.{AreSoundAs};
-ghost use Rattle.vault_audit_model.specs.Tables.{schema_of};
 ghost use Rattle.vault_audit_entries.specs.Keys.{entries_of};
-ghost use Rattle.vault_audit_walk.specs.Health.{IsHealthy, IsMemory};
+ghost use Rattle.vault_audit_walk.specs.Health.{IsHealthy, IsMemory, IsOfEdition, OnlyLooks};
 
 use crate::heads::by_key::check_heads_by_key;
 use crate::heads::counts::check_counts;
@@ -19,12 +18,11 @@ use vault_audit_model::schema::Edition;
 /// Whether `heads` has exactly a row for each key that holds an entry, with its newest id and how many it
 /// holds. It is told of a vault with the entries of the rows, whose ids are 1, 2, 3 and so on.
 pub fn check_heads<S: Alter>(conn: &mut Connection<S>, edition: Edition) -> Result<bool, Error>
-    requires { HasCleanDisk (state S.Store conn.old) → (state S.Store conn.old).now.schema ≡ schema_of edition }
+    requires { IsOfEdition S.Store conn.old edition }
     ensures told { HasCleanDisk (state S.Store conn.new) → IfOk result (λ found. (v : Vault) → AreEntries (state S.Store conn.new).now (entries_of v) → TellHeads (state S.Store conn.new).now v found) }
     ensures damaged { HasCleanDisk (state S.Store conn.new) → IfOk result (λ found. found ≡ false → (v : Vault) → ¬ AreSoundAs edition (state S.Store conn.new).now v) }
-    ensures same { HasCleanDisk (state S.Store conn.new) → OnOk result (IsUnchanged (state S.Store conn.old) (state S.Store conn.new)) }
+    ensures look { OnlyLooks S.Store conn.old conn.new result }
     ensures err { IsHealthy (state S.Store conn.new) → IfErr result IsMemory }
-    ensures crash { Survives (state S.Store conn.old) (state S.Store conn.new) (λ _. ⊥) }
 {
     let by_key = check_heads_by_key(conn, edition)?;
     if !by_key {

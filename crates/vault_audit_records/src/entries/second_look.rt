@@ -1,13 +1,12 @@
 //! The second look at `entries`: their ids are 1, 2, 3 .., and no admission goes back.
-ghost use Rattle.std.specs.Prelude.{◌≡◌, ◌↔◌, None, IsTrue, IfOk, IfErr, IfSome, OnOk};
-ghost use Rattle.sqlite.specs.State.{HasCleanDisk, IsUnchanged, Survives};
+ghost use Rattle.std.specs.Prelude.{◌≡◌, ◌↔◌, None, IsTrue, IfOk, IfErr, IfSome};
+ghost use Rattle.sqlite.specs.State.{HasCleanDisk};
 ghost use Rattle.sqlite.specs.Held.{state};
 ghost use Rattle.vault_core_model.specs.Vault.{Vault, next_id};
 ghost use Rattle.vault_audit_model.specs.Spells.{AreSoundAs};
-ghost use Rattle.vault_audit_model.specs.Tables.{schema_of};
-ghost use Rattle.vault_audit_model.specs.Relations.{GoesOn};
+ghost use Rattle.vault_audit_model.specs.Relations.{IsNextEntry};
 ghost use Rattle.vault_audit_records.specs.EntriesByNumber.{AreEntriesUpTo};
-ghost use Rattle.vault_audit_walk.specs.Health.{IsHealthy, IsMemory};
+ghost use Rattle.vault_audit_walk.specs.Health.{IsHealthy, IsMemory, IsOfEdition, OnlyLooks};
 
 use crate::row_check::refused;
 use sqlite::{Alter, Connection, Error, Row};
@@ -28,7 +27,7 @@ pub struct NumberPass {
 impl NumberPass {
     /// Whether the entry may come now.
     fn fits(&self, entry: &Entry) -> bool
-        ensures { IsTrue result ↔ GoesOn self.now.next self.now.low entry.now }
+        ensures { IsTrue result ↔ IsNextEntry self.now.next self.now.low entry.now }
     {
         u64::from(entry.id.number()) == self.next && self.low <= entry.admitted.secs()
     }
@@ -66,13 +65,12 @@ pub fn check_numbers<S: Alter>(
     conn: &mut Connection<S>,
     edition: Edition,
 ) -> Result<Option<u64>, Error>
-    requires { HasCleanDisk (state S.Store conn.old) → (state S.Store conn.old).now.schema ≡ schema_of edition }
+    requires { IsOfEdition S.Store conn.old edition }
     ensures told { HasCleanDisk (state S.Store conn.new) → IfOk result (AreEntriesUpTo (state S.Store conn.new).now) }
     ensures damaged { HasCleanDisk (state S.Store conn.new) → IfOk result (λ found. found ≡ None → (v : Vault) → ¬ AreSoundAs edition (state S.Store conn.new).now v) }
     ensures next { HasCleanDisk (state S.Store conn.new) → IfOk result (λ found. IfSome found (λ next. (v : Vault) → AreSoundAs edition (state S.Store conn.new).now v → next_id v ≡ next)) }
-    ensures same { HasCleanDisk (state S.Store conn.new) → OnOk result (IsUnchanged (state S.Store conn.old) (state S.Store conn.new)) }
+    ensures look { OnlyLooks S.Store conn.old conn.new result }
     ensures err { IsHealthy (state S.Store conn.new) → IfErr result IsMemory }
-    ensures crash { Survives (state S.Store conn.old) (state S.Store conn.new) (λ _. ⊥) }
 {
     let mut pass = NumberPass { next: 1, low: 0 };
     let whole = walk(

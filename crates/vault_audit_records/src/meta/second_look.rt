@@ -1,15 +1,14 @@
 //! The second look at `meta`: the next id is one above the number of entries.
 
-ghost use Rattle.std.specs.Prelude.{◌≡◌, false, Some, IfOk, IfErr, OnOk};
-ghost use Rattle.sqlite.specs.State.{HasCleanDisk, IsUnchanged, Survives};
+ghost use Rattle.std.specs.Prelude.{◌≡◌, false, Some, IfOk, IfErr};
+ghost use Rattle.sqlite.specs.State.{HasCleanDisk};
 ghost use Rattle.sqlite.specs.Held.{state};
 ghost use Rattle.vault_core_model.specs.Vault.{Vault};
 ghost use Rattle.vault_audit_model.specs.declared.rows.MetaRow.{MetaRow};
 ghost use Rattle.vault_audit_model.specs.Spells.{AreSoundAs};
-ghost use Rattle.vault_audit_model.specs.Tables.{schema_of};
 ghost use Rattle.vault_audit_records.specs.Meta.{IsMetaOf};
 ghost use Rattle.vault_audit_records.specs.MetaCount.{TellNext};
-ghost use Rattle.vault_audit_walk.specs.Health.{IsHealthy, IsMemory};
+ghost use Rattle.vault_audit_walk.specs.Health.{IsHealthy, IsMemory, IsOfEdition, OnlyLooks};
 
 use sqlite::{Alter, Connection, Error, ErrorCode, Row};
 use vault_audit_model::schema::Edition;
@@ -44,13 +43,12 @@ pub fn check_next<S: Alter>(
     edition: Edition,
     next: u64,
 ) -> Result<bool, Error>
-    requires { HasCleanDisk (state S.Store conn.old) → (state S.Store conn.old).now.schema ≡ schema_of edition }
+    requires { IsOfEdition S.Store conn.old edition }
     ensures told { HasCleanDisk (state S.Store conn.new) → IfOk result (TellNext (state S.Store conn.new).now next) }
     ensures damaged { HasCleanDisk (state S.Store conn.new) → IfOk result (λ hold. hold ≡ false →
         (m : MetaRow) → IsMetaOf edition (state S.Store conn.new).now (Some m) → m.next ≡ next → (v : Vault) → ¬ AreSoundAs edition (state S.Store conn.new).now v) }
-    ensures same { HasCleanDisk (state S.Store conn.new) → OnOk result (IsUnchanged (state S.Store conn.old) (state S.Store conn.new)) }
+    ensures look { OnlyLooks S.Store conn.old conn.new result }
     ensures err { IsHealthy (state S.Store conn.new) → IfErr result IsMemory }
-    ensures crash { Survives (state S.Store conn.old) (state S.Store conn.new) (λ _. ⊥) }
 {
     let mut met = RowCount { count: 0 };
     let _whole = walk(conn, "SELECT id FROM entries", &mut met)?;

@@ -1,11 +1,10 @@
 //! Whether the rules of each bucket stand at the places 1, 2, 3 .. and are a set.
-ghost use Rattle.std.specs.Prelude.{◌≡◌, ◌↔◌, ◌+◌, Some, [], length, IsTrue, IfOk, IfErr, OnOk};
-ghost use Rattle.sqlite.specs.State.{HasCleanDisk, IsUnchanged, Survives};
+ghost use Rattle.std.specs.Prelude.{◌≡◌, ◌↔◌, ◌+◌, Some, [], length, IsTrue, IfOk, IfErr};
+ghost use Rattle.sqlite.specs.State.{HasCleanDisk};
 ghost use Rattle.sqlite.specs.Held.{state};
-ghost use Rattle.vault_audit_model.specs.Tables.{schema_of};
 ghost use Rattle.vault_audit_records.specs.RulesByPlace.{IsWhole, TellRuns};
 ghost use Rattle.vault_audit_records.specs.RulesWalk.{rules_walk};
-ghost use Rattle.vault_audit_walk.specs.Health.{IsHealthy, IsMemory};
+ghost use Rattle.vault_audit_walk.specs.Health.{IsHealthy, IsMemory, IsOfEdition, OnlyLooks};
 
 use crate::buckets::is_after;
 use sqlite::{Alter, Connection, Error, ErrorCode, Row};
@@ -30,9 +29,9 @@ pub struct RulePass {
 }
 
 impl Model for RulePass {
-    ghost use Rattle.vault_audit_records.specs.RulesByPlace.{Run};
+    ghost use Rattle.vault_audit_records.specs.RulesByPlace.{RulesSoFar};
 
-    ghost Value = { Run };
+    ghost Value = { RulesSoFar };
 
     ghost view = { λ p. record { bucket = p.bucket; rules = p.rules.items } };
 }
@@ -121,11 +120,10 @@ pub(crate) fn are_runs<S: Alter>(
     conn: &mut Connection<S>,
     edition: Edition,
 ) -> Result<bool, Error>
-    requires { HasCleanDisk (state S.Store conn.old) → (state S.Store conn.old).now.schema ≡ schema_of edition }
+    requires { IsOfEdition S.Store conn.old edition }
     ensures told { HasCleanDisk (state S.Store conn.new) → IfOk result (TellRuns edition (state S.Store conn.new).now) }
-    ensures same { HasCleanDisk (state S.Store conn.new) → OnOk result (IsUnchanged (state S.Store conn.old) (state S.Store conn.new)) }
+    ensures look { OnlyLooks S.Store conn.old conn.new result }
     ensures err { IsHealthy (state S.Store conn.new) → IfErr result IsMemory }
-    ensures crash { Survives (state S.Store conn.old) (state S.Store conn.new) (λ _. ⊥) }
 {
     let mut pass = RulePass {
         alloc,

@@ -1,12 +1,12 @@
 //! The rows of the departments beside the sums that were taken.
-ghost use Rattle.std.specs.Prelude.{◌≡◌, ◌↔◌, map, Some, IsTrue, IfOk, IfErr, OnOk};
-ghost use Rattle.sqlite.specs.State.{HasCleanDisk, IsUnchanged, Survives};
+ghost use Rattle.std.specs.Prelude.{◌≡◌, ◌↔◌, map, Some, IsTrue, IfOk, IfErr};
+ghost use Rattle.sqlite.specs.State.{HasCleanDisk};
 ghost use Rattle.sqlite.specs.Held.{state};
 ghost use Rattle.vault_audit_model.specs.Rows.{department_row, department_columns_as};
-ghost use Rattle.vault_audit_model.specs.Tables.{schema_of, departments_tree};
+ghost use Rattle.vault_audit_model.specs.Tables.{departments_tree};
 ghost use Rattle.vault_audit_tenures.specs.DepartmentSums.{HasTotal};
 ghost use Rattle.vault_audit_tenures.specs.Totals.{total_of};
-ghost use Rattle.vault_audit_walk.specs.Health.{IsHealthy, IsMemory};
+ghost use Rattle.vault_audit_walk.specs.Health.{IsHealthy, IsMemory, IsOfEdition, OnlyLooks};
 ghost use Rattle.vault_audit_walk.specs.Records.{AreRecords};
 
 use crate::sums::totals::Totals;
@@ -56,11 +56,10 @@ pub fn check_totals<S: Alter>(
     edition: Edition,
     check: &SumsCheck,
 ) -> Result<bool, Error>
-    requires { HasCleanDisk (state S.Store conn.old) → (state S.Store conn.old).now.schema ≡ schema_of edition }
+    requires { IsOfEdition S.Store conn.old edition }
     ensures told { HasCleanDisk (state S.Store conn.new) → IfOk result (AreRecords department_row (HasTotal check.now.totals) (map (department_columns_as edition) ((state S.Store conn.new).now.trees departments_tree))) }
-    ensures same { HasCleanDisk (state S.Store conn.new) → OnOk result (IsUnchanged (state S.Store conn.old) (state S.Store conn.new)) }
+    ensures look { OnlyLooks S.Store conn.old conn.new result }
     ensures err { IsHealthy (state S.Store conn.new) → IfErr result IsMemory }
-    ensures crash { Survives (state S.Store conn.old) (state S.Store conn.new) (λ _. ⊥) }
 {
     check_rows(conn, departments_query(edition), check)
 }

@@ -1,14 +1,13 @@
 //! The second look at `departments`: each has the seven sums over its tenures.
-ghost use Rattle.std.specs.Prelude.{◌≡◌, false, IfOk, IfErr, IsSomeAnd, OnOk};
+ghost use Rattle.std.specs.Prelude.{◌≡◌, false, IfOk, IfErr, IsSomeAnd};
 ghost use Rattle.std.specs.List.{AllByRecursion};
-ghost use Rattle.sqlite.specs.State.{HasCleanDisk, IsUnchanged, Survives};
+ghost use Rattle.sqlite.specs.State.{HasCleanDisk};
 ghost use Rattle.sqlite.specs.Held.{state};
 ghost use Rattle.vault_core_model.specs.Vault.{Vault};
 ghost use Rattle.vault_audit_model.specs.Relations.{AreBuckets, AreEntries, AreTenuresOf, IsPast, TellSums};
 ghost use Rattle.vault_audit_model.specs.Spells.{AreSoundAs, entries_in};
-ghost use Rattle.vault_audit_model.specs.Tables.{schema_of};
 ghost use Rattle.vault_audit_tenures.specs.Totals.{AreTotals};
-ghost use Rattle.vault_audit_walk.specs.Health.{IsHealthy, IsMemory};
+ghost use Rattle.vault_audit_walk.specs.Health.{IsHealthy, IsMemory, IsOfEdition, OnlyLooks};
 
 use crate::sums::departments::{SumsCheck, check_totals};
 use crate::sums::tenures::sum_tenures;
@@ -24,13 +23,12 @@ fn take_sums<S: Alter>(
     conn: &mut Connection<S>,
     edition: Edition,
 ) -> Result<Option<Totals>, Error>
-    requires { HasCleanDisk (state S.Store conn.old) → (state S.Store conn.old).now.schema ≡ schema_of edition }
+    requires { IsOfEdition S.Store conn.old edition }
     ensures told { HasCleanDisk (state S.Store conn.new) → IfOk result (λ found. (v : Vault) →
         AreBuckets edition (state S.Store conn.new).now v.buckets → AreEntries (state S.Store conn.new).now (entries_in v.histories) →
         AllByRecursion (IsPast v.last) (entries_in v.histories) → AreTenuresOf edition (state S.Store conn.new).now v → IsSomeAnd found (AreTotals v.histories)) }
-    ensures same { HasCleanDisk (state S.Store conn.new) → OnOk result (IsUnchanged (state S.Store conn.old) (state S.Store conn.new)) }
+    ensures look { OnlyLooks S.Store conn.old conn.new result }
     ensures err { IsHealthy (state S.Store conn.new) → IfErr result IsMemory }
-    ensures crash { Survives (state S.Store conn.old) (state S.Store conn.new) (λ _. ⊥) }
 {
     match edition {
         Edition::First | Edition::Second => sum_versions(alloc, conn, edition),
@@ -46,14 +44,13 @@ pub fn check_sums<S: Alter>(
     conn: &mut Connection<S>,
     edition: Edition,
 ) -> Result<bool, Error>
-    requires { HasCleanDisk (state S.Store conn.old) → (state S.Store conn.old).now.schema ≡ schema_of edition }
+    requires { IsOfEdition S.Store conn.old edition }
     ensures told { HasCleanDisk (state S.Store conn.new) → IfOk result (λ hold. (v : Vault) →
         AreBuckets edition (state S.Store conn.new).now v.buckets → AreEntries (state S.Store conn.new).now (entries_in v.histories) →
         AllByRecursion (IsPast v.last) (entries_in v.histories) → AreTenuresOf edition (state S.Store conn.new).now v → TellSums edition (state S.Store conn.new).now v.histories hold) }
     ensures damaged { HasCleanDisk (state S.Store conn.new) → IfOk result (λ hold. hold ≡ false → (v : Vault) → ¬ AreSoundAs edition (state S.Store conn.new).now v) }
-    ensures same { HasCleanDisk (state S.Store conn.new) → OnOk result (IsUnchanged (state S.Store conn.old) (state S.Store conn.new)) }
+    ensures look { OnlyLooks S.Store conn.old conn.new result }
     ensures err { IsHealthy (state S.Store conn.new) → IfErr result IsMemory }
-    ensures crash { Survives (state S.Store conn.old) (state S.Store conn.new) (λ _. ⊥) }
 {
     let Some(totals) = take_sums(alloc, conn, edition)? else {
         return Ok(false);

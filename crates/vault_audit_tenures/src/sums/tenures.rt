@@ -1,28 +1,27 @@
 //! The sums over the tenures of all departments, taken in one pass over the rows of `tenures`.
 ghost use Rattle.std.specs.Prelude.{◌≡◌, ◌≢◌, IfOk, IfErr, IsSomeAnd, OnOk};
-ghost use Rattle.sqlite.specs.State.{HasCleanDisk, IsUnchanged, Survives};
+ghost use Rattle.sqlite.specs.State.{HasCleanDisk};
 ghost use Rattle.sqlite.specs.Held.{state};
 ghost use Rattle.vault_core_model.specs.Vault.{Vault};
 ghost use Rattle.vault_audit_model.specs.Relations.{AreEntries, AreTenuresOf};
 ghost use Rattle.vault_audit_model.specs.Spells.{entries_in};
-ghost use Rattle.vault_audit_model.specs.Tables.{schema_of};
 ghost use Rattle.vault_audit_tenures.specs.declared.sums.tenures.ToldTenure.{ToldTenure as Told};
 ghost use Rattle.vault_audit_tenures.specs.TenureSums.{told_row, IsTold, share_as, last_share, share_before, CountsShare, CountsPending, CountsLast};
 ghost use Rattle.vault_audit_tenures.specs.Totals.{AreTotals};
-ghost use Rattle.vault_audit_walk.specs.Health.{IsHealthy, IsMemory};
+ghost use Rattle.vault_audit_walk.specs.Health.{IsHealthy, IsMemory, IsOfEdition, OnlyLooks};
 
-use crate::sums::owned::moment_or_null;
 use crate::sums::totals::{Span, Totals};
 use sqlite::{Alter, Connection, Error, Row};
 use std::alloc::Global;
 use vault_audit_model::schema::Edition;
 use vault_audit_records::row_check::refused;
-use vault_audit_rows::cell::{MOST_MOVES, moment, number, number_within, version_id};
+use vault_audit_rows::cell::{moment, moment_or_null, number, number_within, version_id};
 use vault_audit_rows::misread::Misread;
 use vault_audit_rows::name::dept_name;
 use vault_audit_walk::walk::{Pass, walk};
 use vault_base::moment::Moment;
 use vault_base::name::VersionId;
+use vault_core_model::limits::MOST_MOVES;
 use vault_core_model::records::Tenure;
 
 /// A tenure, and what counts of its version.
@@ -162,13 +161,12 @@ pub fn sum_tenures<S: Alter>(
     alloc: Global,
     conn: &mut Connection<S>,
 ) -> Result<Option<Totals>, Error>
-    requires { HasCleanDisk (state S.Store conn.old) → (state S.Store conn.old).now.schema ≡ schema_of Edition.Third }
+    requires { IsOfEdition S.Store conn.old Edition.Third }
     ensures told { HasCleanDisk (state S.Store conn.new) → IfOk result (λ found. (v : Vault) →
         AreEntries (state S.Store conn.new).now (entries_in v.histories) → AreTenuresOf Edition.Third (state S.Store conn.new).now v →
         IsSomeAnd found (AreTotals v.histories)) }
-    ensures same { HasCleanDisk (state S.Store conn.new) → OnOk result (IsUnchanged (state S.Store conn.old) (state S.Store conn.new)) }
+    ensures look { OnlyLooks S.Store conn.old conn.new result }
     ensures err { IsHealthy (state S.Store conn.new) → IfErr result IsMemory }
-    ensures crash { Survives (state S.Store conn.old) (state S.Store conn.new) (λ _. ⊥) }
 {
     let mut pass = TenurePass {
         totals: Totals::new(alloc),

@@ -1,18 +1,17 @@
 //! The sums over the versions of all departments, taken in one pass over the entries, where no bucket was moved.
-ghost use Rattle.std.specs.Prelude.{◌≡◌, IfOk, IfErr, IsSomeAnd, OnOk};
+ghost use Rattle.std.specs.Prelude.{IfOk, IfErr, IsSomeAnd, OnOk};
 ghost use Rattle.std.specs.List.{AllByRecursion};
-ghost use Rattle.sqlite.specs.State.{HasCleanDisk, IsUnchanged, Survives};
+ghost use Rattle.sqlite.specs.State.{HasCleanDisk};
 ghost use Rattle.sqlite.specs.Held.{state};
 ghost use Rattle.vault_core_model.specs.Vault.{Vault};
 ghost use Rattle.vault_audit_model.specs.Relations.{AreBuckets, AreEntries, IsPast};
 ghost use Rattle.vault_audit_model.specs.Spells.{entries_in};
-ghost use Rattle.vault_audit_model.specs.Tables.{schema_of};
 ghost use Rattle.vault_audit_model.specs.Tenures.{IsUnmoved};
 ghost use Rattle.vault_audit_tenures.specs.Totals.{AreTotals};
 ghost use Rattle.vault_audit_tenures.specs.VersionSums.{CountsEntry};
-ghost use Rattle.vault_audit_walk.specs.Health.{IsHealthy, IsMemory};
+ghost use Rattle.vault_audit_walk.specs.Health.{IsHealthy, IsMemory, IsOfEdition, OnlyLooks};
 
-use crate::sums::owned::{OwnedEntry, read_owned};
+use crate::sums::owned_entries::{OwnedEntry, read_owned};
 use crate::sums::totals::{Span, Totals};
 use sqlite::{Alter, Connection, Error, Row};
 use std::alloc::Global;
@@ -81,13 +80,12 @@ pub fn sum_versions<S: Alter>(
     conn: &mut Connection<S>,
     edition: Edition,
 ) -> Result<Option<Totals>, Error>
-    requires { HasCleanDisk (state S.Store conn.old) → (state S.Store conn.old).now.schema ≡ schema_of edition }
+    requires { IsOfEdition S.Store conn.old edition }
     ensures told { HasCleanDisk (state S.Store conn.new) → IfOk result (λ found. (v : Vault) →
         AreBuckets edition (state S.Store conn.new).now v.buckets → AreEntries (state S.Store conn.new).now (entries_in v.histories) →
         AllByRecursion (IsPast v.last) (entries_in v.histories) → IsUnmoved v → IsSomeAnd found (AreTotals v.histories)) }
-    ensures same { HasCleanDisk (state S.Store conn.new) → OnOk result (IsUnchanged (state S.Store conn.old) (state S.Store conn.new)) }
+    ensures look { OnlyLooks S.Store conn.old conn.new result }
     ensures err { IsHealthy (state S.Store conn.new) → IfErr result IsMemory }
-    ensures crash { Survives (state S.Store conn.old) (state S.Store conn.new) (λ _. ⊥) }
 {
     let mut pass = SumPass {
         totals: Totals::new(alloc),

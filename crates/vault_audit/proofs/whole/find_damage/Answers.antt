@@ -39,7 +39,7 @@ look_at_tables-requires-clause-difference g c clean =
     let n = c.args.edition in
     let s = (state g.S.Store c.args.conn.now).now.schema in
     let d = c.check_schema-difference.result in
-    subst (λ (db : Database). Differs n db.schema d) (sym (c.in_ok-meta.ensures.same clean).0.now_is) (differs_as n s d c.check_schema-difference.ensures.found c.check_schema-difference.ensures.told)
+    subst (λ (db : Database). Differs n db.schema d) (sym (c.in_ok-meta.ensures.look.same clean).0.now_is) (differs_as n s d c.check_schema-difference.ensures.found c.check_schema-difference.ensures.told)
 
 pub look_at_tables-requires-clause-behind : goal.look_at_tables-requires-clause-behind
 look_at_tables-requires-clause-behind g c = is_not c.is_at.result c.if-is_at.false c.is_at.ensures
@@ -48,7 +48,7 @@ pub look_at_tables-requires-clause-meta : goal.look_at_tables-requires-clause-me
 look_at_tables-requires-clause-meta g c clean = rw c.in-Some.is at (c.in_ok-meta.ensures.told clean)
 
 pub look_at_tables-requires-clause-open : goal.look_at_tables-requires-clause-open
-look_at_tables-requires-clause-open g c clean = (c.in_ok-meta.ensures.same clean).0.is_open
+look_at_tables-requires-clause-open g c clean = (c.in_ok-meta.ensures.look.same clean).0.is_open
 
 pub returns-in-Some-2-clause-told : goal.returns-in-Some-2-clause-told
 returns-in-Some-2-clause-told g c clean = let told = rw c.in-Some-2.is at (c.in_ok-table.ensures.told clean) in told.1
@@ -63,27 +63,27 @@ look_again-requires g c clean =
 
 pub returns-in-Some-3-clause-told : goal.returns-in-Some-3-clause-told
 returns-in-Some-3-clause-told g c clean =
-    let later : HasCleanDisk (state g.S.Store c.look_at_tables.new.conn) = omega (arith, c.in_ok-table-2.ensures.crash.clean) in
-    let early : HasCleanDisk (state g.S.Store c.check_meta.new.conn) = omega (arith, c.in_ok-table.ensures.crash.clean, later) in
-    let same = (c.in_ok-table-2.ensures.same clean).0.now_is ∙ (c.in_ok-table.ensures.same later).0.now_is in
+    let later : HasCleanDisk (state g.S.Store c.look_at_tables.new.conn) = omega (arith, c.in_ok-table-2.ensures.look.crash.clean) in
+    let early : HasCleanDisk (state g.S.Store c.check_meta.new.conn) = omega (arith, c.in_ok-table.ensures.look.crash.clean, later) in
+    let same = (c.in_ok-table-2.ensures.look.same clean).0.now_is ∙ (c.in_ok-table.ensures.look.same later).0.now_is in
     let meta = rw c.in-Some.is at (c.in_ok-meta.ensures.told early) in
     (rw c.in-Some-3.is at (c.in_ok-table-2.ensures.told clean)) (subst (λ (db : Database). IsMetaOf c.args.edition db (Some c.in-Some.meta)) (sym same) meta)
 
 pub returns-in-Some-3-clause-order : goal.returns-in-Some-3-clause-order
 returns-in-Some-3-clause-order g c clean =
-    let later : HasCleanDisk (state g.S.Store c.look_at_tables.new.conn) = omega (arith, c.in_ok-table-2.ensures.crash.clean) in
+    let later : HasCleanDisk (state g.S.Store c.look_at_tables.new.conn) = omega (arith, c.in_ok-table-2.ensures.look.crash.clean) in
     let right : c.in_ok-table.field-0 ≡ None = search rules in
     let all = rw right at (c.in_ok-table.ensures.told later) in
-    told_beside_others c.args.edition (state g.S.Store c.look_again.new.conn).now c.in-Some-3.table (subst (λ (db : Database). ToldInOrder c.args.edition db None) (sym (c.in_ok-table-2.ensures.same clean).0.now_is) all)
+    told_beside_others c.args.edition (state g.S.Store c.look_again.new.conn).now c.in-Some-3.table (subst (λ (db : Database). ToldInOrder c.args.edition db None) (sym (c.in_ok-table-2.ensures.look.same clean).0.now_is) all)
 
 pub returns-clause-told : goal.returns-clause-told
 returns-clause-told g c clean =
     let n = c.args.edition in
-    let later : HasCleanDisk (state g.S.Store c.look_at_tables.new.conn) = omega (arith, c.in_ok-table-2.ensures.crash.clean) in
-    let early : HasCleanDisk (state g.S.Store c.check_meta.new.conn) = omega (arith, c.in_ok-table.ensures.crash.clean, later) in
-    let same = (c.in_ok-table-2.ensures.same clean).0 in
+    let later : HasCleanDisk (state g.S.Store c.look_at_tables.new.conn) = omega (arith, c.in_ok-table-2.ensures.look.crash.clean) in
+    let early : HasCleanDisk (state g.S.Store c.check_meta.new.conn) = omega (arith, c.in_ok-table.ensures.look.crash.clean, later) in
+    let same = (c.in_ok-table-2.ensures.look.same clean).0 in
     let last = same.now_is in
-    let middle = (c.in_ok-table.ensures.same later).0.now_is in
+    let middle = (c.in_ok-table.ensures.look.same later).0.now_is in
     let right : c.in_ok-table.field-0 ≡ None = search rules in
     let sound : c.in_ok-table-2.field-0 ≡ None = search rules in
     let m = c.in-Some.meta in

@@ -13,8 +13,8 @@ walk-requires g c clean = subst (λ s. IsPlain (understood s notes_walk)) (sym (
 
 pub returns-clause-told : goal.returns-clause-told
 returns-clause-told g c clean es are =
-    let early : HasCleanDisk (state g.S.Store c.args.conn.now) = omega (arith, c.in_ok-found.ensures.crash.clean) in
-    (notes_told c.args.edition) (state g.S.Store c.args.conn.now) (state g.S.Store c.walk.new.conn) (c.requires early) (c.in_ok-found.ensures.same clean) c.walk.new.pass es are c.in_ok-found.found (c.in_ok-found.ensures.walked clean)
+    let early : HasCleanDisk (state g.S.Store c.args.conn.now) = omega (arith, c.in_ok-found.ensures.look.crash.clean) in
+    (notes_told c.args.edition) (state g.S.Store c.args.conn.now) (state g.S.Store c.walk.new.conn) (c.requires early) (c.in_ok-found.ensures.look.same clean) c.walk.new.pass es are c.in_ok-found.found (c.in_ok-found.ensures.walked clean)
 
 pub returns-clause-damaged : goal.returns-clause-damaged
 returns-clause-damaged g c clean same v = (unsound c.args.edition) (state g.S.Store c.walk.new.conn).now (λ es are. rw same at (returns-clause-told g c clean es are)) v

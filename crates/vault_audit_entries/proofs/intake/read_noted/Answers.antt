@@ -2,7 +2,7 @@ use Rattle.std.proofs.Common.{rules, ◌≡◌, length, ap, ◌∙◌}
 use Rattle.sqlite_value.specs.declared.value.Value.TheVariants.{Text, Blob}
 use Rattle.sqlite_value.specs.Order.{column}
 use Rattle.vault_audit_model.specs.Values.{number}
-use Rattle.vault_audit_entries.proofs.NoteRowLemmas.{row_of_14}
+use Rattle.vault_audit_rows.proofs.RowLemmas.{row_of_14}
 use Rattle.vault_audit_entries.proofs.intake.read_noted.Goals as goal
 
 pub returns-clause-row : goal.returns-clause-row

@@ -13,8 +13,8 @@ walk-requires g c clean = subst (λ s. IsPlain (understood s buckets_walk)) (sym
 
 pub returns-clause-told : goal.returns-clause-told
 returns-clause-told g c clean =
-    let early : HasCleanDisk (state g.S.Store c.args.conn.now) = omega (arith, c.walk.ensures.crash.clean) in
-    buckets_if_ok c.args.edition (state g.S.Store c.args.conn.now) (state g.S.Store c.walk.new.conn) (c.requires early) c.walk.new.pass c.walk.result (c.walk.ensures.same clean) (c.walk.ensures.walked clean)
+    let early : HasCleanDisk (state g.S.Store c.args.conn.now) = omega (arith, c.walk.ensures.look.crash.clean) in
+    buckets_if_ok c.args.edition (state g.S.Store c.args.conn.now) (state g.S.Store c.walk.new.conn) (c.requires early) c.walk.new.pass c.walk.result (c.walk.ensures.look.same clean) (c.walk.ensures.walked clean)
 
 pub returns-clause-err : goal.returns-clause-err
 returns-clause-err g c well = c.walk.ensures.err well (λ clean. subst (λ s. Asks s buckets_walk) (sym (c.requires clean)) (buckets_walk_asks c.args.edition))

@@ -17,12 +17,12 @@ returns-in_err-whole-clause-err g c well =
 
 pub returns-then-not-whole-clause-told : goal.returns-then-not-whole-clause-told
 returns-then-not-whole-clause-told g c clean =
-    let early : HasCleanDisk (state g.S.Store c.args.conn.now) = omega (arith, c.in_ok-whole.ensures.crash.clean) in
+    let early : HasCleanDisk (state g.S.Store c.args.conn.now) = omega (arith, c.in_ok-whole.ensures.look.crash.clean) in
     let no : c.in_ok-whole.whole ≡ false = search rules in
-    chains_no _ _ (state g.S.Store c.args.conn.now) (state g.S.Store c.walk.new.conn) (c.requires early) (c.in_ok-whole.ensures.same clean) c.walk.new.pass (rw no at (c.in_ok-whole.ensures.walked clean))
+    chains_no _ _ (state g.S.Store c.args.conn.now) (state g.S.Store c.walk.new.conn) (c.requires early) (c.in_ok-whole.ensures.look.same clean) c.walk.new.pass (rw no at (c.in_ok-whole.ensures.walked clean))
 
 pub returns-clause-told : goal.returns-clause-told
 returns-clause-told g c clean =
-    let early : HasCleanDisk (state g.S.Store c.args.conn.now) = omega (arith, c.in_ok-whole.ensures.crash.clean) in
+    let early : HasCleanDisk (state g.S.Store c.args.conn.now) = omega (arith, c.in_ok-whole.ensures.look.crash.clean) in
     let yes : c.in_ok-whole.whole ≡ true = search rules in
-    chains_yes _ _ (state g.S.Store c.args.conn.now) (state g.S.Store c.walk.new.conn) (c.requires early) (c.in_ok-whole.ensures.same clean) c.walk.new.pass c.is_ended-ended.result c.is_ended-ended.ensures (rw yes at (c.in_ok-whole.ensures.walked clean))
+    chains_yes _ _ (state g.S.Store c.args.conn.now) (state g.S.Store c.walk.new.conn) (c.requires early) (c.in_ok-whole.ensures.look.same clean) c.walk.new.pass c.is_ended-ended.result c.is_ended-ended.ensures (rw yes at (c.in_ok-whole.ensures.walked clean))

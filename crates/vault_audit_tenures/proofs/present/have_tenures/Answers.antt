@@ -13,8 +13,8 @@ check_rows-requires g c clean = subst (λ s. IsPlain (understood s tenures_besid
 
 pub returns-clause-told : goal.returns-clause-told
 returns-clause-told g c clean =
-    let early : HasCleanDisk (state g.S.Store c.args.conn.now) = omega (arith, c.check_rows.ensures.crash.clean) in
-    presence_if_ok (state g.S.Store c.args.conn.now) (state g.S.Store c.check_rows.new.conn) (c.requires early) c.check_rows.result (c.check_rows.ensures.same clean) (c.check_rows.ensures.checked clean)
+    let early : HasCleanDisk (state g.S.Store c.args.conn.now) = omega (arith, c.check_rows.ensures.look.crash.clean) in
+    presence_if_ok (state g.S.Store c.args.conn.now) (state g.S.Store c.check_rows.new.conn) (c.requires early) c.check_rows.result (c.check_rows.ensures.look.same clean) (c.check_rows.ensures.checked clean)
 
 pub returns-clause-err : goal.returns-clause-err
 returns-clause-err g c well = c.check_rows.ensures.err well (λ clean. subst (λ s. Asks s tenures_beside) (sym (c.requires clean)) tenures_beside_asks)

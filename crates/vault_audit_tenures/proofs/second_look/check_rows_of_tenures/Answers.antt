@@ -13,7 +13,7 @@ returns-then-not-present-clause-told g c clean =
 
 pub returns-clause-told : goal.returns-clause-told
 returns-clause-told g c clean =
-    let early : HasCleanDisk (state g.S.Store c.have_tenures.new.conn) = omega (arith, c.are_chains.ensures.crash.clean) in
+    let early : HasCleanDisk (state g.S.Store c.have_tenures.new.conn) = omega (arith, c.are_chains.ensures.look.crash.clean) in
     let yes : c.in_ok-present.present ≡ true = search rules in
     last_told c.args.moves c.args.last (state g.S.Store c.have_tenures.new.conn) (state g.S.Store c.are_chains.new.conn) (subst (TellPresence (state g.S.Store c.have_tenures.new.conn).now) yes (c.in_ok-present.ensures.told early))
-    c.are_chains.result (c.are_chains.ensures.same clean) (c.are_chains.ensures.told clean)
+    c.are_chains.result (c.are_chains.ensures.look.same clean) (c.are_chains.ensures.told clean)

@@ -1,3 +1,4 @@
+use Rattle.std.proofs.Common.{rules}
 use Rattle.sqlite.specs.Held.{state}
 use Rattle.vault_audit_walk.proofs.ScanLemmas.{still}
 use Rattle.vault_audit_tenures.proofs.SoundLemmas.{if_older, if_third, damaged_if_ok}
@@ -6,8 +7,11 @@ use Rattle.vault_audit_tenures.proofs.second_look.check_tenures.Goals as goal
 pub returns-in-First-clause-told : goal.returns-in-First-clause-told
 returns-in-First-clause-told g c clean = if_older c.args.edition (state g.S.Store c.args.conn.now).now c.args.meta c.in-First.is
 
-pub returns-in-First-clause-same : goal.returns-in-First-clause-same
-returns-in-First-clause-same g c clean = still (state g.S.Store c.args.conn.now) (c.requires.open clean)
+pub returns-in-First-clause-look : goal.returns-in-First-clause-look
+returns-in-First-clause-look g c = record {
+  same = λ clean. still (state g.S.Store c.args.conn.now) (c.requires.open clean);
+  crash = search rules;
+}
 
 pub returns-in-Third-clause-told : goal.returns-in-Third-clause-told
 returns-in-Third-clause-told g c clean = if_third c.args.edition (state g.S.Store c.check_rows_of_tenures.new.conn).now c.args.meta c.in-Third.is c.check_rows_of_tenures.result (c.check_rows_of_tenures.ensures.told clean)

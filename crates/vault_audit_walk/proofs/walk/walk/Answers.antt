@@ -10,13 +10,16 @@ use Rattle.vault_audit_walk.specs.Walk.{Goes}
 use Rattle.vault_audit_walk.proofs.WalkLemmas.{commits_nothing, shown_from, goes_on}
 use Rattle.vault_audit_walk.proofs.walk.walk.Goals as goal
 
-pub returns-in_err-rows-clause-crash : goal.returns-in_err-rows-clause-crash
-returns-in_err-rows-clause-crash g c =
-    let old = state g.S.Store c.args.conn.now in
-    let new = state g.S.Store c.query.follows.lender-at-none in
-    let held = c.query.follows.holds-at-none in
-    let kept : Survives old new (CommitsShowing c.args.sql.now [] old) = search rules in
-    commits_nothing c.args.sql.now [] old new c.requires kept
+pub returns-in_err-rows-clause-look : goal.returns-in_err-rows-clause-look
+returns-in_err-rows-clause-look g c = record {
+  same = search rules;
+  crash =
+      let old = state g.S.Store c.args.conn.now in
+      let new = state g.S.Store c.query.follows.lender-at-none in
+      let held = c.query.follows.holds-at-none in
+      let kept : Survives old new (CommitsShowing c.args.sql.now [] old) = search rules in
+      commits_nothing c.args.sql.now [] old new c.requires kept;
+}
 
 pub returns-in_err-rows-clause-err : goal.returns-in_err-rows-clause-err
 returns-in_err-rows-clause-err g c well asks =

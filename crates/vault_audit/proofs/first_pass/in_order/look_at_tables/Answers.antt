@@ -4,7 +4,7 @@ use Rattle.sqlite.specs.State.{HasCleanDisk}
 use Rattle.sqlite.specs.Held.{state}
 use Rattle.sqlite.proofs.Callers.{unchanged_then}
 use Rattle.vault_base.specs.declared.refusal.Table.TheVariants.{Meta}
-use Rattle.vault_audit_schema.specs.Places.{place_of}
+use Rattle.vault_audit_model.specs.Order.{place_of}
 use Rattle.vault_audit_walk.proofs.ScanLemmas.{still}
 use Rattle.vault_audit.proofs.OrderLemmas.{AreRightTo, Differs, IsFrom, all_right, at_table, begin_at, begin_meta, behind_meta, from_behind, from_next, is_not, meta_right, no_difference, place_behind, right_more, right_row, survives_itself, survives_more, told_by_form, told_by_rows}
 use Rattle.vault_audit.proofs.first_pass.in_order.look_at_tables.Goals as goal
@@ -31,13 +31,13 @@ loop-table-preserved g c =
     let was = c.loop-table.invariant in
     let other : d ≢ Some t = is_not c.is_at.result c.if-is_at.false c.is_at.ensures in
     let from = from_next d t place here was.1 other in (
-      survives_more old mid new was.0 c.in_ok-right.ensures.crash,
+      survives_more old mid new was.0 c.in_ok-right.ensures.look.crash,
       from,
       λ clean.
-          let early : HasCleanDisk mid = omega (arith, c.in_ok-right.ensures.crash.clean) in
-          let start : HasCleanDisk old = omega (arith, c.in_ok-right.ensures.crash.clean, was.0.clean) in
+          let early : HasCleanDisk mid = omega (arith, c.in_ok-right.ensures.look.crash.clean) in
+          let start : HasCleanDisk old = omega (arith, c.in_ok-right.ensures.look.crash.clean, was.0.clean) in
           let before = was.2 early in
-          let one = c.in_ok-right.ensures.same clean in
+          let one = c.in_ok-right.ensures.look.same clean in
           let all = unchanged_then old mid new before.0 one in
           let yes : c.in_ok-right.right ≡ true = search rules in
           let right = rw yes at (c.in_ok-right.ensures.told clean) in
@@ -83,8 +83,8 @@ returns-then-not-right-clause-told g c clean =
     let place = c.loop-table.table-index + 1 in
     let t = get_or behind_meta c.loop-table.table-index Meta in
     let here : place_of t ≡ place = place_behind c.loop-table.table-index c.loop-table-test.true in
-    let early : HasCleanDisk mid = omega (arith, c.in_ok-right.ensures.crash.clean) in
-    let one = c.in_ok-right.ensures.same clean in
+    let early : HasCleanDisk mid = omega (arith, c.in_ok-right.ensures.look.crash.clean) in
+    let one = c.in_ok-right.ensures.look.same clean in
     let wrong : c.in_ok-right.right ≡ false = c.if-not-right.true in
     let so_far = subst (λ (db : Database). AreRightTo n db place) (sym one.0.now_is) (c.loop-table.invariant.2 early).1 in
     told_by_rows n new.now t (λ u less. so_far u (omega (arith, here, less))) (rw wrong at (c.in_ok-right.ensures.told clean)) (c.in_ok-right.ensures.damaged clean wrong)

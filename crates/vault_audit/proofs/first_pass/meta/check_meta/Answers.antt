@@ -13,15 +13,15 @@ walk-requires g c clean = rw c.meta_query.ensures (meta_walks c.args.edition (st
 
 pub returns-then-not-one-clause-told : goal.returns-then-not-one-clause-told
 returns-then-not-one-clause-told g c clean =
-    let early : HasCleanDisk (state g.S.Store c.args.conn.now) = omega (arith, c.in_ok-one.ensures.crash.clean) in
+    let early : HasCleanDisk (state g.S.Store c.args.conn.now) = omega (arith, c.in_ok-one.ensures.look.crash.clean) in
     let no : c.in_ok-one.one ≡ false = search rules in
-    meta_no c.args.edition (state g.S.Store c.args.conn.now) (state g.S.Store c.walk.new.conn) (c.requires early) (c.in_ok-one.ensures.same clean) c.walk.new.pass (rw (no, c.meta_query.ensures) at (c.in_ok-one.ensures.walked clean))
+    meta_no c.args.edition (state g.S.Store c.args.conn.now) (state g.S.Store c.walk.new.conn) (c.requires early) (c.in_ok-one.ensures.look.same clean) c.walk.new.pass (rw (no, c.meta_query.ensures) at (c.in_ok-one.ensures.walked clean))
 
 pub returns-clause-told : goal.returns-clause-told
 returns-clause-told g c clean =
-    let early : HasCleanDisk (state g.S.Store c.args.conn.now) = omega (arith, c.in_ok-one.ensures.crash.clean) in
+    let early : HasCleanDisk (state g.S.Store c.args.conn.now) = omega (arith, c.in_ok-one.ensures.look.crash.clean) in
     let yes : c.in_ok-one.one ≡ true = search rules in
-    meta_all c.args.edition (state g.S.Store c.args.conn.now) (state g.S.Store c.walk.new.conn) (c.requires early) (c.in_ok-one.ensures.same clean) c.walk.new.pass (rw (yes, c.meta_query.ensures) at (c.in_ok-one.ensures.walked clean))
+    meta_all c.args.edition (state g.S.Store c.args.conn.now) (state g.S.Store c.walk.new.conn) (c.requires early) (c.in_ok-one.ensures.look.same clean) c.walk.new.pass (rw (yes, c.meta_query.ensures) at (c.in_ok-one.ensures.walked clean))
 
 pub returns-then-not-one-clause-damaged : goal.returns-then-not-one-clause-damaged
 returns-then-not-one-clause-damaged g c clean same v = no_meta c.args.edition (state g.S.Store c.walk.new.conn).now v (returns-then-not-one-clause-told g c clean)

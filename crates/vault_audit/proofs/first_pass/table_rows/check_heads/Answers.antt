@@ -17,8 +17,8 @@ check_rows-requires g c clean = (heads_scan c.args.edition (state g.S.Store c.ar
 
 pub returns-clause-told : goal.returns-clause-told
 returns-clause-told g c clean =
-    let early : HasCleanDisk (state g.S.Store c.args.conn.now) = omega (arith, c.check_rows.ensures.crash.clean) in
-    records_if_ok head_row IsHeadRow (heads_scan c.args.edition (state g.S.Store c.args.conn.now).now.schema (c.requires early)) (state g.S.Store c.args.conn.now) (state g.S.Store c.check_rows.new.conn) refl (λ trees. refl) (c.check_rows.result) (c.check_rows.ensures.same clean) (c.check_rows.ensures.checked clean)
+    let early : HasCleanDisk (state g.S.Store c.args.conn.now) = omega (arith, c.check_rows.ensures.look.crash.clean) in
+    records_if_ok head_row IsHeadRow (heads_scan c.args.edition (state g.S.Store c.args.conn.now).now.schema (c.requires early)) (state g.S.Store c.args.conn.now) (state g.S.Store c.check_rows.new.conn) refl (λ trees. refl) (c.check_rows.result) (c.check_rows.ensures.look.same clean) (c.check_rows.ensures.checked clean)
 
 pub returns-clause-damaged : goal.returns-clause-damaged
 returns-clause-damaged g c clean =

@@ -17,8 +17,8 @@ check_rows-requires g c clean = rw c.rules_text.ensures (rules_scan c.args.editi
 
 pub returns-clause-told : goal.returns-clause-told
 returns-clause-told g c clean =
-    let early : HasCleanDisk (state g.S.Store c.args.conn.now) = omega (arith, c.check_rows.ensures.crash.clean) in
-    rules_if_ok c.args.edition (state g.S.Store c.args.conn.now) (state g.S.Store c.check_rows.new.conn) (c.requires early) (c.check_rows.result) (c.check_rows.ensures.same clean) (rw c.rules_text.ensures at (c.check_rows.ensures.checked clean))
+    let early : HasCleanDisk (state g.S.Store c.args.conn.now) = omega (arith, c.check_rows.ensures.look.crash.clean) in
+    rules_if_ok c.args.edition (state g.S.Store c.args.conn.now) (state g.S.Store c.check_rows.new.conn) (c.requires early) (c.check_rows.result) (c.check_rows.ensures.look.same clean) (rw c.rules_text.ensures at (c.check_rows.ensures.checked clean))
 
 pub returns-clause-damaged : goal.returns-clause-damaged
 returns-clause-damaged g c clean =

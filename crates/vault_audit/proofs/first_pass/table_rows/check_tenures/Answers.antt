@@ -16,9 +16,9 @@ check_rows-requires g c clean = (tenures_scan (state g.S.Store c.args.conn.now).
 
 pub returns-in-Third-clause-told : goal.returns-in-Third-clause-told
 returns-in-Third-clause-told g c clean =
-    let early : HasCleanDisk (state g.S.Store c.args.conn.now) = omega (arith, c.check_rows.ensures.crash.clean) in
+    let early : HasCleanDisk (state g.S.Store c.args.conn.now) = omega (arith, c.check_rows.ensures.look.crash.clean) in
     let scan = tenures_scan (state g.S.Store c.args.conn.now).now.schema (rw c.in-Third.is at (c.requires.begin early)) in
-    rw c.in-Third.is (records_if_ok tenure_row IsTenureRow scan (state g.S.Store c.args.conn.now) (state g.S.Store c.check_rows.new.conn) refl (λ trees. refl) (c.check_rows.result) (c.check_rows.ensures.same clean) (c.check_rows.ensures.checked clean))
+    rw c.in-Third.is (records_if_ok tenure_row IsTenureRow scan (state g.S.Store c.args.conn.now) (state g.S.Store c.check_rows.new.conn) refl (λ trees. refl) (c.check_rows.result) (c.check_rows.ensures.look.same clean) (c.check_rows.ensures.checked clean))
 
 pub returns-in-Third-clause-damaged : goal.returns-in-Third-clause-damaged
 returns-in-Third-clause-damaged g c clean =

@@ -8,10 +8,10 @@ use Rattle.vault_audit.proofs.second_pass.departments.look_at_departments.Goals 
 
 pub returns-clause-told : goal.returns-clause-told
 returns-clause-told g c clean =
-    let later : HasCleanDisk (state g.S.Store c.check_departments_by_name.new.conn) = omega (arith, c.in_ok-sums.ensures.crash.clean) in
-    let early : HasCleanDisk (state g.S.Store c.check_next.new.conn) = omega (arith, c.in_ok-departments.ensures.crash.clean, c.in_ok-sums.ensures.crash.clean) in
-    let last = (c.in_ok-sums.ensures.same clean).0.now_is in
-    let middle = (c.in_ok-departments.ensures.same later).0.now_is in
+    let later : HasCleanDisk (state g.S.Store c.check_departments_by_name.new.conn) = omega (arith, c.in_ok-sums.ensures.look.crash.clean) in
+    let early : HasCleanDisk (state g.S.Store c.check_next.new.conn) = omega (arith, c.in_ok-departments.ensures.look.crash.clean, c.in_ok-sums.ensures.look.crash.clean) in
+    let last = (c.in_ok-sums.ensures.look.same clean).0.now_is in
+    let middle = (c.in_ok-departments.ensures.look.same later).0.now_is in
     let counted : c.in_ok-next.next ≡ true = search rules in
     let named : c.in_ok-departments.departments ≡ true = search rules in
     let summed : c.in_ok-sums.sums ≡ true = search rules in

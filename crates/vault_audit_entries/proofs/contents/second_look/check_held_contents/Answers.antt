@@ -14,10 +14,10 @@ returns-in_default-clause-damaged g c clean same v =
 
 pub returns-clause-told : goal.returns-clause-told
 returns-clause-told g c clean es are =
-    let early : HasCleanDisk (state g.S.Store c.check_bytes.new.conn) = omega (arith, c.in_ok-held.ensures.crash.clean) in
+    let early : HasCleanDisk (state g.S.Store c.check_bytes.new.conn) = omega (arith, c.in_ok-held.ensures.look.crash.clean) in
     let old = (state g.S.Store c.check_bytes.new.conn).now in
     let new = (state g.S.Store c.count_held.new.conn).now in
-    let db : new ≡ old = (c.in_ok-held.ensures.same clean).0.now_is in
+    let db : new ≡ old = (c.in_ok-held.ensures.look.same clean).0.now_is in
     let some : c.in_ok-count.field-0 ≡ Some c.in-Some.count = search rules in
     let before : AreEntries old es = subst (λ (d : Database). AreEntries d es) db are in
     let told : TellOfHeld old es (Some c.in-Some.count) = rw some at (c.in_ok-count.ensures.told early es before) in

@@ -1,7 +1,7 @@
 use Rattle.std.proofs.Common.{rules, ◌≡◌, length, ap, ◌∙◌}
 use Rattle.sqlite_value.specs.declared.value.Value.TheVariants.{Null, Text}
 use Rattle.sqlite_value.specs.Order.{column}
-use Rattle.vault_audit_entries.proofs.HeadRowLemmas.{row_of_7}
+use Rattle.vault_audit_rows.proofs.RowLemmas.{row_of_7}
 use Rattle.vault_audit_entries.proofs.heads.by_key.read_headed.Goals as goal
 
 pub returns-clause-row : goal.returns-clause-row

@@ -12,8 +12,8 @@ check_rows-requires g c clean = subst (λ s. IsPlain (understood s counts_text))
 
 pub returns-clause-told : goal.returns-clause-told
 returns-clause-told g c clean es hs are tell =
-    let early : HasCleanDisk (state g.S.Store c.args.conn.now) = omega (arith, c.in_ok-found.ensures.crash.clean) in
-    (counts_told c.args.edition) (state g.S.Store c.args.conn.now) (state g.S.Store c.check_rows.new.conn) (c.requires early) (c.in_ok-found.ensures.same clean) es hs are tell c.in_ok-found.found (c.in_ok-found.ensures.checked clean)
+    let early : HasCleanDisk (state g.S.Store c.args.conn.now) = omega (arith, c.in_ok-found.ensures.look.crash.clean) in
+    (counts_told c.args.edition) (state g.S.Store c.args.conn.now) (state g.S.Store c.check_rows.new.conn) (c.requires early) (c.in_ok-found.ensures.look.same clean) es hs are tell c.in_ok-found.found (c.in_ok-found.ensures.checked clean)
 
 pub returns-in_err-found-clause-err : goal.returns-in_err-found-clause-err
 returns-in_err-found-clause-err g c well = let it : IsMemory c.in_err-found.field-0.0 = c.in_err-found.ensures.err well (λ clean. subst (λ s. Asks s counts_text) (sym (c.requires clean)) (counts_asks c.args.edition)) in search rules

@@ -25,10 +25,10 @@ returns-then-not-headed-clause-damaged g c clean same v = (unsound c.args.editio
 pub returns-clause-told : goal.returns-clause-told
 returns-clause-told g c clean v are =
     let es = entries_of v in
-    let later : HasCleanDisk (state g.S.Store c.check_each_is_headed.new.conn) = omega (arith, c.in_ok-counted.ensures.crash.clean) in
-    let early : HasCleanDisk (state g.S.Store c.check_heads_by_key.new.conn) = omega (arith, c.in_ok-headed.ensures.crash.clean, c.in_ok-counted.ensures.crash.clean) in
-    let last = (c.in_ok-counted.ensures.same clean).0.now_is in
-    let middle = (c.in_ok-headed.ensures.same later).0.now_is in
+    let later : HasCleanDisk (state g.S.Store c.check_each_is_headed.new.conn) = omega (arith, c.in_ok-counted.ensures.look.crash.clean) in
+    let early : HasCleanDisk (state g.S.Store c.check_heads_by_key.new.conn) = omega (arith, c.in_ok-headed.ensures.look.crash.clean, c.in_ok-counted.ensures.look.crash.clean) in
+    let last = (c.in_ok-counted.ensures.look.same clean).0.now_is in
+    let middle = (c.in_ok-headed.ensures.look.same later).0.now_is in
     let by_key : c.in_ok-by_key.by_key ≡ true = search rules in
     let headed : c.in_ok-headed.headed ≡ true = search rules in
     let first = rw by_key at (c.in_ok-by_key.ensures.told early es (subst (λ db. AreEntries db es) (last ∙ middle) are)) in

@@ -25,14 +25,14 @@ returns-then-not-present-clause-damaged g c clean same = (unsound c.args.edition
 
 pub returns-clause-told : goal.returns-clause-told
 returns-clause-told g c clean =
-    let mid : HasCleanDisk (state g.S.Store c.have_settings.new.conn) = omega (arith, c.have_entries.ensures.crash.clean) in
-    let early : HasCleanDisk (state g.S.Store c.are_placed.new.conn) = omega (arith, c.in_ok-present.ensures.crash.clean, c.have_entries.ensures.crash.clean) in
+    let mid : HasCleanDisk (state g.S.Store c.have_settings.new.conn) = omega (arith, c.have_entries.ensures.look.crash.clean) in
+    let early : HasCleanDisk (state g.S.Store c.are_placed.new.conn) = omega (arith, c.in_ok-present.ensures.look.crash.clean, c.have_entries.ensures.look.crash.clean) in
     let placed : c.in_ok-placed.placed ≡ true = search rules in
     let present : c.in_ok-present.present ≡ true = search rules in
-    last_told (state g.S.Store c.are_placed.new.conn) (state g.S.Store c.have_settings.new.conn) (state g.S.Store c.have_entries.new.conn) (c.in_ok-present.ensures.same mid)
+    last_told (state g.S.Store c.are_placed.new.conn) (state g.S.Store c.have_settings.new.conn) (state g.S.Store c.have_entries.new.conn) (c.in_ok-present.ensures.look.same mid)
     (subst (TellPlaces (state g.S.Store c.are_placed.new.conn).now) placed (c.in_ok-placed.ensures.told early))
     (subst (TellPresence (state g.S.Store c.have_settings.new.conn).now) present (c.in_ok-present.ensures.told mid))
-    c.have_entries.result (c.have_entries.ensures.same clean) (c.have_entries.ensures.told clean)
+    c.have_entries.result (c.have_entries.ensures.look.same clean) (c.have_entries.ensures.told clean)
 
 pub returns-clause-damaged : goal.returns-clause-damaged
 returns-clause-damaged g c clean = (damaged_if_ok c.args.edition) (state g.S.Store c.have_entries.new.conn).now c.have_entries.result (returns-clause-told g c clean)

@@ -18,8 +18,8 @@ walk-requires g c clean = rw c.departments_walk.ensures (subst (λ s. IsPlain (u
 
 pub returns-clause-told : goal.returns-clause-told
 returns-clause-told g c clean =
-    let early : HasCleanDisk (state g.S.Store c.args.conn.now) = omega (arith, c.walk.ensures.crash.clean) in
-    (departments_if_ok c.args.edition) (state g.S.Store c.args.conn.now) (state g.S.Store c.walk.new.conn) (c.requires early) c.walk.new.pass c.walk.result (c.walk.ensures.same clean) (rw c.departments_walk.ensures at (c.walk.ensures.walked clean))
+    let early : HasCleanDisk (state g.S.Store c.args.conn.now) = omega (arith, c.walk.ensures.look.crash.clean) in
+    (departments_if_ok c.args.edition) (state g.S.Store c.args.conn.now) (state g.S.Store c.walk.new.conn) (c.requires early) c.walk.new.pass c.walk.result (c.walk.ensures.look.same clean) (rw c.departments_walk.ensures at (c.walk.ensures.walked clean))
 
 pub returns-clause-damaged : goal.returns-clause-damaged
 returns-clause-damaged g c clean =

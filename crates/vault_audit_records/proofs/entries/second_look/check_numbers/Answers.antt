@@ -14,15 +14,15 @@ walk-requires g c clean = subst (λ s. IsPlain (understood s numbers_walk)) (sym
 
 pub returns-then-not-whole-clause-told : goal.returns-then-not-whole-clause-told
 returns-then-not-whole-clause-told g c clean =
-    let early : HasCleanDisk (state g.S.Store c.args.conn.now) = omega (arith, c.in_ok-whole.ensures.crash.clean) in
+    let early : HasCleanDisk (state g.S.Store c.args.conn.now) = omega (arith, c.in_ok-whole.ensures.look.crash.clean) in
     let no : c.in_ok-whole.whole ≡ false = search rules in
-    numbers_no c.args.edition (state g.S.Store c.args.conn.now) (state g.S.Store c.walk.new.conn) (c.requires early) (c.in_ok-whole.ensures.same clean) c.walk.new.pass (rw no at (c.in_ok-whole.ensures.walked clean))
+    numbers_no c.args.edition (state g.S.Store c.args.conn.now) (state g.S.Store c.walk.new.conn) (c.requires early) (c.in_ok-whole.ensures.look.same clean) c.walk.new.pass (rw no at (c.in_ok-whole.ensures.walked clean))
 
 pub returns-clause-told : goal.returns-clause-told
 returns-clause-told g c clean =
-    let early : HasCleanDisk (state g.S.Store c.args.conn.now) = omega (arith, c.in_ok-whole.ensures.crash.clean) in
+    let early : HasCleanDisk (state g.S.Store c.args.conn.now) = omega (arith, c.in_ok-whole.ensures.look.crash.clean) in
     let yes : c.in_ok-whole.whole ≡ true = search rules in
-    numbers_yes c.args.edition (state g.S.Store c.args.conn.now) (state g.S.Store c.walk.new.conn) (c.requires early) (c.in_ok-whole.ensures.same clean) c.walk.new.pass (rw yes at (c.in_ok-whole.ensures.walked clean))
+    numbers_yes c.args.edition (state g.S.Store c.args.conn.now) (state g.S.Store c.walk.new.conn) (c.requires early) (c.in_ok-whole.ensures.look.same clean) c.walk.new.pass (rw yes at (c.in_ok-whole.ensures.walked clean))
 
 pub returns-then-not-whole-clause-damaged : goal.returns-then-not-whole-clause-damaged
 returns-then-not-whole-clause-damaged g c clean same v = no_numbers c.args.edition (state g.S.Store c.walk.new.conn).now v (returns-then-not-whole-clause-told g c clean)

@@ -13,8 +13,8 @@ walk-requires g c clean = subst (λ s. IsPlain (understood s ids_text)) (sym (c.
 
 pub returns-clause-told : goal.returns-clause-told
 returns-clause-told g c clean =
-    let early : HasCleanDisk (state g.S.Store c.args.conn.now) = omega (arith, c.in_ok-_whole.ensures.crash.clean) in
-    let all = (all_counted c.args.edition) (state g.S.Store c.args.conn.now) (state g.S.Store c.walk.new.conn) (c.requires early) (c.in_ok-_whole.ensures.same clean) (record { count = 0 }) c.walk.new.pass c.in_ok-_whole._whole (c.in_ok-_whole.ensures.walked clean) in
+    let early : HasCleanDisk (state g.S.Store c.args.conn.now) = omega (arith, c.in_ok-_whole.ensures.look.crash.clean) in
+    let all = (all_counted c.args.edition) (state g.S.Store c.args.conn.now) (state g.S.Store c.walk.new.conn) (c.requires early) (c.in_ok-_whole.ensures.look.same clean) (record { count = 0 }) c.walk.new.pass c.in_ok-_whole._whole (c.in_ok-_whole.ensures.walked clean) in
     told (state g.S.Store c.walk.new.conn).now c.walk.new.pass.count c.args.next (omega (arith, all)) (search rules)
 
 pub returns-clause-damaged : goal.returns-clause-damaged

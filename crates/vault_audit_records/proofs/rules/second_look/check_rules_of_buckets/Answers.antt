@@ -25,14 +25,14 @@ returns-then-not-placed-clause-damaged g c clean same = unsound c.args.edition (
 
 pub returns-clause-told : goal.returns-clause-told
 returns-clause-told g c clean =
-    let mid : HasCleanDisk (state g.S.Store c.are_runs.new.conn) = omega (arith, c.have_buckets.ensures.crash.clean) in
-    let early : HasCleanDisk (state g.S.Store c.are_buckets.new.conn) = omega (arith, c.in_ok-placed.ensures.crash.clean, c.have_buckets.ensures.crash.clean) in
+    let mid : HasCleanDisk (state g.S.Store c.are_runs.new.conn) = omega (arith, c.have_buckets.ensures.look.crash.clean) in
+    let early : HasCleanDisk (state g.S.Store c.are_buckets.new.conn) = omega (arith, c.in_ok-placed.ensures.look.crash.clean, c.have_buckets.ensures.look.crash.clean) in
     let named : c.in_ok-named.named ≡ true = search rules in
     let placed : c.in_ok-placed.placed ≡ true = search rules in
-    last_told c.args.edition (state g.S.Store c.are_buckets.new.conn) (state g.S.Store c.are_runs.new.conn) (state g.S.Store c.have_buckets.new.conn) (c.in_ok-placed.ensures.same mid)
+    last_told c.args.edition (state g.S.Store c.are_buckets.new.conn) (state g.S.Store c.are_runs.new.conn) (state g.S.Store c.have_buckets.new.conn) (c.in_ok-placed.ensures.look.same mid)
     (subst (TellBucketRows (state g.S.Store c.are_buckets.new.conn).now) named (c.in_ok-named.ensures.told early))
     (subst (TellRuns c.args.edition (state g.S.Store c.are_runs.new.conn).now) placed (c.in_ok-placed.ensures.told mid))
-    c.have_buckets.result (c.have_buckets.ensures.same clean) (c.have_buckets.ensures.told clean)
+    c.have_buckets.result (c.have_buckets.ensures.look.same clean) (c.have_buckets.ensures.told clean)
 
 pub returns-clause-damaged : goal.returns-clause-damaged
 returns-clause-damaged g c clean = damaged_if_ok c.args.edition (state g.S.Store c.have_buckets.new.conn).now c.have_buckets.result (returns-clause-told g c clean)

@@ -33,9 +33,9 @@ returns-in_default-clause-told g c clean v buckets entries past tenures =
 
 pub returns-clause-told : goal.returns-clause-told
 returns-clause-told g c clean =
-    let early : HasCleanDisk (state g.S.Store c.take_sums.new.conn) = omega (arith, c.check_totals.ensures.crash.clean) in
+    let early : HasCleanDisk (state g.S.Store c.take_sums.new.conn) = omega (arith, c.check_totals.ensures.look.crash.clean) in
     let totals = rw c.in-Some.is at (c.in_ok-totals.ensures.told early) in
-    of_table c.args.edition c.check_totals.result (state g.S.Store c.take_sums.new.conn) (state g.S.Store c.check_totals.new.conn) c.in-Some.totals (c.check_totals.ensures.same clean) totals (c.check_totals.ensures.told clean)
+    of_table c.args.edition c.check_totals.result (state g.S.Store c.take_sums.new.conn) (state g.S.Store c.check_totals.new.conn) c.in-Some.totals (c.check_totals.ensures.look.same clean) totals (c.check_totals.ensures.told clean)
 
 pub returns-in_default-clause-damaged : goal.returns-in_default-clause-damaged
 returns-in_default-clause-damaged g c clean same = no_sums c.args.edition (state g.S.Store c.take_sums.new.conn).now (returns-in_default-clause-told g c clean)

@@ -1,5 +1,5 @@
-use Rattle.vault_audit_rows.proofs.PartLemmas.{rights_are}
-use Rattle.vault_audit_rows.proofs.part.rights_of.Goals as goal
+use Rattle.vault_audit_rows.proofs.ColumnLemmas.{rights_are}
+use Rattle.vault_audit_rows.proofs.several_columns.rights_of.Goals as goal
 
 pub returns : goal.returns
 returns c =

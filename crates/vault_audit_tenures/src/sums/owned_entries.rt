@@ -1,13 +1,10 @@
 //! Entries beside the departments of their buckets.
-ghost use Rattle.std.specs.Prelude.{◌≡◌, ◌≢◌, ◌≤◌, ℕ, Option, IfSome, IfOk, IfErr, MatchOption};
-ghost use Rattle.sqlite_value.specs.Order.{column};
-ghost use Rattle.vault_base.specs.Days.{last_moment};
-ghost use Rattle.vault_audit_model.specs.Values.{number_or_null};
-ghost use Rattle.vault_audit_tenures.specs.declared.sums.owned.OwnedEntry.{OwnedEntry as Told};
+ghost use Rattle.std.specs.Prelude.{◌≡◌, ◌≢◌, Option, IfOk, IfErr};
+ghost use Rattle.vault_audit_tenures.specs.declared.sums.owned_entries.OwnedEntry.{OwnedEntry as Told};
 ghost use Rattle.vault_audit_tenures.specs.OwnedEntries.{owned_row, IsOwned};
 
 use sqlite::Row;
-use vault_audit_rows::cell::{flag, is_null, moment, number, version_id};
+use vault_audit_rows::cell::{flag, moment, moment_or_null, number, version_id};
 use vault_audit_rows::misread::Misread;
 use vault_audit_rows::name::dept_name_or_null;
 use vault_base::moment::Moment;
@@ -25,17 +22,6 @@ pub struct OwnedEntry {
     pub removed: Option<Moment>,
     /// The department of its bucket; none where there is no such bucket.
     pub dept: Option<DeptName>,
-}
-
-/// The moment in a column, or NULL.
-pub fn moment_or_null(row: &Row, at: usize) -> Option<Option<Moment>>
-    ensures { MatchOption result ((o : Option ℕ) → IfSome o (λ t. t ≤ last_moment) → column row.now at ≢ number_or_null o) (λ o. (column row.now at ≡ number_or_null o) × IfSome o (λ t. t ≤ last_moment)) }
-{
-    if is_null(row, at) {
-        return Some(None);
-    }
-    let moment = moment(row, at)?;
-    Some(Some(moment))
 }
 
 /// The entry that a row tells.

@@ -1,17 +1,15 @@
 //! Tenures beside their versions and the departments of their buckets.
-ghost use Rattle.std.specs.Prelude.{◌≡◌, ◌≢◌, ◌≤◌, ℕ, Option, IfSome, IfOk, IfErr, MatchOption};
-ghost use Rattle.sqlite_value.specs.Order.{column};
-ghost use Rattle.vault_base.specs.Days.{last_moment};
-ghost use Rattle.vault_audit_model.specs.Values.{number_or_null};
-ghost use Rattle.vault_audit_tenures.specs.declared.owned.OwnedTenure.{OwnedTenure as Told};
+ghost use Rattle.std.specs.Prelude.{◌≡◌, ◌≢◌, Option, IfOk, IfErr};
+ghost use Rattle.vault_audit_tenures.specs.declared.owned_tenures.OwnedTenure.{OwnedTenure as Told};
 ghost use Rattle.vault_audit_tenures.specs.OwnedTenures.{owned_row, IsOwned};
 
 use sqlite::Row;
-use vault_audit_rows::cell::{MOST_MOVES, is_null, moment, number_within, version_id};
+use vault_audit_rows::cell::{moment, moment_or_null, number_within, version_id};
 use vault_audit_rows::misread::Misread;
 use vault_audit_rows::name::{dept_name, dept_name_or_null};
 use vault_base::moment::Moment;
 use vault_base::name::{DeptName, VersionId};
+use vault_core_model::limits::MOST_MOVES;
 use vault_core_model::records::Tenure;
 
 /// A tenure of a version, and what it is compared with.
@@ -26,17 +24,6 @@ pub struct OwnedTenure {
     pub removed: Option<Moment>,
     /// The department of its bucket; none where there is no such bucket.
     pub owner: Option<DeptName>,
-}
-
-/// The moment in a column, or NULL.
-fn moment_or_null(row: &Row, at: usize) -> Option<Option<Moment>>
-    ensures { MatchOption result ((o : Option ℕ) → IfSome o (λ t. t ≤ last_moment) → column row.now at ≢ number_or_null o) (λ o. (column row.now at ≡ number_or_null o) × IfSome o (λ t. t ≤ last_moment)) }
-{
-    if is_null(row, at) {
-        return Some(None);
-    }
-    let moment = moment(row, at)?;
-    Some(Some(moment))
 }
 
 /// The tenure that a row tells.

@@ -2,13 +2,12 @@
 ghost use Rattle.std.specs.Prelude.{◌≡◌, ◌≢◌, ◌↔◌, ◌==◌, ◌/◌, ◌%◌, ◌<◌, ◌^◌, ◌≤◌, ℕ, Bool, List, length, Option, IsTrue, IfOk, IfErr, IfSome, MatchOption};
 ghost use Rattle.sqlite_value.specs.declared.value.Value.TheVariants.{Null, Text};
 ghost use Rattle.sqlite_value.specs.Order.{column};
-ghost use Rattle.vault_base.specs.Days.{last_moment};
 ghost use Rattle.vault_lock.specs.Retention.{is_period};
 ghost use Rattle.vault_lock.specs.declared.retention.Mode.{Mode};
 ghost use Rattle.vault_lock.specs.declared.retention.Period.{Period};
 ghost use Rattle.vault_lock.specs.declared.retention.Default.{Default};
 ghost use Rattle.vault_lock.specs.declared.retention.Retention.{Retention};
-ghost use Rattle.vault_rules.specs.Rules.{passes_if_given, is_days, is_newer, is_noncurrent_action, are_bounds};
+ghost use Rattle.vault_rules.specs.Rules.{passes_if_given, is_day_count, is_newer_count, is_noncurrent_action, are_bounds};
 ghost use Rattle.vault_rules.specs.declared.rule.Noncurrent.{Noncurrent};
 ghost use Rattle.vault_core_model.specs.declared.rights.Rights.{Rights};
 ghost use Rattle.vault_core_model.specs.declared.records.Author.{Author};
@@ -20,17 +19,18 @@ ghost use Rattle.vault_audit_model.specs.Rows.{mode_number, days_of, years_of, c
 ghost use Rattle.vault_audit_model.specs.Values.{number, number_or_null, bytes_or_null, flag};
 
 use crate::cell::{
-    MOST_CONTENT, digest_or_null, flag, is_null, moment, number, number_within, small_number,
+    digest_or_null, flag, is_null, moment, number, number_within, small_number,
     small_number_or_null,
 };
 use crate::misread::Misread;
 use crate::name::{caller_name, rule_id};
 use sqlite::Row;
 use vault_base::content::Digest;
+use vault_core_model::limits::MOST_CONTENT;
 use vault_core_model::records::{Author, Cause, Removal};
 use vault_core_model::rights::Rights;
 use vault_lock::retention::{Default, Mode, Period, Retention};
-use vault_rules::rule::{Noncurrent, are_bounds};
+use vault_rules::rule::{Noncurrent, are_bounds, is_day_count, is_newer_count};
 
 /// The mode in a column, or none.
 pub fn mode(row: &Row, at: usize) -> Option<Option<Mode>>
@@ -111,38 +111,24 @@ pub fn default(
     Some(Some(Default { mode, period }))
 }
 
-/// Whether a number of days that a rule names is in its limits.
-fn is_days(days: u32) -> bool
-    ensures { result ≡ is_days days }
-{
-    1 <= days && days <= 2_147_483_647
-}
-
-/// Whether a number of newer noncurrent entries that a rule names is in its limits.
-fn is_newer(newer: u32) -> bool
-    ensures { result ≡ is_newer newer }
-{
-    1 <= newer && newer <= 100
-}
-
 /// The days in a column of a rule, or none.
 pub fn days_or_null(row: &Row, at: usize) -> Option<Option<u32>>
     ensures { MatchOption result
-        ((o : Option ℕ) → IsTrue (passes_if_given is_days o) → column row.now at ≢ number_or_null o)
-        (λ o. (column row.now at ≡ number_or_null o) × IsTrue (passes_if_given is_days o)) }
+        ((o : Option ℕ) → IsTrue (passes_if_given is_day_count o) → column row.now at ≢ number_or_null o)
+        (λ o. (column row.now at ≡ number_or_null o) × IsTrue (passes_if_given is_day_count o)) }
 {
     let days = small_number_or_null(row, at)?;
-    days.map_or(true, is_days).then_some(days)
+    days.map_or(true, is_day_count).then_some(days)
 }
 
 /// The number of newer noncurrent entries in a column of a rule, or none.
 fn newer_or_null(row: &Row, at: usize) -> Option<Option<u32>>
     ensures { MatchOption result
-        ((o : Option ℕ) → IsTrue (passes_if_given is_newer o) → column row.now at ≢ number_or_null o)
-        (λ o. (column row.now at ≡ number_or_null o) × IsTrue (passes_if_given is_newer o)) }
+        ((o : Option ℕ) → IsTrue (passes_if_given is_newer_count o) → column row.now at ≢ number_or_null o)
+        (λ o. (column row.now at ≡ number_or_null o) × IsTrue (passes_if_given is_newer_count o)) }
 {
     let newer = small_number_or_null(row, at)?;
-    newer.map_or(true, is_newer).then_some(newer)
+    newer.map_or(true, is_newer_count).then_some(newer)
 }
 
 /// What a rule does to noncurrent entries, whose numbers stand in these columns, or nothing.
@@ -177,7 +163,7 @@ fn bound_or_null(row: &Row, at: usize) -> Option<Option<u64>>
 }
 
 /// The bounds of sizes in two columns of a rule.
-#[tactic(auto, using(crate::proofs::PartLemmas::bounds_fit))]
+#[tactic(auto, using(crate::proofs::ColumnLemmas::bounds_fit))]
 pub fn bounds_of(row: &Row, larger_at: usize, smaller_at: usize) -> Option<Bounds>
     ensures { MatchOption result
         ((l s : Option ℕ) → IsTrue (are_bounds l s) → column row.now larger_at ≡ number_or_null l → column row.now smaller_at ≢ number_or_null s)
@@ -270,7 +256,7 @@ fn rights_of(n: u32) -> Rights
 }
 
 /// The rights in a column.
-#[tactic(auto, using(crate::proofs::PartLemmas::rights_below, crate::proofs::PartLemmas::rights_fit))]
+#[tactic(auto, using(crate::proofs::ColumnLemmas::rights_below, crate::proofs::ColumnLemmas::rights_fit))]
 pub fn rights(row: &Row, at: usize) -> Option<Rights>
     ensures { MatchOption result ((r : Rights) → column row.now at ≢ number (rights_number r)) (λ r. column row.now at ≡ number (rights_number r)) }
 {
@@ -301,7 +287,7 @@ fn is_sized(marker: bool, size: u32, digest: &Option<Digest>) -> bool
 }
 
 /// What three columns tell of an entry's size.
-#[tactic(auto, using(crate::proofs::PartLemmas::sized_within, crate::proofs::PartLemmas::sized_digest))]
+#[tactic(auto, using(crate::proofs::ColumnLemmas::sized_within, crate::proofs::ColumnLemmas::sized_digest))]
 pub fn extent_of(row: &Row, marker_at: usize, size_at: usize, digest_at: usize) -> Option<Extent>
     ensures { MatchOption result
         ((m : Bool) → (s : ℕ) → (d : Option (List ℕ)) → IsSizedAs m s d → column row.now marker_at ≡ flag m → column row.now size_at ≡ number s → column row.now digest_at ≢ bytes_or_null d)

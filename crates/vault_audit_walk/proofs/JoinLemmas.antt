@@ -46,11 +46,11 @@ shown_by_join t other key at columns db = flat_map (shown_joined other key at co
 
 -- ---- which rows
 
-with_true : (b : Bool) → (b && true) ≡ b
+pub with_true : (b : Bool) → (b && true) ≡ b
 with_true true = refl
 with_true false = refl
 
-singles : (g : Env → Row) (h : Row → Env) (rows : List Row) → map g (flat_map (λ e. h e ∷ []) rows) ≡ map (λ e. g (h e)) rows
+pub singles : (g : Env → Row) (h : Row → Env) (rows : List Row) → map g (flat_map (λ e. h e ∷ []) rows) ≡ map (λ e. g (h e)) rows
 singles g h [] = refl
 singles g h (r ∷ rows) = ap (λ xs. g (h r) ∷ xs) (singles g h rows)
 
