@@ -11,9 +11,6 @@ use Rattle.vault_store_apply.proofs.ApplyLemmas.{found_again}
 use Rattle.vault_store.specs.Migrated.{IsMigrated}
 use Rattle.vault_store.specs.Tables.{HasTablesOf}
 
-pub tables_unchanged : (a b : State) → IsUnchanged a b → HasTablesOf a b
-tables_unchanged a b same was_open is_open = (same.0.now_is, same.0.committed_is)
-
 pub tables_from : (a b c : State) → IsUnchanged a b → HasTablesOf b c → HasTablesOf a c
 tables_from a b c same later was_open is_open =
     let it = later same.0.is_open is_open in

@@ -1,6 +1,6 @@
 //! What a refusal of the store is to a keeper.
 ghost use Rattle.std.specs.Prelude.{◌≡◌, ◌≤◌, false};
-ghost use Rattle.vault_core_model.specs.Halts.{is_device_fault, Rose};
+ghost use Rattle.vault_core_model.specs.Halts.{is_device_fault, RoseOrIsFull};
 ghost use Rattle.vault_store.specs.Blame.{fault_of};
 
 use sqlite::{Error, ErrorCode};
@@ -10,7 +10,7 @@ use vault_core_model::halt::Fault;
 pub fn blame(faults: &mut u64, error: Error) -> Fault
     ensures told { result ≡ fault_of error }
     ensures counted { faults.old ≤ faults.new }
-    ensures device { result ≡ Fault.Device → Rose faults.old faults.new }
+    ensures device { result ≡ Fault.Device → RoseOrIsFull faults.old faults.new }
     ensures memory { result ≡ Fault.Memory → faults.new ≡ faults.old }
     ensures steady { is_device_fault result ≡ false → faults.new ≡ faults.old }
 {

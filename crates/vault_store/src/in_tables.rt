@@ -4,7 +4,7 @@ ghost use Rattle.std.specs.Prelude.{◌≡◌, ◌≢◌, ◌⊎◌, false, IfOk
 ghost use Rattle.sqlite.specs.Held.{state};
 ghost use Rattle.sqlite.specs.State.{HasCleanDisk, Survives};
 ghost use Rattle.vault_base.specs.declared.refusal.Table.{Table};
-ghost use Rattle.vault_core_model.specs.Step.{Run};
+ghost use Rattle.vault_core_model.specs.Step.{IsRun};
 ghost use Rattle.vault_core_model.specs.Vault.{Vault};
 ghost use Rattle.vault_audit.specs.Health.{IsHealthy};
 ghost use Rattle.vault_audit.specs.Whole.{IsTold};
@@ -31,7 +31,7 @@ pub fn run_in_tables<S: Alter>(
 ) -> Result<(Vec<Reply>, Connection<S>), (Refusal, Connection<S>)>
     // The replies are those of the machine from the vault that the tables spelled, and while the connection is open they spell the vault that it comes to.
     ensures run { IfOk result (λ done. HasCleanDisk (state S.Store done.1) → (v : Vault) → AreSound (state S.Store conn).now v →
-        ∥ ((w : Vault) × Run v commands.now done.0.items w × StandsFor (state S.Store done.1) w) ∥₁) }
+        ∥ ((w : Vault) × IsRun v commands.now done.0.items w × StandsFor (state S.Store done.1) w) ∥₁) }
     // Commands are carried out over sound tables alone.
     ensures sound { IfOk result (λ done. HasCleanDisk (state S.Store done.1) → (v : Vault) × AreSound (state S.Store conn).now v) }
     ensures told { IfErr result (λ e. IsTold e.0) }

@@ -1,5 +1,5 @@
 //! The vault of a file of an earlier edition, copied into an empty store.
-ghost use Rattle.std.specs.Prelude.{◌≡◌, ◌≢◌, false, IsTrue, IfOk, IfErr, IsErrAnd, OnOk, OnErr};
+ghost use Rattle.std.specs.Prelude.{◌≡◌, ◌≢◌, ◌↔◌, false, IsTrue, IfOk, IfErr, IsErrAnd, OnOk, OnErr};
 ghost use Rattle.sqlite.specs.Effect.{IsDatabase};
 ghost use Rattle.sqlite.specs.Held.{state};
 ghost use Rattle.sqlite.specs.State.{HasCleanDisk, IsRolledBack, IsUnchanged, Shows, Survives};
@@ -20,10 +20,10 @@ use crate::sql_keeper::SqlKeeper;
 use sqlite::{Alter, Connection, Error};
 use std::alloc::Global;
 use vault_audit::audit;
+use vault_audit_model::faults::refusal_of;
 use vault_audit_model::schema::{Edition, NEWEST};
 use vault_base::refusal::Refusal;
 use vault_store_create::copy::begin::begin_copy;
-use vault_store_create::create::refusal_of;
 
 /// Ends the transaction that is open, if there is one.
 fn settle<S: Alter>(conn: &mut Connection<S>)
@@ -55,6 +55,7 @@ fn take_copy<O: Alter, S: Alter>(
     ensures free { OnOk result ((state S.Store new.old).now.schema ≡ no_schema) }
     ensures taken { IfErr result (λ r. r ≡ Refusal.NameTaken → (state S.Store new.old).now.schema ≢ no_schema) }
     ensures named { (state S.Store new.old).now.schema ≢ no_schema → IfErr result (λ r. IsHealthy (state O.Store old.new) → r ≢ Refusal.Device) }
+    ensures unsound { ((v : Vault) → ¬ AreSoundAs edition (state O.Store old.old).now v) → IfErr result (λ r. IsHealthy (state O.Store old.new) → r ≢ Refusal.Device) }
     ensures outside { OnErr result (HasCleanDisk (state S.Store new.new) → new.new.in_transaction ≡ false) }
     ensures crash { Survives (state S.Store new.old) (state S.Store new.new) (λ _. ⊥) }
     ensures old_outside { HasCleanDisk (state O.Store old.new) → old.new.in_transaction ≡ false }
@@ -78,7 +79,8 @@ fn take_copy<O: Alter, S: Alter>(
 
 /// What is told where a copy isn't kept: what isn't sound was read wrongly.
 fn fault_of_copy(refusal: Refusal) -> Refusal
-    ensures { IsFault result }
+    ensures fault { IsFault result }
+    ensures memory { (result ≡ Refusal.Memory) ↔ (refusal ≡ Refusal.Memory) }
 {
     match refusal {
         Refusal::Memory => Refusal::Memory,
@@ -163,6 +165,7 @@ fn copy_vault<O: Alter, S: Alter>(
     ensures free { OnOk result ((state S.Store new.old).now.schema ≡ no_schema) }
     ensures taken { IfErr result (λ r. r ≡ Refusal.NameTaken → (state S.Store new.old).now.schema ≢ no_schema) }
     ensures named { (state S.Store new.old).now.schema ≢ no_schema → IfErr result (λ r. IsHealthy (state O.Store old.new) → r ≢ Refusal.Device) }
+    ensures unsound { ((v : Vault) → ¬ AreSoundAs edition (state O.Store old.old).now v) → IfErr result (λ r. IsHealthy (state O.Store old.new) → r ≢ Refusal.Device) }
     ensures outside { OnErr result (HasCleanDisk (state S.Store new.new) → new.new.in_transaction ≡ false) }
     ensures tables { OnErr result (HasCleanDisk (state S.Store new.new) → HasTablesOf (state S.Store new.old) (state S.Store new.new)) }
     ensures crash { Survives (state S.Store new.old) (state S.Store new.new) (λ trees. HasCleanDisk (state O.Store old.new) → IsMigrated edition (state O.Store old.old).now trees) }
@@ -223,6 +226,9 @@ impl<S: Alter> SqlKeeper<S> {
         ensures taken { IfErr result (λ e. e.0 ≡ Refusal.NameTaken → (state S.Store new).now.schema ≢ no_schema) }
         // A store with anything in it is never told as one that failed, while the old one works.
         ensures named { old.old.in_transaction ≡ false → new.in_transaction ≡ false → (state S.Store new).now.schema ≢ no_schema
+            → IfErr result (λ e. IsHealthy (state O.Store old.new) → e.0 ≢ Refusal.Device) }
+        // Nor is an old file whose tables tell no vault.
+        ensures unsound { old.old.in_transaction ≡ false → new.in_transaction ≡ false → ((v : Vault) → ¬ AreSoundAs edition (state O.Store old.old).now v)
             → IfErr result (λ e. IsHealthy (state O.Store old.new) → e.0 ≢ Refusal.Device) }
         // Inside a transaction it is refused, and that is left as it was; else none is open behind it, and no table was changed.
         ensures inside { IsTrue new.in_transaction → IsErrAnd result (λ e. (e.0 ≡ Refusal.Device) × (e.1 ≡ new)) }

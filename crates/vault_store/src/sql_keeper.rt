@@ -10,7 +10,7 @@ ghost use Rattle.vault_store_create.specs.Create.{IsFault};
 ghost use Rattle.vault_core_model.specs.Vault.{Vault, opening};
 ghost use Rattle.vault_core_model.specs.Allowed.{Allows};
 ghost use Rattle.vault_core_model.specs.Change.{changed};
-ghost use Rattle.vault_core_model.specs.Halts.{is_device_given, Rose};
+ghost use Rattle.vault_core_model.specs.Halts.{is_device_given, RoseOrIsFull};
 ghost use Rattle.vault_store_apply.specs.Left.{IsFoundIn, LeavesAlone};
 ghost use Rattle.vault_audit_model.specs.Spells.{AreSound};
 ghost use Rattle.vault_store.specs.Kept.{kept_vault, IsSettled, StandsFor};
@@ -41,10 +41,10 @@ use vault_store_reads::heads::read_head;
 use vault_store_reads::meta::{read_last, read_moves, read_next_id};
 use vault_store_reads::names::{has_department, read_bucket, read_caller, read_totals};
 use vault_store_reads::notes::read_note;
-use vault_store_reads::ordered::reads::{
+use vault_store_reads::removed::walk_removed;
+use vault_store_reads::rows_in_order::reads::{
     read_bucket_held, read_entries, read_keys, read_rules, read_setting, read_tenures,
 };
-use vault_store_reads::removed::walk_removed;
 use vault_tally::row::Row;
 
 /// A vault in tables.
@@ -175,7 +175,7 @@ impl<S: Alter> SqlKeeper<S> {
         ensures err { OnErr result (kept_vault S.Store self.new.opening.at.items self.new.opening.known self.new.made.items ≡ kept_vault S.Store self.old.opening.at.items self.old.opening.known self.old.made.items) }
         ensures honest { HasCleanDisk (state S.Store self.new.conn) → HasCleanDisk (state S.Store self.old.conn) }
         ensures counted { self.old.faults ≤ self.new.faults }
-        ensures device { result ≡ Err Fault.Device → Rose self.old.faults self.new.faults }
+        ensures device { result ≡ Err Fault.Device → RoseOrIsFull self.old.faults self.new.faults }
         ensures steady { is_device_given result ≡ false → self.new.faults ≡ self.old.faults }
         // A crash leaves what it could leave before, or the vault with the change; once that is acknowledged, this vault alone.
         ensures crash { HasCleanDisk (state S.Store self.new.conn) → ∥ Survives (state S.Store self.old.conn) (state S.Store self.new.conn) (IsFoundIn (changed (kept_vault S.Store self.old.opening.at.items self.old.opening.known self.old.made.items) at change.now)) ∥₁ }
@@ -346,7 +346,7 @@ impl<S: Alter> Keeper for SqlKeeper<S> {
         ensures err { OnErr result (kept_vault S.Store self.new.opening.at.items self.new.opening.known self.new.made.items ≡ kept_vault S.Store self.old.opening.at.items self.old.opening.known self.old.made.items) }
         ensures honest { HasCleanDisk (state S.Store self.new.conn) → HasCleanDisk (state S.Store self.old.conn) }
         ensures counted { self.old.faults ≤ self.new.faults }
-        ensures device { result ≡ Err Fault.Device → Rose self.old.faults self.new.faults }
+        ensures device { result ≡ Err Fault.Device → RoseOrIsFull self.old.faults self.new.faults }
         ensures steady { is_device_given result ≡ false → self.new.faults ≡ self.old.faults }
         // What `make` says of a crash.
         ensures crash { HasCleanDisk (state S.Store self.new.conn) → ∥ Survives (state S.Store self.old.conn) (state S.Store self.new.conn) (IsFoundIn (changed (kept_vault S.Store self.old.opening.at.items self.old.opening.known self.old.made.items) at change.now)) ∥₁ }

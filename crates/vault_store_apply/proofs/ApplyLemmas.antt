@@ -7,15 +7,12 @@ use Rattle.sqlite.proofs.StateLemmas.{survives_weaker}
 use Rattle.vault_base.specs.Days.{last_moment}
 use Rattle.vault_core_model.specs.Vault.{Vault}
 use Rattle.vault_core_model.specs.declared.change.Change.{Change}
-use Rattle.vault_core_model.specs.Allowed.{Allows}
 use Rattle.vault_core_model.specs.Change.{changed}
 use Rattle.vault_audit_model.specs.Tables.{vault_schema}
 use Rattle.vault_store_model.specs.Rows.{Rows, AreSameRows, rows_in}
 use Rattle.vault_audit_model.specs.Spells.{AreSound}
-use Rattle.vault_store_model.specs.Keeping.{Keeps}
 use Rattle.vault_store_model.proofs.RowsLemmas.{sound_is_rows}
 use Rattle.vault_store_model.specs.Changes.{edit_of}
-use Rattle.vault_store_model.specs.Limits.{IsChangeInLimits}
 use Rattle.vault_store_model.proofs.ChangeLemmas.{rows_told}
 use Rattle.vault_store_edits.specs.Commits.{Commits, MayCommit}
 use Rattle.vault_store_apply.specs.Left.{IsFoundIn}

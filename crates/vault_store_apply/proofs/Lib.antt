@@ -1,4 +1,3 @@
-pub mod PartLemmas
 pub mod ApplyLemmas
 pub mod RulesLemmas
 pub mod AdmissionLemmas

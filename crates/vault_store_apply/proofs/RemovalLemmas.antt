@@ -1,6 +1,6 @@
 -- The part of a removal makes the edit of that change, by what was read of the vault before.
 use Rattle.std.proofs.Common.{◌≡◌, ℕ, ◌+◌, ◌-◌, ◌≤◌, ◌==◌, List, [], ◌∷◌, length, filter, cond, Bool, true, false, not, nat_lt, Option, Some, None, refl, sym, ap, subst, ◌∙◌, arith, eqb}
-use Rattle.std.specs.Prelude.{find, option_map, option_and_then, unwrap_or, if◌then◌else◌}
+use Rattle.std.specs.Prelude.{find, option_map, unwrap_or, if◌then◌else◌}
 use Rattle.std.proofs.lemmas.Bool.{and_parts}
 use Rattle.std.proofs.lemmas.Bool.Decides.{nat_tests}
 use Rattle.sqlite_value.specs.Order.{Row}
@@ -20,7 +20,7 @@ use Rattle.vault_core_model.specs.Allowed.{IsRemoval}
 use Rattle.vault_core_model.specs.Change.{changed}
 use Rattle.vault_core_model.specs.Places.{is_held_at, held_at}
 use Rattle.vault_core_model.specs.Reads.{entry_of, head_of, head_over}
-use Rattle.vault_core_model.specs.Sound.{Sound, last_tenure}
+use Rattle.vault_core_model.specs.Sound.{Sound}
 use Rattle.vault_core_model.specs.Totals.{items_of}
 use Rattle.vault_core_model.specs.Vault.{Vault, config_of, history_of}
 use Rattle.vault_audit_model.specs.Spells.{department_in}
@@ -31,23 +31,12 @@ use Rattle.vault_store_model.specs.Sums.{CountsOut, last_tenure_of}
 use Rattle.vault_store_model.proofs.EntryLemmas.{found_history}
 use Rattle.vault_store_model.proofs.SumLemmas.{sums_removed}
 use Rattle.vault_store_model.proofs.ChangeLemmas.{is_held_there}
-use Rattle.vault_store_model.proofs.AfterLemmas.{count_removed}
+use Rattle.vault_store_model.proofs.HeadAfterRemovalLemmas.{count_removed}
 use Rattle.vault_store_reads.specs.Shown.{newest_but}
-use Rattle.vault_store_reads.specs.Tenures as read
 use Rattle.vault_store_apply.specs.EntryParts.{entry_removed, left_rows}
 use Rattle.vault_store_apply.specs.Applies.{IsEditOf}
 use Rattle.vault_store_apply.specs.Heads.{head_without, holds_no_other}
 use Rattle.vault_store_apply.proofs.AdmissionLemmas.{summed_same}
-
--- ---- the tenure that a removal ends
-
-last_of : (o : Option History) → last_tenure (unwrap_or (option_map (λ (h : History). h.tenures) o) []) ≡ option_and_then (λ (h : History). last_tenure h.tenures) o
-last_of None = refl
-last_of (Some h) = refl
-
--- the one that is read
-pub same_last : (v : Vault) (id : ℕ) → read.last_tenure_of v id ≡ last_tenure_of v id
-same_last v id = last_of (history_of v id)
 
 -- ---- a held entry's key has a head
 

@@ -1,5 +1,5 @@
 //! A change of any kind.
-ghost use Rattle.std.specs.Prelude.{◌≡◌, ◌≤◌, false, IsTrue, OnOk, OnErr};
+ghost use Rattle.std.specs.Prelude.{◌≡◌, ◌≤◌, false, OnOk};
 ghost use Rattle.sqlite.specs.Held.{state};
 ghost use Rattle.sqlite.specs.State.{HasCleanDisk, Survives};
 ghost use Rattle.vault_core_model.specs.Allowed.{Allows};
@@ -9,6 +9,8 @@ ghost use Rattle.vault_store_model.specs.Keeping.{Keeps};
 ghost use Rattle.vault_store_model.specs.Limits.{IsChangeInLimits};
 ghost use Rattle.vault_store_apply.specs.Applies.{Changes, IsChanged};
 ghost use Rattle.vault_store_apply.specs.Left.{IsFoundIn};
+ghost use Rattle.vault_store_reads.specs.Quiet.{IsOpenIfOk};
+ghost use Rattle.vault_store_edits.specs.Commits.{KeepsIfErr};
 
 use crate::entries::admission::admit;
 use crate::entries::moves::move_bucket;
@@ -34,9 +36,9 @@ fn make<S: Alter>(
     requires settled { conn.old.in_transaction ≡ false }
     requires limits { IsChangeInLimits change.now }
     ensures mode { conn.new.in_transaction ≡ false }
-    ensures open { HasCleanDisk (state S.Store conn.new) → OnOk result (IsTrue (state S.Store conn.new).is_open) }
+    ensures open { IsOpenIfOk S.Store conn.new result }
     ensures done { HasCleanDisk (state S.Store conn.new) → OnOk result (Changes (state S.Store conn.old) (state S.Store conn.new) at change.now) }
-    ensures nothing { HasCleanDisk (state S.Store conn.new) → OnErr result ((v : Vault) → Keeps (state S.Store conn.old) v → Keeps (state S.Store conn.new) v) }
+    ensures nothing { KeepsIfErr S.Store conn.old conn.new result }
     ensures honest { HasCleanDisk (state S.Store conn.new) → HasCleanDisk (state S.Store conn.old) }
     ensures crash { (v : Vault) → Keeps (state S.Store conn.old) v → Survives (state S.Store conn.old) (state S.Store conn.new) (IsChanged (state S.Store conn.old) v at change.now) }
 {
@@ -66,10 +68,10 @@ pub fn apply_change<S: Alter>(
 ) -> Result<(), Error>
     requires { conn.old.in_transaction ≡ false }
     ensures mode { conn.new.in_transaction ≡ false }
-    ensures open { HasCleanDisk (state S.Store conn.new) → OnOk result (IsTrue (state S.Store conn.new).is_open) }
+    ensures open { IsOpenIfOk S.Store conn.new result }
     // The change is made, and a crash leaves the changed vault alone.
     ensures done { HasCleanDisk (state S.Store conn.new) → OnOk result (Changes (state S.Store conn.old) (state S.Store conn.new) at change.now) }
-    ensures nothing { HasCleanDisk (state S.Store conn.new) → OnErr result ((v : Vault) → Keeps (state S.Store conn.old) v → Keeps (state S.Store conn.new) v) }
+    ensures nothing { KeepsIfErr S.Store conn.old conn.new result }
     ensures honest { HasCleanDisk (state S.Store conn.new) → HasCleanDisk (state S.Store conn.old) }
     // What a crash may leave, at any moment of the call: what it could leave before, or the changed vault.
     ensures crash { (v : Vault) → Keeps (state S.Store conn.old) v → v.last ≤ at → Allows v at change.now → Survives (state S.Store conn.old) (state S.Store conn.new) (IsFoundIn (changed v at change.now)) }

@@ -1,10 +1,10 @@
 //! A transaction that makes a change.
-ghost use Rattle.std.specs.Prelude.{◌≡◌, false, IsTrue, OnOk, OnErr};
+ghost use Rattle.std.specs.Prelude.{◌≡◌, false, OnOk};
 ghost use Rattle.sqlite.specs.Held.{state};
 ghost use Rattle.sqlite.specs.State.{HasCleanDisk, Survives};
-ghost use Rattle.vault_core_model.specs.Vault.{Vault};
-ghost use Rattle.vault_store_model.specs.Keeping.{Keeps};
 ghost use Rattle.vault_store_apply.specs.Applies.{ChangesBy, AreChangedBy};
+ghost use Rattle.vault_store_reads.specs.Quiet.{IsOpenIfOk};
+ghost use Rattle.vault_store_edits.specs.Commits.{KeepsIfErr};
 
 use sqlite::{Alter, Connection, Error};
 use vault_base::moment::Moment;
@@ -19,9 +19,9 @@ pub fn commit_part<S: Alter, P: Part<S>>(
 ) -> Result<(), Error>
     requires { conn.old.in_transaction ≡ false }
     ensures mode { conn.new.in_transaction ≡ false }
-    ensures open { HasCleanDisk (state S.Store conn.new) → OnOk result (IsTrue (state S.Store conn.new).is_open) }
+    ensures open { IsOpenIfOk S.Store conn.new result }
     ensures done { HasCleanDisk (state S.Store conn.new) → OnOk result (ChangesBy (state S.Store conn.old) (state S.Store conn.new) at (P.edit part.now)) }
-    ensures nothing { HasCleanDisk (state S.Store conn.new) → OnErr result ((v : Vault) → Keeps (state S.Store conn.old) v → Keeps (state S.Store conn.new) v) }
+    ensures nothing { KeepsIfErr S.Store conn.old conn.new result }
     ensures crash { Survives (state S.Store conn.old) (state S.Store conn.new) (AreChangedBy (state S.Store conn.old) at (P.edit part.now)) }
 {
     let _in_range = at.secs();

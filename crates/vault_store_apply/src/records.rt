@@ -2,15 +2,15 @@
 //!
 //! Each is made in a transaction of its own: where it fails, nothing is changed. What it brings has to be
 //! in its limits, as `vault_store_limits` tells.
-ghost use Rattle.std.specs.Prelude.{◌≡◌, ℕ, List, false, IsTrue, OnOk, OnErr};
+ghost use Rattle.std.specs.Prelude.{◌≡◌, ℕ, List, false, OnOk};
 ghost use Rattle.sqlite.specs.Held.{state};
 ghost use Rattle.sqlite.specs.State.{HasCleanDisk, Survives};
 ghost use Rattle.vault_core_model.specs.declared.change.Change.TheVariants as change;
-ghost use Rattle.vault_core_model.specs.Vault.{Vault};
 ghost use Rattle.vault_audit_model.specs.Spells.{rules_from, rules_if_given};
-ghost use Rattle.vault_store_model.specs.Keeping.{Keeps};
 ghost use Rattle.vault_store_model.specs.Limits.{IsChangeInLimits};
 ghost use Rattle.vault_store_apply.specs.Applies.{Changes, AreChanged};
+ghost use Rattle.vault_store_reads.specs.Quiet.{IsOpenIfOk};
+ghost use Rattle.vault_store_edits.specs.Commits.{KeepsIfErr};
 
 use crate::commit::commit_part;
 use crate::parts::bucket::{NewBucket, NewDefault, NewRules};
@@ -32,9 +32,9 @@ pub fn add_department<S: Alter>(
 ) -> Result<(), Error>
     requires { conn.old.in_transaction ≡ false }
     ensures mode { conn.new.in_transaction ≡ false }
-    ensures open { HasCleanDisk (state S.Store conn.new) → OnOk result (IsTrue (state S.Store conn.new).is_open) }
+    ensures open { IsOpenIfOk S.Store conn.new result }
     ensures done { HasCleanDisk (state S.Store conn.new) → IsChangeInLimits (change.AddDept name.now) → OnOk result (Changes (state S.Store conn.old) (state S.Store conn.new) at (change.AddDept name.now)) }
-    ensures nothing { HasCleanDisk (state S.Store conn.new) → OnErr result ((v : Vault) → Keeps (state S.Store conn.old) v → Keeps (state S.Store conn.new) v) }
+    ensures nothing { KeepsIfErr S.Store conn.old conn.new result }
     ensures crash { IsChangeInLimits (change.AddDept name.now) → Survives (state S.Store conn.old) (state S.Store conn.new) (AreChanged (state S.Store conn.old) at (change.AddDept name.now)) }
 {
     commit_part(conn, at, &NewDepartment { at, name })
@@ -48,9 +48,9 @@ pub fn add_caller<S: Alter>(
 ) -> Result<(), Error>
     requires { conn.old.in_transaction ≡ false }
     ensures mode { conn.new.in_transaction ≡ false }
-    ensures open { HasCleanDisk (state S.Store conn.new) → OnOk result (IsTrue (state S.Store conn.new).is_open) }
+    ensures open { IsOpenIfOk S.Store conn.new result }
     ensures done { HasCleanDisk (state S.Store conn.new) → IsChangeInLimits (change.AddCaller caller.now) → OnOk result (Changes (state S.Store conn.old) (state S.Store conn.new) at (change.AddCaller caller.now)) }
-    ensures nothing { HasCleanDisk (state S.Store conn.new) → OnErr result ((v : Vault) → Keeps (state S.Store conn.old) v → Keeps (state S.Store conn.new) v) }
+    ensures nothing { KeepsIfErr S.Store conn.old conn.new result }
     ensures crash { IsChangeInLimits (change.AddCaller caller.now) → Survives (state S.Store conn.old) (state S.Store conn.new) (AreChanged (state S.Store conn.old) at (change.AddCaller caller.now)) }
 {
     commit_part(conn, at, &NewCaller { at, caller })
@@ -64,9 +64,9 @@ pub fn close_caller<S: Alter>(
 ) -> Result<(), Error>
     requires { conn.old.in_transaction ≡ false }
     ensures mode { conn.new.in_transaction ≡ false }
-    ensures open { HasCleanDisk (state S.Store conn.new) → OnOk result (IsTrue (state S.Store conn.new).is_open) }
+    ensures open { IsOpenIfOk S.Store conn.new result }
     ensures done { HasCleanDisk (state S.Store conn.new) → IsChangeInLimits (change.CloseCaller name.now) → OnOk result (Changes (state S.Store conn.old) (state S.Store conn.new) at (change.CloseCaller name.now)) }
-    ensures nothing { HasCleanDisk (state S.Store conn.new) → OnErr result ((v : Vault) → Keeps (state S.Store conn.old) v → Keeps (state S.Store conn.new) v) }
+    ensures nothing { KeepsIfErr S.Store conn.old conn.new result }
     ensures crash { IsChangeInLimits (change.CloseCaller name.now) → Survives (state S.Store conn.old) (state S.Store conn.new) (AreChanged (state S.Store conn.old) at (change.CloseCaller name.now)) }
 {
     commit_part(conn, at, &ClosedCaller { at, name })
@@ -81,9 +81,9 @@ pub fn add_bucket<S: Alter>(
 ) -> Result<(), Error>
     requires { conn.old.in_transaction ≡ false }
     ensures mode { conn.new.in_transaction ≡ false }
-    ensures open { HasCleanDisk (state S.Store conn.new) → OnOk result (IsTrue (state S.Store conn.new).is_open) }
+    ensures open { IsOpenIfOk S.Store conn.new result }
     ensures done { HasCleanDisk (state S.Store conn.new) → IsChangeInLimits (change.AddBucket name.now dept.now) → OnOk result (Changes (state S.Store conn.old) (state S.Store conn.new) at (change.AddBucket name.now dept.now)) }
-    ensures nothing { HasCleanDisk (state S.Store conn.new) → OnErr result ((v : Vault) → Keeps (state S.Store conn.old) v → Keeps (state S.Store conn.new) v) }
+    ensures nothing { KeepsIfErr S.Store conn.old conn.new result }
     ensures crash { IsChangeInLimits (change.AddBucket name.now dept.now) → Survives (state S.Store conn.old) (state S.Store conn.new) (AreChanged (state S.Store conn.old) at (change.AddBucket name.now dept.now)) }
 {
     commit_part(conn, at, &NewBucket { at, name, dept })
@@ -98,9 +98,9 @@ pub fn set_default<S: Alter>(
 ) -> Result<(), Error>
     requires { conn.old.in_transaction ≡ false }
     ensures mode { conn.new.in_transaction ≡ false }
-    ensures open { HasCleanDisk (state S.Store conn.new) → OnOk result (IsTrue (state S.Store conn.new).is_open) }
+    ensures open { IsOpenIfOk S.Store conn.new result }
     ensures done { HasCleanDisk (state S.Store conn.new) → IsChangeInLimits (change.SetDefault name.now default) → OnOk result (Changes (state S.Store conn.old) (state S.Store conn.new) at (change.SetDefault name.now default)) }
-    ensures nothing { HasCleanDisk (state S.Store conn.new) → OnErr result ((v : Vault) → Keeps (state S.Store conn.old) v → Keeps (state S.Store conn.new) v) }
+    ensures nothing { KeepsIfErr S.Store conn.old conn.new result }
     ensures crash { IsChangeInLimits (change.SetDefault name.now default) → Survives (state S.Store conn.old) (state S.Store conn.new) (AreChanged (state S.Store conn.old) at (change.SetDefault name.now default)) }
 {
     commit_part(conn, at, &NewDefault { at, name, default })
@@ -115,9 +115,9 @@ pub fn set_rules<S: Alter>(
 ) -> Result<(), Error>
     requires { conn.old.in_transaction ≡ false }
     ensures mode { conn.new.in_transaction ≡ false }
-    ensures open { HasCleanDisk (state S.Store conn.new) → OnOk result (IsTrue (state S.Store conn.new).is_open) }
+    ensures open { IsOpenIfOk S.Store conn.new result }
     ensures done { HasCleanDisk (state S.Store conn.new) → IsChangeInLimits (change.SetRules name.now rules.now) → OnOk result (Changes (state S.Store conn.old) (state S.Store conn.new) at (change.SetRules name.now rules.now)) }
-    ensures nothing { HasCleanDisk (state S.Store conn.new) → OnErr result ((v : Vault) → Keeps (state S.Store conn.old) v → Keeps (state S.Store conn.new) v) }
+    ensures nothing { KeepsIfErr S.Store conn.old conn.new result }
     ensures crash { IsChangeInLimits (change.SetRules name.now rules.now) → Survives (state S.Store conn.old) (state S.Store conn.new) (AreChanged (state S.Store conn.old) at (change.SetRules name.now rules.now)) }
 {
     let rules = rules_given(rules);

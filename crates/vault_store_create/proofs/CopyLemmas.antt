@@ -1,5 +1,5 @@
 -- Rows that are put into a table one after another, and tables one after another.
-use Rattle.std.proofs.Common.{◌≡◌, ◌⊎◌, inl, inr, ◌==◌, ◌+◌, ◌<◌, ◌≤◌, ℕ, nat_lt, List, [], ◌∷◌, ◌++◌, length, map, true, false, cond, get_or, lit≤, append-nil, refl, sym, ap, subst, ◌∙◌, arith}
+use Rattle.std.proofs.Common.{◌≡◌, ◌⊎◌, inl, inr, ◌==◌, ◌+◌, ◌<◌, ◌≤◌, ℕ, nat_lt, List, [], ◌∷◌, ◌++◌, length, map, true, false, cond, lit≤, append-nil, refl, sym, subst, ◌∙◌, arith}
 use Rattle.std.specs.Prelude.{IsPermutation}
 use Rattle.std.specs.List.{AllByRecursion}
 use Rattle.std.proofs.lemmas.Bool.{cases_Bool}
@@ -13,12 +13,14 @@ use Rattle.vault_base.specs.declared.refusal.Table.{Table}
 use Rattle.vault_base.specs.declared.refusal.Table.TheVariants as table
 use Rattle.vault_core_model.specs.Vault.{Vault}
 use Rattle.vault_audit_model.specs.declared.schema.Edition.{Edition}
+use Rattle.vault_audit_model.specs.Order.{place_of}
 use Rattle.vault_audit_model.specs.Rows.{department_row, caller_row, bucket_row, rule_row, entry_row, content_row, setting_row, note_row, head_row, tenure_row}
 use Rattle.vault_audit_model.specs.Spells.{AreSoundAs, meta_of, department_in, bucket_of, heads_in}
 use Rattle.vault_audit_model.specs.Tables.{vault_schema}
+use Rattle.vault_audit_model.proofs.PlaceLemmas.{one_table}
 use Rattle.vault_audit_walk.specs.Walk.{Goes}
 use Rattle.vault_store_create.specs.Create.{Moves}
-use Rattle.vault_store_model.specs.Edits.{number_of, with_row}
+use Rattle.vault_store_model.specs.Edits.{with_row}
 use Rattle.vault_store_model.specs.Rows.{Rows, AreSameRows, rows_in, rows_of}
 use Rattle.vault_store_create.specs.Copied.{PutsRow, HasFirstRows, HasCopied, first_rows}
 use Rattle.vault_store_create.specs.Told.{IsOf, IsRowOf}
@@ -54,16 +56,16 @@ module _ (t : Table) where
   pub record Adds (rows : List Row) (x y : Database) : Type 0 where
     pub schema : y.schema ≡ vault_schema
     pub here : IsPermutation (rows ++ rows_in x t) (rows_in y t)
-    pub beside : (s : Table) → (number_of t == number_of s) ≡ false → IsPermutation (rows_in x s) (rows_in y s)
+    pub beside : (s : Table) → (place_of t == place_of s) ≡ false → IsPermutation (rows_in x s) (rows_in y s)
     pub listed : (IsDatabase x ⊎ (1 ≤ length rows)) → IsDatabase y
 
-  own_number : (number_of t == number_of t) ≡ true
+  own_number : (place_of t == place_of t) ≡ true
   own_number = grind (arith, nat_tests)
 
   row_here : (r : Row) (xs ys : Rows) → AreSameRows (with_row t r xs) ys → IsPermutation (r ∷ xs t) (ys t)
   row_here r xs ys same = subst (λ b. IsPermutation (cond b (r ∷ xs t) (xs t)) (ys t)) own_number (same t)
 
-  row_beside : (r : Row) (xs ys : Rows) (s : Table) → (number_of t == number_of s) ≡ false → AreSameRows (with_row t r xs) ys → IsPermutation (xs s) (ys s)
+  row_beside : (r : Row) (xs ys : Rows) (s : Table) → (place_of t == place_of s) ≡ false → AreSameRows (with_row t r xs) ys → IsPermutation (xs s) (ys s)
   row_beside r xs ys s other same = subst (λ b. IsPermutation (cond b (r ∷ xs s) (xs s)) (ys s)) other (same s)
 
   adds : (rows : List Row) (x y : Database) → AllByRecursion (IsRowOf t) rows → Goes (λ a row b. PutsRow t row a b) x rows y → x.schema ≡ vault_schema → Adds rows x y
@@ -86,29 +88,6 @@ module _ (t : Table) where
       }
 
 -- ---- one table after the other
-
--- the tables by their numbers
-abbrev table_at : ℕ → Table
-table_at n =
-    get_or
-    (table.Meta ∷ table.Departments ∷ table.Callers ∷ table.Buckets ∷ table.Rules ∷ table.Entries ∷ table.Contents ∷ table.Settings
-    ∷ table.Intake ∷ table.Heads ∷ table.Tenures ∷ []) n table.Meta
-
-numbered_back : (t : Table) → table_at (number_of t) ≡ t
-numbered_back table.Meta = refl
-numbered_back table.Departments = refl
-numbered_back table.Callers = refl
-numbered_back table.Buckets = refl
-numbered_back table.Rules = refl
-numbered_back table.Entries = refl
-numbered_back table.Contents = refl
-numbered_back table.Settings = refl
-numbered_back table.Intake = refl
-numbered_back table.Heads = refl
-numbered_back table.Tenures = refl
-
-one_table : (t s : Table) → number_of t ≡ number_of s → t ≡ s
-one_table t s same = sym (numbered_back t) ∙ ap table_at same ∙ numbered_back s
 
 below_if : (a b : ℕ) → nat_lt a b ≡ true → a < b
 below_if a b is = grind (arith, nat_tests, is)
@@ -138,7 +117,7 @@ below_as_before n m other = elim (cases_Bool (nat_lt n m)) [
 ]
 
 -- meta has a row, and the other tables come after it
-not_alone : (v : Vault) (t : Table) → (1 ≤ number_of t) ⊎ (1 ≤ length (rows_of v t))
+not_alone : (v : Vault) (t : Table) → (1 ≤ place_of t) ⊎ (1 ≤ length (rows_of v t))
 not_alone v table.Meta = inr (lit≤ tt)
 not_alone v table.Departments = inl (lit≤ tt)
 not_alone v table.Callers = inl (lit≤ tt)
@@ -151,20 +130,20 @@ not_alone v table.Intake = inl (lit≤ tt)
 not_alone v table.Heads = inl (lit≤ tt)
 not_alone v table.Tenures = inl (lit≤ tt)
 
-module _ (v : Vault) (t : Table) (rows : List Row) (x y : Database) (was : HasFirstRows v (number_of t) x) (shown : IsPermutation (rows_of v t) rows) (added : Adds t rows x y) where
-  here_more : IsPermutation (first_rows v (number_of t + 1) t) (rows_in y t)
+module _ (v : Vault) (t : Table) (rows : List Row) (x y : Database) (was : HasFirstRows v (place_of t) x) (shown : IsPermutation (rows_of v t) rows) (added : Adds t rows x y) where
+  here_more : IsPermutation (first_rows v (place_of t + 1) t) (rows_in y t)
   here_more =
-      let none : IsPermutation [] (rows_in x t) = subst (λ b. IsPermutation (cond b (rows_of v t) []) (rows_in x t)) (not_below (number_of t)) (was.rows t) in
+      let none : IsPermutation [] (rows_in x t) = subst (λ b. IsPermutation (cond b (rows_of v t) []) (rows_in x t)) (not_below (place_of t)) (was.rows t) in
       let put : IsPermutation rows (rows_in y t) = subst (λ rs. IsPermutation rs (rows_in y t)) (append-nil rows) (IsPermutation-trans _ _ _ (IsPermutation-append_right rows _ _ none) added.here) in
-      subst (λ b. IsPermutation (cond b (rows_of v t) []) (rows_in y t)) (sym (below_more (number_of t))) (IsPermutation-trans _ _ _ shown put)
+      subst (λ b. IsPermutation (cond b (rows_of v t) []) (rows_in y t)) (sym (below_more (place_of t))) (IsPermutation-trans _ _ _ shown put)
 
-  rows_more : AreSameRows (first_rows v (number_of t + 1)) (rows_in y)
-  rows_more s = elim (cases_Bool (number_of t == number_of s)) [
+  rows_more : AreSameRows (first_rows v (place_of t + 1)) (rows_in y)
+  rows_more s = elim (cases_Bool (place_of t == place_of s)) [
     | inl same ↦
         let is : t ≡ s = one_table t s (grind (arith, nat_tests, same)) in
-        subst (λ u. IsPermutation (first_rows v (number_of t + 1) u) (rows_in y u)) is here_more
+        subst (λ u. IsPermutation (first_rows v (place_of t + 1) u) (rows_in y u)) is here_more
     | inr other ↦
-        subst (λ b. IsPermutation (cond b (rows_of v s) []) (rows_in y s)) (sym (below_as_before (number_of s) (number_of t) other))
+        subst (λ b. IsPermutation (cond b (rows_of v s) []) (rows_in y s)) (sym (below_as_before (place_of s) (place_of t) other))
         (IsPermutation-trans _ _ _ (was.rows s) (added.beside s other))
   ]
 
@@ -174,11 +153,11 @@ module _ (v : Vault) (t : Table) (rows : List Row) (x y : Database) (was : HasFi
     | inr some ↦ added.listed (inr (let as_long = length_permutation _ _ shown in omega (arith, some, as_long)))
   ]
 
-  table_more : HasFirstRows v (number_of t + 1) y
+  table_more : HasFirstRows v (place_of t + 1) y
   table_more = record { schema = added.schema; rows = rows_more; listed = λ h. listed_more }
 
 pub copies_table : (n : Edition) (from x y : Database) (t : Table) (rows : List Row) → ((v : Vault) → AreSoundAs n from v → IsPermutation (rows_of v t) rows)
-    → Goes (λ a row b. PutsRow t row a b) x rows y → HasCopied n from (number_of t) x → HasCopied n from (number_of t + 1) y
+    → Goes (λ a row b. PutsRow t row a b) x rows y → HasCopied n from (place_of t) x → HasCopied n from (place_of t + 1) y
 copies_table n from x y t rows shown gone was v is =
     let before = was v is in
     let told = shown v is in

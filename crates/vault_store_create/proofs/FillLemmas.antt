@@ -8,10 +8,10 @@ use Rattle.vault_base.specs.declared.refusal.Table.{Table}
 use Rattle.vault_base.specs.declared.refusal.Table.TheVariants as table
 use Rattle.vault_core_model.specs.Vault.{Vault}
 use Rattle.vault_audit_model.specs.declared.schema.Edition.{Edition}
+use Rattle.vault_audit_model.specs.Order.{place_of}
 use Rattle.vault_audit_model.specs.Spells.{AreSound, AreSoundAs}
 use Rattle.vault_store_create.specs.Create.{HasAll}
 use Rattle.vault_store_model.proofs.RowsLemmas.{sound_is_rows}
-use Rattle.vault_store_model.specs.Edits.{number_of}
 use Rattle.vault_store_model.specs.Rows.{AreSameRows, rows_in, rows_of}
 use Rattle.vault_store_edits.proofs.TableLemmas.{of_each, rows_are}
 use Rattle.vault_store_edits.specs.Trees.{columns_of}
@@ -26,7 +26,7 @@ none_copied n from db made v is = record {
   schema = made.schema;
   rows = λ t.
       let bare : rows_in db t ≡ [] = rows_are db t ∙ ap (map (columns_of t)) (of_each (λ tree. db.trees tree ≡ []) made.rows t) in
-      let none : first_rows v 0 t ≡ [] = ap (λ b. cond b (rows_of v t) []) (none_below (number_of t)) in
+      let none : first_rows v 0 t ≡ [] = ap (λ b. cond b (rows_of v t) []) (none_below (place_of t)) in
       IsPermutation-same _ _ (none ∙ sym bare);
   listed = λ none. absurd (omega (arith, none));
 }

@@ -23,10 +23,11 @@ use Rattle.sqlite.specs.State.{State, Executes, mode_of}
 use Rattle.sqlite.proofs.Callers.{statement_of, runs_as, one_step}
 use Rattle.vault_base.specs.declared.refusal.Table.TheVariants as table
 use Rattle.vault_core_model.specs.Vault.{opening}
+use Rattle.vault_audit_model.specs.Order.{place_of}
 use Rattle.vault_audit_model.specs.Tables.{vault_schema, meta, callers, meta_tree, callers_tree}
 use Rattle.vault_audit_model.specs.Rows.{caller_row, caller_columns, meta_columns}
 use Rattle.vault_audit_model.specs.Spells.{Spells, AreSound}
-use Rattle.vault_store_create.specs.Create.{place_of, HasAll, HasMetaRow, IsFilled}
+use Rattle.vault_store_create.specs.Create.{HasAll, HasMetaRow, IsFilled}
 use Rattle.vault_store_create.proofs.OpeningLemmas.{is_kept}
 use Rattle.vault_store_create.proofs.TextLemmas.{meta_row_text, meta_row_terms, meta_row_is, meta_row_plain, registrar_text, registrar_terms, registrar_is, registrar_plain}
 use Rattle.vault_audit_model.proofs.OutcomeLemmas.{went, same_value}

@@ -2,7 +2,7 @@ mod TextLemmas
 mod CreateLemmas
 mod InsertLemmas
 mod OpeningLemmas
-mod CopyTextLemmas
+mod ListingLemmas
 mod RowLemmas
 mod TenureLemmas
 mod ShownLemmas

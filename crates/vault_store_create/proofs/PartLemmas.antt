@@ -3,8 +3,7 @@ use Rattle.std.proofs.Common.{ℕ, List, Ok, Err, Result, OnOk}
 use Rattle.sqlite_value.specs.Order.{Row}
 use Rattle.sqlite.specs.declared.error.Error.{Error}
 use Rattle.sqlite.specs.Effect.{Database}
-use Rattle.sqlite.specs.State.{State, Executes, ExecutesInside, Survives}
-use Rattle.sqlite.proofs.StateLemmas.{survives_then}
+use Rattle.sqlite.specs.State.{State, Executes, ExecutesInside}
 use Rattle.vault_store_create.specs.Copied.{Steps}
 
 -- a statement that runs is a part that goes from one database to another
@@ -13,6 +12,3 @@ pub steps_if : (text : List ℕ) (params : Row) (old new : State) (r : Result �
 steps_if text params old new (Err e) Goes does h = tt
 steps_if text params old new (Ok count) Goes does (h, shown, _) =
     record { was_open = shown.was_open; is_open = shown.is_open; inside = shown.mode; committed = shown.committed_is; goes = does count h }
-
-pub survives_more : (a b c : State) → Survives a b (λ _. ⊥) → Survives b c (λ _. ⊥) → Survives a c (λ _. ⊥)
-survives_more a b c one two = survives_then a b c (λ _. ⊥) (λ _. ⊥) (λ _. ⊥) (λ clean db h. h) (λ clean db h. h) one two

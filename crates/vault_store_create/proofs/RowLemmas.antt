@@ -31,7 +31,7 @@ use Rattle.vault_store_edits.proofs.StatementLemmas.{Leaves, inserts}
 use Rattle.vault_store_create.specs.Copied.{PutsRow}
 use Rattle.vault_store_create.specs.Listings.{putting_of}
 use Rattle.vault_store_create.specs.Told.{IsOf, IsRowOf}
-use Rattle.vault_store_create.proofs.CopyTextLemmas.{meta_terms, puts_meta, departments_terms, puts_departments, callers_terms, puts_callers, buckets_terms, puts_buckets, rules_terms, puts_rules, entries_terms, puts_entries, contents_terms, puts_contents, settings_terms, puts_settings, intake_terms, puts_intake, heads_terms, puts_heads, tenures_terms, puts_tenures}
+use Rattle.vault_store_create.proofs.ListingLemmas.{meta_terms, puts_meta, departments_terms, puts_departments, callers_terms, puts_callers, buckets_terms, puts_buckets, rules_terms, puts_rules, entries_terms, puts_entries, contents_terms, puts_contents, settings_terms, puts_settings, intake_terms, puts_intake, heads_terms, puts_heads, tenures_terms, puts_tenures}
 
 -- ---- parameters: the values of records aren't NaN, so they are bound as they are
 

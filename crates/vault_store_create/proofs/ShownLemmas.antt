@@ -22,7 +22,7 @@ use Rattle.vault_store_model.specs.Rows.{rows_of}
 use Rattle.vault_store_edits.specs.Trees.{tree_of}
 use Rattle.vault_store_create.specs.Listings.{listing_of, tenures_listing}
 use Rattle.vault_store_create.proofs.TenureLemmas.{first_tenures_shown}
-use Rattle.vault_store_create.proofs.CopyTextLemmas.{Reads, terms_of, names_of, reads_meta, reads_departments, reads_callers, reads_buckets, reads_rules, reads_entries, reads_contents, reads_settings, reads_intake, reads_heads, reads_tenures}
+use Rattle.vault_store_create.proofs.ListingLemmas.{Reads, terms_of, names_of, reads_meta, reads_departments, reads_callers, reads_buckets, reads_rules, reads_entries, reads_contents, reads_settings, reads_intake, reads_heads, reads_tenures}
 
 -- the row of meta with the number of the newest edition
 abbrev as_newest : Row → Row

@@ -31,7 +31,7 @@ use Rattle.vault_audit_model.proofs.ValueLemmas.{agrees, same_text, same_number}
 use Rattle.vault_store_model.proofs.ScanLemmas.{uncovered}
 use Rattle.vault_store_reads.proofs.FindLemmas.{at_most_one}
 use Rattle.vault_store_create.specs.Listings.{first_tenures_listing}
-use Rattle.vault_store_create.proofs.CopyTextLemmas.{pairs, pairs_are, pairs_unlisted, pairs_plain}
+use Rattle.vault_store_create.proofs.ListingLemmas.{pairs, pairs_are, pairs_unlisted, pairs_plain}
 
 -- ---- what the query shows, by the columns of rows
 

@@ -6,10 +6,11 @@ use Rattle.sqlite.specs.State.{State}
 use Rattle.vault_base.specs.declared.refusal.Table.{Table}
 use Rattle.vault_core_model.specs.Vault.{Vault}
 use Rattle.vault_audit_model.specs.declared.schema.Edition.{Edition}
+use Rattle.vault_audit_model.specs.Order.{place_of}
 use Rattle.vault_audit_model.specs.Tables.{vault_schema}
 use Rattle.vault_audit_model.specs.Spells.{AreSoundAs}
 use Rattle.vault_store_model.specs.Rows.{Rows, AreSameRows, rows_in, rows_of}
-use Rattle.vault_store_model.specs.Edits.{number_of, with_row}
+use Rattle.vault_store_model.specs.Edits.{with_row}
 use Rattle.vault_store_create.specs.Told.{IsRowOf}
 
 -- A part of a transaction goes from one database to another, and leaves the last commit alone.
@@ -32,7 +33,7 @@ PutsRow t row old new = old.schema ≡ vault_schema → IsRowOf t row → HasRow
 
 -- the rows of the first so many tables, and none of the others
 abbrev pub first_rows : Vault → ℕ → Rows
-first_rows v k t = cond (nat_lt (number_of t) k) (rows_of v t) []
+first_rows v k t = cond (nat_lt (place_of t) k) (rows_of v t) []
 
 -- the first so many tables have the rows of the vault, and the others none
 pub record HasFirstRows (v : Vault) (k : ℕ) (db : Database) : Type 0 where

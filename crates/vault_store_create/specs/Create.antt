@@ -1,12 +1,13 @@
 -- The way from a store without tables to a new vault.
-use Rattle.std.specs.Prelude.{◌≡◌, ◌⊎◌, ◌&&◌, ◌==◌, ℕ, [], ◌∷◌, filter, map, take, drop, IsTrue}
-use Rattle.std.specs.List.{AllByRecursion, list_any}
+use Rattle.std.specs.Prelude.{◌≡◌, ◌⊎◌, ℕ, [], ◌∷◌, map, drop, IsTrue, Result, OnOk}
+use Rattle.std.specs.List.{AllByRecursion}
 use Rattle.sqlite_trees.specs.Tree.{Trees}
 use Rattle.sqlite_catalog.specs.Listing.{IsSound}
 use Rattle.sqlite.specs.Effect.{Database, IsDatabase}
 use Rattle.sqlite.specs.Schema.{Schema}
-use Rattle.sqlite.specs.State.{State}
-use Rattle.vault_base.specs.declared.refusal.Table.{Table}
+use Rattle.sqlite.specs.State.{State, HasCleanDisk}
+use Rattle.sqlite_trees.specs.declared.store.Store.{Ghosts}
+use Rattle.sqlite.specs.Held.{Held, state}
 use Rattle.vault_base.specs.declared.refusal.Table.TheVariants as table
 use Rattle.vault_base.specs.declared.refusal.Refusal.{Refusal}
 use Rattle.vault_base.specs.declared.refusal.Refusal.TheVariants.{Damaged, Memory, Device}
@@ -14,28 +15,7 @@ use Rattle.vault_core_model.specs.Vault.{opening}
 use Rattle.vault_audit_model.specs.Tables.{vault_schema, meta_tree}
 use Rattle.vault_audit_model.specs.Rows.{meta_row, meta_columns}
 use Rattle.vault_audit_model.specs.Spells.{meta_of, AreSound}
-
--- how many tables are made before this one
-abbrev pub place_of : Table → ℕ
-place_of table.Meta = 0
-place_of table.Departments = 1
-place_of table.Callers = 2
-place_of table.Buckets = 3
-place_of table.Rules = 4
-place_of table.Entries = 5
-place_of table.Contents = 6
-place_of table.Settings = 7
-place_of table.Intake = 8
-place_of table.Heads = 9
-place_of table.Tenures = 10
-
--- the first so many tables of a vault, with the indexes that they bring
-abbrev pub schema_of_first : ℕ → Schema
-schema_of_first n = record {
-  tables = take n vault_schema.tables;
-  indexes = filter (λ i. i.is_unique && list_any (λ t. t.tree == i.table) (take n vault_schema.tables)) vault_schema.indexes;
-  views = [];
-}
+use Rattle.vault_audit_schema.specs.Statements.{schema_of_first}
 
 -- these tables and no others are there, and none has a row
 pub record HasEmpty (schema_is : Schema) (db : Database) : Type 0 where
@@ -80,3 +60,7 @@ IsFault r = (r ≡ Memory) ⊎ (r ≡ Device)
 -- where no table is, the first of a vault's isn't there
 abbrev pub without_tables : Refusal
 without_tables = Damaged table.Meta
+
+-- inside a transaction: where it is answered, tables of the one kind became tables of the other
+abbrev pub MovesInside : {S A E : Type 0} → Ghosts S → Held S → Held S → Result A E → (Database → Type 0) → (Database → Type 0) → Type 0
+MovesInside g old new result before after = HasCleanDisk (state g new) → IsTrue old.in_transaction → OnOk result (Moves (state g old) (state g new) before after)

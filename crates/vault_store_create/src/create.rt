@@ -1,17 +1,18 @@
 //! A new vault in a store that is empty.
 ghost use Rattle.std.specs.Prelude.{◌≡◌, ◌≢◌, ◌↔◌, false, IsTrue, OnOk, OnErr, IfErr, IsErrAnd};
-ghost use Rattle.sqlite.specs.State.{HasCleanDisk, KeepsCommit, Survives};
+ghost use Rattle.sqlite.specs.State.{HasCleanDisk, Survives};
 ghost use Rattle.sqlite.specs.Held.{state};
 ghost use Rattle.vault_core_model.specs.Vault.{opening};
 ghost use Rattle.vault_audit_model.specs.Spells.{AreSound};
 ghost use Rattle.vault_audit_model.specs.Tables.{no_schema};
-ghost use Rattle.vault_audit_model.specs.Faults.{refusal_of};
-ghost use Rattle.vault_store_create.specs.Create.{Moves, HasFirst, IsFilled, AreOpening, IsFault, without_tables};
+ghost use Rattle.vault_store_create.specs.Create.{HasFirst, IsFilled, AreOpening, IsFault, without_tables, MovesInside};
+ghost use Rattle.vault_store_edits.specs.Inside.{CommitsNothing};
 
 use crate::first_rows::{put_meta, put_registrar};
 use crate::tables::make_tables;
-use sqlite::{Alter, Connection, Error, ErrorCode, Transaction};
+use sqlite::{Alter, Connection, Error, Transaction};
 use sqlite_schema::schema::Schema;
+use vault_audit_model::faults::refusal_of;
 use vault_base::refusal::{Refusal, Table};
 
 /// Whether a store has no table, index or view.
@@ -28,23 +29,11 @@ pub fn without_tables() -> Refusal
     Refusal::Damaged(Table::Meta)
 }
 
-/// What an error of the store is told as.
-pub fn refusal_of(error: Error) -> Refusal
-    ensures { result ≡ refusal_of error }
-{
-    match error {
-        Error::SqliteFailure(ErrorCode::OutOfMemory) => Refusal::Memory,
-        _ => Refusal::Device,
-    }
-}
-
 /// Makes the tables and their first rows.
 fn put_opening<S: Alter>(tx: &mut Transaction<'_, S>) -> Result<(), Error>
     ensures same_reference { tx.new.conn.ghost_name ≡ tx.old.conn.ghost_name }
-    ensures made { HasCleanDisk (state S.Store tx.new.conn.now) → IsTrue tx.old.conn.now.in_transaction
-        → OnOk result (Moves (state S.Store tx.old.conn.now) (state S.Store tx.new.conn.now) (HasFirst 0) IsFilled) }
-    ensures kept { HasCleanDisk (state S.Store tx.new.conn.now) → IsTrue tx.old.conn.now.in_transaction
-        → OnErr result (KeepsCommit (state S.Store tx.old.conn.now) (state S.Store tx.new.conn.now)) }
+    ensures made { MovesInside S.Store tx.old.conn.now tx.new.conn.now result (HasFirst 0) IsFilled }
+    ensures kept { CommitsNothing S.Store tx.old.conn.now tx.new.conn.now result }
     ensures survives { Survives (state S.Store tx.old.conn.now) (state S.Store tx.new.conn.now) (λ _. ⊥) }
 {
     make_tables(tx)?;

@@ -1,4 +1,5 @@
-//! A new vault: its tables and their first rows, made in a store that is empty.
+//! A new vault in a store that is empty: its tables and their first rows, or the rows of the vault of an earlier
+//! edition, copied.
 #![tactic(auto)]
 
 pub mod copy;

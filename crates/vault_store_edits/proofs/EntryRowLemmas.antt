@@ -48,18 +48,18 @@ keyed bucket key rest r = ap₂ ◌&&◌ (text_test bucket (column r 1)) (and_tr
 
 -- ---- entries
 
-kind_taken : (by : Author) → cast kind.Integer (author_kind by) ≡ author_kind by
+pub kind_taken : (by : Author) → cast kind.Integer (author_kind by) ≡ author_kind by
 kind_taken (author.Caller name) = cast_flag false
 kind_taken (author.Rule id) = cast_flag true
 
-name_taken : (by : Author) → cast kind.Text (author_name by) ≡ author_name by
+pub name_taken : (by : Author) → cast kind.Text (author_name by) ≡ author_name by
 name_taken (author.Caller name) = refl
 name_taken (author.Rule id) = refl
 
 abbrev pub entry_params : Entry → Row
 entry_params e = entry_row e
 
-abbrev entry_source : Entry → Row
+abbrev pub entry_source : Entry → Row
 entry_source e =
     number e.id ∷ Null ∷ Text e.bucket ∷ Text e.key ∷ flag e.marker ∷ number e.size ∷ bytes_or_null e.digest ∷ number e.admitted ∷ author_kind e.by
     ∷ author_name e.by ∷ removal_at e.removal ∷ removal_cause e.removal ∷ removal_by e.removal ∷ []

@@ -13,8 +13,8 @@ use Rattle.sqlite.specs.Command.TheVariants.{Insert, Update, Delete}
 use Rattle.sqlite.specs.Listing.{understood}
 use Rattle.sqlite.proofs.Callers.{IsPlain, command_of}
 use Rattle.vault_audit_model.specs.Tables.{vault_schema, entries_tree, contents_tree, heads_tree}
-use Rattle.vault_store_model.specs.Scans.{scan, scan_as}
-use Rattle.vault_store_edits.specs.Queries.{equals, Finds}
+use Rattle.vault_store_model.specs.Scans.{table_scan, scan_as}
+use Rattle.vault_store_edits.specs.Queries.{equals, FindsWhere}
 
 -- ---- entries
 
@@ -44,7 +44,7 @@ abbrev pub removed_project : List Term
 removed_project =
     col 1 0 ∷ lit Null ∷ col 1 2 ∷ col 1 3 ∷ col 1 4 ∷ col 1 5 ∷ col 1 6 ∷ col 1 7 ∷ col 1 8 ∷ col 1 9 ∷ col 0 1 ∷ col 0 2 ∷ col 0 3 ∷ []
 
-pub removed_is : command_of (understood vault_schema removed_text) ≡ Update 5 (record { lets = []; body = scan entries_tree by_id (col 1 0 ∷ removed_project) })
+pub removed_is : command_of (understood vault_schema removed_text) ≡ Update 5 (record { lets = []; body = table_scan entries_tree by_id (col 1 0 ∷ removed_project) })
 unfolding understood everything
 removed_is = refl
 
@@ -52,7 +52,7 @@ pub removed_plain : IsPlain (understood vault_schema removed_text)
 unfolding understood everything
 removed_plain = (refl, refl)
 
-pub finds_entry : Finds (codes "SELECT id FROM entries WHERE id = ?1") entries_tree by_id
+pub finds_entry : FindsWhere (codes "SELECT id FROM entries WHERE id = ?1") entries_tree by_id
 unfolding understood everything
 finds_entry = record { names = codes "id" ∷ []; command = refl; unlisted = refl; plain = (refl, refl) }
 
@@ -75,7 +75,7 @@ content_plain = (refl, refl)
 abbrev pub no_content_text : List ℕ
 no_content_text = codes "DELETE FROM contents WHERE id = ?1"
 
-pub no_content_is : command_of (understood vault_schema no_content_text) ≡ Delete 6 (record { lets = []; body = scan contents_tree by_id (col 1 0 ∷ []) })
+pub no_content_is : command_of (understood vault_schema no_content_text) ≡ Delete 6 (record { lets = []; body = table_scan contents_tree by_id (col 1 0 ∷ []) })
 unfolding understood everything
 no_content_is = refl
 
@@ -83,7 +83,7 @@ pub no_content_plain : IsPlain (understood vault_schema no_content_text)
 unfolding understood everything
 no_content_plain = (refl, refl)
 
-pub finds_content : Finds (codes "SELECT id FROM contents WHERE id = ?1") contents_tree by_id
+pub finds_content : FindsWhere (codes "SELECT id FROM contents WHERE id = ?1") contents_tree by_id
 unfolding understood everything
 finds_content = record { names = codes "id" ∷ []; command = refl; unlisted = refl; plain = (refl, refl) }
 
@@ -178,7 +178,7 @@ newer_text = codes "UPDATE heads SET newest = ?3, count = ?4 WHERE bucket = ?1 A
 abbrev pub newer_project : List Term
 newer_project = col 1 0 ∷ col 1 1 ∷ col 1 2 ∷ col 0 2 ∷ col 0 3 ∷ []
 
-pub newer_is : command_of (understood vault_schema newer_text) ≡ Update 9 (record { lets = []; body = scan heads_tree by_key (col 1 0 ∷ newer_project) })
+pub newer_is : command_of (understood vault_schema newer_text) ≡ Update 9 (record { lets = []; body = table_scan heads_tree by_key (col 1 0 ∷ newer_project) })
 unfolding understood everything
 newer_is = refl
 
@@ -189,7 +189,7 @@ newer_plain = (refl, refl)
 abbrev pub no_head_text : List ℕ
 no_head_text = codes "DELETE FROM heads WHERE bucket = ?1 AND key = ?2"
 
-pub no_head_is : command_of (understood vault_schema no_head_text) ≡ Delete 9 (record { lets = []; body = scan heads_tree by_key (col 1 0 ∷ []) })
+pub no_head_is : command_of (understood vault_schema no_head_text) ≡ Delete 9 (record { lets = []; body = table_scan heads_tree by_key (col 1 0 ∷ []) })
 unfolding understood everything
 no_head_is = refl
 
@@ -197,6 +197,6 @@ pub no_head_plain : IsPlain (understood vault_schema no_head_text)
 unfolding understood everything
 no_head_plain = (refl, refl)
 
-pub finds_head : Finds (codes "SELECT rowid FROM heads WHERE bucket = ?1 AND key = ?2") heads_tree by_key
+pub finds_head : FindsWhere (codes "SELECT rowid FROM heads WHERE bucket = ?1 AND key = ?2") heads_tree by_key
 unfolding understood everything
 finds_head = record { names = codes "rowid" ∷ []; command = refl; unlisted = refl; plain = (refl, refl) }

@@ -57,10 +57,6 @@ map_alike f g (x ∷ xs) same = rw (same x (inl refl), map_alike f g xs (λ y h.
 abbrev has_one_of : List ℤ → Row → Bool
 has_one_of ids r = list_any (λ id. has_rowid id r) ids
 
-both_out : (a b c : Bool) (x : Row) (xs : List Row) → cond (not a) (cond (not b) (x ∷ xs) xs) xs ≡ cond (not (a || b)) (x ∷ xs) xs
-both_out true b c x xs = refl
-both_out false b c x xs = refl
-
 filter_both : (p q : Row → Bool) (xs : List Row) → filter (λ r. not (q r)) (filter (λ r. not (p r)) xs) ≡ filter (λ r. not (p r || q r)) xs
 filter_both p q [] = refl
 filter_both p q (x ∷ xs) =

@@ -7,11 +7,12 @@ use Rattle.sqlite_resolve.specs.declared.compiled.Compiled.{Compiled}
 use Rattle.sqlite.specs.declared.error.Error.{Error}
 use Rattle.sqlite.specs.Listing.{understood}
 use Rattle.sqlite.specs.State.{State, IsUnchanged, IsNotRun, KeepsCommit, Shown, ShowsRows, FailsToShow, FailsToQuery, IsTooLate, Survives}
+use Rattle.sqlite.proofs.StateLemmas.{survives_then}
 use Rattle.vault_base.specs.declared.refusal.Table.{Table}
 use Rattle.vault_base.specs.declared.refusal.Table.TheVariants as table
 use Rattle.vault_audit_model.proofs.OutcomeLemmas.{kept_unchanged, kept_undone}
 use Rattle.vault_store_edits.specs.Trees.{tree_of}
-use Rattle.vault_store_edits.specs.Queries.{by_rowid, Finds, rowid_text}
+use Rattle.vault_store_edits.specs.Queries.{by_rowid, FindsWhere, rowid_text}
 
 pub kept_itself : (s : State) → KeepsCommit s s
 kept_itself s = record { was_open = λ h. h; committed = λ _. refl }
@@ -46,7 +47,7 @@ failed_kept sql params old new e (inl (inr h)) = fails_kept old new sql h.0 _ e 
 failed_kept sql params old new e (inr h) = kept_unchanged old new h.5
 
 -- the texts ask for the rowids of the rows with a rowid
-pub finds_by_rowid : (t : Table) → Finds (rowid_text t) (tree_of t) by_rowid
+pub finds_by_rowid : (t : Table) → FindsWhere (rowid_text t) (tree_of t) by_rowid
 unfolding understood everything
 finds_by_rowid table.Meta = record { names = codes "one" ∷ []; command = refl; unlisted = refl; plain = (refl, refl) }
 finds_by_rowid table.Departments = record { names = codes "rowid" ∷ []; command = refl; unlisted = refl; plain = (refl, refl) }
@@ -67,3 +68,7 @@ unchanged_itself s is_open =
 pub survives_itself : (s : State) → Survives s s (λ _. ⊥)
 survives_itself s =
     record { clean = omega arith; shield = λ h. h; counts = omega arith; limit = refl; closes = λ _ is_open. inl is_open; crash = λ _ db left. inl left }
+
+-- so does a crash after two calls of which neither commits anything
+pub survives_more : (a b c : State) → Survives a b (λ _. ⊥) → Survives b c (λ _. ⊥) → Survives a c (λ _. ⊥)
+survives_more a b c one two = survives_then a b c (λ _. ⊥) (λ _. ⊥) (λ _. ⊥) (λ clean db h. h) (λ clean db h. h) one two

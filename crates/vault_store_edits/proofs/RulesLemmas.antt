@@ -9,10 +9,11 @@ use Rattle.vault_base.specs.declared.refusal.Table.{Table}
 use Rattle.vault_base.specs.declared.refusal.Table.TheVariants as table
 use Rattle.vault_rules.specs.declared.rule.Rule.{Rule}
 use Rattle.vault_audit_model.specs.declared.rows.RuleRow.{RuleRow}
+use Rattle.vault_audit_model.specs.Order.{place_of}
 use Rattle.vault_audit_model.specs.Rows.{rule_row}
 use Rattle.vault_audit_model.specs.Spells.{rules_from}
 use Rattle.vault_store_model.specs.Rows.{Rows, rows_in}
-use Rattle.vault_store_model.specs.Edits.{number_of, with_row, and_then, Edits, pushed, with_each}
+use Rattle.vault_store_model.specs.Edits.{with_row, and_then, Edits, pushed, with_each}
 
 pushed_one : (xs : List Row) (r : Row) (rows : List Row) → pushed (xs ++ r ∷ []) rows ≡ r ∷ pushed xs rows
 pushed_one [] r rows = refl
@@ -24,7 +25,7 @@ by_table false xs r rows = refl
 
 -- a row after the others
 pub one_row_more : (t : Table) (xs : List Row) (r : Row) → with_each t (xs ++ r ∷ []) ≡ and_then (with_each t xs) (with_row t r)
-one_row_more t xs r = λ i rows s. by_table (number_of t == number_of s) xs r (rows s) i
+one_row_more t xs r = λ i rows s. by_table (place_of t == place_of s) xs r (rows s) i
 
 none_pushed : (b : Bool) (rows : List Row) → rows ≡ cond b rows rows
 none_pushed true rows = refl
@@ -38,8 +39,8 @@ no_rows t s is_open inside = record {
   inside = inside;
   committed = refl;
   schema = λ has. has;
-  rows = λ has u. subst (λ l. IsPermutation l (rows_in s.now u)) (none_pushed (number_of t == number_of u) (rows_in s.now u)) (IsPermutation-refl (rows_in s.now u));
-  ignores = λ xs ys same u. subst₂ (λ (l m : List Row). IsPermutation l m) (none_pushed (number_of t == number_of u) (xs u)) (none_pushed (number_of t == number_of u) (ys u)) (same u);
+  rows = λ has u. subst (λ l. IsPermutation l (rows_in s.now u)) (none_pushed (place_of t == place_of u) (rows_in s.now u)) (IsPermutation-refl (rows_in s.now u));
+  ignores = λ xs ys same u. subst₂ (λ (l m : List Row). IsPermutation l m) (none_pushed (place_of t == place_of u) (xs u)) (none_pushed (place_of t == place_of u) (ys u)) (same u);
 }
 
 rule_after : (bucket : List ℕ) (place : ℕ) (rules : List Rule) (rule : Rule) (at : ℕ) → at ≡ place + length rules → rules_from bucket place (rules ++ rule ∷ []) ≡ rules_from bucket place rules ++ record { bucket = bucket; place = at; rule = rule } ∷ []

@@ -37,12 +37,12 @@ use Rattle.sqlite.specs.State.{State, Executes, ExecutesInside, KeepsCommit, IsU
 use Rattle.sqlite.proofs.Callers.{IsPlain, command_of, statement_of, runs_as, one_step}
 use Rattle.vault_base.specs.declared.refusal.Table.{Table}
 use Rattle.vault_audit_model.specs.Tables.{vault_schema}
-use Rattle.vault_audit_model.proofs.OutcomeLemmas.{went, same_value, on_ok_then}
+use Rattle.vault_audit_model.proofs.OutcomeLemmas.{went, same_value}
 use Rattle.vault_store_model.specs.Rows.{Rows, AreSameRows, rows_in}
 use Rattle.vault_store_model.specs.Edits.{with_row, with_changed, changed_if, without, IgnoresOrder, Edits}
 use Rattle.vault_store_edits.specs.Trees.{tree_of, columns_of}
 use Rattle.vault_store_edits.specs.Apart.{IsApart}
-use Rattle.vault_store_model.specs.Scans.{scan, passes, shows}
+use Rattle.vault_store_model.specs.Scans.{table_scan, passes, shows}
 use Rattle.vault_store_edits.proofs.TableLemmas.{edited_alone}
 use Rattle.vault_store_edits.proofs.ListLemmas.{put_permutes, put_all_permutes, filter_alike, left_is, changed_apart}
 use Rattle.vault_store_model.proofs.ScanLemmas.{scanned}
@@ -112,18 +112,6 @@ module _ (t : Table) (test : Row → Bool) (old mid new : State) (edit : Rows �
 pub on_err : {A E : Type 0} {Q : Type 0} (r : Result A E) → Q → OnErr r Q
 on_err (Ok a) q = tt
 on_err (Err e) q = q
-
--- an edit after a look that changed nothing
-pub edits_after : (old mid new : State) (edit : Rows → Rows) (r : Result ℕ Error) → KeepsCommit old mid → (old.now.schema ≡ vault_schema → IsUnchanged old mid) → OnOk r (Edits mid new edit) → OnOk r (Edits old new edit)
-edits_after old mid new edit r kept same made = on_ok_then r made (λ e. record {
-  was_open = kept.was_open e.was_open;
-  is_open = e.is_open;
-  inside = e.inside;
-  committed = e.committed ∙ kept.committed e.was_open;
-  schema = λ has. e.schema (ap (λ (db : Database). db.schema) (same has).0.now_is ∙ has);
-  rows = λ has. subst (λ db. AreSameRows (edit (rows_in db)) (rows_in new.now)) (same has).0.now_is (e.rows (ap (λ (db : Database). db.schema) (same has).0.now_is ∙ has));
-  ignores = e.ignores;
-})
 
 pub kept_then : (old mid new : State) → KeepsCommit old mid → KeepsCommit mid new → KeepsCommit old new
 kept_then old mid new one two = record { was_open = λ h. one.was_open (two.was_open h); committed = λ h. two.committed h ∙ one.committed (two.was_open h) }
@@ -223,13 +211,13 @@ module _ (t : Table) (at : ℕ) (base : Columns) (sql : List ℕ) (params : Row)
   both_tests : (rows : List Row) → IsApart (passes tests params) rows → (r : Row) → Has rows r → passes tests params r ≡ test (columns_of t r)
   both_tests rows apart r there = agrees r (λ passed. let it = apart r there passed in (it.0, it.1))
 
-  module _ (is : command_of (understood vault_schema sql) ≡ Delete at (record { lets = []; body = scan base.tree tests (col 1 0 ∷ []) }))
+  module _ (is : command_of (understood vault_schema sql) ≡ Delete at (record { lets = []; body = table_scan base.tree tests (col 1 0 ∷ []) }))
       (places : (limit : Option ℕ) (mode : Mode) (text : List ℕ) (db : Trees) (out : Result (Tally × Database) (Option Error))
-      → Does limit mode params (record { schema = vault_schema; trees = db }) text None (Delete at (record { lets = []; body = scan base.tree tests (col 1 0 ∷ []) })) out
-      → OnRows (task_on limit mode base params) mode None (Delete at (record { lets = []; body = scan base.tree tests (col 1 0 ∷ []) })) db out) where
+      → Does limit mode params (record { schema = vault_schema; trees = db }) text None (Delete at (record { lets = []; body = table_scan base.tree tests (col 1 0 ∷ []) })) out
+      → OnRows (task_on limit mode base params) mode None (Delete at (record { lets = []; body = table_scan base.tree tests (col 1 0 ∷ []) })) db out) where
     pub deletes : (old new : State) (count : ℕ) → IsApart (passes tests params) (old.now.trees (tree_of t)) → old.now.schema ≡ vault_schema → Executes sql params old new (Ok count) → Leaves old new (without t test)
     deletes old new count apart_here has h =
-        let q : Program = record { lets = []; body = scan base.tree tests (col 1 0 ∷ []) } in
+        let q : Program = record { lets = []; body = table_scan base.tree tests (col 1 0 ∷ []) } in
         let command = Delete at q in
         let w = runs_as sql params old new vault_schema has command is plain count h in
         let text = statement_of sql (understood vault_schema sql) in
@@ -250,16 +238,16 @@ module _ (t : Table) (at : ℕ) (base : Columns) (sql : List ℕ) (params : Row)
           sound = w.sound;
         }
 
-  module _ (project : List Term) (change : Row → Row) (is : command_of (understood vault_schema sql) ≡ Update at (record { lets = []; body = scan base.tree tests (col 1 0 ∷ project) }))
+  module _ (project : List Term) (change : Row → Row) (is : command_of (understood vault_schema sql) ≡ Update at (record { lets = []; body = table_scan base.tree tests (col 1 0 ∷ project) }))
       (places : (limit : Option ℕ) (mode : Mode) (text : List ℕ) (db : Trees) (out : Result (Tally × Database) (Option Error))
-      → Does limit mode params (record { schema = vault_schema; trees = db }) text None (Update at (record { lets = []; body = scan base.tree tests (col 1 0 ∷ project) })) out
-      → OnRows (task_on limit mode base params) mode None (Update at (record { lets = []; body = scan base.tree tests (col 1 0 ∷ project) })) db out)
+      → Does limit mode params (record { schema = vault_schema; trees = db }) text None (Update at (record { lets = []; body = table_scan base.tree tests (col 1 0 ∷ project) })) out
+      → OnRows (task_on limit mode base params) mode None (Update at (record { lets = []; body = table_scan base.tree tests (col 1 0 ∷ project) })) db out)
       (lists : (db : Trees) → Keeps Datatype vault_schema db → AllByRecursion (λ row. row_passes Datatype vault_schema db base row ≡ true) (db base.tree))
       (tells : (r : Row) → are_typed base.key 0 base.columns (drop 1 r) ≡ true → (id : ℤ) → rowid r ≡ Int id → columns_of t (cast_row base (drop 1 (shows (col 1 0 ∷ project) params r))) ≡ change (columns_of t r)) where
     pub updates : (old new : State) (count : ℕ) → IsApart (passes tests params) (old.now.trees (tree_of t)) → IsDatabase old.now → old.now.schema ≡ vault_schema → Executes sql params old new (Ok count)
         → Leaves old new (with_changed t test change)
     updates old new count apart_here sound has h =
-        let q : Program = record { lets = []; body = scan base.tree tests (col 1 0 ∷ project) } in
+        let q : Program = record { lets = []; body = table_scan base.tree tests (col 1 0 ∷ project) } in
         let command = Update at q in
         let w = runs_as sql params old new vault_schema has command is plain count h in
         let text = statement_of sql (understood vault_schema sql) in

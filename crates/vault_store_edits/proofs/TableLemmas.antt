@@ -9,53 +9,32 @@ use Rattle.sqlite_value.specs.Order.{Row}
 use Rattle.sqlite.specs.Effect.{Database}
 use Rattle.vault_base.specs.declared.refusal.Table.{Table}
 use Rattle.vault_base.specs.declared.refusal.Table.TheVariants as table
+use Rattle.vault_audit_model.specs.Order.{place_of}
 use Rattle.vault_audit_model.specs.Tables.{vault_schema}
+use Rattle.vault_audit_model.proofs.PlaceLemmas.{one_table}
 use Rattle.vault_store_model.specs.Rows.{AreSameRows, rows_in}
-use Rattle.vault_store_model.specs.Edits.{number_of, with_rows}
+use Rattle.vault_store_model.specs.Edits.{with_rows}
 use Rattle.vault_store_edits.specs.Trees.{tree_of, columns_of}
 
--- the tables by their numbers
-abbrev table_at : ℕ → Table
-table_at n =
-    get_or
-    (table.Meta ∷ table.Departments ∷ table.Callers ∷ table.Buckets ∷ table.Rules ∷ table.Entries ∷ table.Contents ∷ table.Settings
-    ∷ table.Intake ∷ table.Heads ∷ table.Tenures ∷ []) n table.Meta
+-- their places by their trees
+abbrev place_at : ℕ → ℕ
+place_at tree = get_or (0 ∷ 1 ∷ 0 ∷ 2 ∷ 0 ∷ 3 ∷ 0 ∷ 4 ∷ 0 ∷ 5 ∷ 0 ∷ 6 ∷ 7 ∷ 0 ∷ 8 ∷ 0 ∷ 9 ∷ 0 ∷ 10 ∷ []) tree 0
 
-numbered_back : (t : Table) → table_at (number_of t) ≡ t
-numbered_back table.Meta = refl
-numbered_back table.Departments = refl
-numbered_back table.Callers = refl
-numbered_back table.Buckets = refl
-numbered_back table.Rules = refl
-numbered_back table.Entries = refl
-numbered_back table.Contents = refl
-numbered_back table.Settings = refl
-numbered_back table.Intake = refl
-numbered_back table.Heads = refl
-numbered_back table.Tenures = refl
+place_by_tree : (t : Table) → place_at (tree_of t) ≡ place_of t
+place_by_tree table.Meta = refl
+place_by_tree table.Departments = refl
+place_by_tree table.Callers = refl
+place_by_tree table.Buckets = refl
+place_by_tree table.Rules = refl
+place_by_tree table.Entries = refl
+place_by_tree table.Contents = refl
+place_by_tree table.Settings = refl
+place_by_tree table.Intake = refl
+place_by_tree table.Heads = refl
+place_by_tree table.Tenures = refl
 
-one_table : (t s : Table) → number_of t ≡ number_of s → t ≡ s
-one_table t s same = sym (numbered_back t) ∙ ap table_at same ∙ numbered_back s
-
--- their numbers by their trees
-abbrev number_at : ℕ → ℕ
-number_at tree = get_or (0 ∷ 1 ∷ 0 ∷ 2 ∷ 0 ∷ 3 ∷ 0 ∷ 4 ∷ 0 ∷ 5 ∷ 0 ∷ 6 ∷ 7 ∷ 0 ∷ 8 ∷ 0 ∷ 9 ∷ 0 ∷ 10 ∷ []) tree 0
-
-number_by_tree : (t : Table) → number_at (tree_of t) ≡ number_of t
-number_by_tree table.Meta = refl
-number_by_tree table.Departments = refl
-number_by_tree table.Callers = refl
-number_by_tree table.Buckets = refl
-number_by_tree table.Rules = refl
-number_by_tree table.Entries = refl
-number_by_tree table.Contents = refl
-number_by_tree table.Settings = refl
-number_by_tree table.Intake = refl
-number_by_tree table.Heads = refl
-number_by_tree table.Tenures = refl
-
-one_number : (t s : Table) → tree_of s ≡ tree_of t → number_of t ≡ number_of s
-one_number t s same = sym (number_by_tree t) ∙ ap number_at (sym same) ∙ number_by_tree s
+one_place : (t s : Table) → tree_of s ≡ tree_of t → place_of t ≡ place_of s
+one_place t s same = sym (place_by_tree t) ∙ ap place_at (sym same) ∙ place_by_tree s
 
 pub rows_are : (db : Database) (t : Table) → rows_in db t ≡ map (columns_of t) (db.trees (tree_of t))
 rows_are db table.Meta = refl
@@ -87,13 +66,13 @@ of_each P all table.Tenures = all.1.1.1.1.1.1.1.1.1.1.0
 -- the trees of all other tables being as they were
 pub edited_alone : (t : Table) (edit : List Row → List Row) (old new : Database) → AllByRecursion (λ c. c.tree ≢ tree_of t → new.trees c.tree ≡ old.trees c.tree) vault_schema.tables
     → IsPermutation (edit (map (columns_of t) (old.trees (tree_of t)))) (map (columns_of t) (new.trees (tree_of t))) → AreSameRows (with_rows t edit (rows_in old)) (rows_in new)
-edited_alone t edit old new others here s = elim (cases_Bool (number_of t == number_of s)) [
+edited_alone t edit old new others here s = elim (cases_Bool (place_of t == place_of s)) [
   | inl same ↦
       let is : t ≡ s = one_table t s (grind (arith, nat_tests)) in
       let first : IsPermutation (edit (rows_in old t)) (rows_in new t) = rw (rows_are old t, rows_are new t) here in
       rw same (subst (λ u. IsPermutation (edit (rows_in old u)) (rows_in new u)) is first)
   | inr other ↦
-      let apart : tree_of s ≢ tree_of t = λ e. let n = one_number t s e in absurd (grind (arith, nat_tests)) in
+      let apart : tree_of s ≢ tree_of t = λ e. let n = one_place t s e in absurd (grind (arith, nat_tests)) in
       let kept = of_each (λ n. n ≢ tree_of t → new.trees n ≡ old.trees n) others s apart in
       rw other (IsPermutation-same _ _ (rows_are old s ∙ ap (map (columns_of s)) (sym kept) ∙ sym (rows_are new s)))
 ]

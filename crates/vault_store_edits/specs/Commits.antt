@@ -1,11 +1,15 @@
 -- What a transaction that makes an edit of the tables leaves.
-use Rattle.std.specs.Prelude.{◌≡◌, IsTrue}
+use Rattle.std.specs.Prelude.{◌≡◌, IsTrue, Result, OnErr}
 use Rattle.sqlite_trees.specs.Tree.{Trees}
 use Rattle.sqlite.specs.Effect.{IsDatabase}
-use Rattle.sqlite.specs.State.{State}
+use Rattle.sqlite.specs.State.{State, HasCleanDisk}
+use Rattle.sqlite_trees.specs.declared.store.Store.{Ghosts}
+use Rattle.sqlite.specs.Held.{Held, state}
+use Rattle.vault_core_model.specs.Vault.{Vault}
 use Rattle.vault_audit_model.specs.Tables.{vault_schema}
 use Rattle.vault_store_model.specs.Rows.{Rows, AreSameRows, rows_in}
 use Rattle.vault_store_model.specs.Edits.{IgnoresOrder}
+use Rattle.vault_store_model.specs.Keeping.{Keeps}
 
 -- the tables are edited, list their schema and obey it, and that is committed
 pub record Commits (old new : State) (edit : Rows → Rows) : Type 0 where
@@ -23,3 +27,7 @@ pub record MayCommit (old : State) (edit : Rows → Rows) (trees : Trees) : Type
   pub listed : old.now.schema ≡ vault_schema → IsDatabase (record { schema = vault_schema; trees = trees })
   pub rows : old.now.schema ≡ vault_schema → AreSameRows (edit (rows_in old.now)) (rows_in (record { schema = vault_schema; trees = trees }))
   pub ignores : IgnoresOrder edit
+
+-- where it fails, a vault that was kept is
+abbrev pub KeepsIfErr : {S A E : Type 0} → Ghosts S → Held S → Held S → Result A E → Type 0
+KeepsIfErr g old new result = HasCleanDisk (state g new) → OnErr result ((v : Vault) → Keeps (state g old) v → Keeps (state g new) v)

@@ -4,3 +4,4 @@ pub mod Trees
 pub mod Apart
 pub mod Queries
 pub mod Author
+pub mod Inside

@@ -2,7 +2,7 @@
 //!
 //! A statement names its rows by their rowids, and no clause of `sqlite` says that these differ. So
 //! those of the rows that it is to find are looked up first.
-ghost use Rattle.std.specs.Prelude.{◌≡◌, IsTrue, OnOk, OnErr, List};
+ghost use Rattle.std.specs.Prelude.{◌≡◌, IsTrue, OnOk, List};
 ghost use Rattle.std.specs.List.{AllByRecursion};
 ghost use Rattle.sqlite_sql.specs.Term.{Term};
 ghost use Rattle.sqlite.specs.State.{HasCleanDisk, IsUnchanged, KeepsCommit, Survives};
@@ -12,7 +12,7 @@ ghost use Rattle.vault_audit_model.specs.Tables.{vault_schema};
 ghost use Rattle.vault_store_edits.specs.Trees.{tree_of};
 ghost use Rattle.vault_store_edits.specs.Apart.{IsApart};
 ghost use Rattle.vault_store_model.specs.Scans.{passes};
-ghost use Rattle.vault_store_edits.specs.Queries.{Finds, Stands, rowid_text};
+ghost use Rattle.vault_store_edits.specs.Queries.{FindsWhere, Stands, rowid_text};
 
 use sqlite::types::ValueRef;
 use sqlite::{Alter, Error, ErrorCode, Row, Transaction, params};
@@ -85,7 +85,7 @@ pub fn check_apart<S: Alter>(
 ) -> Result<(), Error>
     ensures same_reference { tx.new.conn.ghost_name ≡ tx.old.conn.ghost_name }
     ensures apart { HasCleanDisk (state S.Store tx.new.conn.now) → (state S.Store tx.old.conn.now).now.schema ≡ vault_schema
-        → (tests : List Term) → Finds sql.now (tree_of table) tests
+        → (tests : List Term) → FindsWhere sql.now (tree_of table) tests
         → OnOk result (IsUnchanged (state S.Store tx.old.conn.now) (state S.Store tx.new.conn.now)
         × IsApart (passes tests (bound params.now)) ((state S.Store tx.old.conn.now).now.trees (tree_of table))) }
     ensures kept { HasCleanDisk (state S.Store tx.new.conn.now) → IsTrue tx.old.conn.now.in_transaction → KeepsCommit (state S.Store tx.old.conn.now) (state S.Store tx.new.conn.now) }

@@ -7,7 +7,7 @@ ghost use Rattle.vault_audit_model.specs.Tables.{vault_schema};
 ghost use Rattle.vault_audit_model.specs.Values.{number};
 ghost use Rattle.vault_store_edits.specs.Apart.{IsApart};
 ghost use Rattle.vault_store_model.specs.Scans.{passes};
-ghost use Rattle.vault_store_edits.specs.Queries.{Finds};
+ghost use Rattle.vault_store_edits.specs.Queries.{FindsWhere};
 ghost use Rattle.vault_store_edits.specs.Trees.{tree_of};
 
 use crate::apart::check_apart;
@@ -24,7 +24,7 @@ pub fn check_id<S: Alter>(
 ) -> Result<(), Error>
     ensures same_reference { tx.new.conn.ghost_name ≡ tx.old.conn.ghost_name }
     ensures apart { HasCleanDisk (state S.Store tx.new.conn.now) → (state S.Store tx.old.conn.now).now.schema ≡ vault_schema
-        → (tests : List Term) → Finds sql.now (tree_of table) tests
+        → (tests : List Term) → FindsWhere sql.now (tree_of table) tests
         → OnOk result (IsUnchanged (state S.Store tx.old.conn.now) (state S.Store tx.new.conn.now)
         × IsApart (passes tests (number id ∷ [])) ((state S.Store tx.old.conn.now).now.trees (tree_of table))) }
     ensures kept { HasCleanDisk (state S.Store tx.new.conn.now) → IsTrue tx.old.conn.now.in_transaction → KeepsCommit (state S.Store tx.old.conn.now) (state S.Store tx.new.conn.now) }

@@ -1,16 +1,13 @@
 //! Rows of `departments`.
-ghost use Rattle.std.specs.Prelude.{◌≡◌, IsTrue, OnOk, OnErr};
-ghost use Rattle.sqlite.specs.Effect.{IsDatabase};
-ghost use Rattle.sqlite.specs.State.{HasCleanDisk, KeepsCommit, Survives};
-ghost use Rattle.sqlite.specs.Held.{state};
+ghost use Rattle.std.specs.Prelude.{◌≡◌};
 ghost use Rattle.vault_base.specs.declared.refusal.Table.TheVariants as table;
 ghost use Rattle.vault_audit_model.specs.Rows.{department_row};
-ghost use Rattle.vault_audit_model.specs.Tables.{vault_schema};
-ghost use Rattle.vault_store_model.specs.Edits.{with_row, with_changed, Edits};
+ghost use Rattle.vault_store_model.specs.Edits.{with_row, with_changed};
 ghost use Rattle.vault_store_model.specs.Tests.{is_named, with_sums};
+ghost use Rattle.vault_store_edits.specs.Inside.{IsEdit, IsEditOfSound};
 
 use crate::apart::check_apart;
-use crate::value::whole;
+use crate::parameters::whole;
 use sqlite::{Alter, Error, Transaction, params};
 use vault_base::name::DeptName;
 use vault_base::refusal::Table;
@@ -22,14 +19,7 @@ pub fn put_department<S: Alter>(
     name: &DeptName,
 ) -> Result<usize, Error>
     ensures same_reference { tx.new.conn.ghost_name ≡ tx.old.conn.ghost_name }
-    ensures edits { HasCleanDisk (state S.Store tx.new.conn.now) → IsTrue tx.old.conn.now.in_transaction
-        → OnOk result (Edits (state S.Store tx.old.conn.now) (state S.Store tx.new.conn.now)
-        (with_row table.Departments (department_row (record { name = name.now; sums = record { admitted = 0; received = 0; held = 0; removed = 0; handed = 0; weighted = 0; closed = 0 } })))) }
-    ensures sound { HasCleanDisk (state S.Store tx.new.conn.now) → IsTrue tx.old.conn.now.in_transaction
-        → (state S.Store tx.old.conn.now).now.schema ≡ vault_schema → OnOk result (IsDatabase (state S.Store tx.new.conn.now).now) }
-    ensures kept { HasCleanDisk (state S.Store tx.new.conn.now) → IsTrue tx.old.conn.now.in_transaction
-        → OnErr result (KeepsCommit (state S.Store tx.old.conn.now) (state S.Store tx.new.conn.now)) }
-    ensures survives { Survives (state S.Store tx.old.conn.now) (state S.Store tx.new.conn.now) (λ _. ⊥) }
+    ensures edit { IsEdit S.Store tx.old.conn.now tx.new.conn.now result (with_row table.Departments (department_row (record { name = name.now; sums = record { admitted = 0; received = 0; held = 0; removed = 0; handed = 0; weighted = 0; closed = 0 } }))) }
 {
     tx.execute(
         "INSERT INTO departments (name, admitted, held, removed, weighted, closed, received, handed) VALUES (?1, 0, 0, 0, 0, 0, 0, 0)",
@@ -44,13 +34,7 @@ pub fn set_sums<S: Alter>(
     sums: &Row,
 ) -> Result<usize, Error>
     ensures same_reference { tx.new.conn.ghost_name ≡ tx.old.conn.ghost_name }
-    ensures edits { HasCleanDisk (state S.Store tx.new.conn.now) → IsTrue tx.old.conn.now.in_transaction → IsDatabase (state S.Store tx.old.conn.now).now
-        → OnOk result (Edits (state S.Store tx.old.conn.now) (state S.Store tx.new.conn.now) (with_changed table.Departments (is_named name.now) (with_sums sums.now))) }
-    ensures sound { HasCleanDisk (state S.Store tx.new.conn.now) → IsTrue tx.old.conn.now.in_transaction → IsDatabase (state S.Store tx.old.conn.now).now
-        → (state S.Store tx.old.conn.now).now.schema ≡ vault_schema → OnOk result (IsDatabase (state S.Store tx.new.conn.now).now) }
-    ensures kept { HasCleanDisk (state S.Store tx.new.conn.now) → IsTrue tx.old.conn.now.in_transaction
-        → OnErr result (KeepsCommit (state S.Store tx.old.conn.now) (state S.Store tx.new.conn.now)) }
-    ensures survives { Survives (state S.Store tx.old.conn.now) (state S.Store tx.new.conn.now) (λ _. ⊥) }
+    ensures edit { IsEditOfSound S.Store tx.old.conn.now tx.new.conn.now result (with_changed table.Departments (is_named name.now) (with_sums sums.now)) }
 {
     let admitted = whole(sums.admitted)?;
     let held = whole(sums.held)?;

@@ -1,20 +1,17 @@
 //! Rows of `entries`.
-ghost use Rattle.std.specs.Prelude.{◌≡◌, IsTrue, OnOk, OnErr};
-ghost use Rattle.sqlite.specs.Effect.{IsDatabase};
-ghost use Rattle.sqlite.specs.State.{HasCleanDisk, KeepsCommit, Survives};
-ghost use Rattle.sqlite.specs.Held.{state};
+ghost use Rattle.std.specs.Prelude.{◌≡◌};
 ghost use Rattle.vault_base.specs.declared.refusal.Table.TheVariants as table;
 ghost use Rattle.vault_audit_model.specs.Rows.{entry_row};
-ghost use Rattle.vault_audit_model.specs.Tables.{vault_schema};
-ghost use Rattle.vault_store_model.specs.Edits.{with_row, with_changed, Edits};
+ghost use Rattle.vault_store_model.specs.Edits.{with_row, with_changed};
 ghost use Rattle.vault_store_model.specs.Tests.{is_numbered, removed_row};
+ghost use Rattle.vault_store_edits.specs.Inside.{IsEdit, IsEditOfSound};
 
 use crate::by_id::check_id;
-use crate::entry_value::{
+use crate::entry_parameters::{
     author_text, cause_number, cause_text, digest_bytes, is_rule, removal_at, removal_by,
     removal_cause,
 };
-use crate::value::{seconds, whole};
+use crate::parameters::{seconds, whole};
 use sqlite::{Alter, Error, Transaction, params};
 use vault_base::name::VersionId;
 use vault_base::refusal::Table;
@@ -23,13 +20,7 @@ use vault_core_model::records::{Entry, Removal};
 /// Puts in an entry, with its removal if it has one. `TooBig` where its size is 2^63 or more.
 pub fn put_entry<S: Alter>(tx: &mut Transaction<'_, S>, entry: &Entry) -> Result<usize, Error>
     ensures same_reference { tx.new.conn.ghost_name ≡ tx.old.conn.ghost_name }
-    ensures edits { HasCleanDisk (state S.Store tx.new.conn.now) → IsTrue tx.old.conn.now.in_transaction
-        → OnOk result (Edits (state S.Store tx.old.conn.now) (state S.Store tx.new.conn.now) (with_row table.Entries (entry_row entry.now))) }
-    ensures sound { HasCleanDisk (state S.Store tx.new.conn.now) → IsTrue tx.old.conn.now.in_transaction
-        → (state S.Store tx.old.conn.now).now.schema ≡ vault_schema → OnOk result (IsDatabase (state S.Store tx.new.conn.now).now) }
-    ensures kept { HasCleanDisk (state S.Store tx.new.conn.now) → IsTrue tx.old.conn.now.in_transaction
-        → OnErr result (KeepsCommit (state S.Store tx.old.conn.now) (state S.Store tx.new.conn.now)) }
-    ensures survives { Survives (state S.Store tx.old.conn.now) (state S.Store tx.new.conn.now) (λ _. ⊥) }
+    ensures edit { IsEdit S.Store tx.old.conn.now tx.new.conn.now result (with_row table.Entries (entry_row entry.now)) }
 {
     let size = whole(entry.size)?;
     tx.execute(
@@ -58,13 +49,7 @@ pub fn remove_entry<S: Alter>(
     removal: &Removal,
 ) -> Result<usize, Error>
     ensures same_reference { tx.new.conn.ghost_name ≡ tx.old.conn.ghost_name }
-    ensures edits { HasCleanDisk (state S.Store tx.new.conn.now) → IsTrue tx.old.conn.now.in_transaction → IsDatabase (state S.Store tx.old.conn.now).now
-        → OnOk result (Edits (state S.Store tx.old.conn.now) (state S.Store tx.new.conn.now) (with_changed table.Entries (is_numbered id) (removed_row removal.now))) }
-    ensures sound { HasCleanDisk (state S.Store tx.new.conn.now) → IsTrue tx.old.conn.now.in_transaction → IsDatabase (state S.Store tx.old.conn.now).now
-        → (state S.Store tx.old.conn.now).now.schema ≡ vault_schema → OnOk result (IsDatabase (state S.Store tx.new.conn.now).now) }
-    ensures kept { HasCleanDisk (state S.Store tx.new.conn.now) → IsTrue tx.old.conn.now.in_transaction
-        → OnErr result (KeepsCommit (state S.Store tx.old.conn.now) (state S.Store tx.new.conn.now)) }
-    ensures survives { Survives (state S.Store tx.old.conn.now) (state S.Store tx.new.conn.now) (λ _. ⊥) }
+    ensures edit { IsEditOfSound S.Store tx.old.conn.now tx.new.conn.now result (with_changed table.Entries (is_numbered id) (removed_row removal.now)) }
 {
     let at = seconds(removal.at);
     let cause = cause_number(&removal.cause);

@@ -1,15 +1,12 @@
 //! The row of `meta`.
-ghost use Rattle.std.specs.Prelude.{◌≡◌, IsTrue, OnOk, OnErr};
-ghost use Rattle.sqlite.specs.Effect.{IsDatabase};
-ghost use Rattle.sqlite.specs.State.{HasCleanDisk, KeepsCommit, Survives};
-ghost use Rattle.sqlite.specs.Held.{state};
+ghost use Rattle.std.specs.Prelude.{◌≡◌};
 ghost use Rattle.vault_base.specs.declared.refusal.Table.TheVariants as table;
-ghost use Rattle.vault_audit_model.specs.Tables.{vault_schema};
-ghost use Rattle.vault_store_model.specs.Edits.{with_changed, Edits};
+ghost use Rattle.vault_store_model.specs.Edits.{with_changed};
 ghost use Rattle.vault_store_model.specs.Tests.{every, with_last, with_last_and_moves, with_last_and_next};
+ghost use Rattle.vault_store_edits.specs.Inside.{IsEditOfSound};
 
 use crate::apart::check_apart;
-use crate::value::{seconds, whole};
+use crate::parameters::{seconds, whole};
 use sqlite::{Alter, Error, Transaction, params};
 use vault_base::moment::Moment;
 use vault_base::refusal::Table;
@@ -17,13 +14,7 @@ use vault_base::refusal::Table;
 /// Writes the last moment.
 pub fn set_last<S: Alter>(tx: &mut Transaction<'_, S>, last: Moment) -> Result<usize, Error>
     ensures same_reference { tx.new.conn.ghost_name ≡ tx.old.conn.ghost_name }
-    ensures edits { HasCleanDisk (state S.Store tx.new.conn.now) → IsTrue tx.old.conn.now.in_transaction → IsDatabase (state S.Store tx.old.conn.now).now
-        → OnOk result (Edits (state S.Store tx.old.conn.now) (state S.Store tx.new.conn.now) (with_changed table.Meta every (with_last last))) }
-    ensures sound { HasCleanDisk (state S.Store tx.new.conn.now) → IsTrue tx.old.conn.now.in_transaction → IsDatabase (state S.Store tx.old.conn.now).now
-        → (state S.Store tx.old.conn.now).now.schema ≡ vault_schema → OnOk result (IsDatabase (state S.Store tx.new.conn.now).now) }
-    ensures kept { HasCleanDisk (state S.Store tx.new.conn.now) → IsTrue tx.old.conn.now.in_transaction
-        → OnErr result (KeepsCommit (state S.Store tx.old.conn.now) (state S.Store tx.new.conn.now)) }
-    ensures survives { Survives (state S.Store tx.old.conn.now) (state S.Store tx.new.conn.now) (λ _. ⊥) }
+    ensures edit { IsEditOfSound S.Store tx.old.conn.now tx.new.conn.now result (with_changed table.Meta every (with_last last)) }
 {
     check_apart(tx, Table::Meta, "SELECT rowid FROM meta", &[])?;
     tx.execute("UPDATE meta SET last = ?1", params![seconds(last)])
@@ -36,13 +27,7 @@ pub fn set_last_and_next<S: Alter>(
     next: u64,
 ) -> Result<usize, Error>
     ensures same_reference { tx.new.conn.ghost_name ≡ tx.old.conn.ghost_name }
-    ensures edits { HasCleanDisk (state S.Store tx.new.conn.now) → IsTrue tx.old.conn.now.in_transaction → IsDatabase (state S.Store tx.old.conn.now).now
-        → OnOk result (Edits (state S.Store tx.old.conn.now) (state S.Store tx.new.conn.now) (with_changed table.Meta every (with_last_and_next last next))) }
-    ensures sound { HasCleanDisk (state S.Store tx.new.conn.now) → IsTrue tx.old.conn.now.in_transaction → IsDatabase (state S.Store tx.old.conn.now).now
-        → (state S.Store tx.old.conn.now).now.schema ≡ vault_schema → OnOk result (IsDatabase (state S.Store tx.new.conn.now).now) }
-    ensures kept { HasCleanDisk (state S.Store tx.new.conn.now) → IsTrue tx.old.conn.now.in_transaction
-        → OnErr result (KeepsCommit (state S.Store tx.old.conn.now) (state S.Store tx.new.conn.now)) }
-    ensures survives { Survives (state S.Store tx.old.conn.now) (state S.Store tx.new.conn.now) (λ _. ⊥) }
+    ensures edit { IsEditOfSound S.Store tx.old.conn.now tx.new.conn.now result (with_changed table.Meta every (with_last_and_next last next)) }
 {
     let next = whole(next)?;
     check_apart(tx, Table::Meta, "SELECT rowid FROM meta", &[])?;
@@ -59,13 +44,7 @@ pub fn set_last_and_moves<S: Alter>(
     moves: u32,
 ) -> Result<usize, Error>
     ensures same_reference { tx.new.conn.ghost_name ≡ tx.old.conn.ghost_name }
-    ensures edits { HasCleanDisk (state S.Store tx.new.conn.now) → IsTrue tx.old.conn.now.in_transaction → IsDatabase (state S.Store tx.old.conn.now).now
-        → OnOk result (Edits (state S.Store tx.old.conn.now) (state S.Store tx.new.conn.now) (with_changed table.Meta every (with_last_and_moves last moves))) }
-    ensures sound { HasCleanDisk (state S.Store tx.new.conn.now) → IsTrue tx.old.conn.now.in_transaction → IsDatabase (state S.Store tx.old.conn.now).now
-        → (state S.Store tx.old.conn.now).now.schema ≡ vault_schema → OnOk result (IsDatabase (state S.Store tx.new.conn.now).now) }
-    ensures kept { HasCleanDisk (state S.Store tx.new.conn.now) → IsTrue tx.old.conn.now.in_transaction
-        → OnErr result (KeepsCommit (state S.Store tx.old.conn.now) (state S.Store tx.new.conn.now)) }
-    ensures survives { Survives (state S.Store tx.old.conn.now) (state S.Store tx.new.conn.now) (λ _. ⊥) }
+    ensures edit { IsEditOfSound S.Store tx.old.conn.now tx.new.conn.now result (with_changed table.Meta every (with_last_and_moves last moves)) }
 {
     check_apart(tx, Table::Meta, "SELECT rowid FROM meta", &[])?;
     tx.execute(

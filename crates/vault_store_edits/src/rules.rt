@@ -1,7 +1,7 @@
 //! Rows of `rules`.
-ghost use Rattle.std.specs.Prelude.{◌≡◌, map, IsTrue, OnOk, OnErr};
+ghost use Rattle.std.specs.Prelude.{◌≡◌, map, IsTrue, OnOk};
 ghost use Rattle.sqlite.specs.Effect.{IsDatabase};
-ghost use Rattle.sqlite.specs.State.{HasCleanDisk, KeepsCommit, Survives};
+ghost use Rattle.sqlite.specs.State.{HasCleanDisk, Survives};
 ghost use Rattle.sqlite.specs.Held.{state};
 ghost use Rattle.vault_base.specs.declared.refusal.Table.TheVariants as table;
 ghost use Rattle.vault_audit_model.specs.Rows.{rule_row};
@@ -9,9 +9,10 @@ ghost use Rattle.vault_audit_model.specs.Spells.{rules_from};
 ghost use Rattle.vault_audit_model.specs.Tables.{vault_schema};
 ghost use Rattle.vault_store_model.specs.Edits.{with_row, without, Edits, with_each};
 ghost use Rattle.vault_store_model.specs.Tests.{is_named};
+ghost use Rattle.vault_store_edits.specs.Inside.{CommitsNothing, IsEdit};
 
 use crate::apart::check_apart;
-use crate::value::{bound, noncurrent_days, noncurrent_newer};
+use crate::parameters::{bound, noncurrent_days, noncurrent_newer};
 use sqlite::{Alter, Error, ErrorCode, Transaction, params};
 use vault_base::name::BucketName;
 use vault_base::refusal::Table;
@@ -23,13 +24,7 @@ pub fn delete_rules<S: Alter>(
     bucket: &BucketName,
 ) -> Result<usize, Error>
     ensures same_reference { tx.new.conn.ghost_name ≡ tx.old.conn.ghost_name }
-    ensures edits { HasCleanDisk (state S.Store tx.new.conn.now) → IsTrue tx.old.conn.now.in_transaction
-        → OnOk result (Edits (state S.Store tx.old.conn.now) (state S.Store tx.new.conn.now) (without table.Rules (is_named bucket.now))) }
-    ensures sound { HasCleanDisk (state S.Store tx.new.conn.now) → IsTrue tx.old.conn.now.in_transaction
-        → (state S.Store tx.old.conn.now).now.schema ≡ vault_schema → OnOk result (IsDatabase (state S.Store tx.new.conn.now).now) }
-    ensures kept { HasCleanDisk (state S.Store tx.new.conn.now) → IsTrue tx.old.conn.now.in_transaction
-        → OnErr result (KeepsCommit (state S.Store tx.old.conn.now) (state S.Store tx.new.conn.now)) }
-    ensures survives { Survives (state S.Store tx.old.conn.now) (state S.Store tx.new.conn.now) (λ _. ⊥) }
+    ensures edit { IsEdit S.Store tx.old.conn.now tx.new.conn.now result (without table.Rules (is_named bucket.now)) }
 {
     check_apart(
         tx,
@@ -51,13 +46,7 @@ pub fn put_rule<S: Alter>(
     rule: &Rule,
 ) -> Result<usize, Error>
     ensures same_reference { tx.new.conn.ghost_name ≡ tx.old.conn.ghost_name }
-    ensures edits { HasCleanDisk (state S.Store tx.new.conn.now) → IsTrue tx.old.conn.now.in_transaction
-        → OnOk result (Edits (state S.Store tx.old.conn.now) (state S.Store tx.new.conn.now) (with_row table.Rules (rule_row (record { bucket = bucket.now; place = place; rule = rule.now })))) }
-    ensures sound { HasCleanDisk (state S.Store tx.new.conn.now) → IsTrue tx.old.conn.now.in_transaction
-        → (state S.Store tx.old.conn.now).now.schema ≡ vault_schema → OnOk result (IsDatabase (state S.Store tx.new.conn.now).now) }
-    ensures kept { HasCleanDisk (state S.Store tx.new.conn.now) → IsTrue tx.old.conn.now.in_transaction
-        → OnErr result (KeepsCommit (state S.Store tx.old.conn.now) (state S.Store tx.new.conn.now)) }
-    ensures survives { Survives (state S.Store tx.old.conn.now) (state S.Store tx.new.conn.now) (λ _. ⊥) }
+    ensures edit { IsEdit S.Store tx.old.conn.now tx.new.conn.now result (with_row table.Rules (rule_row (record { bucket = bucket.now; place = place; rule = rule.now }))) }
 {
     let larger = bound(rule.larger)?;
     let smaller = bound(rule.smaller)?;
@@ -92,8 +81,7 @@ pub fn put_rules<S: Alter>(
         → OnOk result (Edits (state S.Store tx.old.conn.now) (state S.Store tx.new.conn.now) (with_each table.Rules (map rule_row (rules_from bucket.now 1 rules.now)))) }
     ensures sound { HasCleanDisk (state S.Store tx.new.conn.now) → IsTrue tx.old.conn.now.in_transaction
         → (state S.Store tx.old.conn.now).now.schema ≡ vault_schema → IsDatabase (state S.Store tx.old.conn.now).now → OnOk result (IsDatabase (state S.Store tx.new.conn.now).now) }
-    ensures kept { HasCleanDisk (state S.Store tx.new.conn.now) → IsTrue tx.old.conn.now.in_transaction
-        → OnErr result (KeepsCommit (state S.Store tx.old.conn.now) (state S.Store tx.new.conn.now)) }
+    ensures kept { CommitsNothing S.Store tx.old.conn.now tx.new.conn.now result }
     ensures survives { Survives (state S.Store tx.old.conn.now) (state S.Store tx.new.conn.now) (λ _. ⊥) }
 {
     let mut place = 0u32;

@@ -1,14 +1,11 @@
 //! Rows of `settings`.
-ghost use Rattle.std.specs.Prelude.{◌≡◌, IsTrue, OnOk, OnErr};
-ghost use Rattle.sqlite.specs.Effect.{IsDatabase};
-ghost use Rattle.sqlite.specs.State.{HasCleanDisk, KeepsCommit, Survives};
-ghost use Rattle.sqlite.specs.Held.{state};
+ghost use Rattle.std.specs.Prelude.{◌≡◌};
 ghost use Rattle.vault_base.specs.declared.refusal.Table.TheVariants as table;
 ghost use Rattle.vault_audit_model.specs.Rows.{setting_row};
-ghost use Rattle.vault_audit_model.specs.Tables.{vault_schema};
-ghost use Rattle.vault_store_model.specs.Edits.{with_row, Edits};
+ghost use Rattle.vault_store_model.specs.Edits.{with_row};
+ghost use Rattle.vault_store_edits.specs.Inside.{IsEdit};
 
-use crate::value::{retention_mode, seconds, until};
+use crate::parameters::{retention_mode, seconds, until};
 use sqlite::{Alter, Error, Transaction, params};
 use vault_base::name::VersionId;
 use vault_core_model::records::Setting;
@@ -21,13 +18,7 @@ pub fn put_setting<S: Alter>(
     setting: &Setting,
 ) -> Result<usize, Error>
     ensures same_reference { tx.new.conn.ghost_name ≡ tx.old.conn.ghost_name }
-    ensures edits { HasCleanDisk (state S.Store tx.new.conn.now) → IsTrue tx.old.conn.now.in_transaction
-        → OnOk result (Edits (state S.Store tx.old.conn.now) (state S.Store tx.new.conn.now) (with_row table.Settings (setting_row (record { id = id; place = place; setting = setting.now })))) }
-    ensures sound { HasCleanDisk (state S.Store tx.new.conn.now) → IsTrue tx.old.conn.now.in_transaction
-        → (state S.Store tx.old.conn.now).now.schema ≡ vault_schema → OnOk result (IsDatabase (state S.Store tx.new.conn.now).now) }
-    ensures kept { HasCleanDisk (state S.Store tx.new.conn.now) → IsTrue tx.old.conn.now.in_transaction
-        → OnErr result (KeepsCommit (state S.Store tx.old.conn.now) (state S.Store tx.new.conn.now)) }
-    ensures survives { Survives (state S.Store tx.old.conn.now) (state S.Store tx.new.conn.now) (λ _. ⊥) }
+    ensures edit { IsEdit S.Store tx.old.conn.now tx.new.conn.now result (with_row table.Settings (setting_row (record { id = id; place = place; setting = setting.now }))) }
 {
     tx.execute(
         "INSERT INTO settings (id, n, moment, caller, mode, until, hold, bypass) VALUES (?1, ?2, ?3, ?4, ?5, ?6, ?7, ?8)",

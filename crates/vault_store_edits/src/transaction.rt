@@ -4,12 +4,11 @@ ghost use Rattle.sqlite_trees.specs.Tree.{Trees};
 ghost use Rattle.sqlite.specs.Effect.{IsDatabase};
 ghost use Rattle.sqlite.specs.Held.{state};
 ghost use Rattle.sqlite.specs.State.{HasCleanDisk, IsLive, IsUnchanged, KeepsCommit, Survives};
-ghost use Rattle.vault_core_model.specs.Vault.{Vault};
 ghost use Rattle.vault_audit_model.specs.Tables.{vault_schema};
 ghost use Rattle.vault_store_model.specs.Edits.{Edits};
-ghost use Rattle.vault_store_model.specs.Keeping.{Keeps};
-ghost use Rattle.vault_store_edits.specs.Commits.{Commits, MayCommit};
+ghost use Rattle.vault_store_edits.specs.Commits.{Commits, MayCommit, KeepsIfErr};
 ghost use Rattle.vault_store_edits.specs.Ready.{IsReady};
+ghost use Rattle.vault_store_edits.specs.Inside.{CommitsNoPart};
 
 use sqlite::{Alter, Connection, Error, Transaction};
 
@@ -24,8 +23,7 @@ pub trait Part<S: Alter> {
         ensures same_reference { tx.new.conn.ghost_name ≡ tx.old.conn.ghost_name }
         ensures edits { HasCleanDisk (state S.Store tx.new.conn.now) → IsTrue tx.old.conn.now.in_transaction → IsReady (state S.Store tx.old.conn.now)
             → OnOk result (Edits (state S.Store tx.old.conn.now) (state S.Store tx.new.conn.now) (edit self.now) × IsDatabase (state S.Store tx.new.conn.now).now) }
-        ensures kept { HasCleanDisk (state S.Store tx.new.conn.now) → IsTrue tx.old.conn.now.in_transaction → IsReady (state S.Store tx.old.conn.now)
-            → OnErr result (KeepsCommit (state S.Store tx.old.conn.now) (state S.Store tx.new.conn.now)) }
+        ensures kept { CommitsNoPart S.Store tx.old.conn.now tx.new.conn.now result }
         ensures survives { Survives (state S.Store tx.old.conn.now) (state S.Store tx.new.conn.now) (λ _. ⊥) };
 }
 
@@ -59,7 +57,7 @@ pub fn transact<S: Alter, P: Part<S>>(conn: &mut Connection<S>, part: &P) -> Res
     ensures mode { conn.new.in_transaction ≡ false }
     ensures open { HasCleanDisk (state S.Store conn.new) → OnOk result (IsTrue (state S.Store conn.old).is_open × IsTrue (state S.Store conn.new).is_open) }
     ensures done { HasCleanDisk (state S.Store conn.new) → OnOk result ((state S.Store conn.old).now.schema ≡ vault_schema → Commits (state S.Store conn.old) (state S.Store conn.new) (P.edit part.now)) }
-    ensures nothing { HasCleanDisk (state S.Store conn.new) → OnErr result ((v : Vault) → Keeps (state S.Store conn.old) v → Keeps (state S.Store conn.new) v) }
+    ensures nothing { KeepsIfErr S.Store conn.old conn.new result }
     // What a crash may leave after that are these tables alone.
     ensures alone { HasCleanDisk (state S.Store conn.new) → OnOk result ((trees : Trees) → (state S.Store conn.new).may_leave trees → trees ≡ (state S.Store conn.new).now.trees) }
     // What a crash may leave, at any moment of the call: what it could leave before, or the edited tables.

@@ -7,20 +7,19 @@ ghost use Rattle.vault_audit_model.specs.Limits.{IsRetention, IsAuthor, IsCause,
 use crate::name::{is_bucket, is_key, is_plain, is_plain_if_given, is_prefix, is_rule_id};
 use std::alloc::{AllocError, Global};
 use vault_base::content::Digest;
+use vault_base::moment::LAST;
+use vault_core_model::limits::MOST_CONTENT;
 use vault_core_model::records::{Author, Caller, Cause, Entry, History, Note, Removal, Setting};
 use vault_lock::retention::{Default, Retention};
 use vault_rules::rule::Rule;
 use vault_rules::rule_set::RuleSet;
-
-/// The bytes of the greatest content.
-const MOST_CONTENT: u64 = 1_048_576;
 
 /// Whether a retention ends at a moment, as it always does.
 fn is_retention(retention: Option<Retention>) -> bool
     ensures { IsTrue result ↔ IfSome retention IsRetention }
 {
     match retention {
-        Some(retention) => retention.until.secs() <= 253_402_300_799,
+        Some(retention) => retention.until.secs() <= LAST,
         None => true,
     }
 }
@@ -105,7 +104,7 @@ fn is_sized(marker: bool, size: u64, digest: &Option<Digest>) -> bool
         (true, None) => size == 0,
         (true, Some(_)) => false,
         (false, None) => false,
-        (false, Some(digest)) => size <= MOST_CONTENT && is_digest(digest),
+        (false, Some(digest)) => size <= MOST_CONTENT as u64 && is_digest(digest),
     }
 }
 
@@ -177,7 +176,7 @@ fn is_note(alloc: Global, note: &Note) -> Result<bool, AllocError>
     ensures { IfOk result (λ holds. IsTrue holds ↔ IsNote note.now) }
 {
     let _ = note.id.number();
-    if note.line == 0 || note.size > MOST_CONTENT {
+    if note.line == 0 || note.size > MOST_CONTENT as u64 {
         return Ok(false);
     }
     if !is_digest(&note.digest) || !is_retention(note.retention) {

@@ -26,7 +26,7 @@ use Rattle.vault_core_model.specs.Places.{is_held, is_held_at, is_held_version_i
 use Rattle.vault_core_model.specs.Reads.{entry_of, head_of, head_over}
 use Rattle.vault_core_model.specs.Sound.{Sound}
 use Rattle.vault_core_model.specs.Vault.{Vault, history_of}
-use Rattle.vault_core_laws.proofs.Soundness.{Sound-changed}
+use Rattle.vault_core_laws.proofs.Soundness.{Sound-changed, entry-setting}
 use Rattle.vault_audit_model.specs.Rows.{head_row}
 use Rattle.vault_audit_model.specs.Spells.{IsKept, heads_in, entries_in}
 use Rattle.vault_audit_model.specs.Tables.{vault_schema}
@@ -41,18 +41,15 @@ use Rattle.vault_store_model.proofs.KeptLemmas.{kept_changed}
 use Rattle.vault_store_model.proofs.ListLemmas.{map_untold, filter-append}
 use Rattle.vault_store_model.proofs.OrderLemmas.{edit_ignores}
 use Rattle.vault_store_model.proofs.RecordLemmas.{dept_added, caller_added, caller_closed, bucket_added}
-use Rattle.vault_store_model.proofs.ByEntry.{held_of_key, heads_by, heads_are, last_of, head_over_entries, head_of_entries}
+use Rattle.vault_store_model.proofs.HeadsByEntry.{held_of_key, heads_by, heads_are, last_of, head_over_entries, head_of_entries}
 use Rattle.vault_store_model.proofs.HeadLemmas.{heads_changed}
-use Rattle.vault_store_model.proofs.Parts.{is_elsewhere}
+use Rattle.vault_store_model.proofs.HeadParts.{is_elsewhere}
 
 -- ---- a setting more
 
-entry_kept : (id : ℕ) (s : Setting) (h : History) → (with_setting id s h).entry ≡ h.entry
-entry_kept id s h = elim (eqb h.entry.id id) as (λ b. (if b then record h { settings = h.settings ++ s ∷ [] } else h).entry ≡ h.entry) [ true ↦ refl | false ↦ refl ]
-
 heads_of_setting : (v : Vault) (t id : ℕ) (s : Setting) → heads_in (changed v t (AddSetting id s)) ≡ heads_in v
 heads_of_setting v t id s =
-    heads_are (changed v t (AddSetting id s)) ∙ ap heads_by (map_untold (λ (h : History). h.entry) (with_setting id s) (entry_kept id s) v.histories) ∙ sym (heads_are v)
+    heads_are (changed v t (AddSetting id s)) ∙ ap heads_by (map_untold (λ (h : History). h.entry) (with_setting id s) (entry-setting id s) v.histories) ∙ sym (heads_are v)
 
 -- ---- a move
 

@@ -21,11 +21,12 @@ use Rattle.vault_core_model.specs.Vault.{Vault, config_in, config_of, bucket_in}
 use Rattle.vault_audit_model.specs.declared.rows.RuleRow.{RuleRow}
 use Rattle.vault_audit_model.specs.Rows.{bucket_row, rule_row}
 use Rattle.vault_audit_model.specs.Spells.{bucket_of, rules_in, rules_if_given, rules_from}
+use Rattle.vault_core_laws.proofs.NameOrder.{clash}
 use Rattle.vault_store_model.specs.Rows.{AreSameRows, rows_of}
 use Rattle.vault_store_model.specs.Edits.{changed_if, pushed}
 use Rattle.vault_store_model.specs.Tests.{is_named, with_default_columns}
 use Rattle.vault_store_model.specs.Changes.{edit_of}
-use Rattle.vault_store_model.proofs.ListLemmas.{second_first, pushed_in_front, map_rows, map_untold, flat_map_untold, filter-append, clash}
+use Rattle.vault_store_model.proofs.ListLemmas.{second_first, pushed_in_front, map_rows, map_untold, flat_map_untold, filter-append}
 
 -- ---- a default
 

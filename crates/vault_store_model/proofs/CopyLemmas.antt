@@ -1,29 +1,26 @@
 -- The rows of tenures that a bucket's held versions get.
-use Rattle.std.proofs.Common.{◌≡◌, ℕ, List, [], ◌∷◌, ◌++◌, map, filter, flat_map, cond, not, Bool, true, false, Option, Some, None, IsPermutation, refl, sym, ap, ◌∙◌, arith, append_assoc}
+use Rattle.std.proofs.Common.{◌≡◌, ℕ, List, [], ◌∷◌, ◌++◌, map, filter, flat_map, cond, not, Bool, true, false, IsPermutation, refl, sym, ap, ◌∙◌, append_assoc}
 use Rattle.std.specs.Prelude.{◌&&◌, if◌then◌else◌, is_none}
-use Rattle.std.specs.Ordering.{is_eq}
 use Rattle.std.specs.Str.{bytes_eq}
 use Rattle.std.proofs.lemmas.List.{map-append}
 use Rattle.std.proofs.lemmas.List.Sorted.{IsPermutation-refl, IsPermutation-cons, IsPermutation-trans, IsPermutation-middle, IsPermutation-append_right}
 use Rattle.sqlite_trees.proofs.ListLemmas.{IsPermutation-same}
 use Rattle.sqlite_value.specs.declared.value.Value.{Value}
-use Rattle.sqlite_value.specs.declared.value.Value.TheVariants.{Null, Text}
+use Rattle.sqlite_value.specs.declared.value.Value.TheVariants.{Text}
 use Rattle.sqlite_value.specs.declared.keys.Collation.TheVariants.{Binary}
-use Rattle.sqlite_value.specs.Order.{Row, value_cmp}
-use Rattle.sqlite_value.proofs.OrderLemmas.{value_cmp-apart, value_cmp-Null}
-use Rattle.sqlite_sql.specs.declared.ops.BinaryOp.TheVariants.{Compare, Is}
+use Rattle.sqlite_value.specs.Order.{Row}
+use Rattle.sqlite_sql.specs.declared.ops.BinaryOp.TheVariants.{Compare}
 use Rattle.sqlite_sql.specs.declared.ops.CompareOp.TheVariants.{Eq}
 use Rattle.sqlite_sql.specs.Ops.{binary, is_true}
 use Rattle.vault_core_model.specs.declared.records.Entry.{Entry}
 use Rattle.vault_core_model.specs.declared.records.History.{History}
-use Rattle.vault_core_model.specs.declared.records.Removal.{Removal}
 use Rattle.vault_core_model.specs.declared.records.Tenure.{Tenure}
 use Rattle.vault_core_model.specs.Change.{tenured_by, tenured_if}
 use Rattle.vault_core_model.specs.Places.{is_held_version_in}
-use Rattle.vault_audit_model.specs.Rows.{entry_row, tenure_row, removal_at}
+use Rattle.vault_audit_model.specs.Rows.{entry_row, tenure_row}
 use Rattle.vault_audit_model.specs.Spells.{tenures_in, tenure_at}
 use Rattle.vault_audit_model.specs.Values.{number, flag}
-use Rattle.vault_audit_model.proofs.ValueLemmas.{truth_back, same_text, same_number, three, cast_int}
+use Rattle.vault_audit_model.proofs.ValueLemmas.{same_text, same_number, none_removed, three, cast_int}
 use Rattle.vault_store_model.specs.Copies.{is_held_version, moved_row}
 use Rattle.vault_store_model.proofs.ListLemmas.{second_first}
 
@@ -32,14 +29,6 @@ use Rattle.vault_store_model.proofs.ListLemmas.{second_first}
 marker_is : (marker : Bool) → is_true (binary (Compare Eq Binary) (flag marker) (number 0)) ≡ not marker
 marker_is true = same_number 1 0
 marker_is false = same_number 0 0
-
-null_is : (r : Option Removal) → is_eq (value_cmp (removal_at r) Null) ≡ is_none r
-null_is None = ap is_eq (value_cmp-Null Null)
-null_is (Some r) = ap is_eq (value_cmp-apart (number r.at) Null (λ e. absurd (omega (arith, e))))
-
-none_removed : (r : Option Removal) → is_true (binary (Is Binary) (removal_at r) Null) ≡ is_none r
-unfolding binary
-none_removed r = truth_back _ ∙ null_is r
 
 second_test : (a b c : Bool) → (a && (b && c)) ≡ (b && (a && c))
 second_test true b c = refl

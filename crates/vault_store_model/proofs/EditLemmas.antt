@@ -6,9 +6,10 @@ use Rattle.sqlite_keyed.proofs.ListLemmas.{IsPermutation-filter}
 use Rattle.sqlite_value.specs.Order.{Row}
 use Rattle.sqlite.specs.State.{State}
 use Rattle.vault_base.specs.declared.refusal.Table.{Table}
+use Rattle.vault_audit_model.specs.Order.{place_of}
 use Rattle.vault_store_model.specs.Rows.{Rows, AreSameRows, rows_in}
 use Rattle.vault_store_model.specs.Copies.{with_copies}
-use Rattle.vault_store_model.specs.Edits.{number_of, with_rows, with_row, with_changed, changed_if, without, and_then, IgnoresOrder, Edits}
+use Rattle.vault_store_model.specs.Edits.{with_rows, with_row, with_changed, changed_if, without, and_then, IgnoresOrder, Edits}
 
 -- an edit of one table's list of rows ignores the order, where it is so on lists
 by_table : (b : Bool) (edit : List Row → List Row) → ((xs ys : List Row) → IsPermutation xs ys → IsPermutation (edit xs) (edit ys)) → (xs ys : List Row) → IsPermutation xs ys
@@ -17,7 +18,7 @@ by_table true edit keeps xs ys same = keeps xs ys same
 by_table false edit keeps xs ys same = same
 
 with_rows_ignores : (t : Table) (edit : List Row → List Row) → ((xs ys : List Row) → IsPermutation xs ys → IsPermutation (edit xs) (edit ys)) → IgnoresOrder (with_rows t edit)
-with_rows_ignores t edit keeps xs ys same s = by_table (number_of t == number_of s) edit keeps (xs s) (ys s) (same s)
+with_rows_ignores t edit keeps xs ys same s = by_table (place_of t == place_of s) edit keeps (xs s) (ys s) (same s)
 
 pub with_row_ignores : (t : Table) (row : Row) → IgnoresOrder (with_row t row)
 with_row_ignores t row = with_rows_ignores t (λ rows. row ∷ rows) (λ xs ys same. IsPermutation-cons row xs ys same)
@@ -36,7 +37,7 @@ copies_by true test made xs ys us vs same alike =
 copies_by false test made xs ys us vs same alike = alike
 
 pub with_copies_ignores : (t from : Table) (test : Row → Bool) (made : Row → Row) → IgnoresOrder (with_copies t from test made)
-with_copies_ignores t from test made xs ys same s = copies_by (number_of t == number_of s) test made (xs from) (ys from) (xs s) (ys s) (same from) (same s)
+with_copies_ignores t from test made xs ys same s = copies_by (place_of t == place_of s) test made (xs from) (ys from) (xs s) (ys s) (same from) (same s)
 
 pub and_then_ignores : (first second : Rows → Rows) → IgnoresOrder first → IgnoresOrder second → IgnoresOrder (and_then first second)
 and_then_ignores first second a b xs ys same = b (first xs) (first ys) (a xs ys same)

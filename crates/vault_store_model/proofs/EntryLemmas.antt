@@ -25,7 +25,7 @@ use Rattle.vault_store_model.proofs.ListLemmas.{flat_map-append, flat_map_one}
 
 -- ---- ids
 
-apart : (a b : ℕ) → b < a → (a == b) ≡ false
+pub apart : (a b : ℕ) → b < a → (a == b) ≡ false
 apart a b less = grind (arith, less)
 
 -- those behind an id have others

@@ -1,5 +1,5 @@
 -- The edit of one key's head, on the rows of heads.
-use Rattle.std.proofs.Common.{◌≡◌, ℕ, ◌<◌, List, [], ◌∷◌, ◌++◌, map, filter, cond, not, Bool, true, false, Option, Some, None, IsPermutation, refl, sym, ap, subst, ◌∙◌, lit<}
+use Rattle.std.proofs.Common.{◌≡◌, ℕ, ◌<◌, List, [], ◌∷◌, ◌++◌, map, filter, cond, not, true, false, Option, Some, None, IsPermutation, refl, sym, ap, subst, ◌∙◌, lit<}
 use Rattle.std.specs.List.{AllByRecursion}
 use Rattle.std.proofs.lemmas.List.Sorted.{IsPermutation-map, IsPermutation-trans, IsPermutation-sym}
 use Rattle.std.proofs.lemmas.Slice.Eq.{bytes_eq-Decides}
@@ -17,18 +17,14 @@ use Rattle.vault_store_model.specs.Edits.{changed_if}
 use Rattle.vault_store_model.specs.Tests.{is_of_key, with_head_columns}
 use Rattle.vault_store_model.specs.Changes.{headed}
 use Rattle.vault_store_model.proofs.OrderLemmas.{headed_same}
-use Rattle.vault_store_model.proofs.ByEntry.{is_newest, head_row_of, heads_by, heads_are, head_of_entries}
+use Rattle.vault_store_model.proofs.HeadsByEntry.{is_newest, head_row_of, heads_by, heads_are, head_of_entries}
 use Rattle.vault_store_model.proofs.Newest.{rising_ids}
-use Rattle.vault_store_model.proofs.Parts.{is_at, is_elsewhere, own_head, other_heads, heads_in_parts, others_same}
+use Rattle.vault_store_model.proofs.HeadParts.{is_at, is_elsewhere, own_head, other_heads, heads_in_parts, others_same}
 
 -- ---- rows of one key, and of others
 
 own_key : (bucket key : List ℕ) (head : Head) → is_of_key bucket key (head_row (record { bucket = bucket; key = key; head = head })) ≡ true
 own_key bucket key head = rw ((bytes_eq-Decides bucket bucket).1 refl, (bytes_eq-Decides key key).1 refl) refl
-
-not_false : (b : Bool) → not b ≡ true → b ≡ false
-not_false true e = absurd (cc e)
-not_false false e = refl
 
 pub others_apart : (bucket key : List ℕ) (es xs : List Entry) → AllByRecursion (λ h. is_of_key bucket key (head_row h) ≡ false) (map (head_row_of es) (filter (is_newest es) (filter (is_elsewhere bucket key) xs)))
 others_apart bucket key es [] = tt

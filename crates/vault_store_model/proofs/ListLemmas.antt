@@ -1,7 +1,6 @@
 -- Lists that are placed, mapped and filtered, up to the order.
 use Rattle.std.proofs.Common.{◌≡◌, List, [], ◌∷◌, ◌++◌, map, filter, flat_map, cond, Bool, true, false, Ordering, Less, Equal, Greater, IsPermutation, refl, sym, ap, subst, ◌∙◌, append_assoc, append-nil}
-use Rattle.std.specs.Prelude.{◌||◌}
-use Rattle.std.specs.List.{AllByRecursion, list_any}
+use Rattle.std.specs.List.{AllByRecursion}
 use Rattle.std.proofs.lemmas.List.Sorted.{IsPermutation-refl, IsPermutation-sym, IsPermutation-cons, IsPermutation-trans, IsPermutation-middle, IsPermutation-append_left, IsPermutation-append_comm}
 use Rattle.sqlite_value.specs.Order.{Row}
 use Rattle.vault_core_model.specs.Order.{placed, placed_by}
@@ -65,16 +64,3 @@ flat_map-append f (x ∷ xs) ys = ap (λ l. f x ++ l) (flat_map-append f xs ys) 
 
 pub flat_map_one : {A B : Type 0} (f : A → List B) (x : A) → flat_map f (x ∷ []) ≡ f x
 flat_map_one f x = append-nil (f x)
-
--- ---- what a test finds
-
-pub clash : (b : Bool) → b ≡ true → b ≡ false → ⊥
-clash b e f = cc (sym e ∙ f)
-
-pub of_none : {A : Type 0} (p : A → Bool) (xs : List A) → list_any p xs ≡ false → AllByRecursion (λ x. p x ≡ false) xs
-of_none p [] none = tt
-of_none p (x ∷ xs) none =
-    elim (p x) as (λ b. (b || list_any p xs) ≡ false → (b ≡ false) × AllByRecursion (λ y. p y ≡ false) xs) [
-      | true ↦ λ n. absurd (cc n)
-      | false ↦ λ n. (refl, of_none p xs n)
-    ] none

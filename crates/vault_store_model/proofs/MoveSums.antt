@@ -7,6 +7,7 @@ use Rattle.std.proofs.lemmas.Slice.Eq.{bytes_eq-Decides}
 use Rattle.vault_base.specs.Days.{day, last_moment}
 use Rattle.vault_tally.specs.Row.{Item, IsRowOf, AreBounded, AreHeld, size_of, weight, handed_item, received_items}
 use Rattle.vault_tally.specs.declared.row.Row.{Row as Sums}
+use Rattle.vault_tally.proofs.SumsAlone.{row_same, bounded_same, all_pass}
 use Rattle.vault_core_model.specs.declared.records.BucketConfig.{BucketConfig}
 use Rattle.vault_core_model.specs.declared.records.Tenure.{Tenure}
 use Rattle.vault_core_model.specs.declared.change.Change.TheVariants.{MoveBucket}
@@ -24,7 +25,6 @@ use Rattle.vault_store_model.proofs.EntryLemmas.{texts_turned}
 use Rattle.vault_store_model.proofs.MovedItems.{MovesIf, all_move, kept, going, sizes, before, after, received, untouched, all_held, counted_as, sum_sizes}
 use Rattle.vault_store_model.proofs.MovedShares.{last_item, last_sized, last_weighs}
 use Rattle.vault_store_model.proofs.SumLemmas.{row_is, same_config}
-use Rattle.vault_store_model.proofs.SumsAlone.{row_same, bounded_same, all_pass}
 
 module _ (v : Vault) (t : ℕ) (name dept : List ℕ) (sound : Sound v) (move : IsMove v name dept) where
   abbrev after_move : Vault

@@ -8,6 +8,7 @@ use Rattle.std.proofs.lemmas.List.{map-append}
 use Rattle.std.proofs.lemmas.List.Sums.{sum_by-cons, sum_by-append}
 use Rattle.vault_base.specs.Days.{day}
 use Rattle.vault_tally.specs.Row.{Item, held_item, handed_item, received_items}
+use Rattle.vault_tally.proofs.SumsAlone.{one_unless, fails}
 use Rattle.vault_core_model.specs.declared.records.BucketConfig.{BucketConfig}
 use Rattle.vault_core_model.specs.declared.records.History.{History}
 use Rattle.vault_core_model.specs.declared.records.Removal.{Removal}
@@ -19,7 +20,6 @@ use Rattle.vault_core_model.specs.Vault.{Vault, config_of}
 use Rattle.vault_core_model.specs.Sound.{AreTenures, HasTenures, HasTenuresAs, IsWithBucket, last_tenure}
 use Rattle.vault_core_model.specs.Totals.{items_by, items_in, shares_from, shares_of}
 use Rattle.vault_store_model.proofs.MovedShares.{front, last_item, last_dept, where_own, sum_before, sum_after, last_is, last_held}
-use Rattle.vault_store_model.proofs.SumsAlone.{one_unless, fails}
 
 -- what is told of a version that moves: it is held, and has tenures, the last of which is the owner's
 pub record Moves (owner : List ℕ) (h : History) : Type 0 where

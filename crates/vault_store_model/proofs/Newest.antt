@@ -7,7 +7,7 @@ use Rattle.vault_core_model.specs.declared.records.Entry.{Entry}
 use Rattle.vault_core_model.specs.declared.records.History.{History}
 use Rattle.vault_core_model.specs.Sound.{AreIdsFrom}
 use Rattle.vault_audit_model.specs.Spells.{entries_in}
-use Rattle.vault_store_model.proofs.ByEntry.{is_top, last_of}
+use Rattle.vault_store_model.proofs.HeadsByEntry.{is_top, last_of}
 
 -- each id is above those in front
 abbrev pub IsRising : ℕ → List Entry → Type 0

@@ -1,7 +1,7 @@
 -- Edits that ignore the order in which rows stand.
-use Rattle.std.proofs.Common.{ℕ, ◌+◌, ◌==◌, ◌≡◌, List, [], ◌∷◌, ◌++◌, map, cond, not, Bool, true, false, Option, Some, None, IsPermutation, refl}
-use Rattle.std.proofs.lemmas.List.Sorted.{IsPermutation-refl, IsPermutation-cons, IsPermutation-map}
-use Rattle.sqlite_trees.proofs.ListLemmas.{IsPermutation-same, IsPermutation-filter}
+use Rattle.std.proofs.Common.{ℕ, ◌+◌, ◌==◌, List, [], ◌∷◌, map, cond, not, Bool, true, false, Option, Some, None, IsPermutation}
+use Rattle.std.proofs.lemmas.List.Sorted.{IsPermutation-cons, IsPermutation-map}
+use Rattle.sqlite_trees.proofs.ListLemmas.{IsPermutation-filter}
 use Rattle.sqlite_value.specs.Order.{Row}
 use Rattle.vault_base.specs.declared.refusal.Table.{Table}
 use Rattle.vault_base.specs.declared.refusal.Table.TheVariants as table
@@ -15,10 +15,10 @@ use Rattle.vault_core_model.specs.declared.change.Change.TheVariants.{AddDept, A
 use Rattle.vault_core_model.specs.Change.{changed, new_bucket}
 use Rattle.vault_core_model.specs.Reads.{entry_of, head_of, head_over}
 use Rattle.vault_core_model.specs.Vault.{Vault, config_of, next_id}
+use Rattle.vault_audit_model.specs.Order.{place_of}
 use Rattle.vault_audit_model.specs.Rows.{caller_row, bucket_row, rule_row, entry_row, content_row, setting_row, note_row, tenure_row}
 use Rattle.vault_audit_model.specs.Spells.{bucket_of, rules_if_given, settings_in, tenures_in, department_in}
-use Rattle.vault_store_model.specs.Rows.{Rows, AreSameRows}
-use Rattle.vault_store_model.specs.Edits.{number_of, with_rows, with_row, changed_if, and_then, IgnoresOrder, pushed, with_each, at_moment}
+use Rattle.vault_store_model.specs.Edits.{with_rows, changed_if, IgnoresOrder, pushed, with_each, at_moment}
 use Rattle.vault_store_model.specs.Copies.{is_held_version, moved_row}
 use Rattle.vault_store_model.specs.Tests.{is_named, is_numbered, is_of_key, every, with_last, with_last_and_next, with_last_and_moves, with_sums, closed_row, with_default_columns, with_owner, removed_row, with_head_columns}
 use Rattle.vault_store_model.proofs.EditLemmas.{with_row_ignores, with_changed_ignores, without_ignores, with_copies_ignores, and_then_ignores}
@@ -28,7 +28,7 @@ use Rattle.vault_store_model.specs.Changes.{added_if_given, with_row_if_given, s
 
 pub rows_ignore : (t : Table) (edit : List Row → List Row) → ((xs ys : List Row) → IsPermutation xs ys → IsPermutation (edit xs) (edit ys)) → IgnoresOrder (with_rows t edit)
 rows_ignore t edit same xs ys are s =
-    elim (number_of t == number_of s) as (λ b. IsPermutation (cond b (edit (xs s)) (xs s)) (cond b (edit (ys s)) (ys s))) [
+    elim (place_of t == place_of s) as (λ b. IsPermutation (cond b (edit (xs s)) (xs s)) (cond b (edit (ys s)) (ys s))) [
       | true ↦ same (xs s) (ys s) (are s)
       | false ↦ are s
     ]
@@ -71,35 +71,6 @@ head_ignores bucket key old new = rows_ignore table.Heads (headed bucket key old
 
 department_ignores : (v : Vault) (dept : List ℕ) → IgnoresOrder (with_department_sums v dept)
 department_ignores v dept = with_changed_ignores table.Departments (is_named dept) (with_sums (department_in v dept).sums)
-
--- what is nothing is no edit
-unwritten : (t : Table) (edit : List Row → List Row) → ((rows : List Row) → edit rows ≡ rows) → (xs : Rows) → AreSameRows (with_rows t edit xs) xs
-unwritten t edit still xs s =
-    elim (number_of t == number_of s) as (λ b. IsPermutation (cond b (edit (xs s)) (xs s)) (xs s)) [
-      | true ↦ IsPermutation-same _ _ (still (xs s))
-      | false ↦ IsPermutation-refl (xs s)
-    ]
-
-pub none_given : {A : Type 0} (t : Table) (row : A → Row) (xs : Rows) → AreSameRows (with_row_if_given t row None xs) xs
-none_given t row xs = unwritten t (added_if_given row None) (λ rows. refl) xs
-
-pub marker_summed : (v : Vault) (config : Option BucketConfig) (xs : Rows) → AreSameRows (with_sums_of v true config xs) xs
-marker_summed v config xs = unwritten table.Departments (summed v true config) (λ rows. refl) xs
-
-pub none_pushed : (t : Table) (xs : Rows) → AreSameRows (with_each t [] xs) xs
-none_pushed t xs = unwritten t (pushed []) (λ rows. refl) xs
-
--- one row more after the others
-pushed_after : (more : List Row) (row : Row) (rows : List Row) → pushed (more ++ row ∷ []) rows ≡ row ∷ pushed more rows
-pushed_after [] row rows = refl
-pushed_after (x ∷ more) row rows = pushed_after more row (x ∷ rows)
-
-pub each_after : (t : Table) (more : List Row) (row : Row) (xs : Rows) → AreSameRows (with_each t (more ++ row ∷ []) xs) (and_then (with_each t more) (with_row t row) xs)
-each_after t more row xs s =
-    elim (number_of t == number_of s) as (λ b. IsPermutation (cond b (pushed (more ++ row ∷ []) (xs s)) (xs s)) (cond b (row ∷ cond b (pushed more (xs s)) (xs s)) (cond b (pushed more (xs s)) (xs s)))) [
-      | true ↦ IsPermutation-same _ _ (pushed_after more row (xs s))
-      | false ↦ IsPermutation-refl (xs s)
-    ]
 
 history_ignores : (v : Vault) (h : History) → IgnoresOrder (with_history v h)
 history_ignores v h =

@@ -11,7 +11,7 @@ use Rattle.sqlite.specs.Term.{Term}
 use Rattle.sqlite.specs.Query.{inner, end, IsAnswer, Output, output, matches}
 use Rattle.sqlite.specs.Program.{overlay}
 use Rattle.sqlite.specs.Effect.{Database, Answers}
-use Rattle.vault_store_model.specs.Scans.{scan, scan_as, passes, shows}
+use Rattle.vault_store_model.specs.Scans.{table_scan, scan_as, passes, shows}
 
 matched_in : (tests : List Term) (params : Row) (rows : List Row) → flat_map (λ r. cond (passes tests params r) ((params ∷ r ∷ []) ∷ []) []) rows ≡ map (λ r. params ∷ r ∷ []) (filter (passes tests params) rows)
 matched_in tests params [] = refl
@@ -50,6 +50,6 @@ pub scanned_as : (collations : List Collation) (db : Database) (t : ℕ) (tests 
 scanned_as collations db t tests project params rows a =
     subst (λ xs. IsPermutation (map (shows project params) (filter (passes tests params) xs)) rows) (uncovered db.trees t) (unordered collations t tests project (overlay db.trees []) params rows (a.answer Null))
 
-pub scanned : (db : Database) (t : ℕ) (tests project : List Term) (params : Row) (rows : List Row) → Answers db (record { lets = []; body = scan t tests project }) params rows
+pub scanned : (db : Database) (t : ℕ) (tests project : List Term) (params : Row) (rows : List Row) → Answers db (record { lets = []; body = table_scan t tests project }) params rows
     → IsPermutation (map (shows project params) (filter (passes tests params) (db.trees t))) rows
 scanned = scanned_as []

@@ -12,7 +12,7 @@ use Rattle.vault_core_model.specs.declared.records.Setting.{Setting}
 use Rattle.vault_core_model.specs.declared.change.Change.TheVariants.{AddSetting}
 use Rattle.vault_core_model.specs.Allowed.{IsNextSetting}
 use Rattle.vault_core_model.specs.Change.{changed, with_setting}
-use Rattle.vault_core_model.specs.Reads.{last_setting, setting_of, count_by}
+use Rattle.vault_core_model.specs.Reads.{last_setting, setting_of, count_of_settings}
 use Rattle.vault_core_model.specs.Sound.{Sound, AreIdsFrom}
 use Rattle.vault_core_model.specs.Totals.{items_by, items_of, shares_of}
 use Rattle.vault_core_model.specs.Vault.{Vault, history_of}
@@ -20,6 +20,7 @@ use Rattle.vault_audit_model.specs.declared.rows.SettingRow.{SettingRow}
 use Rattle.vault_audit_model.specs.Editions.{number_of, newest}
 use Rattle.vault_audit_model.specs.Rows.{meta_row, entry_row, content_row, setting_row, tenure_row}
 use Rattle.vault_audit_model.specs.Spells.{settings_from, settings_in, contents_in, tenures_in}
+use Rattle.vault_core_laws.proofs.Soundness.{setting_count}
 use Rattle.vault_store_model.specs.Rows.{rows_of}
 use Rattle.vault_store_model.specs.Changes.{edit_of}
 use Rattle.vault_store_model.specs.Beside.{AreSameBesideHeads}
@@ -31,9 +32,6 @@ use Rattle.vault_store_model.proofs.RecordLemmas.{sums_by_items}
 
 abbrev row_at : ℕ → ℕ → Setting → SettingRow
 row_at id place s = record { id = id; place = place; setting = s }
-
-one_after : (place : ℕ) (ss : List Setting) → length ss + (place + 1) ≡ length ss + 1 + place
-one_after place ss = omega arith
 
 settings_push : (id place : ℕ) (ss : List Setting) (s : Setting) → settings_from id place (ss ++ s ∷ []) ≡ settings_from id place ss ++ row_at id (length ss + place) s ∷ []
 settings_push id place [] s = let e : place ≡ 0 + place = omega arith in ap (λ n. row_at id n s ∷ []) e
@@ -80,12 +78,8 @@ set_in n id s (h ∷ hs) g ids found =
 
 -- ---- how many there are
 
-counted : (ss : List Setting) → count_by (last_setting ss) ≡ length ss
-counted [] = refl
-counted (s ∷ ss) = refl
-
-count_of : (v : Vault) (id : ℕ) (g : History) → history_of v id ≡ Some g → count_by (setting_of v id) ≡ length g.settings
-count_of v id g found = ap (λ (o : Option History). count_by (option_and_then (λ h. last_setting h.settings) o)) found ∙ counted g.settings
+count_of : (v : Vault) (id : ℕ) (g : History) → history_of v id ≡ Some g → count_of_settings (setting_of v id) ≡ length g.settings
+count_of v id g found = ap (λ (o : Option History). count_of_settings (option_and_then (λ h. last_setting h.settings) o)) found ∙ setting_count g.settings
 
 -- ---- what a setting doesn't touch
 
@@ -111,7 +105,7 @@ next_kept t moves f hs = ap (λ n. meta_row (record { schema = number_of newest;
 -- ---- the change
 
 settings_added : (v : Vault) (t id : ℕ) (s : Setting) → Sound v → IsNextSetting v t id s
-    → IsPermutation (map setting_row (flat_map settings_in (map (with_setting id s) v.histories))) (setting_row (row_at id (count_by (setting_of v id) + 1) s) ∷ map setting_row (flat_map settings_in v.histories))
+    → IsPermutation (map setting_row (flat_map settings_in (map (with_setting id s) v.histories))) (setting_row (row_at id (count_of_settings (setting_of v id) + 1) s) ∷ map setting_row (flat_map settings_in v.histories))
 settings_added v t id s sound is =
     let found = found_history (history_of v id) is.entry is.there in
     let g = found.0 in

@@ -1,6 +1,6 @@
 -- The sums of a department after an admission or a removal are those that its row comes to.
 use Rattle.std.proofs.Common.{◌≡◌, ℕ, ◌+◌, ◌≤◌, ◌<◌, ◌==◌, List, [], ◌∷◌, ◌++◌, map, Bool, true, false, Option, Some, None, refl, sym, ap, subst, ◌∙◌, arith, eqb}
-use Rattle.std.specs.Prelude.{find, option_map, option_and_then, unwrap_or, if◌then◌else◌}
+use Rattle.std.specs.Prelude.{find, option_map, unwrap_or, if◌then◌else◌}
 use Rattle.std.specs.List.{AllByRecursion}
 use Rattle.std.proofs.lemmas.Bool.{eqb-true}
 use Rattle.vault_base.specs.Days.{day, last_moment}
@@ -150,7 +150,7 @@ sums_removed v t id r e config from none row new sound later low is there versio
     last_there v g.entry.marker g config (found_all (HasTenures v) (λ h. h.entry.id == id) v.histories g sound.tenured found.1) (ap (λ (x : Entry). x.marker) found.2 ∙ version) held
     (ap (λ (x : Entry). config_of v x.bucket) found.2 ∙ placed) in
     let told_from : from ≡ last.0.from =
-    since ∙ ap (λ (o : Option History). unwrap_or (option_map (λ (x : Tenure). x.from) (option_and_then (λ h. last_tenure h.tenures) o)) none) found.1
+    since ∙ ap (λ (o : Option History). unwrap_or (option_map (λ (x : Tenure). x.from) (last_tenure (unwrap_or (option_map (λ h. h.tenures) o) []))) none) found.1
     ∙ ap (λ (o : Option Tenure). unwrap_or (option_map (λ (x : Tenure). x.from) o) none) last.1 in
     let own : CountsOut row g.entry.size (day last.0.from) (day t) new =
     subst (λ n. CountsOut row g.entry.size (day n) (day t) new) told_from (subst (λ (x : Entry). CountsOut row x.size (day from) (day t) new) (sym found.2) counts) in

@@ -11,7 +11,7 @@ use Rattle.vault_core_model.specs.declared.records.Removal.{Removal}
 use Rattle.vault_core_model.specs.declared.change.Change.{Change}
 use Rattle.vault_core_model.specs.declared.change.Change.TheVariants.{AddDept, AddCaller, CloseCaller, AddBucket, MoveBucket, SetDefault, SetRules, Admit, AddSetting, Remove}
 use Rattle.vault_core_model.specs.Change.{changed, new_bucket}
-use Rattle.vault_core_model.specs.Reads.{entry_of, setting_of, count_by, head_of, head_over}
+use Rattle.vault_core_model.specs.Reads.{entry_of, setting_of, count_of_settings, head_of, head_over}
 use Rattle.vault_core_model.specs.Places.{held_at}
 use Rattle.vault_core_model.specs.Vault.{Vault, config_of, next_id}
 use Rattle.vault_audit_model.specs.Rows.{department_row, caller_row, bucket_row, rule_row, entry_row, content_row, setting_row, note_row, head_row, tenure_row}
@@ -113,5 +113,5 @@ edit_of v t (Admit a) =
     (and_then (with_sums_of (changed v t (Admit a)) a.history.entry.marker (config_of v a.history.entry.bucket))
     (with_changed table.Meta every (with_last_and_next t (next_id v + 1)))))
 edit_of v t (AddSetting id s) =
-    and_then (with_row table.Settings (setting_row (record { id = id; place = count_by (setting_of v id) + 1; setting = s }))) (at_moment t)
+    and_then (with_row table.Settings (setting_row (record { id = id; place = count_of_settings (setting_of v id) + 1; setting = s }))) (at_moment t)
 edit_of v t (Remove id r) = and_then (without_entry v (changed v t (Remove id r)) id r (entry_of v id)) (at_moment t)

@@ -10,13 +10,13 @@ use Rattle.sqlite_sql.specs.declared.ops.CompareOp.TheVariants.{Eq}
 use Rattle.sqlite_sql.specs.Ops.{binary, is_true}
 use Rattle.vault_base.specs.declared.refusal.Table.{Table}
 use Rattle.vault_base.specs.declared.refusal.Table.TheVariants as table
+use Rattle.vault_audit_model.specs.Order.{place_of}
 use Rattle.vault_audit_model.specs.Values.{number}
 use Rattle.vault_store_model.specs.Rows.{Rows}
-use Rattle.vault_store_model.specs.Edits.{number_of}
 
 -- for each row of one table that passes the test, a row more in another
 abbrev pub with_copies : Table → Table → (Row → Bool) → (Row → Row) → Rows → Rows
-with_copies t from test made xs s = cond (number_of t == number_of s) (map made (filter test (xs from)) ++ xs s) (xs s)
+with_copies t from test made xs s = cond (place_of t == place_of s) (map made (filter test (xs from)) ++ xs s) (xs s)
 
 -- the row of an entry tells a held version of that bucket, as SQL compares
 abbrev pub is_held_version : List ℕ → Row → Bool

@@ -4,26 +4,14 @@ use Rattle.sqlite_value.specs.Order.{Row}
 use Rattle.sqlite.specs.State.{State}
 use Rattle.vault_base.specs.declared.refusal.Table.{Table}
 use Rattle.vault_base.specs.declared.refusal.Table.TheVariants as table
+use Rattle.vault_audit_model.specs.Order.{place_of}
 use Rattle.vault_audit_model.specs.Tables.{vault_schema}
 use Rattle.vault_store_model.specs.Rows.{Rows, AreSameRows, rows_in}
 use Rattle.vault_store_model.specs.Tests.{every, with_last}
 
-abbrev pub number_of : Table → ℕ
-number_of table.Meta = 0
-number_of table.Departments = 1
-number_of table.Callers = 2
-number_of table.Buckets = 3
-number_of table.Rules = 4
-number_of table.Entries = 5
-number_of table.Contents = 6
-number_of table.Settings = 7
-number_of table.Intake = 8
-number_of table.Heads = 9
-number_of table.Tenures = 10
-
 -- the rows of one table become these, those of all others stay
 abbrev pub with_rows : Table → (List Row → List Row) → Rows → Rows
-with_rows t edit xs s = cond (number_of t == number_of s) (edit (xs s)) (xs s)
+with_rows t edit xs s = cond (place_of t == place_of s) (edit (xs s)) (xs s)
 
 -- a row more
 abbrev pub with_row : Table → Row → Rows → Rows

@@ -21,8 +21,8 @@ scan_as collations t tests project = record {
   offset = lit (Int (pos 0));
 }
 
-abbrev pub scan : ℕ → List Term → List Term → Query
-scan = scan_as []
+abbrev pub table_scan : ℕ → List Term → List Term → Query
+table_scan = scan_as []
 
 -- the row passes WHERE, with these parameters
 abbrev pub passes : List Term → Row → Row → Bool

@@ -1,10 +1,11 @@
 -- What a row of sums comes to, when a version is counted in, or its removal, or a bucket that goes or comes.
-use Rattle.std.specs.Prelude.{◌≡◌, ℕ, Bool, true, List, [], ◌∷◌, ◌++◌, map, sum, Option, option_and_then}
+use Rattle.std.specs.Prelude.{◌≡◌, ℕ, Bool, true, List, [], ◌∷◌, ◌++◌, map, sum, Option}
 use Rattle.vault_tally.specs.Row.{Item, IsRowOf, AreBounded, AreHeld, held_item, removed_item, handed_item, received_items}
 use Rattle.vault_tally.specs.declared.row.Row.{Row}
 use Rattle.vault_core_model.specs.declared.records.Tenure.{Tenure}
+use Rattle.vault_core_model.specs.Reads.{tenures_of}
 use Rattle.vault_core_model.specs.Sound.{last_tenure}
-use Rattle.vault_core_model.specs.Vault.{Vault, history_of}
+use Rattle.vault_core_model.specs.Vault.{Vault}
 
 -- a version of that size, admitted on that day, is counted in
 abbrev pub CountsIn : Row → ℕ → ℕ → Row → Type 0
@@ -29,6 +30,6 @@ Receives row bytes day new =
     (items : List Item) (sizes : List ℕ) → IsRowOf row items → sum sizes ≡ bytes
     → AreBounded (items ++ received_items day sizes) → IsRowOf new (items ++ received_items day sizes)
 
--- the tenure that a removal ends, of the version of that id
+-- the last tenure of the version of that id, which its removal ends; none where there is no such version
 abbrev pub last_tenure_of : Vault → ℕ → Option Tenure
-last_tenure_of v id = option_and_then (λ h. last_tenure h.tenures) (history_of v id)
+last_tenure_of v id = last_tenure (tenures_of v id)

@@ -4,9 +4,8 @@
 
 pub mod changes;
 
-ghost use Rattle.std.specs.Prelude.{◌↔◌, IsPermutation};
+ghost use Rattle.std.specs.Prelude.{◌↔◌};
 ghost use Rattle.sqlite.specs.Effect.{Database};
-ghost use Rattle.vault_base.specs.declared.refusal.Table.{Table};
 ghost use Rattle.vault_core_model.specs.Vault.{Vault};
 ghost use Rattle.vault_audit_model.specs.Spells.{AreSound};
 ghost use Rattle.vault_store_model.specs.Rows.{HasRows};

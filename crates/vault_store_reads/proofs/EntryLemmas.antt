@@ -28,7 +28,7 @@ use Rattle.vault_audit_model.specs.Values.{number}
 use Rattle.vault_audit_model.proofs.SameRows.{same_entry, same_content, same_note}
 use Rattle.vault_audit_laws.proofs.Members.{ascending_numbered}
 use Rattle.vault_audit_laws.proofs.Uniqueness.{ids_numbered}
-use Rattle.vault_store_reads.specs.Queries.{Finds}
+use Rattle.vault_store_reads.specs.Queries.{FindsRows}
 use Rattle.vault_store_reads.proofs.FindLemmas.{records_found, at_most_one, first_found, none_found, read_found}
 use Rattle.vault_store_reads.proofs.ListLemmas.{filter_parts}
 use Rattle.vault_store_reads.proofs.TextLemmas.{where_is, entry_text, entry_shown, entry_selects, content_text, content_shown, content_selects, note_text, note_shown, note_selects}
@@ -55,7 +55,7 @@ one_history hs id ids = at_most_one (on id_of nat_cmp) (λ (h : History). h.entr
 
 -- ---- entries
 
-module _ (v : Vault) (id : ℕ) (rows : List Row) (finds : Finds v entry_text (number id ∷ []) rows) where
+module _ (v : Vault) (id : ℕ) (rows : List Row) (finds : FindsRows v entry_text (number id ∷ []) rows) where
   abbrev row_of : History → Row
   row_of h = entry_row h.entry
 
@@ -90,7 +90,7 @@ content_found (Some h) = given h.entry.id h.content
     given own None = refl
     given own (Some bytes) = refl
 
-module _ (v : Vault) (id : ℕ) (rows : List Row) (finds : Finds v content_text (number id ∷ []) rows) where
+module _ (v : Vault) (id : ℕ) (rows : List Row) (finds : FindsRows v content_text (number id ∷ []) rows) where
   abbrev stored : Option History → Option ContentRow
   stored o = option_and_then (λ h. option_map (λ bytes. record { id = h.entry.id; content = bytes }) h.content) o
 
@@ -124,7 +124,7 @@ module _ (v : Vault) (id : ℕ) (rows : List Row) (finds : Finds v content_text 
 
 -- ---- intake
 
-module _ (v : Vault) (bucket batch : List ℕ) (line : ℕ) (rows : List Row) (finds : Finds v note_text (Text bucket ∷ Text batch ∷ number line ∷ []) rows) where
+module _ (v : Vault) (bucket batch : List ℕ) (line : ℕ) (rows : List Row) (finds : FindsRows v note_text (Text bucket ∷ Text batch ∷ number line ∷ []) rows) where
   abbrev is_note : Note → Bool
   is_note n = bytes_eq n.bucket bucket && (bytes_eq n.batch batch && n.line == line)
 

@@ -24,13 +24,13 @@ use Rattle.vault_core_model.specs.Places.{is_held, is_held_at, held_at, newer, i
 use Rattle.vault_core_model.specs.Reads.{head_over, head_of}
 use Rattle.vault_core_model.specs.Sound.{Sound}
 use Rattle.vault_core_model.specs.Vault.{Vault}
-use Rattle.vault_core_laws.proofs.Newest.{current-head}
+use Rattle.vault_core_laws.proofs.Newest.{current-head, last_of}
 use Rattle.vault_audit_model.specs.declared.rows.HeadRow.{HeadRow}
 use Rattle.vault_audit_model.specs.Rows.{head_row, head_columns}
 use Rattle.vault_audit_model.specs.Spells.{head_in}
 use Rattle.vault_audit_model.specs.Tables.{heads_tree}
 use Rattle.vault_audit_model.proofs.SameRows.{number_same}
-use Rattle.vault_store_reads.specs.Queries.{Finds}
+use Rattle.vault_store_reads.specs.Queries.{FindsRows}
 use Rattle.vault_store_reads.proofs.FindLemmas.{records_found}
 use Rattle.vault_store_reads.proofs.EntryLemmas.{id_of, ascending_ids, same_if}
 use Rattle.vault_store_reads.proofs.ListLemmas.{has_filtered, filtered_has, found_has, first_of, none_of}
@@ -39,12 +39,7 @@ use Rattle.vault_audit_model.proofs.ValueLemmas.{same_text}
 
 -- ---- the last of entries by rising id
 
-last_of : History → List History → History
-last_of h [] = h
-last_of h (g ∷ gs) = last_of g gs
-
 head_over-last : (h : History) (hs : List History) → head_over (h ∷ hs) ≡ Some (record { newest = (last_of h hs).entry.id; count = length (h ∷ hs) })
-unfolding last_of
 head_over-last h [] = refl
 head_over-last h (g ∷ gs) = ap (λ (o : Option Head). option_map (λ x. record { newest = x.newest; count = length (h ∷ g ∷ gs) }) o) (head_over-last g gs)
 
@@ -71,7 +66,7 @@ IsNewest h hs = AllByRecursion (λ (g : History). nat_lt h.entry.id g.entry.id �
 
 -- the one that has none newer is the last
 newest_last : (h f : History) (fs : List History) → IsAscending (on id_of nat_cmp) (f ∷ fs) → Has (f ∷ fs) h → IsNewest h (f ∷ fs) → h ≡ last_of f fs
-unfolding last_of IsNewest
+unfolding IsNewest
 newest_last h f [] ascending (inl e) newest = e
 newest_last h f [] ascending (inr none) newest = absurd none
 newest_last h f (g ∷ gs) ascending (inl e) newest =
@@ -146,7 +141,7 @@ module _ (v : Vault) (bucket key : List ℕ) (sound : Sound v) where
 
 -- ---- its rows
 
-module _ (v : Vault) (bucket key : List ℕ) (rows : List Row) (finds : Finds v head_text (Text bucket ∷ Text key ∷ []) rows) where
+module _ (v : Vault) (bucket key : List ℕ) (rows : List Row) (finds : FindsRows v head_text (Text bucket ∷ Text key ∷ []) rows) where
   abbrev row_of : History → Row
   row_of h = head_row (head_in v h)
 

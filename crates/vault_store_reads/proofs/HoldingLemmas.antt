@@ -1,17 +1,12 @@
 -- What a bucket holds: its held versions by their ids, and the sums over them.
-use Rattle.std.proofs.Common.{◌≡◌, ℕ, ◌+◌, ◌*◌, ◌<◌, ◌==◌, ◌&&◌, List, [], ◌∷◌, map, find, drop, length, get_or, Bool, true, false, not, Option, Some, Less, refl, sym, ap, ap₂, ◌∙◌, arith}
-use Rattle.std.specs.Prelude.{is_none, option_map, unwrap_or, sum_by}
-use Rattle.std.specs.Str.{bytes_eq}
+use Rattle.std.proofs.Common.{◌≡◌, ℕ, ◌+◌, ◌*◌, ◌<◌, ◌==◌, List, [], ◌∷◌, map, find, drop, length, get_or, Option, Some, Less, refl, sym, ap, ap₂, ◌∙◌, arith}
+use Rattle.std.specs.Prelude.{option_map, unwrap_or, sum_by}
 use Rattle.std.specs.List.{AllByRecursion}
 use Rattle.std.proofs.lemmas.List.Sums.{sum_by-cons, sum_by-drop_more}
 use Rattle.sqlite_trees.specs.Tree.{IsAscending}
 use Rattle.sqlite_keyed.proofs.ListLemmas.{map-map, ascending-map, ascending_weaker, ascending-filter, all_weaker}
-use Rattle.sqlite_value.specs.declared.value.Value.TheVariants.{Null, Text}
-use Rattle.sqlite_value.specs.declared.keys.Collation.TheVariants.{Binary}
+use Rattle.sqlite_value.specs.declared.value.Value.TheVariants.{Text}
 use Rattle.sqlite_value.specs.Order.{Row, column}
-use Rattle.sqlite_sql.specs.declared.ops.BinaryOp.TheVariants.{Compare, Is}
-use Rattle.sqlite_sql.specs.declared.ops.CompareOp.TheVariants.{Eq}
-use Rattle.sqlite_sql.specs.Ops.{binary, is_true}
 use Rattle.sqlite_sql.specs.Query.{Query, Output, output, output_cmp}
 use Rattle.vault_base.specs.Days.{day}
 use Rattle.vault_core_model.specs.declared.records.History.{History}
@@ -22,47 +17,23 @@ use Rattle.vault_core_model.specs.Totals.{bucket_bytes, bucket_weight, held_vers
 use Rattle.vault_core_model.specs.Vault.{Vault}
 use Rattle.vault_core_laws.proofs.Lists.{All-filter}
 use Rattle.vault_audit_model.specs.Tables.{entries_tree}
-use Rattle.vault_audit_model.specs.Rows.{entry_row, entry_columns}
-use Rattle.vault_audit_model.specs.Values.{number, flag}
+use Rattle.vault_audit_model.specs.Rows.{entry_columns}
 use Rattle.vault_audit_model.proofs.SameRows.{number_same}
-use Rattle.vault_audit_model.proofs.ValueLemmas.{same_text, same_number, three}
+use Rattle.vault_store_model.specs.Copies.{is_held_version}
 use Rattle.vault_store_model.specs.Scans.{passes}
-use Rattle.vault_store_reads.specs.Queries.{Finds}
+use Rattle.vault_store_model.proofs.CopyLemmas.{test_is}
+use Rattle.vault_store_reads.specs.Queries.{FindsRows}
 use Rattle.vault_store_reads.specs.Shown.{sized_row, sized_of, weight_in}
-use Rattle.vault_store_reads.specs.declared.ordered.shown.SizedRow.{SizedRow}
+use Rattle.vault_store_reads.specs.declared.rows_in_order.shown.SizedRow.{SizedRow}
 use Rattle.vault_store_reads.proofs.OrderedListLemmas.{always, map_once}
 use Rattle.vault_store_reads.proofs.SelectLemmas.{select_of, of_records, answered}
 use Rattle.vault_store_reads.proofs.SettingLemmas.{ids_rise}
 use Rattle.vault_store_reads.proofs.OrderedTextLemmas.{entries_order, no_limit, sized_text, sized_tests, sized_shown, sized_is}
 use Rattle.vault_store_reads.proofs.ToldLemmas.{found_each}
-use Rattle.vault_store_reads.proofs.ValueLemmas.{none_removed, number_less}
+use Rattle.vault_store_reads.proofs.ValueLemmas.{number_less}
+use Rattle.vault_store_reads.proofs.OrderedEntryLemmas.{IsOlder, row_of}
 
 -- ---- the held versions
-
-abbrev row_of : History → Row
-row_of h = entry_row h.entry
-
-abbrev IsOlder : History → History → Type 0
-IsOlder g h = g.entry.id < h.entry.id
-
-abbrev test : List ℕ → Row → Bool
-test bucket c =
-    is_true (binary (Compare Eq Binary) (column c 1) (Text bucket))
-    && (is_true (binary (Compare Eq Binary) (column c 3) (number 0)) && (is_true (binary (Is Binary) (column c 9) Null) && true))
-
-marker_is : (marker : Bool) → is_true (binary (Compare Eq Binary) (flag marker) (number 0)) ≡ not marker
-marker_is true = same_number 1 0
-marker_is false = same_number 0 0
-
-second_first : (a b c : Bool) → (a && (b && c)) ≡ (b && (a && c))
-second_first true b c = refl
-second_first false true c = refl
-second_first false false c = refl
-
-tests : (bucket : List ℕ) (h : History) → test bucket (row_of h) ≡ is_held_version_in bucket h.entry
-tests bucket h =
-    three _ _ _ _ _ _ (same_text h.entry.bucket bucket) (marker_is h.entry.marker) (none_removed h.entry.removal)
-    ∙ second_first (bytes_eq h.entry.bucket bucket) (not h.entry.marker) (is_none h.entry.removal)
 
 abbrev out : Row → Output
 out c = (column c 0 ∷ [], column c 0 ∷ column c 4 ∷ [])
@@ -75,13 +46,13 @@ outs_rise hs up =
     let R : Output → Output → Type 0 = λ a b. output_cmp query a b ≡ Less in
     ascending-map R (λ h. out (row_of h)) hs (ascending_weaker IsOlder (λ g h. R (out (row_of g)) (out (row_of h))) (λ g h low. number_less g.entry.id h.entry.id low) hs up)
 
-pub found_sized : (v : Vault) (bucket : List ℕ) (rows : List Row) → Finds v sized_text (Text bucket ∷ []) rows → rows ≡ map sized_row (map sized_of (held_versions_in v bucket))
+pub found_sized : (v : Vault) (bucket : List ℕ) (rows : List Row) → FindsRows v sized_text (Text bucket ∷ []) rows → rows ≡ map sized_row (map sized_of (held_versions_in v bucket))
 found_sized v bucket rows (db, sound, answers) =
     let params : Row = Text bucket ∷ [] in
     let keep = λ (h : History). is_held_version_in bucket h.entry in
     let hs = held_versions_in v bucket in
-    let are = of_records row_of entry_columns (test bucket) out (passes sized_tests params) (λ r. output query (params ∷ r ∷ [])) (λ r. refl) (λ r. refl) keep v.histories (db.trees entries_tree) sound.spells.entries
-    (always (λ h. test bucket (row_of h) ≡ keep h) (tests bucket) v.histories) in
+    let are = of_records row_of entry_columns (is_held_version bucket) out (passes sized_tests params) (λ r. output query (params ∷ r ∷ [])) (λ r. refl) (λ r. refl) keep v.histories (db.trees entries_tree) sound.spells.entries
+    (always (λ h. is_held_version bucket (row_of h) ≡ keep h) (λ (h : History). test_is bucket h.entry) v.histories) in
     let rise = ascending-filter IsOlder keep v.histories (ids_rise 1 v.histories sound.spells.kept.sound.ids) in
     answered entries_tree sized_tests sized_shown entries_order no_limit db params rows (answers query sized_is) (map (λ h. out (row_of h)) hs) are (outs_rise hs rise)
     ∙ map-map (λ (o : Output). o.1) (λ h. out (row_of h)) hs ∙ sym (map-map sized_row sized_of hs)

@@ -28,7 +28,7 @@ use Rattle.vault_audit_model.specs.Rows.{head_row, head_columns}
 use Rattle.vault_audit_model.specs.Spells.{head_in, heads_in}
 use Rattle.vault_audit_model.specs.Values.{number}
 use Rattle.vault_core_laws.proofs.Lists.{All-filter}
-use Rattle.vault_store_reads.specs.Queries.{Finds}
+use Rattle.vault_store_reads.specs.Queries.{FindsRows}
 use Rattle.vault_store_model.specs.Scans.{passes}
 use Rattle.vault_store_reads.specs.Shown.{key_row}
 use Rattle.vault_store_reads.proofs.KeySetLemmas.{IsRising, keys_rise, now_keys, held_keys, are_now, one_each}
@@ -106,7 +106,7 @@ take-map f zero xs = refl
 take-map f (suc n) [] = refl
 take-map f (suc n) (x ∷ xs) = ap (λ l. f x ∷ l) (take-map f n xs)
 
-pub found_keys : (v : Vault) (bucket after : List ℕ) (most : ℕ) (rows : List Row) → Finds v keys_text (Text bucket ∷ Text after ∷ number most ∷ []) rows → rows ≡ map key_row (keys_after v bucket after most)
+pub found_keys : (v : Vault) (bucket after : List ℕ) (most : ℕ) (rows : List Row) → FindsRows v keys_text (Text bucket ∷ Text after ∷ number most ∷ []) rows → rows ≡ map key_row (keys_after v bucket after most)
 found_keys v bucket after most rows (db, sound, answers) =
     let params : Row = Text bucket ∷ Text after ∷ number most ∷ [] in
     let behind = λ (k : List ℕ). is_behind k after in

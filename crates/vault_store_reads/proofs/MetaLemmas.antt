@@ -8,11 +8,11 @@ use Rattle.vault_audit_model.specs.Rows.{meta_row, meta_columns}
 use Rattle.vault_audit_model.specs.Spells.{meta_of}
 use Rattle.vault_audit_model.specs.Tables.{meta_tree}
 use Rattle.vault_audit_model.proofs.SameRows.{same_meta}
-use Rattle.vault_store_reads.specs.Queries.{Finds}
+use Rattle.vault_store_reads.specs.Queries.{FindsRows}
 use Rattle.vault_store_reads.proofs.FindLemmas.{records_found, read_found}
 use Rattle.vault_store_reads.proofs.TextLemmas.{meta_text, meta_shown, meta_selects}
 
-module _ (v : Vault) (rows : List Row) (finds : Finds v meta_text [] rows) where
+module _ (v : Vault) (rows : List Row) (finds : FindsRows v meta_text [] rows) where
   meta_found : IsPermutation (map meta_row (meta_of v ∷ [])) rows
   meta_found =
       records_found meta_row meta_columns meta_tree [] meta_shown [] (λ r. true) (λ m. true) (λ r. refl) (λ r. refl) (λ m. refl) finds.0 (meta_of v ∷ []) rows finds.1.spells.meta

@@ -28,7 +28,7 @@ use Rattle.vault_audit_model.specs.Spells.{department_in, bucket_of}
 use Rattle.vault_audit_model.specs.Tables.{departments_tree, callers_tree, buckets_tree}
 use Rattle.vault_audit_model.proofs.SameRows.{number_same, same_caller, same_bucket}
 use Rattle.vault_store_model.proofs.DepartmentLemmas.{no_items}
-use Rattle.vault_store_reads.specs.Queries.{Finds}
+use Rattle.vault_store_reads.specs.Queries.{FindsRows}
 use Rattle.vault_store_reads.proofs.FindLemmas.{records_found, at_most_one, first_found, none_found, read_found}
 use Rattle.vault_store_reads.proofs.ListLemmas.{has_filtered, first_of, none_of}
 use Rattle.vault_store_reads.proofs.TextLemmas.{where_is, department_text, department_shown, department_selects, caller_text, caller_shown, caller_selects, bucket_text, bucket_shown, bucket_selects}
@@ -56,7 +56,7 @@ any_left p (x ∷ xs) = elim (cases_Bool (p x)) [
   | inr failed ↦ rw failed (any_left p xs)
 ]
 
-module _ (v : Vault) (name : List ℕ) (rows : List Row) (finds : Finds v department_text (Text name ∷ []) rows) where
+module _ (v : Vault) (name : List ℕ) (rows : List Row) (finds : FindsRows v department_text (Text name ∷ []) rows) where
   abbrev row_in : List ℕ → Row
   row_in d = department_row (department_in v d)
 
@@ -100,7 +100,7 @@ module _ (v : Vault) (name : List ℕ) (rows : List Row) (finds : Finds v depart
 
 -- ---- callers
 
-module _ (v : Vault) (name : List ℕ) (rows : List Row) (finds : Finds v caller_text (Text name ∷ []) rows) where
+module _ (v : Vault) (name : List ℕ) (rows : List Row) (finds : FindsRows v caller_text (Text name ∷ []) rows) where
   caller_found : IsPermutation (map caller_row (option_to_list (caller_of v name))) rows
   caller_found =
       subst (λ cs. IsPermutation (map caller_row cs) rows)
@@ -116,7 +116,7 @@ module _ (v : Vault) (name : List ℕ) (rows : List Row) (finds : Finds v caller
 
 -- ---- buckets
 
-module _ (v : Vault) (name : List ℕ) (rows : List Row) (finds : Finds v bucket_text (Text name ∷ []) rows) where
+module _ (v : Vault) (name : List ℕ) (rows : List Row) (finds : FindsRows v bucket_text (Text name ∷ []) rows) where
   abbrev row_for : Bucket → Row
   row_for b = bucket_row (bucket_of b)
 

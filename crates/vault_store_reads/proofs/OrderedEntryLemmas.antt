@@ -23,7 +23,7 @@ use Rattle.vault_core_model.specs.Reads.{held_of, entries_of, head_over, removed
 use Rattle.vault_core_model.specs.Vault.{Vault}
 use Rattle.vault_audit_model.specs.Rows.{entry_row, entry_columns, removal_at}
 use Rattle.vault_audit_model.specs.Values.{number}
-use Rattle.vault_store_reads.specs.Queries.{Finds}
+use Rattle.vault_store_reads.specs.Queries.{FindsRows}
 use Rattle.vault_store_model.specs.Scans.{passes}
 use Rattle.vault_store_reads.specs.Shown.{entry_shown, id_row, newest_but}
 use Rattle.sqlite_tied.proofs.RuleLemmas.{and_true}
@@ -31,14 +31,14 @@ use Rattle.vault_store_reads.proofs.OrderedListLemmas.{falls, map-reverse, last,
 use Rattle.vault_store_reads.proofs.SelectLemmas.{select_of, of_records, answered}
 use Rattle.vault_store_reads.proofs.SettingLemmas.{ids_rise}
 use Rattle.vault_store_reads.proofs.OrderedTextLemmas.{entries_text, entries_tests, entries_shown, entries_order, entries_is, newest_text, newest_tests, newest_is, held_order, removed_text, removed_tests, removed_shown, removed_is, no_limit}
-use Rattle.vault_audit_model.proofs.ValueLemmas.{same_text, three}
-use Rattle.vault_store_reads.proofs.ValueLemmas.{other_number, none_removed, null_removal, some_removed, number_less, null_then_less}
+use Rattle.vault_audit_model.proofs.ValueLemmas.{same_text, none_removed, three}
+use Rattle.vault_store_reads.proofs.ValueLemmas.{other_number, null_if_held, some_removed, number_less, null_then_less}
 
-abbrev row_of : History → Row
+abbrev pub row_of : History → Row
 row_of h = entry_row h.entry
 
 -- an entry is older than the next
-abbrev IsOlder : History → History → Type 0
+abbrev pub IsOlder : History → History → Type 0
 IsOlder g h = g.entry.id < h.entry.id
 
 -- ---- held entries
@@ -61,7 +61,7 @@ held_as h = (Null ∷ number h.entry.id ∷ [], entry_shown (held_of h))
 held_there : (bucket key : List ℕ) (h : History) → is_held_at bucket key h.entry ≡ true → removal_at h.entry.removal ≡ Null
 held_there bucket key h here =
     let rest = (and_parts (bytes_eq h.entry.bucket bucket) (bytes_eq h.entry.key key && is_held h.entry) here).1 in
-    null_removal h.entry.removal (and_parts (bytes_eq h.entry.key key) (is_held h.entry) rest).1
+    null_if_held h.entry.removal (and_parts (bytes_eq h.entry.key key) (is_held h.entry) rest).1
 
 held_alike : (bucket key : List ℕ) (h : History) → is_held_at bucket key h.entry ≡ true → held_out (row_of h) ≡ held_as h
 held_alike bucket key h here = ap (λ x. (x ∷ number h.entry.id ∷ [], entry_shown (held_of h))) (held_there bucket key h here)
@@ -78,7 +78,7 @@ shown_reversed : (hs : List History) → map (λ (o : Output). o.1) (reverse (ma
 shown_reversed hs =
     map-reverse (λ (o : Output). o.1) (map held_as hs) ∙ ap reverse (map-map (λ (o : Output). o.1) held_as hs ∙ sym (map-map entry_shown held_of hs))
 
-pub found_held : (v : Vault) (bucket key : List ℕ) (most : ℕ) (rows : List Row) → Finds v entries_text (Text bucket ∷ Text key ∷ number most ∷ []) rows → rows ≡ take most (reverse (map entry_shown (entries_of v bucket key)))
+pub found_held : (v : Vault) (bucket key : List ℕ) (most : ℕ) (rows : List Row) → FindsRows v entries_text (Text bucket ∷ Text key ∷ number most ∷ []) rows → rows ≡ take most (reverse (map entry_shown (entries_of v bucket key)))
 found_held v bucket key most rows (db, sound, answers) =
     let params : Row = Text bucket ∷ Text key ∷ number most ∷ [] in
     let keep = λ (h : History). is_held_at bucket key h.entry in
@@ -157,7 +157,7 @@ first_but hs =
     twice None = refl
     twice (Some h) = refl
 
-pub found_newest : (v : Vault) (bucket key : List ℕ) (id : ℕ) (rows : List Row) → Finds v newest_text (Text bucket ∷ Text key ∷ number id ∷ []) rows → rows ≡ map id_row (option_to_list (newest_but v bucket key id))
+pub found_newest : (v : Vault) (bucket key : List ℕ) (id : ℕ) (rows : List Row) → FindsRows v newest_text (Text bucket ∷ Text key ∷ number id ∷ []) rows → rows ≡ map id_row (option_to_list (newest_but v bucket key id))
 found_newest v bucket key id rows (db, sound, answers) =
     let params : Row = Text bucket ∷ Text key ∷ number id ∷ [] in
     let keep = λ (h : History). is_held_at bucket key h.entry && not (h.entry.id == id) in
@@ -187,7 +187,7 @@ removed_rise hs up =
     let R : Output → Output → Type 0 = λ a b. output_cmp removed_query a b ≡ Less in
     ascending-map R (λ h. removed_out (row_of h)) hs (ascending_weaker IsOlder (λ g h. R (removed_out (row_of g)) (removed_out (row_of h))) (λ g h low. number_less g.entry.id h.entry.id low) hs up)
 
-pub found_removed : (v : Vault) (rows : List Row) → Finds v removed_text [] rows → rows ≡ map entry_row (removed_entries v)
+pub found_removed : (v : Vault) (rows : List Row) → FindsRows v removed_text [] rows → rows ≡ map entry_row (removed_entries v)
 found_removed v rows (db, sound, answers) =
     let keep = λ (h : History). not (is_held h.entry) in
     let hs = filter keep v.histories in

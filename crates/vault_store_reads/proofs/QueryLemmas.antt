@@ -1,24 +1,20 @@
 -- What a query does to a connection that keeps a vault: nothing, whatever it answers.
-use Rattle.std.proofs.Common.{◌≡◌, ◌⊎◌, inl, inr, ℕ, List, None, Some, Ok, Err, Result, IsTrue, IfOk, IfErr, Option, sym, ap, subst, refl, ◌∙◌}
+use Rattle.std.proofs.Common.{◌≡◌, ◌⊎◌, inl, inr, ℕ, List, None, Some, Ok, Err, Result, IsTrue, IfOk, IfErr, Option, sym, ap, subst, ◌∙◌}
 use Rattle.sqlite_value.specs.Order.{Row}
 use Rattle.sqlite_sql.specs.Query.{Query}
 use Rattle.sqlite.specs.declared.error.Error.{Error}
 use Rattle.sqlite.specs.State.{State, Shown, ShowsRows, IsUnchanged, IsRolledBack, IsNotRun, FailsToShow, FailsToQuery, CommitsShowing, Survives}
 use Rattle.sqlite_resolve.specs.declared.compiled.Compiled.{Compiled}
-use Rattle.sqlite_resolve.specs.declared.error.CompileError.{CompileError}
 use Rattle.sqlite_schema.specs.declared.command.Returning.{Returning}
 use Rattle.sqlite.specs.Listing.{understood}
-use Rattle.sqlite.proofs.Callers.{IsPlain, command_of, reads_as, never_commits}
+use Rattle.sqlite.proofs.Callers.{IsPlain, reads_as, never_commits}
 use Rattle.sqlite.proofs.StateLemmas.{survives_weaker}
 use Rattle.vault_core_model.specs.Vault.{Vault}
 use Rattle.vault_audit_model.specs.Spells.{AreSound}
 use Rattle.vault_audit_model.specs.Tables.{vault_schema}
+use Rattle.vault_audit_model.proofs.CommandLemmas.{commanded_is}
 use Rattle.vault_store_model.specs.Keeping.{Keeps}
-use Rattle.vault_store_reads.specs.Queries.{Selects, Finds, command_in}
-
-same_command : (r : Result Compiled CompileError) → command_of r ≡ command_in r
-same_command (Ok c) = refl
-same_command (Err e) = refl
+use Rattle.vault_store_reads.specs.Queries.{Selects, FindsRows}
 
 pub shows_open : (old new : State) (sql : List ℕ) (c : Compiled) (params : Row) (rows : List Row) (o : Option Returning) → ShowsRows old new sql c params rows o → IsTrue old.is_open
 shows_open old new sql c params rows None it = it.3.0.was_open
@@ -59,10 +55,10 @@ unchanged_keeps old new v (inr undone) was is_open =
 
 module _ (sql : List ℕ) (params : Row) (old new : State) (v : Vault) (was : Keeps old v) where
   -- its rows are the answer of what the text means
-  pub finds : (rows : List Row) → Shown sql params old new rows → Finds v sql params rows
+  pub finds : (rows : List Row) → Shown sql params old new rows → FindsRows v sql params rows
   finds rows h =
       let sound = (was (was_open sql params old new rows h)).0 in
-      (old.now, sound, λ q it. reads_as sql params old new vault_schema sound.spells.schema _ (same_command (understood vault_schema sql) ∙ it.is) it.plain it.unlisted rows h)
+      (old.now, sound, λ q it. reads_as sql params old new vault_schema sound.spells.schema _ (commanded_is (understood vault_schema sql) ∙ it.is) it.plain it.unlisted rows h)
 
   pub keeps_after : {X : Type 0} (items : X → List Row) (q : Query) → Selects sql q → (r : Result X Error) → IfOk r (λ x. Shown sql params old new (items x)) → IfErr r (FailsToQuery sql params old new) → Keeps new v
   keeps_after items q it (Ok x) ok err =

@@ -27,7 +27,7 @@ use Rattle.vault_audit_model.specs.declared.rows.RuleRow.{RuleRow}
 use Rattle.vault_audit_model.specs.Rows.{rule_row, rule_columns}
 use Rattle.vault_audit_model.specs.Spells.{rules_from, rules_in, rules_if_given}
 use Rattle.vault_store_reads.specs.Shown.{set_of}
-use Rattle.vault_store_reads.specs.Queries.{Finds}
+use Rattle.vault_store_reads.specs.Queries.{FindsRows}
 use Rattle.vault_store_model.specs.Scans.{passes}
 use Rattle.sqlite_tied.proofs.RuleLemmas.{and_true}
 use Rattle.vault_store_reads.proofs.OrderedListLemmas.{part_of, in_one_part, always}
@@ -98,7 +98,7 @@ outs_rise rs up =
     let R : Output → Output → Type 0 = λ a b. output_cmp query a b ≡ Less in
     ascending-map R (λ r. out (rule_row r)) rs (ascending_weaker (λ r s. r.place < s.place) (λ r s. R (out (rule_row r)) (out (rule_row s))) (λ r s low. number_less r.place s.place low) rs up)
 
-pub found_rules : (v : Vault) (name : List ℕ) (rows : List Row) → Finds v rules_text (Text name ∷ []) rows → rows ≡ map rule_row (part_of rules_in (bucket_in v.buckets name))
+pub found_rules : (v : Vault) (name : List ℕ) (rows : List Row) → FindsRows v rules_text (Text name ∷ []) rows → rows ≡ map rule_row (part_of rules_in (bucket_in v.buckets name))
 found_rules v name rows (db, sound, answers) =
     let all = flat_map rules_in v.buckets in
     let mine = filter (λ r. bytes_eq r.bucket name) all in

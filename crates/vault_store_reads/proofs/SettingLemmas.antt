@@ -25,7 +25,7 @@ use Rattle.vault_audit_model.specs.declared.rows.SettingRow.{SettingRow}
 use Rattle.vault_audit_model.specs.Rows.{setting_row, setting_columns}
 use Rattle.vault_audit_model.specs.Spells.{settings_from, settings_in}
 use Rattle.vault_audit_model.specs.Values.{number}
-use Rattle.vault_store_reads.specs.Queries.{Finds}
+use Rattle.vault_store_reads.specs.Queries.{FindsRows}
 use Rattle.vault_store_model.specs.Scans.{passes}
 use Rattle.vault_store_reads.specs.Shown.{last_row}
 use Rattle.sqlite_tied.proofs.RuleLemmas.{and_true}
@@ -113,7 +113,7 @@ first_out ss =
     twice None = refl
     twice (Some s) = refl
 
-pub found_setting : (v : Vault) (id : ℕ) (rows : List Row) → Finds v setting_text (number id ∷ []) rows → rows ≡ map last_row (option_to_list (setting_of v id))
+pub found_setting : (v : Vault) (id : ℕ) (rows : List Row) → FindsRows v setting_text (number id ∷ []) rows → rows ≡ map last_row (option_to_list (setting_of v id))
 found_setting v id rows (db, sound, answers) =
     let all = flat_map settings_in v.histories in
     let mine = filter (λ s. s.id == id) all in

@@ -26,9 +26,9 @@ use Rattle.vault_audit_model.specs.declared.rows.TenureRow.{TenureRow}
 use Rattle.vault_audit_model.specs.Rows.{tenure_row, tenure_columns}
 use Rattle.vault_audit_model.specs.Spells.{AreSound, tenure_at, tenures_in}
 use Rattle.vault_audit_model.specs.Values.{number}
-use Rattle.vault_store_reads.specs.Queries.{Finds}
+use Rattle.vault_store_reads.specs.Queries.{FindsRows}
 use Rattle.vault_store_model.specs.Scans.{passes}
-use Rattle.vault_store_reads.specs.Tenures.{last_tenure_of}
+use Rattle.vault_store_model.specs.Sums.{last_tenure_of}
 use Rattle.sqlite_tied.proofs.RuleLemmas.{and_true}
 use Rattle.vault_store_reads.proofs.OrderedListLemmas.{falls, map-reverse, last, first_reversed, last-map, mapped_option, part_of, in_one_part, always}
 use Rattle.vault_store_reads.proofs.SelectLemmas.{select_of, of_records, answered}
@@ -150,7 +150,7 @@ module _ (v : Vault) (id : ℕ) (db : Database) (sound : AreSound db v) where
 
 -- ---- the answers
 
-pub found_tenures : (v : Vault) (id : ℕ) (rows : List Row) → Finds v tenures_text (number id ∷ []) rows → rows ≡ map tenure_row (part_of tenures_in (history_of v id))
+pub found_tenures : (v : Vault) (id : ℕ) (rows : List Row) → FindsRows v tenures_text (number id ∷ []) rows → rows ≡ map tenure_row (part_of tenures_in (history_of v id))
 found_tenures v id rows (db, sound, answers) =
     let params : Row = number id ∷ [] in
     let ours = mine v id db sound in
@@ -158,7 +158,7 @@ found_tenures v id rows (db, sound, answers) =
     answered tenures_tree tenures_tests tenures_shown tenures_order no_limit db params rows (answers query tenures_is) (outs ours) are (outs_rise ours (rise v id db sound))
     ∙ map-map (λ (o : Output). o.1) (λ t. out (tenure_row t)) ours ∙ ap (map tenure_row) (mine_are v id db sound)
 
-pub found_last : (v : Vault) (id : ℕ) (rows : List Row) → Finds v last_tenure_text (number id ∷ []) rows → rows ≡ map tenure_row (option_to_list (last (part_of tenures_in (history_of v id))))
+pub found_last : (v : Vault) (id : ℕ) (rows : List Row) → FindsRows v last_tenure_text (number id ∷ []) rows → rows ≡ map tenure_row (option_to_list (last (part_of tenures_in (history_of v id))))
 found_last v id rows (db, sound, answers) =
     let params : Row = number id ∷ [] in
     let ours = mine v id db sound in

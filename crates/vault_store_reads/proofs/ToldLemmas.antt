@@ -3,22 +3,17 @@ use Rattle.std.proofs.Common.{◌≡◌, ℕ, ◌+◌, ◌<◌, ◌==◌, List, 
 use Rattle.std.specs.Prelude.{option_and_then}
 use Rattle.std.specs.List.{AllByRecursion}
 use Rattle.sqlite_value.specs.Order.{Row, column}
-use Rattle.sqlite_value.specs.declared.value.Value.TheVariants.{Text}
 use Rattle.vault_lock.specs.declared.lock.Lock.{Lock}
 use Rattle.vault_rules.specs.declared.plan.Held.{Held}
 use Rattle.vault_core_model.specs.declared.records.History.{History}
-use Rattle.vault_core_model.specs.declared.records.LastSetting.{LastSetting}
 use Rattle.vault_core_model.specs.declared.records.Setting.{Setting}
 use Rattle.vault_core_model.specs.Places.{is_held_at, held_at}
 use Rattle.vault_core_model.specs.Reads.{entries_of, held_of, last_setting, lock_by, lock_of}
 use Rattle.vault_core_model.specs.Sound.{Sound, AreIdsFrom}
 use Rattle.vault_core_model.specs.Vault.{Vault, last_lock}
-use Rattle.vault_audit_model.specs.declared.rows.SettingRow.{SettingRow}
-use Rattle.vault_audit_model.specs.Rows.{setting_row}
-use Rattle.vault_audit_model.specs.Values.{number, flag}
-use Rattle.vault_audit_model.proofs.SameRows.{same_setting, number_same, text_same, flag_same}
-use Rattle.vault_store_reads.specs.Shown.{last_row, key_row, id_row, held_row, entry_shown, without_lock, with_lock_in}
-use Rattle.vault_store_reads.specs.declared.ordered.shown.HeldRow.{HeldRow}
+use Rattle.vault_audit_model.proofs.SameRows.{number_same, text_same, flag_same}
+use Rattle.vault_store_reads.specs.Shown.{key_row, held_row, entry_shown, without_lock, with_lock_in}
+use Rattle.vault_store_reads.specs.declared.rows_in_order.shown.HeldRow.{HeldRow}
 use Rattle.sqlite_keyed.proofs.ListLemmas.{all_weaker}
 use Rattle.vault_core_laws.proofs.Lists.{All-filter}
 use Rattle.vault_store_reads.proofs.SettingLemmas.{ids_rise}
@@ -44,19 +39,8 @@ module _ {X : Type 0} (row_of : X → Row) (o : Option X) (rows : List Row) (are
 
 -- ---- one row tells one
 
-abbrev set_as : LastSetting → SettingRow
-set_as s = record { id = 0; place = s.count; setting = record { at = 0; by = []; lock = s.lock; bypass = false } }
-
-pub same_last : (x y : LastSetting) → last_row x ≡ last_row y → x ≡ y
-same_last x y e =
-    let row : setting_row (set_as x) ≡ setting_row (set_as y) = ap (λ r. number 0 ∷ column r 0 ∷ number 0 ∷ Text [] ∷ column r 1 ∷ column r 2 ∷ column r 3 ∷ flag false ∷ []) e in
-    ap (λ (s : SettingRow). record { lock = s.setting.lock; count = s.place }) (same_setting (set_as x) (set_as y) row)
-
 pub same_key : (j k : List ℕ) → key_row j ≡ key_row k → j ≡ k
 same_key j k e = text_same j k (ap (λ r. column r 0) e)
-
-pub same_id : (i j : ℕ) → id_row i ≡ id_row j → i ≡ j
-same_id i j e = number_same i j (ap (λ r. column r 0) e)
 
 abbrev pub held_with : ℕ → Bool → ℕ → ℕ → Lock → Held
 held_with id marker size admitted lock = record { id = id; marker = marker; size = size; admitted = admitted; lock = lock }

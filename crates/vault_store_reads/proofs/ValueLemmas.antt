@@ -1,12 +1,12 @@
 -- How values compare in WHERE and ORDER BY.
 use Rattle.std.proofs.Common.{◌≡◌, ◌<◌, ◌==◌, ℕ, pos, List, Bool, true, false, not, Option, None, Some, Less, Equal, refl, ap, ◌∙◌, arith}
 use Rattle.std.specs.Prelude.{is_none}
-use Rattle.std.specs.Ordering.{int_cmp, nat_cmp, is_eq, is_ne, is_gt, ordering_then}
+use Rattle.std.specs.Ordering.{int_cmp, nat_cmp, is_ne, is_gt, ordering_then}
 use Rattle.std.specs.Cmp.Lexicographic.{slice_cmp}
 use Rattle.sqlite_value.specs.declared.value.Value.TheVariants.{Null, Text}
 use Rattle.sqlite_value.specs.declared.keys.Collation.TheVariants.{Binary}
 use Rattle.sqlite_value.specs.Order.{value_cmp}
-use Rattle.sqlite_value.proofs.OrderLemmas.{value_cmp-Int, value_cmp-Text, value_cmp-apart, value_cmp-Null}
+use Rattle.sqlite_value.proofs.OrderLemmas.{value_cmp-Int, value_cmp-Text, value_cmp-Null}
 use Rattle.sqlite_sql.specs.declared.ops.BinaryOp.TheVariants.{Compare, Is}
 use Rattle.sqlite_sql.specs.declared.ops.UnaryOp.TheVariants.{Not}
 use Rattle.sqlite_sql.specs.declared.ops.CompareOp.TheVariants.{Ne, Gt}
@@ -14,7 +14,7 @@ use Rattle.sqlite_sql.specs.Ops.{unary, binary, is_true, from_truth, not3, truth
 use Rattle.vault_core_model.specs.declared.records.Removal.{Removal}
 use Rattle.vault_audit_model.specs.Rows.{removal_at}
 use Rattle.vault_audit_model.specs.Values.{number}
-use Rattle.vault_audit_model.proofs.ValueLemmas.{truth_back, int_less}
+use Rattle.vault_audit_model.proofs.ValueLemmas.{truth_back, null_removal, int_less}
 
 pub later_text : (a b : List ℕ) → is_true (binary (Compare Gt Binary) (Text a) (Text b)) ≡ is_gt (slice_cmp nat_cmp a b)
 unfolding binary
@@ -27,26 +27,18 @@ pub other_number : (a b : ℕ) → is_true (binary (Compare Ne Binary) (number a
 unfolding binary
 other_number a b = truth_back _ ∙ ap is_ne (value_cmp-Int (pos a) (pos b)) ∙ other_int a b
 
-null_is : (r : Option Removal) → is_eq (value_cmp (removal_at r) Null) ≡ is_none r
-null_is None = ap is_eq (value_cmp-Null Null)
-null_is (Some r) = ap is_eq (value_cmp-apart (number r.at) Null (λ e. absurd (omega (arith, e))))
-
-pub none_removed : (r : Option Removal) → is_true (binary (Is Binary) (removal_at r) Null) ≡ is_none r
-unfolding binary
-none_removed r = truth_back _ ∙ null_is r
-
 turned : (b : Bool) → is_true (from_truth (not3 (truth (from_truth (Some b))))) ≡ not b
 turned true = refl
 turned false = refl
 
 pub some_removed : (r : Option Removal) → is_true (unary Not (binary (Is Binary) (removal_at r) Null)) ≡ not (is_none r)
 unfolding unary binary
-some_removed r = turned _ ∙ ap not (null_is r)
+some_removed r = turned _ ∙ ap not (null_removal r)
 
 -- what is held has no moment of removal
-pub null_removal : (r : Option Removal) → is_none r ≡ true → removal_at r ≡ Null
-null_removal None is = refl
-null_removal (Some r) is = absurd (cc is)
+pub null_if_held : (r : Option Removal) → is_none r ≡ true → removal_at r ≡ Null
+null_if_held None is = refl
+null_if_held (Some r) is = absurd (cc is)
 
 -- ---- in order
 

@@ -13,8 +13,8 @@ use Rattle.vault_core_model.specs.Vault.{Vault}
 use Rattle.vault_audit_model.specs.declared.rows.RuleRow.{RuleRow}
 use Rattle.vault_audit_model.specs.Rows.{retention_mode, retention_until}
 use Rattle.vault_audit_model.specs.Values.{number, flag}
-use Rattle.vault_store_reads.specs.declared.ordered.shown.HeldRow.{HeldRow}
-use Rattle.vault_store_reads.specs.declared.ordered.shown.SizedRow.{SizedRow}
+use Rattle.vault_store_reads.specs.declared.rows_in_order.shown.HeldRow.{HeldRow}
+use Rattle.vault_store_reads.specs.declared.rows_in_order.shown.SizedRow.{SizedRow}
 
 -- the place of a version's last setting, which is how many it has, and its lock
 abbrev pub last_row : LastSetting → Row

@@ -10,6 +10,6 @@ pub mod heads;
 pub mod meta;
 pub mod names;
 pub mod notes;
-pub mod ordered;
 pub mod query;
 pub mod removed;
+pub mod rows_in_order;

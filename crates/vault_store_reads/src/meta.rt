@@ -1,11 +1,12 @@
 //! The row of `meta`.
-ghost use Rattle.std.specs.Prelude.{◌≡◌, false, IsTrue, IfOk, OnOk};
+ghost use Rattle.std.specs.Prelude.{◌≡◌, IfOk, OnOk};
 ghost use Rattle.sqlite.specs.Held.{state};
-ghost use Rattle.sqlite.specs.State.{HasCleanDisk, Survives};
+ghost use Rattle.sqlite.specs.State.{HasCleanDisk};
 ghost use Rattle.vault_core_model.specs.Sound.{Sound};
 ghost use Rattle.vault_core_model.specs.Vault.{Vault, next_id};
 ghost use Rattle.vault_audit_model.specs.Spells.{meta_of};
 ghost use Rattle.vault_store_model.specs.Keeping.{Keeps};
+ghost use Rattle.vault_store_reads.specs.Quiet.{OnlyReads};
 
 use crate::query::{query_rows, unread};
 use sqlite::{Alter, Connection, Error};
@@ -18,10 +19,7 @@ use vault_base::moment::Moment;
 fn read_meta<S: Alter>(conn: &mut Connection<S>) -> Result<MetaRow, Error>
     ensures value { HasCleanDisk (state S.Store conn.new) → IfOk result (λ meta. (v : Vault) → Keeps (state S.Store conn.old) v → meta ≡ meta_of v) }
     ensures sound { HasCleanDisk (state S.Store conn.new) → OnOk result ((v : Vault) → Keeps (state S.Store conn.old) v → Sound v) }
-    ensures same { HasCleanDisk (state S.Store conn.new) → (v : Vault) → Keeps (state S.Store conn.old) v → Keeps (state S.Store conn.new) v }
-    ensures honest { HasCleanDisk (state S.Store conn.new) → HasCleanDisk (state S.Store conn.old) }
-    ensures mode { conn.old.in_transaction ≡ false → conn.new.in_transaction ≡ false }
-    ensures crash { (v : Vault) → Keeps (state S.Store conn.old) v → Survives (state S.Store conn.old) (state S.Store conn.new) (λ _. ¬ IsTrue (state S.Store conn.old).is_open) }
+    ensures read { OnlyReads S.Store conn.old conn.new }
 {
     let rows = query_rows(conn, "SELECT one, schema, last, next, moves FROM meta", &[])?;
     match rows.first() {
@@ -38,10 +36,7 @@ pub fn read_last<S: Alter>(conn: &mut Connection<S>) -> Result<Moment, Error>
     ensures value { HasCleanDisk (state S.Store conn.new) → IfOk result (λ at. (v : Vault) → Keeps (state S.Store conn.old) v → at ≡ v.last) }
     // Every vault that is kept is sound.
     ensures sound { HasCleanDisk (state S.Store conn.new) → OnOk result ((v : Vault) → Keeps (state S.Store conn.old) v → Sound v) }
-    ensures same { HasCleanDisk (state S.Store conn.new) → (v : Vault) → Keeps (state S.Store conn.old) v → Keeps (state S.Store conn.new) v }
-    ensures honest { HasCleanDisk (state S.Store conn.new) → HasCleanDisk (state S.Store conn.old) }
-    ensures mode { conn.old.in_transaction ≡ false → conn.new.in_transaction ≡ false }
-    ensures crash { (v : Vault) → Keeps (state S.Store conn.old) v → Survives (state S.Store conn.old) (state S.Store conn.new) (λ _. ¬ IsTrue (state S.Store conn.old).is_open) }
+    ensures read { OnlyReads S.Store conn.old conn.new }
 {
     let meta = read_meta(conn)?;
     Ok(meta.last)
@@ -50,10 +45,7 @@ pub fn read_last<S: Alter>(conn: &mut Connection<S>) -> Result<Moment, Error>
 /// The id that the next entry gets.
 pub fn read_next_id<S: Alter>(conn: &mut Connection<S>) -> Result<u64, Error>
     ensures value { HasCleanDisk (state S.Store conn.new) → IfOk result (λ id. (v : Vault) → Keeps (state S.Store conn.old) v → id ≡ next_id v) }
-    ensures same { HasCleanDisk (state S.Store conn.new) → (v : Vault) → Keeps (state S.Store conn.old) v → Keeps (state S.Store conn.new) v }
-    ensures honest { HasCleanDisk (state S.Store conn.new) → HasCleanDisk (state S.Store conn.old) }
-    ensures mode { conn.old.in_transaction ≡ false → conn.new.in_transaction ≡ false }
-    ensures crash { (v : Vault) → Keeps (state S.Store conn.old) v → Survives (state S.Store conn.old) (state S.Store conn.new) (λ _. ¬ IsTrue (state S.Store conn.old).is_open) }
+    ensures read { OnlyReads S.Store conn.old conn.new }
 {
     let meta = read_meta(conn)?;
     Ok(meta.next)
@@ -62,10 +54,7 @@ pub fn read_next_id<S: Alter>(conn: &mut Connection<S>) -> Result<u64, Error>
 /// How often a bucket was moved to another department.
 pub fn read_moves<S: Alter>(conn: &mut Connection<S>) -> Result<u32, Error>
     ensures value { HasCleanDisk (state S.Store conn.new) → IfOk result (λ moves. (v : Vault) → Keeps (state S.Store conn.old) v → moves ≡ v.moves) }
-    ensures same { HasCleanDisk (state S.Store conn.new) → (v : Vault) → Keeps (state S.Store conn.old) v → Keeps (state S.Store conn.new) v }
-    ensures honest { HasCleanDisk (state S.Store conn.new) → HasCleanDisk (state S.Store conn.old) }
-    ensures mode { conn.old.in_transaction ≡ false → conn.new.in_transaction ≡ false }
-    ensures crash { (v : Vault) → Keeps (state S.Store conn.old) v → Survives (state S.Store conn.old) (state S.Store conn.new) (λ _. ¬ IsTrue (state S.Store conn.old).is_open) }
+    ensures read { OnlyReads S.Store conn.old conn.new }
 {
     let meta = read_meta(conn)?;
     match u32::try_from(meta.moves) {

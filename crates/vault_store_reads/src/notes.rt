@@ -1,9 +1,10 @@
 //! Notes of intake batches.
-ghost use Rattle.std.specs.Prelude.{◌≡◌, false, IsTrue, IfOk};
+ghost use Rattle.std.specs.Prelude.{◌≡◌, IfOk};
 ghost use Rattle.sqlite.specs.Held.{state};
-ghost use Rattle.sqlite.specs.State.{HasCleanDisk, Survives};
+ghost use Rattle.sqlite.specs.State.{HasCleanDisk};
 ghost use Rattle.vault_core_model.specs.Vault.{Vault, note_of};
 ghost use Rattle.vault_store_model.specs.Keeping.{Keeps};
+ghost use Rattle.vault_store_reads.specs.Quiet.{OnlyReads};
 
 use crate::query::{query_rows, unread};
 use sqlite::{Alter, Connection, Error, params};
@@ -19,10 +20,7 @@ pub fn read_note<S: Alter>(
     line: u32,
 ) -> Result<Option<Note>, Error>
     ensures value { HasCleanDisk (state S.Store conn.new) → IfOk result (λ found. (v : Vault) → Keeps (state S.Store conn.old) v → found ≡ note_of v bucket.now batch.now line) }
-    ensures same { HasCleanDisk (state S.Store conn.new) → (v : Vault) → Keeps (state S.Store conn.old) v → Keeps (state S.Store conn.new) v }
-    ensures honest { HasCleanDisk (state S.Store conn.new) → HasCleanDisk (state S.Store conn.old) }
-    ensures mode { conn.old.in_transaction ≡ false → conn.new.in_transaction ≡ false }
-    ensures crash { (v : Vault) → Keeps (state S.Store conn.old) v → Survives (state S.Store conn.old) (state S.Store conn.new) (λ _. ¬ IsTrue (state S.Store conn.old).is_open) }
+    ensures read { OnlyReads S.Store conn.old conn.new }
 {
     let rows = query_rows(
         conn,

@@ -3,14 +3,15 @@
 //! A query changes nothing, whatever it answers; its rows are the answer of what its text means over
 //! tables that tell the vault.
 
-ghost use Rattle.std.specs.Prelude.{◌≡◌, false, IsTrue, IfOk, IfErr};
+ghost use Rattle.std.specs.Prelude.{◌≡◌, IfOk, IfErr};
 ghost use Rattle.sqlite_sql.specs.Query.{Query};
 ghost use Rattle.sqlite.specs.Held.{state};
-ghost use Rattle.sqlite.specs.State.{HasCleanDisk, Survives, FailsToQuery};
+ghost use Rattle.sqlite.specs.State.{HasCleanDisk, FailsToQuery};
 ghost use Rattle.sqlite.specs.Values.{bound};
 ghost use Rattle.vault_core_model.specs.Vault.{Vault};
 ghost use Rattle.vault_store_model.specs.Keeping.{Keeps};
-ghost use Rattle.vault_store_reads.specs.Queries.{Selects, Finds};
+ghost use Rattle.vault_store_reads.specs.Queries.{Selects, FindsRows};
+ghost use Rattle.vault_store_reads.specs.Quiet.{OnlyReads};
 
 use sqlite::types::ValueRef;
 use sqlite::{Alter, Connection, Error, ErrorCode, Row};
@@ -23,13 +24,10 @@ pub fn query_rows<S: Alter>(
     params: &[ValueRef<'_>],
 ) -> Result<Vec<Row>, Error>
     requires { (q : Query) × Selects sql.now q }
-    ensures rows { HasCleanDisk (state S.Store conn.new) → IfOk result (λ rows. (v : Vault) → Keeps (state S.Store conn.old) v → Finds v sql.now (bound params.now) rows.items) }
+    ensures rows { HasCleanDisk (state S.Store conn.new) → IfOk result (λ rows. (v : Vault) → Keeps (state S.Store conn.old) v → FindsRows v sql.now (bound params.now) rows.items) }
     // An error is the store's.
     ensures err { HasCleanDisk (state S.Store conn.new) → IfErr result (FailsToQuery sql.now (bound params.now) (state S.Store conn.old) (state S.Store conn.new)) }
-    ensures same { HasCleanDisk (state S.Store conn.new) → (v : Vault) → Keeps (state S.Store conn.old) v → Keeps (state S.Store conn.new) v }
-    ensures honest { HasCleanDisk (state S.Store conn.new) → HasCleanDisk (state S.Store conn.old) }
-    ensures mode { conn.old.in_transaction ≡ false → conn.new.in_transaction ≡ false }
-    ensures crash { (v : Vault) → Keeps (state S.Store conn.old) v → Survives (state S.Store conn.old) (state S.Store conn.new) (λ _. ¬ IsTrue (state S.Store conn.old).is_open) }
+    ensures read { OnlyReads S.Store conn.old conn.new }
 {
     conn.query_all(sql, params)
 }

@@ -1,5 +1,5 @@
 //! The walk over the removed entries.
-ghost use Rattle.std.specs.Prelude.{◌≡◌, false, Ok, IsTrue, IfOk, OnErr};
+ghost use Rattle.std.specs.Prelude.{◌≡◌, false, Ok, IfOk, OnErr};
 ghost use Rattle.sqlite.specs.Held.{state};
 ghost use Rattle.sqlite.specs.State.{HasCleanDisk, Survives};
 ghost use Rattle.vault_core_model.specs.declared.records.Entry.{Entry};
@@ -8,7 +8,7 @@ ghost use Rattle.vault_core_model.specs.Reads.{removed_entries};
 ghost use Rattle.vault_core_model.specs.Vault.{Vault};
 ghost use Rattle.vault_audit_model.specs.Rows.{entry_row};
 ghost use Rattle.vault_store_model.specs.Keeping.{Keeps};
-ghost use Rattle.vault_store_reads.specs.Quiet.{IsQuiet};
+ghost use Rattle.vault_store_reads.specs.Quiet.{IsQuiet, OnlyReads};
 ghost use Rattle.vault_store_reads.specs.Handed.{as_fault};
 
 use crate::query::unread;
@@ -58,10 +58,7 @@ pub fn walk_removed<S: Alter, T: Sink>(
     sink: &mut T,
 ) -> Result<bool, Error>
     ensures value { HasCleanDisk (state S.Store conn.new) → (v : Vault) → ∥ Keeps (state S.Store conn.old) v ∥₁ → Hands T.takes sink.old (removed_entries v) (as_fault result) sink.new }
-    ensures same { HasCleanDisk (state S.Store conn.new) → (v : Vault) → Keeps (state S.Store conn.old) v → Keeps (state S.Store conn.new) v }
-    ensures honest { HasCleanDisk (state S.Store conn.new) → HasCleanDisk (state S.Store conn.old) }
-    ensures mode { conn.old.in_transaction ≡ false → conn.new.in_transaction ≡ false }
-    ensures crash { (v : Vault) → Keeps (state S.Store conn.old) v → Survives (state S.Store conn.old) (state S.Store conn.new) (λ _. ¬ IsTrue (state S.Store conn.old).is_open) }
+    ensures read { OnlyReads S.Store conn.old conn.new }
 {
     hand_each(conn, sink)
 }

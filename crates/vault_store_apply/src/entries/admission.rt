@@ -1,5 +1,5 @@
 //! An entry that is admitted.
-ghost use Rattle.std.specs.Prelude.{◌≡◌, false, IsTrue, IfOk, OnOk, OnErr};
+ghost use Rattle.std.specs.Prelude.{◌≡◌, false, IfOk, OnOk};
 ghost use Rattle.sqlite.specs.Held.{state};
 ghost use Rattle.sqlite.specs.State.{HasCleanDisk, Survives};
 ghost use Rattle.vault_core_model.specs.declared.change.Change.TheVariants as change;
@@ -10,6 +10,8 @@ ghost use Rattle.vault_store_model.specs.Changes.{head_with};
 ghost use Rattle.vault_store_model.specs.Limits.{IsChangeInLimits};
 ghost use Rattle.vault_store_model.specs.Sums.{CountsIn};
 ghost use Rattle.vault_store_apply.specs.Applies.{Changes, IsChanged};
+ghost use Rattle.vault_store_reads.specs.Quiet.{IsOpenIfOk};
+ghost use Rattle.vault_store_edits.specs.Commits.{KeepsIfErr};
 
 use crate::commit::commit_part;
 use crate::entries::place::read_place;
@@ -57,9 +59,9 @@ pub fn admit<S: Alter>(
 ) -> Result<(), Error>
     requires { conn.old.in_transaction ≡ false }
     ensures mode { conn.new.in_transaction ≡ false }
-    ensures open { HasCleanDisk (state S.Store conn.new) → OnOk result (IsTrue (state S.Store conn.new).is_open) }
+    ensures open { IsOpenIfOk S.Store conn.new result }
     ensures done { HasCleanDisk (state S.Store conn.new) → IsChangeInLimits (change.Admit admission.now) → OnOk result (Changes (state S.Store conn.old) (state S.Store conn.new) at (change.Admit admission.now)) }
-    ensures nothing { HasCleanDisk (state S.Store conn.new) → OnErr result ((v : Vault) → Keeps (state S.Store conn.old) v → Keeps (state S.Store conn.new) v) }
+    ensures nothing { KeepsIfErr S.Store conn.old conn.new result }
     ensures honest { HasCleanDisk (state S.Store conn.new) → HasCleanDisk (state S.Store conn.old) }
     ensures crash { IsChangeInLimits (change.Admit admission.now) → (v : Vault) → Keeps (state S.Store conn.old) v → Survives (state S.Store conn.old) (state S.Store conn.new) (IsChanged (state S.Store conn.old) v at (change.Admit admission.now)) }
 {

@@ -9,13 +9,14 @@ ghost use Rattle.vault_store_model.specs.Keeping.{Keeps};
 ghost use Rattle.vault_store_model.specs.Sums.{last_tenure_of};
 ghost use Rattle.vault_store_reads.specs.Shown.{newest_but};
 ghost use Rattle.vault_store_apply.specs.Heads.{holds_no_other};
+ghost use Rattle.vault_store_reads.specs.Quiet.{OnlyReads};
 
 use crate::entries::open::check_open;
 use sqlite::{Alter, Connection, Error};
 use vault_base::moment::Moment;
 use vault_base::name::VersionId;
 use vault_core_model::records::{Entry, Head, Tenure};
-use vault_store_reads::ordered::reads::{read_last_tenure, read_newest_but};
+use vault_store_reads::rows_in_order::reads::{read_last_tenure, read_newest_but};
 
 /// Whether a key with this head holds no entry but that one.
 fn holds_no_other(head: Option<Head>, id: VersionId) -> bool
@@ -36,10 +37,7 @@ fn find_newest_but<S: Alter>(
 ) -> Result<Option<VersionId>, Error>
     ensures value { HasCleanDisk (state S.Store conn.new) → IfOk result (λ newest. (v : Vault) → Keeps (state S.Store conn.old) v → head ≡ head_of v entry.now.bucket entry.now.key → newest ≡ newest_but v entry.now.bucket entry.now.key id) }
     ensures open { HasCleanDisk (state S.Store conn.new) → IsTrue (state S.Store conn.old).is_open → OnOk result (IsTrue (state S.Store conn.new).is_open) }
-    ensures same { HasCleanDisk (state S.Store conn.new) → (v : Vault) → Keeps (state S.Store conn.old) v → Keeps (state S.Store conn.new) v }
-    ensures honest { HasCleanDisk (state S.Store conn.new) → HasCleanDisk (state S.Store conn.old) }
-    ensures mode { conn.old.in_transaction ≡ false → conn.new.in_transaction ≡ false }
-    ensures crash { (v : Vault) → Keeps (state S.Store conn.old) v → Survives (state S.Store conn.old) (state S.Store conn.new) (λ _. ¬ IsTrue (state S.Store conn.old).is_open) }
+    ensures read { OnlyReads S.Store conn.old conn.new }
 {
     if holds_no_other(head, id) {
         return Ok(None);
@@ -66,10 +64,7 @@ fn find_begin<S: Alter>(
     id: VersionId,
 ) -> Result<Moment, Error>
     ensures value { HasCleanDisk (state S.Store conn.new) → IfOk result (λ since. (v : Vault) → Keeps (state S.Store conn.old) v → since ≡ unwrap_or (option_map (λ (t : Tenure). t.from) (last_tenure_of v id)) entry.now.admitted) }
-    ensures same { HasCleanDisk (state S.Store conn.new) → (v : Vault) → Keeps (state S.Store conn.old) v → Keeps (state S.Store conn.new) v }
-    ensures honest { HasCleanDisk (state S.Store conn.new) → HasCleanDisk (state S.Store conn.old) }
-    ensures mode { conn.old.in_transaction ≡ false → conn.new.in_transaction ≡ false }
-    ensures crash { (v : Vault) → Keeps (state S.Store conn.old) v → Survives (state S.Store conn.old) (state S.Store conn.new) (λ _. ¬ IsTrue (state S.Store conn.old).is_open) }
+    ensures read { OnlyReads S.Store conn.old conn.new }
 {
     let tenure = read_last_tenure(conn, id)?;
     Ok(begin_of(tenure, entry.admitted))

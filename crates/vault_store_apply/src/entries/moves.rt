@@ -1,5 +1,5 @@
 //! A bucket that moves to another department.
-ghost use Rattle.std.specs.Prelude.{◌≡◌, ◌+◌, false, Some, IsTrue, IfOk, OnOk, OnErr};
+ghost use Rattle.std.specs.Prelude.{◌≡◌, ◌+◌, false, Some, IfOk, OnOk};
 ghost use Rattle.sqlite.specs.Held.{state};
 ghost use Rattle.sqlite.specs.State.{HasCleanDisk, Survives};
 ghost use Rattle.vault_base.specs.Days.{day};
@@ -10,6 +10,8 @@ ghost use Rattle.vault_store_model.specs.Keeping.{Keeps};
 ghost use Rattle.vault_store_model.specs.Limits.{IsChangeInLimits};
 ghost use Rattle.vault_store_model.specs.Sums.{HandsOver, Receives};
 ghost use Rattle.vault_store_apply.specs.Applies.{Changes, IsChanged};
+ghost use Rattle.vault_store_reads.specs.Quiet.{OnlyReads, IsOpenIfOk};
+ghost use Rattle.vault_store_edits.specs.Commits.{KeepsIfErr};
 
 use crate::commit::commit_part;
 use crate::entries::open::check_open;
@@ -21,7 +23,7 @@ use vault_base::moment::Moment;
 use vault_base::name::{BucketName, DeptName};
 use vault_core_model::records::BucketConfig;
 use vault_store_reads::meta::read_moves;
-use vault_store_reads::ordered::reads::read_bucket_held;
+use vault_store_reads::rows_in_order::reads::read_bucket_held;
 use vault_tally::row::Row;
 
 /// The bytes of the held versions of a bucket, and their weight.
@@ -31,11 +33,8 @@ fn find_held<S: Alter>(
     bucket: &BucketName,
 ) -> Result<(u64, u64), Error>
     ensures value { HasCleanDisk (state S.Store conn.new) → IfOk result (λ held. (v : Vault) → Keeps (state S.Store conn.old) v → (held.0 ≡ bucket_bytes v bucket.now) × (held.1 ≡ bucket_weight v bucket.now)) }
-    ensures open { HasCleanDisk (state S.Store conn.new) → OnOk result (IsTrue (state S.Store conn.new).is_open) }
-    ensures same { HasCleanDisk (state S.Store conn.new) → (v : Vault) → Keeps (state S.Store conn.old) v → Keeps (state S.Store conn.new) v }
-    ensures honest { HasCleanDisk (state S.Store conn.new) → HasCleanDisk (state S.Store conn.old) }
-    ensures mode { conn.old.in_transaction ≡ false → conn.new.in_transaction ≡ false }
-    ensures crash { (v : Vault) → Keeps (state S.Store conn.old) v → Survives (state S.Store conn.old) (state S.Store conn.new) (λ _. ¬ IsTrue (state S.Store conn.old).is_open) }
+    ensures open { IsOpenIfOk S.Store conn.new result }
+    ensures read { OnlyReads S.Store conn.old conn.new }
 {
     let held = read_bucket_held(conn, alloc, bucket)?;
     check_open(conn)?;
@@ -55,11 +54,8 @@ fn next_number(moves: u32) -> Result<u32, Error>
 /// The number of the next move.
 fn find_number<S: Alter>(conn: &mut Connection<S>) -> Result<u32, Error>
     ensures value { HasCleanDisk (state S.Store conn.new) → IfOk result (λ number. (v : Vault) → Keeps (state S.Store conn.old) v → number ≡ v.moves + 1) }
-    ensures open { HasCleanDisk (state S.Store conn.new) → OnOk result (IsTrue (state S.Store conn.new).is_open) }
-    ensures same { HasCleanDisk (state S.Store conn.new) → (v : Vault) → Keeps (state S.Store conn.old) v → Keeps (state S.Store conn.new) v }
-    ensures honest { HasCleanDisk (state S.Store conn.new) → HasCleanDisk (state S.Store conn.old) }
-    ensures mode { conn.old.in_transaction ≡ false → conn.new.in_transaction ≡ false }
-    ensures crash { (v : Vault) → Keeps (state S.Store conn.old) v → Survives (state S.Store conn.old) (state S.Store conn.new) (λ _. ¬ IsTrue (state S.Store conn.old).is_open) }
+    ensures open { IsOpenIfOk S.Store conn.new result }
+    ensures read { OnlyReads S.Store conn.old conn.new }
 {
     let moves = read_moves(conn)?;
     check_open(conn)?;
@@ -82,11 +78,8 @@ fn read_load<S: Alter>(
 ) -> Result<Load, Error>
     ensures value { HasCleanDisk (state S.Store conn.new) → IfOk result (λ load. (v : Vault) → Keeps (state S.Store conn.old) v
         → (load.bytes ≡ bucket_bytes v bucket.now) × (load.weight ≡ bucket_weight v bucket.now) × (load.number ≡ v.moves + 1)) }
-    ensures open { HasCleanDisk (state S.Store conn.new) → OnOk result (IsTrue (state S.Store conn.new).is_open) }
-    ensures same { HasCleanDisk (state S.Store conn.new) → (v : Vault) → Keeps (state S.Store conn.old) v → Keeps (state S.Store conn.new) v }
-    ensures honest { HasCleanDisk (state S.Store conn.new) → HasCleanDisk (state S.Store conn.old) }
-    ensures mode { conn.old.in_transaction ≡ false → conn.new.in_transaction ≡ false }
-    ensures crash { (v : Vault) → Keeps (state S.Store conn.old) v → Survives (state S.Store conn.old) (state S.Store conn.new) (λ _. ¬ IsTrue (state S.Store conn.old).is_open) }
+    ensures open { IsOpenIfOk S.Store conn.new result }
+    ensures read { OnlyReads S.Store conn.old conn.new }
 {
     let held = find_held(conn, alloc, bucket)?;
     let number = find_number(conn)?;
@@ -114,10 +107,7 @@ fn read_hands<S: Alter>(
 ) -> Result<Hands, Error>
     ensures value { HasCleanDisk (state S.Store conn.new) → IfOk result (λ hands. (v : Vault) → Keeps (state S.Store conn.old) v
         → (Some hands.config ≡ config_of v bucket.now) × IsRowFor v hands.config.dept hands.giver × IsRowFor v dept.now hands.taker) }
-    ensures same { HasCleanDisk (state S.Store conn.new) → (v : Vault) → Keeps (state S.Store conn.old) v → Keeps (state S.Store conn.new) v }
-    ensures honest { HasCleanDisk (state S.Store conn.new) → HasCleanDisk (state S.Store conn.old) }
-    ensures mode { conn.old.in_transaction ≡ false → conn.new.in_transaction ≡ false }
-    ensures crash { (v : Vault) → Keeps (state S.Store conn.old) v → Survives (state S.Store conn.old) (state S.Store conn.new) (λ _. ¬ IsTrue (state S.Store conn.old).is_open) }
+    ensures read { OnlyReads S.Store conn.old conn.new }
 {
     let config = read_config(conn, bucket)?;
     let giver = read_sums(conn, &config.dept)?;
@@ -157,9 +147,9 @@ pub fn move_bucket<S: Alter>(
 ) -> Result<(), Error>
     requires { conn.old.in_transaction ≡ false }
     ensures mode { conn.new.in_transaction ≡ false }
-    ensures open { HasCleanDisk (state S.Store conn.new) → OnOk result (IsTrue (state S.Store conn.new).is_open) }
+    ensures open { IsOpenIfOk S.Store conn.new result }
     ensures done { HasCleanDisk (state S.Store conn.new) → IsChangeInLimits (change.MoveBucket name.now dept.now) → OnOk result (Changes (state S.Store conn.old) (state S.Store conn.new) at (change.MoveBucket name.now dept.now)) }
-    ensures nothing { HasCleanDisk (state S.Store conn.new) → OnErr result ((v : Vault) → Keeps (state S.Store conn.old) v → Keeps (state S.Store conn.new) v) }
+    ensures nothing { KeepsIfErr S.Store conn.old conn.new result }
     ensures honest { HasCleanDisk (state S.Store conn.new) → HasCleanDisk (state S.Store conn.old) }
     ensures crash { IsChangeInLimits (change.MoveBucket name.now dept.now) → (v : Vault) → Keeps (state S.Store conn.old) v → Survives (state S.Store conn.old) (state S.Store conn.new) (IsChanged (state S.Store conn.old) v at (change.MoveBucket name.now dept.now)) }
 {

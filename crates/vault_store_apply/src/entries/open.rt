@@ -1,9 +1,10 @@
 //! Whether a failure has shut a connection.
-ghost use Rattle.std.specs.Prelude.{◌≡◌, false, IsTrue, OnOk};
+ghost use Rattle.std.specs.Prelude.{◌≡◌, false};
 ghost use Rattle.sqlite.specs.Held.{state};
 ghost use Rattle.sqlite.specs.State.{HasCleanDisk, Survives};
 ghost use Rattle.vault_core_model.specs.Vault.{Vault};
 ghost use Rattle.vault_store_model.specs.Keeping.{Keeps};
+ghost use Rattle.vault_store_reads.specs.Quiet.{IsOpenIfOk};
 
 use sqlite::{Alter, Connection, Error};
 
@@ -12,7 +13,7 @@ use sqlite::{Alter, Connection, Error};
 /// A read doesn't tell that it left the connection open, on which it rests what a crash in the next read
 /// may leave.
 pub fn check_open<S: Alter>(conn: &mut Connection<S>) -> Result<(), Error>
-    ensures open { HasCleanDisk (state S.Store conn.new) → OnOk result (IsTrue (state S.Store conn.new).is_open) }
+    ensures open { IsOpenIfOk S.Store conn.new result }
     ensures same { HasCleanDisk (state S.Store conn.new) → (v : Vault) → Keeps (state S.Store conn.old) v → Keeps (state S.Store conn.new) v }
     ensures honest { HasCleanDisk (state S.Store conn.new) → HasCleanDisk (state S.Store conn.old) }
     ensures mode { conn.old.in_transaction ≡ false → conn.new.in_transaction ≡ false }

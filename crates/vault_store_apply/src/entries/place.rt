@@ -1,11 +1,12 @@
 //! What changes read of the vault beside their entry.
-ghost use Rattle.std.specs.Prelude.{◌≡◌, false, Some, IsTrue, IfOk, OnOk};
+ghost use Rattle.std.specs.Prelude.{◌≡◌, Some, IfOk};
 ghost use Rattle.sqlite.specs.Held.{state};
-ghost use Rattle.sqlite.specs.State.{HasCleanDisk, Survives};
+ghost use Rattle.sqlite.specs.State.{HasCleanDisk};
 ghost use Rattle.vault_core_model.specs.Reads.{head_of};
 ghost use Rattle.vault_core_model.specs.Totals.{IsRowFor};
 ghost use Rattle.vault_core_model.specs.Vault.{Vault, config_of};
 ghost use Rattle.vault_store_model.specs.Keeping.{Keeps};
+ghost use Rattle.vault_store_reads.specs.Quiet.{OnlyReads, IsOpenIfOk};
 
 use crate::entries::open::check_open;
 use sqlite::{Alter, Connection, Error};
@@ -21,11 +22,8 @@ pub fn read_config<S: Alter>(
     bucket: &BucketName,
 ) -> Result<BucketConfig, Error>
     ensures value { HasCleanDisk (state S.Store conn.new) → IfOk result (λ config. (v : Vault) → Keeps (state S.Store conn.old) v → Some config ≡ config_of v bucket.now) }
-    ensures open { HasCleanDisk (state S.Store conn.new) → OnOk result (IsTrue (state S.Store conn.new).is_open) }
-    ensures same { HasCleanDisk (state S.Store conn.new) → (v : Vault) → Keeps (state S.Store conn.old) v → Keeps (state S.Store conn.new) v }
-    ensures honest { HasCleanDisk (state S.Store conn.new) → HasCleanDisk (state S.Store conn.old) }
-    ensures mode { conn.old.in_transaction ≡ false → conn.new.in_transaction ≡ false }
-    ensures crash { (v : Vault) → Keeps (state S.Store conn.old) v → Survives (state S.Store conn.old) (state S.Store conn.new) (λ _. ¬ IsTrue (state S.Store conn.old).is_open) }
+    ensures open { IsOpenIfOk S.Store conn.new result }
+    ensures read { OnlyReads S.Store conn.old conn.new }
 {
     let found = read_bucket(conn, bucket)?;
     check_open(conn)?;
@@ -35,11 +33,8 @@ pub fn read_config<S: Alter>(
 /// The sums of a department.
 pub fn read_sums<S: Alter>(conn: &mut Connection<S>, dept: &DeptName) -> Result<Row, Error>
     ensures value { HasCleanDisk (state S.Store conn.new) → IfOk result (λ sums. (v : Vault) → Keeps (state S.Store conn.old) v → IsRowFor v dept.now sums) }
-    ensures open { HasCleanDisk (state S.Store conn.new) → OnOk result (IsTrue (state S.Store conn.new).is_open) }
-    ensures same { HasCleanDisk (state S.Store conn.new) → (v : Vault) → Keeps (state S.Store conn.old) v → Keeps (state S.Store conn.new) v }
-    ensures honest { HasCleanDisk (state S.Store conn.new) → HasCleanDisk (state S.Store conn.old) }
-    ensures mode { conn.old.in_transaction ≡ false → conn.new.in_transaction ≡ false }
-    ensures crash { (v : Vault) → Keeps (state S.Store conn.old) v → Survives (state S.Store conn.old) (state S.Store conn.new) (λ _. ¬ IsTrue (state S.Store conn.old).is_open) }
+    ensures open { IsOpenIfOk S.Store conn.new result }
+    ensures read { OnlyReads S.Store conn.old conn.new }
 {
     let sums = read_totals(conn, dept)?;
     check_open(conn)?;
@@ -62,10 +57,7 @@ pub fn read_place<S: Alter>(
 ) -> Result<Place, Error>
     ensures value { HasCleanDisk (state S.Store conn.new) → IfOk result (λ place. (v : Vault) → Keeps (state S.Store conn.old) v
         → (Some place.config ≡ config_of v bucket.now) × IsRowFor v place.config.dept place.sums × (place.head ≡ head_of v bucket.now key.now)) }
-    ensures same { HasCleanDisk (state S.Store conn.new) → (v : Vault) → Keeps (state S.Store conn.old) v → Keeps (state S.Store conn.new) v }
-    ensures honest { HasCleanDisk (state S.Store conn.new) → HasCleanDisk (state S.Store conn.old) }
-    ensures mode { conn.old.in_transaction ≡ false → conn.new.in_transaction ≡ false }
-    ensures crash { (v : Vault) → Keeps (state S.Store conn.old) v → Survives (state S.Store conn.old) (state S.Store conn.new) (λ _. ¬ IsTrue (state S.Store conn.old).is_open) }
+    ensures read { OnlyReads S.Store conn.old conn.new }
 {
     let config = read_config(conn, bucket)?;
     let sums = read_sums(conn, &config.dept)?;

@@ -1,13 +1,15 @@
 //! One setting more of a version.
-ghost use Rattle.std.specs.Prelude.{◌≡◌, ◌+◌, ◌≤◌, false, IsTrue, IfOk, OnOk, OnErr};
+ghost use Rattle.std.specs.Prelude.{◌≡◌, ◌+◌, false, IfOk, OnOk};
 ghost use Rattle.sqlite.specs.Held.{state};
 ghost use Rattle.sqlite.specs.State.{HasCleanDisk, Survives};
 ghost use Rattle.vault_core_model.specs.declared.change.Change.TheVariants as change;
-ghost use Rattle.vault_core_model.specs.Reads.{count_by};
+ghost use Rattle.vault_core_model.specs.Reads.{count_of_settings};
 ghost use Rattle.vault_core_model.specs.Vault.{Vault};
 ghost use Rattle.vault_store_model.specs.Keeping.{Keeps};
 ghost use Rattle.vault_store_model.specs.Limits.{IsChangeInLimits};
 ghost use Rattle.vault_store_apply.specs.Applies.{Changes, IsChanged};
+ghost use Rattle.vault_store_reads.specs.Quiet.{IsOpenIfOk};
+ghost use Rattle.vault_store_edits.specs.Commits.{KeepsIfErr};
 
 use crate::commit::commit_part;
 use crate::parts::setting::NewSetting;
@@ -15,11 +17,11 @@ use sqlite::{Alter, Connection, Error, ErrorCode};
 use vault_base::moment::Moment;
 use vault_base::name::VersionId;
 use vault_core_model::records::{LastSetting, Setting};
-use vault_store_reads::ordered::reads::read_setting;
+use vault_store_reads::rows_in_order::reads::read_setting;
 
 /// The place behind the last setting, counted from 1. `TooBig` beyond 32 bits.
 fn next_place(last: Option<LastSetting>) -> Result<u32, Error>
-    ensures { IfOk result (λ place. place ≡ count_by last + 1) }
+    ensures { IfOk result (λ place. place ≡ count_of_settings last + 1) }
 {
     let count = match last {
         Some(last) => last.count,
@@ -40,9 +42,9 @@ pub fn add_setting<S: Alter>(
 ) -> Result<(), Error>
     requires { conn.old.in_transaction ≡ false }
     ensures mode { conn.new.in_transaction ≡ false }
-    ensures open { HasCleanDisk (state S.Store conn.new) → OnOk result (IsTrue (state S.Store conn.new).is_open) }
+    ensures open { IsOpenIfOk S.Store conn.new result }
     ensures done { HasCleanDisk (state S.Store conn.new) → IsChangeInLimits (change.AddSetting id setting.now) → OnOk result (Changes (state S.Store conn.old) (state S.Store conn.new) at (change.AddSetting id setting.now)) }
-    ensures nothing { HasCleanDisk (state S.Store conn.new) → OnErr result ((v : Vault) → Keeps (state S.Store conn.old) v → Keeps (state S.Store conn.new) v) }
+    ensures nothing { KeepsIfErr S.Store conn.old conn.new result }
     ensures honest { HasCleanDisk (state S.Store conn.new) → HasCleanDisk (state S.Store conn.old) }
     ensures crash { IsChangeInLimits (change.AddSetting id setting.now) → (v : Vault) → Keeps (state S.Store conn.old) v → Survives (state S.Store conn.old) (state S.Store conn.new) (IsChanged (state S.Store conn.old) v at (change.AddSetting id setting.now)) }
 {

@@ -1,10 +1,7 @@
 //! An entry that is added, and one that is removed.
-ghost use Rattle.std.specs.Prelude.{◌≡◌, IsTrue, OnOk, OnErr};
-ghost use Rattle.sqlite.specs.State.{HasCleanDisk, KeepsCommit, Survives};
-ghost use Rattle.sqlite.specs.Held.{state};
-ghost use Rattle.vault_store_model.specs.Edits.{Edits};
-ghost use Rattle.vault_store_edits.specs.Ready.{IsReady};
+ghost use Rattle.std.specs.Prelude.{◌≡◌};
 ghost use Rattle.vault_store_apply.specs.EntryParts.{history_put, noted_and_summed, bytes_dropped};
+ghost use Rattle.vault_store_edits.specs.Inside.{MakesPart};
 
 use crate::parts::given::{
     leave_head, put_content_if_given, put_first_setting, put_first_tenure, put_newest,
@@ -24,11 +21,7 @@ use vault_tally::row::Row as Sums;
 /// Puts in an entry with its bytes, its first setting and its first tenure.
 fn put_history<S: Alter>(tx: &mut Transaction<'_, S>, history: &History) -> Result<(), Error>
     ensures same_reference { tx.new.conn.ghost_name ≡ tx.old.conn.ghost_name }
-    ensures edits { HasCleanDisk (state S.Store tx.new.conn.now) → IsTrue tx.old.conn.now.in_transaction → IsReady (state S.Store tx.old.conn.now)
-        → OnOk result (Edits (state S.Store tx.old.conn.now) (state S.Store tx.new.conn.now) (history_put history.now) × IsReady (state S.Store tx.new.conn.now)) }
-    ensures kept { HasCleanDisk (state S.Store tx.new.conn.now) → IsTrue tx.old.conn.now.in_transaction → IsReady (state S.Store tx.old.conn.now)
-        → OnErr result (KeepsCommit (state S.Store tx.old.conn.now) (state S.Store tx.new.conn.now)) }
-    ensures survives { Survives (state S.Store tx.old.conn.now) (state S.Store tx.new.conn.now) (λ _. ⊥) }
+    ensures part { MakesPart S.Store tx.old.conn.now tx.new.conn.now result (history_put history.now) }
 {
     put_entry(tx, &history.entry)?;
     put_content_if_given(tx, history.entry.id, &history.content)?;
@@ -45,11 +38,7 @@ fn put_beside<S: Alter>(
     sums: &Sums,
 ) -> Result<(), Error>
     ensures same_reference { tx.new.conn.ghost_name ≡ tx.old.conn.ghost_name }
-    ensures edits { HasCleanDisk (state S.Store tx.new.conn.now) → IsTrue tx.old.conn.now.in_transaction → IsReady (state S.Store tx.old.conn.now)
-        → OnOk result (Edits (state S.Store tx.old.conn.now) (state S.Store tx.new.conn.now) (noted_and_summed note.now marker dept.now sums.now) × IsReady (state S.Store tx.new.conn.now)) }
-    ensures kept { HasCleanDisk (state S.Store tx.new.conn.now) → IsTrue tx.old.conn.now.in_transaction → IsReady (state S.Store tx.old.conn.now)
-        → OnErr result (KeepsCommit (state S.Store tx.old.conn.now) (state S.Store tx.new.conn.now)) }
-    ensures survives { Survives (state S.Store tx.old.conn.now) (state S.Store tx.new.conn.now) (λ _. ⊥) }
+    ensures part { MakesPart S.Store tx.old.conn.now tx.new.conn.now result (noted_and_summed note.now marker dept.now sums.now) }
 {
     put_note_if_given(tx, note)?;
     set_sums_of(tx, marker, dept, sums)
@@ -62,11 +51,7 @@ fn drop_bytes<S: Alter>(
     removal: &Removal,
 ) -> Result<(), Error>
     ensures same_reference { tx.new.conn.ghost_name ≡ tx.old.conn.ghost_name }
-    ensures edits { HasCleanDisk (state S.Store tx.new.conn.now) → IsTrue tx.old.conn.now.in_transaction → IsReady (state S.Store tx.old.conn.now)
-        → OnOk result (Edits (state S.Store tx.old.conn.now) (state S.Store tx.new.conn.now) (bytes_dropped id removal.now) × IsReady (state S.Store tx.new.conn.now)) }
-    ensures kept { HasCleanDisk (state S.Store tx.new.conn.now) → IsTrue tx.old.conn.now.in_transaction → IsReady (state S.Store tx.old.conn.now)
-        → OnErr result (KeepsCommit (state S.Store tx.old.conn.now) (state S.Store tx.new.conn.now)) }
-    ensures survives { Survives (state S.Store tx.old.conn.now) (state S.Store tx.new.conn.now) (λ _. ⊥) }
+    ensures part { MakesPart S.Store tx.old.conn.now tx.new.conn.now result (bytes_dropped id removal.now) }
 {
     remove_entry(tx, id, removal)?;
     delete_content(tx, id)?;

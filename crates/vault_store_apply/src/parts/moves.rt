@@ -1,10 +1,7 @@
 //! A bucket that moves to another department.
-ghost use Rattle.std.specs.Prelude.{◌≡◌, IsTrue, OnOk, OnErr};
-ghost use Rattle.sqlite.specs.State.{HasCleanDisk, KeepsCommit, Survives};
-ghost use Rattle.sqlite.specs.Held.{state};
-ghost use Rattle.vault_store_model.specs.Edits.{Edits};
-ghost use Rattle.vault_store_edits.specs.Ready.{IsReady};
+ghost use Rattle.std.specs.Prelude.{◌≡◌};
 ghost use Rattle.vault_store_apply.specs.Parts.{bucket_given, both_summed};
+ghost use Rattle.vault_store_edits.specs.Inside.{MakesPart};
 
 use sqlite::{Alter, Error, Transaction};
 use vault_base::moment::Moment;
@@ -26,11 +23,7 @@ fn give_bucket<S: Alter>(
     at: Moment,
 ) -> Result<(), Error>
     ensures same_reference { tx.new.conn.ghost_name ≡ tx.old.conn.ghost_name }
-    ensures edits { HasCleanDisk (state S.Store tx.new.conn.now) → IsTrue tx.old.conn.now.in_transaction → IsReady (state S.Store tx.old.conn.now)
-        → OnOk result (Edits (state S.Store tx.old.conn.now) (state S.Store tx.new.conn.now) (bucket_given name.now number dept.now at) × IsReady (state S.Store tx.new.conn.now)) }
-    ensures kept { HasCleanDisk (state S.Store tx.new.conn.now) → IsTrue tx.old.conn.now.in_transaction → IsReady (state S.Store tx.old.conn.now)
-        → OnErr result (KeepsCommit (state S.Store tx.old.conn.now) (state S.Store tx.new.conn.now)) }
-    ensures survives { Survives (state S.Store tx.old.conn.now) (state S.Store tx.new.conn.now) (λ _. ⊥) }
+    ensures part { MakesPart S.Store tx.old.conn.now tx.new.conn.now result (bucket_given name.now number dept.now at) }
 {
     put_tenures(tx, name, number, dept, at)?;
     set_owner(tx, name, dept)?;
@@ -46,11 +39,7 @@ fn set_both_sums<S: Alter>(
     received: &Sums,
 ) -> Result<(), Error>
     ensures same_reference { tx.new.conn.ghost_name ≡ tx.old.conn.ghost_name }
-    ensures edits { HasCleanDisk (state S.Store tx.new.conn.now) → IsTrue tx.old.conn.now.in_transaction → IsReady (state S.Store tx.old.conn.now)
-        → OnOk result (Edits (state S.Store tx.old.conn.now) (state S.Store tx.new.conn.now) (both_summed owner.now handed.now dept.now received.now) × IsReady (state S.Store tx.new.conn.now)) }
-    ensures kept { HasCleanDisk (state S.Store tx.new.conn.now) → IsTrue tx.old.conn.now.in_transaction → IsReady (state S.Store tx.old.conn.now)
-        → OnErr result (KeepsCommit (state S.Store tx.old.conn.now) (state S.Store tx.new.conn.now)) }
-    ensures survives { Survives (state S.Store tx.old.conn.now) (state S.Store tx.new.conn.now) (λ _. ⊥) }
+    ensures part { MakesPart S.Store tx.old.conn.now tx.new.conn.now result (both_summed owner.now handed.now dept.now received.now) }
 {
     set_sums(tx, owner, handed)?;
     set_sums(tx, dept, received)?;

@@ -2,19 +2,21 @@
 ghost use Rattle.std.specs.Prelude.{◌≡◌, ◌≢◌, ◌↔◌, Err, false, IsTrue, OnOk, IfErr};
 ghost use Rattle.sqlite.specs.Effect.{IsDatabase};
 ghost use Rattle.sqlite.specs.Held.{state};
-ghost use Rattle.sqlite.specs.State.{HasCleanDisk, IsUnchanged, Survives};
+ghost use Rattle.sqlite.specs.State.{HasCleanDisk, Survives};
 ghost use Rattle.vault_core_model.specs.Vault.{Vault};
 ghost use Rattle.vault_audit_model.specs.Spells.{AreSound, AreSoundAs};
-ghost use Rattle.vault_audit_model.specs.Tables.{no_schema, schema_of};
+ghost use Rattle.vault_audit_model.specs.Tables.{no_schema};
+ghost use Rattle.vault_audit_walk.specs.Health.{IsOfEdition, OnlyLooks};
 ghost use Rattle.vault_store_create.specs.Create.{Moves, HasFirst, IsFault};
 ghost use Rattle.vault_store_create.specs.Copied.{HasCopied};
 
 use crate::copy::tables::copy_tables;
-use crate::create::{is_blank, refusal_of};
+use crate::create::is_blank;
 use crate::tables::make_tables;
 use sqlite::{Alter, Connection, Error, Transaction};
 use std::alloc::Global;
 use std::mem::ManuallyDrop;
+use vault_audit_model::faults::refusal_of;
 use vault_audit_model::schema::Edition;
 use vault_base::refusal::Refusal;
 
@@ -25,13 +27,12 @@ fn put_copy<O: Alter, S: Alter>(
     tx: &mut Transaction<'_, S>,
     edition: Edition,
 ) -> Result<(), Error>
-    requires { HasCleanDisk (state O.Store old.old) → (state O.Store old.old).now.schema ≡ schema_of edition }
+    requires { IsOfEdition O.Store old.old edition }
     ensures same_reference { tx.new.conn.ghost_name ≡ tx.old.conn.ghost_name }
     ensures copied { HasCleanDisk (state O.Store old.new) → HasCleanDisk (state S.Store tx.new.conn.now) → IsTrue tx.old.conn.now.in_transaction
         → OnOk result (Moves (state S.Store tx.old.conn.now) (state S.Store tx.new.conn.now) (HasFirst 0) (HasCopied edition (state O.Store old.old).now 11)) }
     ensures survives { Survives (state S.Store tx.old.conn.now) (state S.Store tx.new.conn.now) (λ _. ⊥) }
-    ensures same { HasCleanDisk (state O.Store old.new) → OnOk result (IsUnchanged (state O.Store old.old) (state O.Store old.new)) }
-    ensures crash { Survives (state O.Store old.old) (state O.Store old.new) (λ _. ⊥) }
+    ensures look { OnlyLooks O.Store old.old old.new result }
 {
     make_tables(tx)?;
     copy_tables(alloc, old, tx, edition)
@@ -45,12 +46,11 @@ fn write_copy<O: Alter, S: Alter>(
     edition: Edition,
 ) -> Result<(), Error>
     requires outside { new.old.in_transaction ≡ false }
-    requires known { HasCleanDisk (state O.Store old.old) → (state O.Store old.old).now.schema ≡ schema_of edition }
+    requires known { IsOfEdition O.Store old.old edition }
     ensures copied { HasCleanDisk (state O.Store old.new) → HasCleanDisk (state S.Store new.new)
         → OnOk result (Moves (state S.Store new.old) (state S.Store new.new) (HasFirst 0) (HasCopied edition (state O.Store old.old).now 11)) }
     ensures crash { Survives (state S.Store new.old) (state S.Store new.new) (λ _. ⊥) }
-    ensures same { HasCleanDisk (state O.Store old.new) → OnOk result (IsUnchanged (state O.Store old.old) (state O.Store old.new)) }
-    ensures old_crash { Survives (state O.Store old.old) (state O.Store old.new) (λ _. ⊥) }
+    ensures look { OnlyLooks O.Store old.old old.new result }
 {
     let mut tx = new.transaction();
     put_copy(alloc, old, &mut tx, edition)?;
@@ -70,7 +70,7 @@ pub fn begin_copy<O: Alter, S: Alter>(
     new: &mut Connection<S>,
     edition: Edition,
 ) -> Result<(), Refusal>
-    requires known { HasCleanDisk (state O.Store old.old) → (state O.Store old.old).now.schema ≡ schema_of edition }
+    requires known { IsOfEdition O.Store old.old edition }
     requires outside { new.old.in_transaction ≡ false }
     // The tables are sound for each vault that those of the file are sound for.
     ensures copied { HasCleanDisk (state O.Store old.new) → HasCleanDisk (state S.Store new.new)
@@ -79,8 +79,7 @@ pub fn begin_copy<O: Alter, S: Alter>(
     ensures taken { (result ≡ Err Refusal.NameTaken) ↔ ((state S.Store new.old).now.schema ≢ no_schema) }
     ensures faults { IfErr result (λ r. r ≢ Refusal.NameTaken → IsFault r) }
     ensures crash { Survives (state S.Store new.old) (state S.Store new.new) (λ _. ⊥) }
-    ensures same { HasCleanDisk (state O.Store old.new) → OnOk result (IsUnchanged (state O.Store old.old) (state O.Store old.new)) }
-    ensures old_crash { Survives (state O.Store old.old) (state O.Store old.new) (λ _. ⊥) }
+    ensures look { OnlyLooks O.Store old.old old.new result }
 {
     if !is_blank(new.schema()) {
         return Err(Refusal::NameTaken);

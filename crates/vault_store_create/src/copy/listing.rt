@@ -22,12 +22,8 @@ fn departments_listing(edition: Edition) -> &'static str
     ensures { result.now ≡ departments_listing edition }
 {
     match edition {
-        Edition::First | Edition::Second => {
-            "SELECT name, admitted, held, removed, weighted, closed, 0, 0 FROM departments"
-        }
-        Edition::Third => {
-            "SELECT name, admitted, held, removed, weighted, closed, received, handed FROM departments"
-        }
+        Edition::First | Edition::Second => "SELECT *, 0, 0 FROM departments",
+        Edition::Third => "SELECT * FROM departments",
     }
 }
 
@@ -40,7 +36,7 @@ fn tenures_listing(edition: Edition) -> &'static str
         Edition::First | Edition::Second => {
             "SELECT e.id, 0, b.dept, e.admitted FROM entries AS e JOIN buckets AS b ON b.name = e.bucket WHERE e.marker = 0"
         }
-        Edition::Third => "SELECT id, n, dept, moment FROM tenures",
+        Edition::Third => "SELECT * FROM tenures",
     }
 }
 
@@ -49,12 +45,8 @@ fn rules_listing(edition: Edition) -> &'static str
     ensures { result.now ≡ rules_listing edition }
 {
     match edition {
-        Edition::First => {
-            "SELECT bucket, n, id, prefix, enabled, days, lone, nc_days, nc_keep, NULL, NULL FROM rules"
-        }
-        Edition::Second | Edition::Third => {
-            "SELECT bucket, n, id, prefix, enabled, days, lone, nc_days, nc_keep, larger, smaller FROM rules"
-        }
+        Edition::First => "SELECT *, NULL, NULL FROM rules",
+        Edition::Second | Edition::Third => "SELECT * FROM rules",
     }
 }
 
@@ -65,20 +57,14 @@ pub(crate) fn listing(edition: Edition, table: Table) -> &'static str
     match table {
         Table::Meta => meta_listing(edition),
         Table::Departments => departments_listing(edition),
-        Table::Callers => "SELECT name, dept, rights, closed FROM callers",
-        Table::Buckets => "SELECT name, dept, mode, days, years FROM buckets",
+        Table::Callers => "SELECT * FROM callers",
+        Table::Buckets => "SELECT * FROM buckets",
         Table::Rules => rules_listing(edition),
-        Table::Entries => {
-            "SELECT id, bucket, key, marker, size, digest, admitted, by_rule, admitted_by, removed, cause, cause_by FROM entries"
-        }
-        Table::Contents => "SELECT id, bytes FROM contents",
-        Table::Settings => {
-            "SELECT id, n, moment, caller, mode, until, hold, bypass FROM settings"
-        }
-        Table::Intake => {
-            "SELECT bucket, batch, line, key, size, digest, mode, until, hold, id FROM intake"
-        }
-        Table::Heads => "SELECT bucket, key, newest, count FROM heads",
+        Table::Entries => "SELECT * FROM entries",
+        Table::Contents => "SELECT * FROM contents",
+        Table::Settings => "SELECT * FROM settings",
+        Table::Intake => "SELECT * FROM intake",
+        Table::Heads => "SELECT * FROM heads",
         Table::Tenures => tenures_listing(edition),
     }
 }
@@ -88,32 +74,20 @@ pub(crate) fn putting(table: Table) -> &'static str
     ensures { result.now ≡ putting_of table }
 {
     match table {
-        Table::Meta => {
-            "INSERT INTO meta (one, schema, last, next, moves) VALUES (?1, ?2, ?3, ?4, ?5)"
-        }
-        Table::Departments => {
-            "INSERT INTO departments (name, admitted, held, removed, weighted, closed, received, handed) VALUES (?1, ?2, ?3, ?4, ?5, ?6, ?7, ?8)"
-        }
-        Table::Callers => {
-            "INSERT INTO callers (name, dept, rights, closed) VALUES (?1, ?2, ?3, ?4)"
-        }
-        Table::Buckets => {
-            "INSERT INTO buckets (name, dept, mode, days, years) VALUES (?1, ?2, ?3, ?4, ?5)"
-        }
+        Table::Meta => "INSERT INTO meta VALUES (?1, ?2, ?3, ?4, ?5)",
+        Table::Departments => "INSERT INTO departments VALUES (?1, ?2, ?3, ?4, ?5, ?6, ?7, ?8)",
+        Table::Callers => "INSERT INTO callers VALUES (?1, ?2, ?3, ?4)",
+        Table::Buckets => "INSERT INTO buckets VALUES (?1, ?2, ?3, ?4, ?5)",
         Table::Rules => {
-            "INSERT INTO rules (bucket, n, id, prefix, enabled, days, lone, nc_days, nc_keep, larger, smaller) VALUES (?1, ?2, ?3, ?4, ?5, ?6, ?7, ?8, ?9, ?10, ?11)"
+            "INSERT INTO rules VALUES (?1, ?2, ?3, ?4, ?5, ?6, ?7, ?8, ?9, ?10, ?11)"
         }
         Table::Entries => {
-            "INSERT INTO entries (id, bucket, key, marker, size, digest, admitted, by_rule, admitted_by, removed, cause, cause_by) VALUES (?1, ?2, ?3, ?4, ?5, ?6, ?7, ?8, ?9, ?10, ?11, ?12)"
+            "INSERT INTO entries VALUES (?1, ?2, ?3, ?4, ?5, ?6, ?7, ?8, ?9, ?10, ?11, ?12)"
         }
-        Table::Contents => "INSERT INTO contents (id, bytes) VALUES (?1, ?2)",
-        Table::Settings => {
-            "INSERT INTO settings (id, n, moment, caller, mode, until, hold, bypass) VALUES (?1, ?2, ?3, ?4, ?5, ?6, ?7, ?8)"
-        }
-        Table::Intake => {
-            "INSERT INTO intake (bucket, batch, line, key, size, digest, mode, until, hold, id) VALUES (?1, ?2, ?3, ?4, ?5, ?6, ?7, ?8, ?9, ?10)"
-        }
-        Table::Heads => { "INSERT INTO heads (bucket, key, newest, count) VALUES (?1, ?2, ?3, ?4)" }
-        Table::Tenures => { "INSERT INTO tenures (id, n, dept, moment) VALUES (?1, ?2, ?3, ?4)" }
+        Table::Contents => "INSERT INTO contents VALUES (?1, ?2)",
+        Table::Settings => "INSERT INTO settings VALUES (?1, ?2, ?3, ?4, ?5, ?6, ?7, ?8)",
+        Table::Intake => "INSERT INTO intake VALUES (?1, ?2, ?3, ?4, ?5, ?6, ?7, ?8, ?9, ?10)",
+        Table::Heads => "INSERT INTO heads VALUES (?1, ?2, ?3, ?4)",
+        Table::Tenures => "INSERT INTO tenures VALUES (?1, ?2, ?3, ?4)",
     }
 }

@@ -2,13 +2,13 @@
 ghost use Rattle.std.specs.Prelude.{◌≡◌, ◌+◌, [], List, IsTrue, OnOk};
 ghost use Rattle.sqlite_value.specs.Order.{Row as Values};
 ghost use Rattle.sqlite.specs.Held.{state};
-ghost use Rattle.sqlite.specs.State.{HasCleanDisk, IsUnchanged, Survives, Shown};
+ghost use Rattle.sqlite.specs.State.{HasCleanDisk, Survives, Shown};
 ghost use Rattle.sqlite.specs.Given.{IsPlain};
 ghost use Rattle.sqlite.specs.Listing.{understood};
-ghost use Rattle.vault_audit_model.specs.Tables.{schema_of};
+ghost use Rattle.vault_audit_model.specs.Order.{place_of};
 ghost use Rattle.vault_audit_walk.specs.Walk.{Goes};
+ghost use Rattle.vault_audit_walk.specs.Health.{IsOfEdition, OnlyLooks};
 ghost use Rattle.vault_store_create.specs.Create.{Moves};
-ghost use Rattle.vault_store_model.specs.Edits.{number_of};
 ghost use Rattle.vault_store_create.specs.Copied.{Steps, PutsRow, HasCopied};
 
 use crate::copy::listing::listing;
@@ -32,8 +32,7 @@ fn copy_rows<O: Alter, S: Alter>(
         → OnOk result ((rows : List Values) × Shown select.now [] (state O.Store old.old) (state O.Store old.new) rows
         × Steps (state S.Store tx.old.conn.now) (state S.Store tx.new.conn.now) (λ d e. Goes (λ x row y. PutsRow table row x y) d rows e)) }
     ensures survives { Survives (state S.Store tx.old.conn.now) (state S.Store tx.new.conn.now) (λ _. ⊥) }
-    ensures same { HasCleanDisk (state O.Store old.new) → OnOk result (IsUnchanged (state O.Store old.old) (state O.Store old.new)) }
-    ensures crash { Survives (state O.Store old.old) (state O.Store old.new) (λ _. ⊥) }
+    ensures look { OnlyLooks O.Store old.old old.new result }
 {
     let mut rows = old.query(select, &[])?;
     'rows: for _ in 0..u64::MAX {
@@ -53,14 +52,13 @@ fn copy_table<O: Alter, S: Alter>(
     edition: Edition,
     table: Table,
 ) -> Result<(), Error>
-    requires { HasCleanDisk (state O.Store old.old) → (state O.Store old.old).now.schema ≡ schema_of edition }
+    requires { IsOfEdition O.Store old.old edition }
     ensures same_reference { tx.new.conn.ghost_name ≡ tx.old.conn.ghost_name }
     ensures copied { HasCleanDisk (state O.Store old.new) → HasCleanDisk (state S.Store tx.new.conn.now) → IsTrue tx.old.conn.now.in_transaction → IsTrue (state S.Store tx.old.conn.now).is_open
         → OnOk result (Moves (state S.Store tx.old.conn.now) (state S.Store tx.new.conn.now)
-        (HasCopied edition (state O.Store old.old).now (number_of table)) (HasCopied edition (state O.Store old.old).now (number_of table + 1))) }
+        (HasCopied edition (state O.Store old.old).now (place_of table)) (HasCopied edition (state O.Store old.old).now (place_of table + 1))) }
     ensures survives { Survives (state S.Store tx.old.conn.now) (state S.Store tx.new.conn.now) (λ _. ⊥) }
-    ensures same { HasCleanDisk (state O.Store old.new) → OnOk result (IsUnchanged (state O.Store old.old) (state O.Store old.new)) }
-    ensures crash { Survives (state O.Store old.old) (state O.Store old.new) (λ _. ⊥) }
+    ensures look { OnlyLooks O.Store old.old old.new result }
 {
     copy_rows(alloc, old, tx, listing(edition, table), table)
 }
@@ -71,14 +69,13 @@ fn copy_first<O: Alter, S: Alter>(
     tx: &mut Transaction<'_, S>,
     edition: Edition,
 ) -> Result<(), Error>
-    requires { HasCleanDisk (state O.Store old.old) → (state O.Store old.old).now.schema ≡ schema_of edition }
+    requires { IsOfEdition O.Store old.old edition }
     ensures same_reference { tx.new.conn.ghost_name ≡ tx.old.conn.ghost_name }
     ensures copied { HasCleanDisk (state O.Store old.new) → HasCleanDisk (state S.Store tx.new.conn.now) → IsTrue tx.old.conn.now.in_transaction → IsTrue (state S.Store tx.old.conn.now).is_open
         → OnOk result (Moves (state S.Store tx.old.conn.now) (state S.Store tx.new.conn.now)
         (HasCopied edition (state O.Store old.old).now 0) (HasCopied edition (state O.Store old.old).now 4)) }
     ensures survives { Survives (state S.Store tx.old.conn.now) (state S.Store tx.new.conn.now) (λ _. ⊥) }
-    ensures same { HasCleanDisk (state O.Store old.new) → OnOk result (IsUnchanged (state O.Store old.old) (state O.Store old.new)) }
-    ensures crash { Survives (state O.Store old.old) (state O.Store old.new) (λ _. ⊥) }
+    ensures look { OnlyLooks O.Store old.old old.new result }
 {
     copy_table(alloc, old, tx, edition, Table::Meta)?;
     copy_table(alloc, old, tx, edition, Table::Departments)?;
@@ -93,14 +90,13 @@ fn copy_second<O: Alter, S: Alter>(
     tx: &mut Transaction<'_, S>,
     edition: Edition,
 ) -> Result<(), Error>
-    requires { HasCleanDisk (state O.Store old.old) → (state O.Store old.old).now.schema ≡ schema_of edition }
+    requires { IsOfEdition O.Store old.old edition }
     ensures same_reference { tx.new.conn.ghost_name ≡ tx.old.conn.ghost_name }
     ensures copied { HasCleanDisk (state O.Store old.new) → HasCleanDisk (state S.Store tx.new.conn.now) → IsTrue tx.old.conn.now.in_transaction → IsTrue (state S.Store tx.old.conn.now).is_open
         → OnOk result (Moves (state S.Store tx.old.conn.now) (state S.Store tx.new.conn.now)
         (HasCopied edition (state O.Store old.old).now 4) (HasCopied edition (state O.Store old.old).now 8)) }
     ensures survives { Survives (state S.Store tx.old.conn.now) (state S.Store tx.new.conn.now) (λ _. ⊥) }
-    ensures same { HasCleanDisk (state O.Store old.new) → OnOk result (IsUnchanged (state O.Store old.old) (state O.Store old.new)) }
-    ensures crash { Survives (state O.Store old.old) (state O.Store old.new) (λ _. ⊥) }
+    ensures look { OnlyLooks O.Store old.old old.new result }
 {
     copy_table(alloc, old, tx, edition, Table::Rules)?;
     copy_table(alloc, old, tx, edition, Table::Entries)?;
@@ -115,14 +111,13 @@ fn copy_last<O: Alter, S: Alter>(
     tx: &mut Transaction<'_, S>,
     edition: Edition,
 ) -> Result<(), Error>
-    requires { HasCleanDisk (state O.Store old.old) → (state O.Store old.old).now.schema ≡ schema_of edition }
+    requires { IsOfEdition O.Store old.old edition }
     ensures same_reference { tx.new.conn.ghost_name ≡ tx.old.conn.ghost_name }
     ensures copied { HasCleanDisk (state O.Store old.new) → HasCleanDisk (state S.Store tx.new.conn.now) → IsTrue tx.old.conn.now.in_transaction → IsTrue (state S.Store tx.old.conn.now).is_open
         → OnOk result (Moves (state S.Store tx.old.conn.now) (state S.Store tx.new.conn.now)
         (HasCopied edition (state O.Store old.old).now 8) (HasCopied edition (state O.Store old.old).now 11)) }
     ensures survives { Survives (state S.Store tx.old.conn.now) (state S.Store tx.new.conn.now) (λ _. ⊥) }
-    ensures same { HasCleanDisk (state O.Store old.new) → OnOk result (IsUnchanged (state O.Store old.old) (state O.Store old.new)) }
-    ensures crash { Survives (state O.Store old.old) (state O.Store old.new) (λ _. ⊥) }
+    ensures look { OnlyLooks O.Store old.old old.new result }
 {
     copy_table(alloc, old, tx, edition, Table::Intake)?;
     copy_table(alloc, old, tx, edition, Table::Heads)?;
@@ -137,14 +132,13 @@ pub(crate) fn copy_tables<O: Alter, S: Alter>(
     tx: &mut Transaction<'_, S>,
     edition: Edition,
 ) -> Result<(), Error>
-    requires { HasCleanDisk (state O.Store old.old) → (state O.Store old.old).now.schema ≡ schema_of edition }
+    requires { IsOfEdition O.Store old.old edition }
     ensures same_reference { tx.new.conn.ghost_name ≡ tx.old.conn.ghost_name }
     ensures copied { HasCleanDisk (state O.Store old.new) → HasCleanDisk (state S.Store tx.new.conn.now) → IsTrue tx.old.conn.now.in_transaction → IsTrue (state S.Store tx.old.conn.now).is_open
         → OnOk result (Moves (state S.Store tx.old.conn.now) (state S.Store tx.new.conn.now)
         (HasCopied edition (state O.Store old.old).now 0) (HasCopied edition (state O.Store old.old).now 11)) }
     ensures survives { Survives (state S.Store tx.old.conn.now) (state S.Store tx.new.conn.now) (λ _. ⊥) }
-    ensures same { HasCleanDisk (state O.Store old.new) → OnOk result (IsUnchanged (state O.Store old.old) (state O.Store old.new)) }
-    ensures crash { Survives (state O.Store old.old) (state O.Store old.new) (λ _. ⊥) }
+    ensures look { OnlyLooks O.Store old.old old.new result }
 {
     copy_first(alloc, old, tx, edition)?;
     copy_second(alloc, old, tx, edition)?;

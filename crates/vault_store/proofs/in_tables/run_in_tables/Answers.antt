@@ -1,10 +1,10 @@
-use Rattle.std.proofs.Common.{sym, subst, inr, ◌∙◌}
+use Rattle.std.proofs.Common.{sym, subst, inr}
 use Rattle.std.proofs.Math.Logic.{∥∥₁_map}
 use Rattle.std.specs.Prelude.{◌≡◌}
 use Rattle.sqlite.specs.Effect.{Database}
 use Rattle.sqlite.specs.Held.{state}
 use Rattle.sqlite.specs.State.{HasCleanDisk}
-use Rattle.vault_core_model.specs.Step.{Run}
+use Rattle.vault_core_model.specs.Step.{IsRun}
 use Rattle.vault_core_model.specs.Vault.{Vault}
 use Rattle.vault_audit_laws.proofs.Uniqueness.{same_vault}
 use Rattle.vault_audit_model.specs.Spells.{AreSound}
@@ -21,7 +21,7 @@ returns-in-Ok-run-clause-run g c clean v is =
     let same = same_vault _ _ v there.spells here.spells in
     let w = kept_vault g.S.Store last.opening.at.items last.opening.known last.made.items in
     ∥∥₁_map c.into_connection.ensures.stands (λ stands.
-    (w, subst (λ u. Run u c.args.commands.now c.in-Ok-run.replies.items w) same (c.in-Ok-run.ensures.run after), stands clean))
+    (w, subst (λ u. IsRun u c.args.commands.now c.in-Ok-run.replies.items w) same (c.in-Ok-run.ensures.run after), stands clean))
 
 -- what was sound before an opening that changed nothing
 sound-before : (a b : Database) (v : Vault) → a ≡ b → AreSound a v → AreSound b v

@@ -1,4 +1,3 @@
-use Rattle.sqlite.specs.Held.{state}
 use Rattle.vault_store_apply.proofs.ApplyLemmas.{on_ok_all}
 use Rattle.vault_store.proofs.TableLemmas.{leaves_alone}
 use Rattle.vault_store.proofs.look.look.Goals as goal

@@ -23,12 +23,12 @@ returns-in-Err-clause-healthy g c healthy =
 
 pub returns-in-Err-clause-crash : goal.returns-in-Err-clause-crash
 returns-in-Err-clause-crash g c =
-    survives_then (state g.S.Store c.args.conn.now) (state g.S.Store c.audit.new.conn) (state g.S.Store c.end_transaction.new.conn) _ _ (λ _. ⊥) (λ _ trees none. none) (λ _ trees none. none) c.audit.ensures.crash c.end_transaction.ensures.crash
+    survives_then (state g.S.Store c.args.conn.now) (state g.S.Store c.audit.new.conn) (state g.S.Store c.end_transaction.new.conn) _ _ (λ _. ⊥) (λ _ trees none. none) (λ _ trees none. none) c.audit.ensures.look.crash c.end_transaction.ensures.crash
 
 pub returns-in-Err-clause-tables : goal.returns-in-Err-clause-tables
 returns-in-Err-clause-tables g c clean =
     let old = c.args.conn.now in
     let new = c.end_transaction.new.conn in
     let all : Survives (state g.S.Store old) (state g.S.Store new) (λ _. ⊥) =
-    survives_then (state g.S.Store old) (state g.S.Store c.audit.new.conn) (state g.S.Store new) _ _ (λ _. ⊥) (λ _ trees none. none) (λ _ trees none. none) c.audit.ensures.crash c.end_transaction.ensures.crash in
+    survives_then (state g.S.Store old) (state g.S.Store c.audit.new.conn) (state g.S.Store new) _ _ (λ _. ⊥) (λ _ trees none. none) (λ _ trees none. none) c.audit.ensures.look.crash c.end_transaction.ensures.crash in
     same_tables g.S.Store old new (g.met.S.Store.settled old.store) (g.met.S.Store.stays new.store) clean all (c.note_rest.ensures.rest c.requires) (c.note_rest-in-Err.ensures.rest (c.end_transaction.ensures.mode clean))

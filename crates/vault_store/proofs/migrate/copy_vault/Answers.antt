@@ -1,8 +1,7 @@
-use Rattle.std.proofs.Common.{◌≡◌, sym, subst, ◌∙◌, arith}
+use Rattle.std.proofs.Common.{sym, subst, ◌∙◌, arith}
 use Rattle.sqlite.specs.Held.{state}
 use Rattle.sqlite.specs.State.{HasCleanDisk}
 use Rattle.vault_audit_model.specs.Spells.{AreSound}
-use Rattle.vault_store.specs.Migrated.{IsMigrated}
 use Rattle.vault_store.proofs.MigrateLemmas.{copy_survives, never_copied, survives_more}
 use Rattle.vault_store.proofs.TableLemmas.{leaves_alone, same_tables, same_undone}
 use Rattle.vault_store.proofs.migrate.copy_vault.Goals as goal
@@ -59,3 +58,9 @@ pub returns-clause-alone : goal.returns-clause-alone
 returns-clause-alone g c clean v sound =
     let h = c.commit.new.conn in
     leaves_alone g.S.Store h (g.met.S.Store.settled h.store) (c.in-Ok-commit.ensures.committed clean).0 (c.note_rest-3.ensures.rest c.in-Ok-commit.ensures.settled) v sound
+
+pub returns-in-Err-look_at_copy-clause-unsound : goal.returns-in-Err-look_at_copy-clause-unsound
+returns-in-Err-look_at_copy-clause-unsound g c none well same = let it = c.in-Ok.ensures.spelled well.clean in none it.0 it.1
+
+pub returns-in-Err-commit-clause-unsound : goal.returns-in-Err-commit-clause-unsound
+returns-in-Err-commit-clause-unsound g c none well same = let it = c.in-Ok.ensures.spelled well.clean in none it.0 it.1

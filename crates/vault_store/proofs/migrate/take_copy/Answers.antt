@@ -1,9 +1,8 @@
 use Rattle.std.proofs.Common.{sym, subst, arith}
 use Rattle.sqlite.specs.Held.{state}
-use Rattle.sqlite.specs.State.{HasCleanDisk, Survives}
-use Rattle.sqlite.proofs.Callers.{unchanged_then}
+use Rattle.sqlite.specs.State.{HasCleanDisk}
 use Rattle.vault_audit_model.specs.Spells.{AreSoundAs}
-use Rattle.vault_store.proofs.MigrateLemmas.{survives_more, tables_from, tables_unchanged}
+use Rattle.vault_store.proofs.MigrateLemmas.{survives_more, tables_from}
 use Rattle.vault_store.proofs.TableLemmas.{same_tables}
 use Rattle.vault_store.proofs.migrate.take_copy.Goals as goal
 
@@ -13,7 +12,7 @@ begin_copy-requires-clause-known g c clean = (c.in-Ok.ensures.sound clean).1.spe
 pub returns-in-Ok-begin_copy-clause-copied : goal.returns-in-Ok-begin_copy-clause-copied
 returns-in-Ok-begin_copy-clause-copied g c clean after v is =
     let mid = state g.O.Store c.look_as.new.conn in
-    let early : HasCleanDisk mid = omega (arith, clean, c.begin_copy.ensures.old_crash.clean) in
+    let early : HasCleanDisk mid = omega (arith, clean, c.begin_copy.ensures.look.crash.clean) in
     let here = subst (λ db. AreSoundAs c.args.edition db v) (sym (c.in-Ok.ensures.same early).0.now_is) is in
     c.in-Ok-begin_copy.ensures.copied clean after v here
 
@@ -24,7 +23,13 @@ returns-in-Err-begin_copy-clause-old_tables g c clean =
     let mid = state g.O.Store h in
     let copied = state g.O.Store c.begin_copy.new.old in
     let last = state g.O.Store k in
-    let early : HasCleanDisk mid = omega (arith, clean, c.begin_copy.ensures.old_crash.clean, c.settle.ensures.crash.clean) in
-    let all = survives_more mid copied last c.begin_copy.ensures.old_crash c.settle.ensures.crash in
+    let early : HasCleanDisk mid = omega (arith, clean, c.begin_copy.ensures.look.crash.clean, c.settle.ensures.crash.clean) in
+    let all = survives_more mid copied last c.begin_copy.ensures.look.crash c.settle.ensures.crash in
     let stay = same_tables g.O.Store h k (g.met.O.Store.settled h.store) (g.met.O.Store.stays k.store) clean all c.in-Ok.ensures.rest (c.settle.ensures.rest clean) in
     tables_from (state g.O.Store c.args.old.now) mid last (c.in-Ok.ensures.same early) stay
+
+pub returns-in-Err-begin_copy-clause-unsound : goal.returns-in-Err-begin_copy-clause-unsound
+returns-in-Err-begin_copy-clause-unsound g c none well same =
+    let early : HasCleanDisk (state g.O.Store c.look_as.new.conn) = omega (arith, well.clean, c.begin_copy.ensures.look.crash.clean, c.settle.ensures.crash.clean) in
+    let it = c.in-Ok.ensures.sound early in
+    none it.0 (subst (λ db. AreSoundAs c.args.edition db it.0) (c.in-Ok.ensures.same early).0.now_is it.1)

@@ -11,35 +11,35 @@ use Rattle.vault_audit_model.specs.Values.{number}
 use Rattle.vault_store_model.specs.Tests.{is_numbered}
 use Rattle.vault_store_edits.proofs.EntryTextLemmas.{by_id, finds_content}
 use Rattle.vault_store_edits.proofs.EntryRowLemmas.{drops_content}
+use Rattle.vault_store_edits.proofs.QueryLemmas.{survives_more}
 use Rattle.vault_store_edits.proofs.contents.delete_content.Goals as goal
 
-pub returns-clause-edits : goal.returns-clause-edits
-returns-clause-edits g c clean inside =
-    let old = state g.S.Store c.args.tx.now.conn.now in
-    let mid = state g.S.Store c.check_id.new.tx.conn.now in
-    let new = state g.S.Store c.execute.new.self.conn.now in
-    let early : HasCleanDisk mid = omega (arith, clean, c.execute.ensures.survives.clean) in
-    let look = c.in_ok-check_id.ensures in
-    edits_checked _ _ old mid new (without table.Contents (is_numbered c.args.id)) c.execute.result (without_ignores table.Contents (is_numbered c.args.id)) (look.kept early inside) (λ count has ran.
-    deletes_after table.Contents (passes by_id (number c.args.id ∷ [])) old mid new (without table.Contents (is_numbered c.args.id)) (look.apart early has by_id finds_content) has (λ apart known. drops_content c.args.id mid new count apart known ran))
-    (rw (c.params-to_sql.ensures, c.number.ensures.value) at (c.execute.ensures.runs clean (look.inside early inside)))
-
-pub returns-clause-sound : goal.returns-clause-sound
-returns-clause-sound g c clean inside has =
-    let old = state g.S.Store c.args.tx.now.conn.now in
-    let mid = state g.S.Store c.check_id.new.tx.conn.now in
-    let new = state g.S.Store c.execute.new.self.conn.now in
-    let early : HasCleanDisk mid = omega (arith, clean, c.execute.ensures.survives.clean) in
-    let look = c.in_ok-check_id.ensures in
-    sound_checked _ _ old mid new (without table.Contents (is_numbered c.args.id)) c.execute.result has (λ count has ran.
-    deletes_after table.Contents (passes by_id (number c.args.id ∷ [])) old mid new (without table.Contents (is_numbered c.args.id)) (look.apart early has by_id finds_content) has (λ apart known. drops_content c.args.id mid new count apart known ran))
-    (rw (c.params-to_sql.ensures, c.number.ensures.value) at (c.execute.ensures.runs clean (look.inside early inside)))
-
-pub returns-clause-kept : goal.returns-clause-kept
-returns-clause-kept g c clean inside =
-    let old = state g.S.Store c.args.tx.now.conn.now in
-    let mid = state g.S.Store c.check_id.new.tx.conn.now in
-    let new = state g.S.Store c.execute.new.self.conn.now in
-    let early : HasCleanDisk mid = omega (arith, clean, c.execute.ensures.survives.clean) in
-    let look = c.in_ok-check_id.ensures in
-    refused_after old mid new c.execute.result (look.kept early inside) (kept_if_refused _ _ mid new c.execute.result (c.execute.ensures.runs clean (look.inside early inside)))
+pub returns-clause-edit : goal.returns-clause-edit
+returns-clause-edit g c = record {
+  edits = λ clean inside.
+      let old = state g.S.Store c.args.tx.now.conn.now in
+      let mid = state g.S.Store c.check_id.new.tx.conn.now in
+      let new = state g.S.Store c.execute.new.self.conn.now in
+      let early : HasCleanDisk mid = omega (arith, clean, c.execute.ensures.survives.clean) in
+      let look = c.in_ok-check_id.ensures in
+      edits_checked _ _ old mid new (without table.Contents (is_numbered c.args.id)) c.execute.result (without_ignores table.Contents (is_numbered c.args.id)) (look.kept early inside) (λ count has ran.
+      deletes_after table.Contents (passes by_id (number c.args.id ∷ [])) old mid new (without table.Contents (is_numbered c.args.id)) (look.apart early has by_id finds_content) has (λ apart known. drops_content c.args.id mid new count apart known ran))
+      (rw (c.params-to_sql.ensures, c.number.ensures.value) at (c.execute.ensures.runs clean (look.inside early inside)));
+  sound = λ clean inside has.
+      let old = state g.S.Store c.args.tx.now.conn.now in
+      let mid = state g.S.Store c.check_id.new.tx.conn.now in
+      let new = state g.S.Store c.execute.new.self.conn.now in
+      let early : HasCleanDisk mid = omega (arith, clean, c.execute.ensures.survives.clean) in
+      let look = c.in_ok-check_id.ensures in
+      sound_checked _ _ old mid new (without table.Contents (is_numbered c.args.id)) c.execute.result has (λ count has ran.
+      deletes_after table.Contents (passes by_id (number c.args.id ∷ [])) old mid new (without table.Contents (is_numbered c.args.id)) (look.apart early has by_id finds_content) has (λ apart known. drops_content c.args.id mid new count apart known ran))
+      (rw (c.params-to_sql.ensures, c.number.ensures.value) at (c.execute.ensures.runs clean (look.inside early inside)));
+  kept = λ clean inside.
+      let old = state g.S.Store c.args.tx.now.conn.now in
+      let mid = state g.S.Store c.check_id.new.tx.conn.now in
+      let new = state g.S.Store c.execute.new.self.conn.now in
+      let early : HasCleanDisk mid = omega (arith, clean, c.execute.ensures.survives.clean) in
+      let look = c.in_ok-check_id.ensures in
+      refused_after old mid new c.execute.result (look.kept early inside) (kept_if_refused _ _ mid new c.execute.result (c.execute.ensures.runs clean (look.inside early inside)));
+  survives = survives_more (state g.S.Store c.args.tx.now.conn.now) (state g.S.Store c.check_id.new.tx.conn.now) (state g.S.Store c.execute.new.self.conn.now) c.in_ok-check_id.ensures.survives c.execute.ensures.survives;
+}

@@ -33,24 +33,24 @@ loop-rule-preserved g c =
     let place : c.loop-rule.place + 1 ≡ n + 1 = omega (arith, was.1) in (
       search rules,
       place,
-      survives_then old mid new (λ _. ⊥) (λ _. ⊥) (λ _. ⊥) (λ _ _ h. h) (λ _ _ h. h) was.2 one.survives,
+      survives_then old mid new (λ _. ⊥) (λ _. ⊥) (λ _. ⊥) (λ _ _ h. h) (λ _ _ h. h) was.2 one.edit.survives,
       λ clean inside.
-          let early : HasCleanDisk mid = omega (arith, clean, one.survives.clean) in
+          let early : HasCleanDisk mid = omega (arith, clean, one.edit.survives.clean) in
           let before = was.3 early inside in
-          let e = one.edits clean before.1 in
+          let e = one.edit.edits clean before.1 in
           (kept_then old mid new before.0 (kept_edit mid new _ e), e.inside),
       λ clean inside is_open.
-          let early : HasCleanDisk mid = omega (arith, clean, one.survives.clean) in
+          let early : HasCleanDisk mid = omega (arith, clean, one.edit.survives.clean) in
           let before = was.4 early inside is_open in
           let row = λ (at : ℕ). with_row table.Rules (rule_row (record { bucket = bucket; place = at; rule = rule })) in
-          let next = subst (λ at. Edits mid new (row at)) place (one.edits clean before.inside) in
+          let next = subst (λ at. Edits mid new (row at)) place (one.edit.edits clean before.inside) in
           subst (Edits old new) (sym (one_rule_more bucket all n rule c.loop-rule-test.true c.rule-item.is)) (edits_then old mid new (with_first bucket all n) (row (n + 1)) before next),
       λ clean inside has live.
-          let early : HasCleanDisk mid = omega (arith, clean, one.survives.clean) in
+          let early : HasCleanDisk mid = omega (arith, clean, one.edit.survives.clean) in
           let here = (was.3 early inside).1 in
           let before = was.5 early inside has live in
-          let e = one.edits clean here in
-          (one.sound clean here before.1, e.schema before.1),
+          let e = one.edit.edits clean here in
+          (one.edit.sound clean here before.1, e.schema before.1),
     )
 
 pub returns-clause-edits : goal.returns-clause-edits
@@ -67,6 +67,6 @@ returns-in_err-put_rule-clause-kept g c clean inside =
     let old = state g.S.Store c.args.tx.now.conn.now in
     let mid = state g.S.Store c.loop-rule.tx.conn.now in
     let new = state g.S.Store c.put_rule.new.tx.conn.now in
-    let early : HasCleanDisk mid = omega (arith, clean, c.put_rule.ensures.survives.clean) in
+    let early : HasCleanDisk mid = omega (arith, clean, c.put_rule.ensures.edit.survives.clean) in
     let before = c.loop-rule.invariant.3 early inside in
-    on_err _ (kept_then old mid new before.0 (c.in_err-put_rule.ensures.kept clean before.1))
+    on_err _ (kept_then old mid new before.0 (c.in_err-put_rule.ensures.edit.kept clean before.1))

@@ -4,21 +4,24 @@ use Rattle.vault_store_model.proofs.EditLemmas.{with_row_ignores}
 use Rattle.vault_store_edits.proofs.StatementLemmas.{edits_if, sound_if}
 use Rattle.std.proofs.Common.{FitsSigned, w64, rules, to_z-of_z}
 use Rattle.vault_audit_model.specs.Rows.{tenure_row}
+use Rattle.vault_audit_model.proofs.OutcomeLemmas.{kept_if_refused}
 use Rattle.vault_store_edits.proofs.EntryRowLemmas.{puts_tenure}
 use Rattle.vault_store_edits.proofs.tenures.put_tenure.Goals as goal
 
-pub returns-clause-edits : goal.returns-clause-edits
-returns-clause-edits g c clean inside =
-    let old = state g.S.Store c.args.tx.now.conn.now in
-    let new = state g.S.Store c.execute.new.self.conn.now in
-    let fits0 : FitsSigned w64 c.seconds.result = search rules in
-    edits_if _ _ old new _ c.execute.result (with_row_ignores table.Tenures (tenure_row (record { id = c.args.id; tenure = c.args.tenure.now }))) (puts_tenure (record { id = c.args.id; tenure = c.args.tenure.now }) old new)
-    (rw (c.params-to_sql.ensures, c.number.ensures.value, c.params-to_sql-2.ensures, c.params-to_sql-3.ensures, c.as_str.ensures, c.params-to_sql-4.ensures, to_z-of_z fits0, c.seconds.ensures) at (c.execute.ensures.runs clean inside))
-
-pub returns-clause-sound : goal.returns-clause-sound
-returns-clause-sound g c clean inside has =
-    let old = state g.S.Store c.args.tx.now.conn.now in
-    let new = state g.S.Store c.execute.new.self.conn.now in
-    let fits0 : FitsSigned w64 c.seconds.result = search rules in
-    sound_if _ _ old new _ c.execute.result has (puts_tenure (record { id = c.args.id; tenure = c.args.tenure.now }) old new)
-    (rw (c.params-to_sql.ensures, c.number.ensures.value, c.params-to_sql-2.ensures, c.params-to_sql-3.ensures, c.as_str.ensures, c.params-to_sql-4.ensures, to_z-of_z fits0, c.seconds.ensures) at (c.execute.ensures.runs clean inside))
+pub returns-clause-edit : goal.returns-clause-edit
+returns-clause-edit g c = record {
+  edits = λ clean inside.
+      let old = state g.S.Store c.args.tx.now.conn.now in
+      let new = state g.S.Store c.execute.new.self.conn.now in
+      let fits0 : FitsSigned w64 c.seconds.result = search rules in
+      edits_if _ _ old new _ c.execute.result (with_row_ignores table.Tenures (tenure_row (record { id = c.args.id; tenure = c.args.tenure.now }))) (puts_tenure (record { id = c.args.id; tenure = c.args.tenure.now }) old new)
+      (rw (c.params-to_sql.ensures, c.number.ensures.value, c.params-to_sql-2.ensures, c.params-to_sql-3.ensures, c.as_str.ensures, c.params-to_sql-4.ensures, to_z-of_z fits0, c.seconds.ensures) at (c.execute.ensures.runs clean inside));
+  sound = λ clean inside has.
+      let old = state g.S.Store c.args.tx.now.conn.now in
+      let new = state g.S.Store c.execute.new.self.conn.now in
+      let fits0 : FitsSigned w64 c.seconds.result = search rules in
+      sound_if _ _ old new _ c.execute.result has (puts_tenure (record { id = c.args.id; tenure = c.args.tenure.now }) old new)
+      (rw (c.params-to_sql.ensures, c.number.ensures.value, c.params-to_sql-2.ensures, c.params-to_sql-3.ensures, c.as_str.ensures, c.params-to_sql-4.ensures, to_z-of_z fits0, c.seconds.ensures) at (c.execute.ensures.runs clean inside));
+  kept = λ clean inside. kept_if_refused _ _ (state g.S.Store c.args.tx.now.conn.now) (state g.S.Store c.execute.new.self.conn.now) c.execute.result (c.execute.ensures.runs clean inside);
+  survives = c.execute.ensures.survives;
+}

@@ -1,4 +1,4 @@
-use Rattle.vault_store_model.proofs.AfterLemmas.{last_removed, older_removed, count_removed}
+use Rattle.vault_store_model.proofs.HeadAfterRemovalLemmas.{last_removed, older_removed, count_removed}
 use Rattle.vault_store_model.proofs.changes.heads_after_a_removal.Goals as goal
 
 pub returns-clause-alone : goal.returns-clause-alone

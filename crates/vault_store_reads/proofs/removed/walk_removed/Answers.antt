@@ -7,5 +7,10 @@ pub returns-clause-value : goal.returns-clause-value
 returns-clause-value g c clean v was =
     told g.T.Sink.takes c.args.sink.now _ (state g.S.Store c.args.conn.now) c.hand_each.result (c.hand_each.ensures.done clean) (c.hand_each.ensures.some clean) v was
 
-pub returns-clause-crash : goal.returns-clause-crash
-returns-clause-crash g c v was = of_vault _ _ c.hand_each.ensures.survives v was
+pub returns-clause-read : goal.returns-clause-read
+returns-clause-read g c = record {
+  same = c.hand_each.ensures.same;
+  honest = λ clean. c.hand_each.ensures.honest clean;
+  mode = λ alone. c.hand_each.ensures.mode alone;
+  crash = λ v was. of_vault _ _ c.hand_each.ensures.survives v was;
+}

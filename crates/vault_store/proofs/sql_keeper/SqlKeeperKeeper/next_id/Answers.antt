@@ -4,19 +4,19 @@ use Rattle.vault_store.proofs.sql_keeper.SqlKeeperKeeper.next_id.Goals as goal
 
 pub invariant_of-self : goal.invariant_of-self
 invariant_of-self g c = record {
-  settled = c.read_next_id.ensures.mode c.args.self.now.settled;
+  settled = c.read_next_id.ensures.read.mode c.args.self.now.settled;
   stands = ∥∥₁_map c.args.self.now.stands (λ stands clean.
-      let it = stands (c.read_next_id.ensures.honest clean) in
-      record { sound = it.sound; keeps = c.read_next_id.ensures.same clean _ it.keeps });
+      let it = stands (c.read_next_id.ensures.read.honest clean) in
+      record { sound = it.sound; keeps = c.read_next_id.ensures.read.same clean _ it.keeps });
 }
 
 pub invariant_of-self-in-Err : goal.invariant_of-self-in-Err
 invariant_of-self-in-Err g c = record {
-  settled = c.read_next_id.ensures.mode c.args.self.now.settled;
+  settled = c.read_next_id.ensures.read.mode c.args.self.now.settled;
   stands = ∥∥₁_map c.args.self.now.stands (λ stands clean.
-      let it = stands (c.read_next_id.ensures.honest clean) in
-      record { sound = it.sound; keeps = c.read_next_id.ensures.same clean _ it.keeps });
+      let it = stands (c.read_next_id.ensures.read.honest clean) in
+      record { sound = it.sound; keeps = c.read_next_id.ensures.read.same clean _ it.keeps });
 }
 
 pub returns-in-Ok-clause-value : goal.returns-in-Ok-clause-value
-returns-in-Ok-clause-value g c clean = ∥∥₁_elim c.args.self.now.stands (Coded-set coded_ℕ _ _) (λ stands. c.in-Ok.ensures.value clean _ (stands (c.read_next_id.ensures.honest clean)).keeps)
+returns-in-Ok-clause-value g c clean = ∥∥₁_elim c.args.self.now.stands (Coded-set coded_ℕ _ _) (λ stands. c.in-Ok.ensures.value clean _ (stands (c.read_next_id.ensures.read.honest clean)).keeps)

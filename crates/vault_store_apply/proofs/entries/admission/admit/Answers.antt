@@ -23,10 +23,10 @@ returns-clause-done g c clean given =
     let own : c.from-next.result ≡ a.history.entry.id = search rules in
     let it = change.Admit a in
     on_ok_then (Changes old new t it) c.commit_part-admitted.result (c.commit_part-admitted.ensures.done clean)
-    (λ by v was later allowed. by v it given (c.in_ok-place.ensures.same early v was) later allowed
+    (λ by v was later allowed. by v it given (c.in_ok-place.ensures.read.same early v was) later allowed
     (λ is_open.
     let told = c.in_ok-place.ensures.value early v was in
-    let kept = c.in_ok-place.ensures.same early v was is_open in
+    let kept = c.in_ok-place.ensures.read.same early v was is_open in
     edits_admission v t a c.in_ok-place.place.config c.in_ok-place.place.sums c.with_version-sums.result c.in_ok-place.place.head c.in_ok-newest.newest (c.from-next.result + 1)
     kept.0.spells.kept.sound later low allowed told.0 told.1 (λ version. c.with_version-sums.ensures) told.2 c.in_ok-newest.ensures (ap (λ n. n + 1) own)))
 
@@ -43,30 +43,30 @@ returns-clause-crash g c given v was =
     survives_then old mid new _ _ (IsChanged old v t it) (λ _ trees shut is_open. absurd (shut is_open))
     (λ late trees by was_open later allowed.
     let early : HasCleanDisk mid = omega (arith, late, c.commit_part-admitted.ensures.crash.clean) in
-    by v it given (c.in_ok-place.ensures.same early v was) later allowed
+    by v it given (c.in_ok-place.ensures.read.same early v was) later allowed
     (λ is_open.
     let told = c.in_ok-place.ensures.value early v was in
-    let kept = c.in_ok-place.ensures.same early v was is_open in
+    let kept = c.in_ok-place.ensures.read.same early v was is_open in
     edits_admission v t a c.in_ok-place.place.config c.in_ok-place.place.sums c.with_version-sums.result c.in_ok-place.place.head c.in_ok-newest.newest (c.from-next.result + 1)
     kept.0.spells.kept.sound later low allowed told.0 told.1 (λ version. c.with_version-sums.ensures) told.2 c.in_ok-newest.ensures (ap (λ n. n + 1) own)))
-    (c.in_ok-place.ensures.crash v was) c.commit_part-admitted.ensures.crash
+    (c.in_ok-place.ensures.read.crash v was) c.commit_part-admitted.ensures.crash
 
 pub returns-clause-nothing : goal.returns-clause-nothing
 returns-clause-nothing g c clean =
     let mid = state g.S.Store c.read_place.new.conn in
     let early : HasCleanDisk mid = omega (arith, clean, c.commit_part-admitted.ensures.crash.clean) in
-    on_err_all c.commit_part-admitted.result (c.commit_part-admitted.ensures.nothing clean) (λ keeps v was. keeps v (c.in_ok-place.ensures.same early v was))
+    on_err_all c.commit_part-admitted.result (c.commit_part-admitted.ensures.nothing clean) (λ keeps v was. keeps v (c.in_ok-place.ensures.read.same early v was))
 
 pub returns-in_err-place-clause-nothing : goal.returns-in_err-place-clause-nothing
-returns-in_err-place-clause-nothing g c clean = on_err_here _ (c.in_err-place.ensures.same clean)
+returns-in_err-place-clause-nothing g c clean = on_err_here _ (c.in_err-place.ensures.read.same clean)
 
 pub returns-in_err-newest-clause-nothing : goal.returns-in_err-newest-clause-nothing
-returns-in_err-newest-clause-nothing g c clean = on_err_here _ (c.in_ok-place.ensures.same clean)
+returns-in_err-newest-clause-nothing g c clean = on_err_here _ (c.in_ok-place.ensures.read.same clean)
 
 pub returns-in_err-place-clause-crash : goal.returns-in_err-place-clause-crash
 returns-in_err-place-clause-crash g c given v was =
-    shut_leaves (state g.S.Store c.args.conn.now) (state g.S.Store c.read_place.new.conn) v c.args.at (change.Admit c.args.admission.now) (c.in_err-place.ensures.crash v was)
+    shut_leaves (state g.S.Store c.args.conn.now) (state g.S.Store c.read_place.new.conn) v c.args.at (change.Admit c.args.admission.now) (c.in_err-place.ensures.read.crash v was)
 
 pub returns-in_err-newest-clause-crash : goal.returns-in_err-newest-clause-crash
 returns-in_err-newest-clause-crash g c given v was =
-    shut_leaves (state g.S.Store c.args.conn.now) (state g.S.Store c.read_place.new.conn) v c.args.at (change.Admit c.args.admission.now) (c.in_ok-place.ensures.crash v was)
+    shut_leaves (state g.S.Store c.args.conn.now) (state g.S.Store c.read_place.new.conn) v c.args.at (change.Admit c.args.admission.now) (c.in_ok-place.ensures.read.crash v was)

@@ -18,7 +18,7 @@ returns-clause-done g c clean given =
     let old = state g.S.Store c.args.conn.now in
     let new = state g.S.Store c.commit_part-moved.new.conn in
     let clean2 : HasCleanDisk (state g.S.Store c.read_hands.new.conn) = omega (arith, clean, c.commit_part-moved.ensures.crash.clean) in
-    let clean1 = c.in_ok-hands.ensures.honest clean2 in
+    let clean1 = c.in_ok-hands.ensures.read.honest clean2 in
     let t = c.args.at in
     let low : t ≤ last_moment = omega (arith, c.secs-in_range.ensures.value, c.secs-in_range.ensures.range) in
     let it = change.MoveBucket c.args.name.now c.args.dept.now in
@@ -26,8 +26,8 @@ returns-clause-done g c clean given =
     let hands = c.in_ok-hands.hands in
     on_ok_then (Changes old new t it) c.commit_part-moved.result (c.commit_part-moved.ensures.done clean)
     (λ by v was later allowed.
-    let was1 = c.in_ok-load.ensures.same clean1 v was in
-    let was2 = c.in_ok-hands.ensures.same clean2 v was1 in
+    let was1 = c.in_ok-load.ensures.read.same clean1 v was in
+    let was2 = c.in_ok-hands.ensures.read.same clean2 v was1 in
     by v it given was2 later allowed
     (λ is_open.
     let load_is = c.in_ok-load.ensures.value clean1 v was in
@@ -46,13 +46,13 @@ returns-clause-crash g c given v was =
     let it = change.MoveBucket c.args.name.now c.args.dept.now in
     let load = c.in_ok-load.load in
     let hands = c.in_ok-hands.hands in
-    let was1 = keeps_now g.S.Store h1 v (g.met.S.Store.shut_if_dirty h1.store) (λ clean. c.in_ok-load.ensures.same clean v was) in
-    let reads = read_then old (state g.S.Store h1) (state g.S.Store h2) c.in_ok-load.ensures.open (c.in_ok-load.ensures.crash v was) (c.in_ok-hands.ensures.crash v was1) in
+    let was1 = keeps_now g.S.Store h1 v (g.met.S.Store.shut_if_dirty h1.store) (λ clean. c.in_ok-load.ensures.read.same clean v was) in
+    let reads = read_then old (state g.S.Store h1) (state g.S.Store h2) c.in_ok-load.ensures.open (c.in_ok-load.ensures.read.crash v was) (c.in_ok-hands.ensures.read.crash v was1) in
     survives_then old (state g.S.Store h2) new _ _ (IsChanged old v t it) (λ _ trees shut is_open. absurd (shut is_open))
     (λ late trees by was_open later allowed.
     let clean2 : HasCleanDisk (state g.S.Store h2) = omega (arith, late, c.commit_part-moved.ensures.crash.clean) in
-    let clean1 = c.in_ok-hands.ensures.honest clean2 in
-    let was2 = c.in_ok-hands.ensures.same clean2 v was1 in
+    let clean1 = c.in_ok-hands.ensures.read.honest clean2 in
+    let was2 = c.in_ok-hands.ensures.read.same clean2 v was1 in
     by v it given was2 later allowed
     (λ is_open.
     let load_is = c.in_ok-load.ensures.value clean1 v was in
@@ -64,28 +64,28 @@ returns-clause-crash g c given v was =
 pub returns-clause-nothing : goal.returns-clause-nothing
 returns-clause-nothing g c clean =
     let clean2 : HasCleanDisk (state g.S.Store c.read_hands.new.conn) = omega (arith, clean, c.commit_part-moved.ensures.crash.clean) in
-    let clean1 = c.in_ok-hands.ensures.honest clean2 in
+    let clean1 = c.in_ok-hands.ensures.read.honest clean2 in
     on_err_all c.commit_part-moved.result (c.commit_part-moved.ensures.nothing clean)
-    (λ keeps v was. keeps v (c.in_ok-hands.ensures.same clean2 v (c.in_ok-load.ensures.same clean1 v was)))
+    (λ keeps v was. keeps v (c.in_ok-hands.ensures.read.same clean2 v (c.in_ok-load.ensures.read.same clean1 v was)))
 
 pub returns-in_err-load-clause-crash : goal.returns-in_err-load-clause-crash
 returns-in_err-load-clause-crash g c given v was =
-    shut_leaves (state g.S.Store c.args.conn.now) (state g.S.Store c.read_load.new.conn) v c.args.at (change.MoveBucket c.args.name.now c.args.dept.now) (c.in_err-load.ensures.crash v was)
+    shut_leaves (state g.S.Store c.args.conn.now) (state g.S.Store c.read_load.new.conn) v c.args.at (change.MoveBucket c.args.name.now c.args.dept.now) (c.in_err-load.ensures.read.crash v was)
 
 pub returns-in_err-hands-clause-crash : goal.returns-in_err-hands-clause-crash
 returns-in_err-hands-clause-crash g c given v was =
     let old = state g.S.Store c.args.conn.now in
     let h1 = c.read_load.new.conn in
     let s2 = state g.S.Store c.read_hands.new.conn in
-    let was1 = keeps_now g.S.Store h1 v (g.met.S.Store.shut_if_dirty h1.store) (λ clean. c.in_ok-load.ensures.same clean v was) in
+    let was1 = keeps_now g.S.Store h1 v (g.met.S.Store.shut_if_dirty h1.store) (λ clean. c.in_ok-load.ensures.read.same clean v was) in
     shut_leaves old s2 v c.args.at (change.MoveBucket c.args.name.now c.args.dept.now)
-    (read_then old (state g.S.Store h1) s2 c.in_ok-load.ensures.open (c.in_ok-load.ensures.crash v was) (c.in_err-hands.ensures.crash v was1))
+    (read_then old (state g.S.Store h1) s2 c.in_ok-load.ensures.open (c.in_ok-load.ensures.read.crash v was) (c.in_err-hands.ensures.read.crash v was1))
 
 pub returns-in_err-load-clause-nothing : goal.returns-in_err-load-clause-nothing
-returns-in_err-load-clause-nothing g c clean = on_err_here _ (c.in_err-load.ensures.same clean)
+returns-in_err-load-clause-nothing g c clean = on_err_here _ (c.in_err-load.ensures.read.same clean)
 
 pub returns-in_err-hands-clause-nothing : goal.returns-in_err-hands-clause-nothing
 returns-in_err-hands-clause-nothing g c clean =
     let keeps : (v : Vault) → Keeps (state g.S.Store c.args.conn.now) v → Keeps (state g.S.Store c.read_hands.new.conn) v =
-    λ v was. c.in_err-hands.ensures.same clean v (c.in_ok-load.ensures.same (c.in_err-hands.ensures.honest clean) v was) in
+    λ v was. c.in_err-hands.ensures.read.same clean v (c.in_ok-load.ensures.read.same (c.in_err-hands.ensures.read.honest clean) v was) in
     on_err_here _ keeps

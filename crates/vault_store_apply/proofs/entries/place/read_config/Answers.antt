@@ -13,16 +13,18 @@ returns-clause-value g c clean =
 pub returns-clause-open : goal.returns-clause-open
 returns-clause-open g c clean = on_ok_here c.ok_or.result (c.in_ok-check_open.ensures.open clean)
 
-pub returns-clause-same : goal.returns-clause-same
-returns-clause-same g c clean v was = c.in_ok-check_open.ensures.same clean v (c.in_ok-found.ensures.same (c.in_ok-check_open.ensures.honest clean) v was)
+pub returns-clause-read : goal.returns-clause-read
+returns-clause-read g c = record {
+  same = λ clean v was. c.in_ok-check_open.ensures.same clean v (c.in_ok-found.ensures.read.same (c.in_ok-check_open.ensures.honest clean) v was);
+  honest = λ clean. c.in_ok-found.ensures.read.honest (c.in_ok-check_open.ensures.honest clean);
+  mode = λ alone. c.in_ok-check_open.ensures.mode (c.in_ok-found.ensures.read.mode alone);
+  crash = λ v was. looked (state g.S.Store c.args.conn.now) (state g.S.Store c.read_bucket.new.conn) (state g.S.Store c.check_open.new.conn) (c.in_ok-found.ensures.read.crash v was) c.in_ok-check_open.ensures.survives;
+}
 
-pub returns-clause-crash : goal.returns-clause-crash
-returns-clause-crash g c v was =
-    looked (state g.S.Store c.args.conn.now) (state g.S.Store c.read_bucket.new.conn) (state g.S.Store c.check_open.new.conn) (c.in_ok-found.ensures.crash v was) c.in_ok-check_open.ensures.survives
-
-pub returns-in_err-check_open-clause-same : goal.returns-in_err-check_open-clause-same
-returns-in_err-check_open-clause-same g c clean v was = c.in_err-check_open.ensures.same clean v (c.in_ok-found.ensures.same (c.in_err-check_open.ensures.honest clean) v was)
-
-pub returns-in_err-check_open-clause-crash : goal.returns-in_err-check_open-clause-crash
-returns-in_err-check_open-clause-crash g c v was =
-    looked (state g.S.Store c.args.conn.now) (state g.S.Store c.read_bucket.new.conn) (state g.S.Store c.check_open.new.conn) (c.in_ok-found.ensures.crash v was) c.in_err-check_open.ensures.survives
+pub returns-in_err-check_open-clause-read : goal.returns-in_err-check_open-clause-read
+returns-in_err-check_open-clause-read g c = record {
+  same = λ clean v was. c.in_err-check_open.ensures.same clean v (c.in_ok-found.ensures.read.same (c.in_err-check_open.ensures.honest clean) v was);
+  honest = λ clean. c.in_ok-found.ensures.read.honest (c.in_err-check_open.ensures.honest clean);
+  mode = λ alone. c.in_err-check_open.ensures.mode (c.in_ok-found.ensures.read.mode alone);
+  crash = λ v was. looked (state g.S.Store c.args.conn.now) (state g.S.Store c.read_bucket.new.conn) (state g.S.Store c.check_open.new.conn) (c.in_ok-found.ensures.read.crash v was) c.in_err-check_open.ensures.survives;
+}

@@ -18,14 +18,14 @@ returns-clause-done g c clean given =
     let new = state g.S.Store c.commit_part-removed.new.conn in
     let clean3 : HasCleanDisk (state g.S.Store c.read_beside.new.conn) = omega (arith, clean, c.commit_part-removed.ensures.crash.clean) in
     let clean2 = c.in-Ok-read_beside.ensures.honest clean3 in
-    let clean1 = c.in-Ok.ensures.honest clean2 in
+    let clean1 = c.in-Ok.ensures.read.honest clean2 in
     let t = c.args.at in
     let low : t ≤ last_moment = omega (arith, c.secs-in_range.ensures.value, c.secs-in_range.ensures.range) in
     let it = change.Remove c.args.id c.args.removal.now in
     on_ok_then (Changes old new t it) c.commit_part-removed.result (c.commit_part-removed.ensures.done clean)
     (λ by v was later allowed.
-    let was1 = c.in_ok-entry.ensures.same clean1 v was in
-    let was2 = c.in-Ok.ensures.same clean2 v was1 in
+    let was1 = c.in_ok-entry.ensures.read.same clean1 v was in
+    let was2 = c.in-Ok.ensures.read.same clean2 v was1 in
     let was3 = c.in-Ok-read_beside.ensures.same clean3 v was2 in
     by v it given was3 later allowed
     (λ is_open.
@@ -46,15 +46,15 @@ returns-clause-crash g c given v was =
     let t = c.args.at in
     let low : t ≤ last_moment = omega (arith, c.secs-in_range.ensures.value, c.secs-in_range.ensures.range) in
     let it = change.Remove c.args.id c.args.removal.now in
-    let was1 = keeps_now g.S.Store h1 v (g.met.S.Store.shut_if_dirty h1.store) (λ clean. c.in_ok-entry.ensures.same clean v was) in
-    let was2 = keeps_now g.S.Store h2 v (g.met.S.Store.shut_if_dirty h2.store) (λ clean. c.in-Ok.ensures.same clean v was1) in
-    let first = read_then old (state g.S.Store h1) (state g.S.Store h2) c.in_ok-entry.ensures.open (c.in_ok-entry.ensures.crash v was) (c.in-Ok.ensures.crash v was1) in
+    let was1 = keeps_now g.S.Store h1 v (g.met.S.Store.shut_if_dirty h1.store) (λ clean. c.in_ok-entry.ensures.read.same clean v was) in
+    let was2 = keeps_now g.S.Store h2 v (g.met.S.Store.shut_if_dirty h2.store) (λ clean. c.in-Ok.ensures.read.same clean v was1) in
+    let first = read_then old (state g.S.Store h1) (state g.S.Store h2) c.in_ok-entry.ensures.open (c.in_ok-entry.ensures.read.crash v was) (c.in-Ok.ensures.read.crash v was1) in
     let reads = looked old (state g.S.Store h2) (state g.S.Store h3) first (c.in-Ok-read_beside.ensures.crash v was2) in
     survives_then old (state g.S.Store h3) new _ _ (IsChanged old v t it) (λ _ trees shut is_open. absurd (shut is_open))
     (λ late trees by was_open later allowed.
     let clean3 : HasCleanDisk (state g.S.Store h3) = omega (arith, late, c.commit_part-removed.ensures.crash.clean) in
     let clean2 = c.in-Ok-read_beside.ensures.honest clean3 in
-    let clean1 = c.in-Ok.ensures.honest clean2 in
+    let clean1 = c.in-Ok.ensures.read.honest clean2 in
     let was3 = c.in-Ok-read_beside.ensures.same clean3 v was2 in
     by v it given was3 later allowed
     (λ is_open.
@@ -70,22 +70,22 @@ pub returns-clause-nothing : goal.returns-clause-nothing
 returns-clause-nothing g c clean =
     let clean3 : HasCleanDisk (state g.S.Store c.read_beside.new.conn) = omega (arith, clean, c.commit_part-removed.ensures.crash.clean) in
     let clean2 = c.in-Ok-read_beside.ensures.honest clean3 in
-    let clean1 = c.in-Ok.ensures.honest clean2 in
+    let clean1 = c.in-Ok.ensures.read.honest clean2 in
     on_err_all c.commit_part-removed.result (c.commit_part-removed.ensures.nothing clean)
-    (λ keeps v was. keeps v (c.in-Ok-read_beside.ensures.same clean3 v (c.in-Ok.ensures.same clean2 v (c.in_ok-entry.ensures.same clean1 v was))))
+    (λ keeps v was. keeps v (c.in-Ok-read_beside.ensures.same clean3 v (c.in-Ok.ensures.read.same clean2 v (c.in_ok-entry.ensures.read.same clean1 v was))))
 
 pub returns-in_err-entry-clause-crash : goal.returns-in_err-entry-clause-crash
 returns-in_err-entry-clause-crash g c given v was =
-    shut_leaves (state g.S.Store c.args.conn.now) (state g.S.Store c.find_entry.new.conn) v c.args.at (change.Remove c.args.id c.args.removal.now) (c.in_err-entry.ensures.crash v was)
+    shut_leaves (state g.S.Store c.args.conn.now) (state g.S.Store c.find_entry.new.conn) v c.args.at (change.Remove c.args.id c.args.removal.now) (c.in_err-entry.ensures.read.crash v was)
 
 pub returns-in-Err-clause-crash : goal.returns-in-Err-clause-crash
 returns-in-Err-clause-crash g c given v was =
     let old = state g.S.Store c.args.conn.now in
     let h1 = c.find_entry.new.conn in
     let s2 = state g.S.Store c.read_place.new.conn in
-    let was1 = keeps_now g.S.Store h1 v (g.met.S.Store.shut_if_dirty h1.store) (λ clean. c.in_ok-entry.ensures.same clean v was) in
+    let was1 = keeps_now g.S.Store h1 v (g.met.S.Store.shut_if_dirty h1.store) (λ clean. c.in_ok-entry.ensures.read.same clean v was) in
     shut_leaves old s2 v c.args.at (change.Remove c.args.id c.args.removal.now)
-    (read_then old (state g.S.Store h1) s2 c.in_ok-entry.ensures.open (c.in_ok-entry.ensures.crash v was) (c.in-Err.ensures.crash v was1))
+    (read_then old (state g.S.Store h1) s2 c.in_ok-entry.ensures.open (c.in_ok-entry.ensures.read.crash v was) (c.in-Err.ensures.read.crash v was1))
 
 pub returns-in-Err-read_beside-clause-crash : goal.returns-in-Err-read_beside-clause-crash
 returns-in-Err-read_beside-clause-crash g c given v was =
@@ -93,20 +93,20 @@ returns-in-Err-read_beside-clause-crash g c given v was =
     let h1 = c.find_entry.new.conn in
     let h2 = c.read_place.new.conn in
     let s3 = state g.S.Store c.read_beside.new.conn in
-    let was1 = keeps_now g.S.Store h1 v (g.met.S.Store.shut_if_dirty h1.store) (λ clean. c.in_ok-entry.ensures.same clean v was) in
-    let was2 = keeps_now g.S.Store h2 v (g.met.S.Store.shut_if_dirty h2.store) (λ clean. c.in-Ok.ensures.same clean v was1) in
-    let first = read_then old (state g.S.Store h1) (state g.S.Store h2) c.in_ok-entry.ensures.open (c.in_ok-entry.ensures.crash v was) (c.in-Ok.ensures.crash v was1) in
+    let was1 = keeps_now g.S.Store h1 v (g.met.S.Store.shut_if_dirty h1.store) (λ clean. c.in_ok-entry.ensures.read.same clean v was) in
+    let was2 = keeps_now g.S.Store h2 v (g.met.S.Store.shut_if_dirty h2.store) (λ clean. c.in-Ok.ensures.read.same clean v was1) in
+    let first = read_then old (state g.S.Store h1) (state g.S.Store h2) c.in_ok-entry.ensures.open (c.in_ok-entry.ensures.read.crash v was) (c.in-Ok.ensures.read.crash v was1) in
     shut_leaves old s3 v c.args.at (change.Remove c.args.id c.args.removal.now) (looked old (state g.S.Store h2) s3 first (c.in-Err-read_beside.ensures.crash v was2))
 
 pub returns-in_err-entry-clause-nothing : goal.returns-in_err-entry-clause-nothing
-returns-in_err-entry-clause-nothing g c clean = on_err_here _ (c.in_err-entry.ensures.same clean)
+returns-in_err-entry-clause-nothing g c clean = on_err_here _ (c.in_err-entry.ensures.read.same clean)
 
 pub returns-in-Err-clause-nothing : goal.returns-in-Err-clause-nothing
 returns-in-Err-clause-nothing g c clean v was =
-    c.in-Err.ensures.same clean v (c.in_ok-entry.ensures.same (c.in-Err.ensures.honest clean) v was)
+    c.in-Err.ensures.read.same clean v (c.in_ok-entry.ensures.read.same (c.in-Err.ensures.read.honest clean) v was)
 
 pub returns-in-Err-read_beside-clause-nothing : goal.returns-in-Err-read_beside-clause-nothing
 returns-in-Err-read_beside-clause-nothing g c clean v was =
     let clean2 = c.in-Err-read_beside.ensures.honest clean in
-    let clean1 = c.in-Ok.ensures.honest clean2 in
-    c.in-Err-read_beside.ensures.same clean v (c.in-Ok.ensures.same clean2 v (c.in_ok-entry.ensures.same clean1 v was))
+    let clean1 = c.in-Ok.ensures.read.honest clean2 in
+    c.in-Err-read_beside.ensures.same clean v (c.in-Ok.ensures.read.same clean2 v (c.in_ok-entry.ensures.read.same clean1 v was))

@@ -3,7 +3,7 @@ use Rattle.sqlite.specs.Held.{state}
 use Rattle.sqlite.specs.State.{HasCleanDisk}
 use Rattle.vault_store_create.specs.Copied.{HasCopied}
 use Rattle.vault_store_create.proofs.CopyLemmas.{copies_on}
-use Rattle.vault_store_create.proofs.PartLemmas.{survives_more}
+use Rattle.vault_store_edits.proofs.QueryLemmas.{survives_more}
 use Rattle.vault_store_create.proofs.copy.tables.copy_first.Goals as goal
 
 pub returns-clause-copied : goal.returns-clause-copied
@@ -25,20 +25,20 @@ returns-clause-copied g c clean after inside is_open =
     let did4 = c.in_ok-copy_table-4.ensures in
     let clean4 = clean in
     let after4 = after in
-    let clean3 : HasCleanDisk o3 = omega (arith, clean4, did4.crash.clean) in
+    let clean3 : HasCleanDisk o3 = omega (arith, clean4, did4.look.crash.clean) in
     let after3 : HasCleanDisk t3 = omega (arith, after4, did4.survives.clean) in
-    let clean2 : HasCleanDisk o2 = omega (arith, clean3, did3.crash.clean) in
+    let clean2 : HasCleanDisk o2 = omega (arith, clean3, did3.look.crash.clean) in
     let after2 : HasCleanDisk t2 = omega (arith, after3, did3.survives.clean) in
-    let clean1 : HasCleanDisk o1 = omega (arith, clean2, did2.crash.clean) in
+    let clean1 : HasCleanDisk o1 = omega (arith, clean2, did2.look.crash.clean) in
     let after1 : HasCleanDisk t1 = omega (arith, after2, did2.survives.clean) in
     let part1 = did1.copied clean1 after1 inside is_open in
-    let same1 : o1.now ≡ o0.now = (did1.same clean1).0.now_is in
+    let same1 : o1.now ≡ o0.now = (did1.look.same clean1).0.now_is in
     let part2 = did2.copied clean2 after2 part1.inside part1.is_open in
     let up_to2 = copies_on n o0.now o1.now t0 t1 t2 (HasCopied n o0.now 0) 1 2 same1 part1 part2 in
-    let same2 : o2.now ≡ o0.now = (did2.same clean2).0.now_is ∙ same1 in
+    let same2 : o2.now ≡ o0.now = (did2.look.same clean2).0.now_is ∙ same1 in
     let part3 = did3.copied clean3 after3 up_to2.inside up_to2.is_open in
     let up_to3 = copies_on n o0.now o2.now t0 t2 t3 (HasCopied n o0.now 0) 2 3 same2 up_to2 part3 in
-    let same3 : o3.now ≡ o0.now = (did3.same clean3).0.now_is ∙ same2 in
+    let same3 : o3.now ≡ o0.now = (did3.look.same clean3).0.now_is ∙ same2 in
     let part4 = did4.copied clean4 after4 up_to3.inside up_to3.is_open in
     copies_on n o0.now o3.now t0 t3 t4 (HasCopied n o0.now 0) 3 4 same3 up_to3 part4
 

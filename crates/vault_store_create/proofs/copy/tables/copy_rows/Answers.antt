@@ -8,17 +8,19 @@ use Rattle.sqlite.proofs.Callers.{begun_plain, unchanged_then}
 use Rattle.vault_audit_walk.specs.Walk.{Goes}
 use Rattle.vault_audit_walk.proofs.WalkLemmas.{commits_nothing, shown_from, goes_on}
 use Rattle.vault_store_create.specs.Copied.{PutsRow}
-use Rattle.vault_store_edits.proofs.QueryLemmas.{survives_itself}
-use Rattle.vault_store_create.proofs.PartLemmas.{survives_more}
+use Rattle.vault_store_edits.proofs.QueryLemmas.{survives_itself, survives_more}
 use Rattle.vault_store_create.proofs.copy.tables.copy_rows.Goals as goal
 
-pub returns-in_err-rows-clause-crash : goal.returns-in_err-rows-clause-crash
-returns-in_err-rows-clause-crash g c =
-    let old = state g.O.Store c.args.old.now in
-    let new = state g.O.Store c.query.follows.lender-at-none in
-    let held = c.query.follows.holds-at-none in
-    let kept : Survives old new (CommitsShowing c.args.select.now [] old) = search rules in
-    commits_nothing c.args.select.now [] old new c.requires kept
+pub returns-in_err-rows-clause-look : goal.returns-in_err-rows-clause-look
+returns-in_err-rows-clause-look g c = record {
+  same = search rules;
+  crash =
+      let old = state g.O.Store c.args.old.now in
+      let new = state g.O.Store c.query.follows.lender-at-none in
+      let held = c.query.follows.holds-at-none in
+      let kept : Survives old new (CommitsShowing c.args.select.now [] old) = search rules in
+      commits_nothing c.args.select.now [] old new c.requires kept;
+}
 
 pub rows-init : goal.rows-init
 rows-init g c =

@@ -6,7 +6,7 @@ use Rattle.vault_audit_model.proofs.OutcomeLemmas.{on_ok_then}
 use Rattle.vault_store_create.specs.Listings.{listing_of}
 use Rattle.vault_store_create.proofs.CopyLemmas.{copies_table}
 use Rattle.vault_store_create.proofs.ShownLemmas.{shown_told}
-use Rattle.vault_store_create.proofs.CopyTextLemmas.{reads_only}
+use Rattle.vault_store_create.proofs.ListingLemmas.{reads_only}
 use Rattle.vault_store_create.proofs.copy.tables.copy_table.Goals as goal
 
 pub copy_rows-requires : goal.copy_rows-requires

@@ -9,7 +9,7 @@ returns-clause-edits g c clean inside ready =
     let old = state g.S.Store c.args.tx.now.conn.now in
     let mid = state g.S.Store c.put_bucket.new.tx.conn.now in
     let new = state g.S.Store c.set_last.new.tx.conn.now in
-    let early : HasCleanDisk mid = omega (arith, clean, c.set_last.ensures.survives.clean) in
-    let first = c.in_ok-put_bucket.ensures.edits early inside in
-    let sound = c.in_ok-put_bucket.ensures.sound early inside ready.schema in
-    (edits_then old mid new _ _ first (c.in_ok-set_last.ensures.edits clean first.inside sound), c.in_ok-set_last.ensures.sound clean first.inside sound (first.schema ready.schema))
+    let early : HasCleanDisk mid = omega (arith, clean, c.set_last.ensures.edit.survives.clean) in
+    let first = c.in_ok-put_bucket.ensures.edit.edits early inside in
+    let sound = c.in_ok-put_bucket.ensures.edit.sound early inside ready.schema in
+    (edits_then old mid new _ _ first (c.in_ok-set_last.ensures.edit.edits clean first.inside sound), c.in_ok-set_last.ensures.edit.sound clean first.inside sound (first.schema ready.schema))

@@ -10,16 +10,16 @@ returns-clause-edits g c clean inside ready =
     let old = state g.S.Store c.args.tx.now.conn.now in
     let mid = state g.S.Store c.set_default.new.tx.conn.now in
     let new = state g.S.Store c.set_last.new.tx.conn.now in
-    let early : HasCleanDisk mid = omega (arith, clean, c.set_last.ensures.survives.clean) in
-    let first = c.in_ok-set_default.ensures.edits early inside ready.sound in
-    let sound = c.in_ok-set_default.ensures.sound early inside ready.sound ready.schema in
-    (edits_then old mid new _ _ first (c.in_ok-set_last.ensures.edits clean first.inside sound), c.in_ok-set_last.ensures.sound clean first.inside sound (first.schema ready.schema))
+    let early : HasCleanDisk mid = omega (arith, clean, c.set_last.ensures.edit.survives.clean) in
+    let first = c.in_ok-set_default.ensures.edit.edits early inside ready.sound in
+    let sound = c.in_ok-set_default.ensures.edit.sound early inside ready.sound ready.schema in
+    (edits_then old mid new _ _ first (c.in_ok-set_last.ensures.edit.edits clean first.inside sound), c.in_ok-set_last.ensures.edit.sound clean first.inside sound (first.schema ready.schema))
 
 pub returns-in_err-set_last-clause-kept : goal.returns-in_err-set_last-clause-kept
 returns-in_err-set_last-clause-kept g c clean inside ready =
     let old = state g.S.Store c.args.tx.now.conn.now in
     let mid = state g.S.Store c.set_default.new.tx.conn.now in
     let new = state g.S.Store c.set_last.new.tx.conn.now in
-    let early : HasCleanDisk mid = omega (arith, clean, c.set_last.ensures.survives.clean) in
-    let first = c.in_ok-set_default.ensures.edits early inside ready.sound in
-    on_err_here _ (kept_after old mid new _ first (c.in_err-set_last.ensures.kept clean first.inside))
+    let early : HasCleanDisk mid = omega (arith, clean, c.set_last.ensures.edit.survives.clean) in
+    let first = c.in_ok-set_default.ensures.edit.edits early inside ready.sound in
+    on_err_here _ (kept_after old mid new _ first (c.in_err-set_last.ensures.edit.kept clean first.inside))

@@ -1,7 +1,0 @@
-use Rattle.std.proofs.Common.{◌≡◌, ◌++◌, map, drop}
-use Rattle.vault_store_reads.specs.Shown.{key_row}
-use Rattle.vault_store_reads.proofs.ordered.decode.decode_keys.Given as goal
-
--- what was read, and then the rows that are left
-abbrev pub invariant-loop-row : goal.invariant-loop-row
-invariant-loop-row l = map key_row l.keys.items ++ drop l.row-index l.rows ≡ l.rows

@@ -1,0 +1,22 @@
+use Rattle.std.proofs.Common.{sym, ◌∙◌}
+use Rattle.vault_core_model.specs.Places.{held_at}
+use Rattle.vault_store_reads.proofs.QueryLemmas.{if_shown}
+use Rattle.vault_store_reads.proofs.HeadLemmas.{head_read, no_head}
+use Rattle.vault_store_reads.proofs.TextLemmas.{head_selects}
+use Rattle.vault_store_reads.proofs.CountLemmas.{counted, none_counted}
+use Rattle.vault_store_reads.proofs.rows_in_order.count.find_count.Goals as goal
+
+pub open_rows-requires : goal.open_rows-requires
+open_rows-requires g c = (_, head_selects)
+
+pub returns-in_default-clause-value : goal.returns-in_default-clause-value
+returns-in_default-clause-value g c clean v was =
+    let finds = rw (c.params-to_sql.ensures, c.params-to_sql-2.ensures, c.as_str.ensures, c.as_str-2.ensures) at (c.in_ok-rows.ensures.rows clean v was) in
+    let none = no_head v c.args.bucket.now c.args.key.now c.in_ok-rows.rows.items finds (rw c.deref.ensures.value at c.in_default.ensures.value) in
+    (none_counted (held_at v c.args.bucket.now c.args.key.now) none, finds.1.spells.kept.sound)
+
+pub returns-clause-value : goal.returns-clause-value
+returns-clause-value g c clean = if_shown c.read_count.result c.read_count.ensures (λ count told v was.
+    let finds = rw (c.params-to_sql.ensures, c.params-to_sql-2.ensures, c.as_str.ensures, c.as_str-2.ensures) at (c.in_ok-rows.ensures.rows clean v was) in
+    let head = head_read v c.args.bucket.now c.args.key.now c.in_ok-rows.rows.items finds c.in-Some.row.now told.0 (sym (rw c.deref.ensures.value at c.in-Some.ensures.value)) told.1 in
+    (sym told.2 ∙ counted (held_at v c.args.bucket.now c.args.key.now) told.0.head head, finds.1.spells.kept.sound))

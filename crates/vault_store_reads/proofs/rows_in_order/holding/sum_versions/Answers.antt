@@ -1,0 +1,39 @@
+use Rattle.std.proofs.Common.{◌≡◌, ◌+◌, ◌*◌, ◌∙◌, ap, rules}
+use Rattle.vault_store_reads.specs.Shown.{weight_in}
+use Rattle.vault_store_reads.specs.declared.rows_in_order.shown.SizedRow.{SizedRow}
+use Rattle.vault_store_reads.proofs.HoldingLemmas.{summed_more}
+use Rattle.vault_store_reads.proofs.OpenLemmas.{quiet_then}
+use Rattle.vault_store_reads.proofs.rows_in_order.holding.sum_versions.Goals as goal
+
+pub returns-in_err-day-clause-read : goal.returns-in_err-day-clause-read
+returns-in_err-day-clause-read g c = record {
+  same = λ clean v was. c.find_day.ensures.read.same clean v (c.loop-version.invariant.same (c.find_day.ensures.read.honest clean) v was);
+  honest = λ clean. c.loop-version.invariant.honest (c.find_day.ensures.read.honest clean);
+  mode = λ alone. c.find_day.ensures.read.mode (c.loop-version.invariant.mode alone);
+  survives = quiet_then _ _ _ c.loop-version.invariant.same c.loop-version.invariant.opened c.loop-version.invariant.survives c.find_day.ensures.read.survives;
+}
+
+pub returns-in_err-sums-clause-read : goal.returns-in_err-sums-clause-read
+returns-in_err-sums-clause-read g c = record {
+  same = λ clean v was. c.find_day.ensures.read.same clean v (c.loop-version.invariant.same (c.find_day.ensures.read.honest clean) v was);
+  honest = λ clean. c.loop-version.invariant.honest (c.find_day.ensures.read.honest clean);
+  mode = λ alone. c.find_day.ensures.read.mode (c.loop-version.invariant.mode alone);
+  survives = quiet_then _ _ _ c.loop-version.invariant.same c.loop-version.invariant.opened c.loop-version.invariant.survives c.find_day.ensures.read.survives;
+}
+
+pub loop-version-preserved : goal.loop-version-preserved
+loop-version-preserved g c =
+    let version = c.version-item.result in
+    let added : (c.in_ok-sums.sums.0 ≡ c.loop-version.bytes + version.size) × (c.in_ok-sums.sums.1 ≡ c.loop-version.weight + version.size * c.in_ok-day.day) = search rules in
+    record {
+      bytes = summed_more (λ (x : SizedRow). x.size) c.args.versions.now c.loop-version.version-index version _ _ c.loop-version.invariant.bytes c.loop-version-test.true c.version-item.is added.0;
+      weight = λ clean v was.
+          let mid = c.find_day.ensures.read.honest clean in
+          let day = c.in_ok-day.ensures.value clean v (c.loop-version.invariant.same mid v was) in
+          summed_more (weight_in v) c.args.versions.now c.loop-version.version-index version _ _ (c.loop-version.invariant.weight mid v was) c.loop-version-test.true c.version-item.is (added.1 ∙ ap (λ n. c.loop-version.weight + version.size * n) day);
+      same = λ clean v was. c.find_day.ensures.read.same clean v (c.loop-version.invariant.same (c.find_day.ensures.read.honest clean) v was);
+      honest = λ clean. c.loop-version.invariant.honest (c.find_day.ensures.read.honest clean);
+      mode = λ alone. c.find_day.ensures.read.mode (c.loop-version.invariant.mode alone);
+      survives = quiet_then _ _ _ c.loop-version.invariant.same c.loop-version.invariant.opened c.loop-version.invariant.survives c.find_day.ensures.read.survives;
+      opened = λ clean _. c.in_ok-day.ensures.opened clean;
+    }

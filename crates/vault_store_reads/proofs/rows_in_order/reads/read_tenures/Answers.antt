@@ -1,0 +1,12 @@
+use Rattle.std.proofs.Common.{sym, ap, map, ◌∙◌}
+use Rattle.vault_audit_model.specs.declared.rows.TenureRow.{TenureRow}
+use Rattle.vault_audit_model.specs.Rows.{tenure_row}
+use Rattle.vault_audit_model.proofs.SameRows.{same_tenure}
+use Rattle.vault_store_reads.proofs.QueryLemmas.{if_shown}
+use Rattle.vault_store_reads.proofs.OrderedListLemmas.{map_once}
+use Rattle.vault_store_reads.proofs.rows_in_order.reads.read_tenures.Goals as goal
+
+pub returns-clause-value : goal.returns-clause-value
+returns-clause-value g c clean = if_shown c.decode_tenures.result c.decode_tenures.ensures (λ found told v was.
+    let rows = c.in_ok-rows.ensures.rows clean v was in
+    told.2 ∙ ap (map (λ (x : TenureRow). x.tenure)) (map_once tenure_row same_tenure told.0 rows.0 (sym told.1 ∙ c.deref.ensures.value ∙ rows.1)) ∙ rows.2)

@@ -1,0 +1,19 @@
+use Rattle.std.proofs.Common.{arith}
+use Rattle.sqlite.specs.Held.{state}
+use Rattle.vault_store_reads.proofs.QueryLemmas.{finds, keeps_after, if_shown}
+use Rattle.vault_store_reads.proofs.OpenLemmas.{open_after, quiet}
+use Rattle.vault_store_reads.proofs.rows_in_order.rows.open_rows.Goals as goal
+
+pub returns-clause-rows : goal.returns-clause-rows
+returns-clause-rows g c clean = if_shown c.query_all.result (c.query_all.ensures.ok clean) (λ rows shown v was. finds _ _ (state g.S.Store c.args.conn.now) _ v was rows.items shown)
+
+pub returns-clause-read : goal.returns-clause-read
+returns-clause-read g c = record {
+  same = λ clean v was. keeps_after _ _ _ _ v was (λ rows. rows.items) c.requires.0 c.requires.1 c.query_all.result (c.query_all.ensures.ok clean) (c.query_all.ensures.err clean);
+  honest = λ clean. omega (arith, clean, c.query_all.ensures.survives.clean);
+  mode = c.query_all.ensures.mode;
+  survives = quiet _ _ _ _ c.requires.0 c.requires.1 c.query_all.ensures.survives;
+}
+
+pub returns-clause-opened : goal.returns-clause-opened
+returns-clause-opened g c clean = open_after _ _ _ _ (λ rows. rows.items) c.query_all.result (c.query_all.ensures.ok clean)

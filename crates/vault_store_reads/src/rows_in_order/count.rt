@@ -1,0 +1,50 @@
+//! How many entries a key holds.
+ghost use Rattle.std.specs.Prelude.{◌≡◌, length, IfOk};
+ghost use Rattle.sqlite.specs.Held.{state};
+ghost use Rattle.sqlite.specs.State.{HasCleanDisk};
+ghost use Rattle.vault_core_model.specs.Places.{held_at};
+ghost use Rattle.vault_core_model.specs.Sound.{Sound};
+ghost use Rattle.vault_core_model.specs.Vault.{Vault};
+ghost use Rattle.vault_audit_model.specs.declared.rows.HeadRow.{HeadRow};
+ghost use Rattle.vault_audit_model.specs.Rows.{head_row};
+ghost use Rattle.vault_store_model.specs.Keeping.{Keeps};
+ghost use Rattle.vault_store_reads.specs.Quiet.{ReadsQuietly, IsOpenIfOk};
+
+use crate::query::unread;
+use crate::rows_in_order::rows::open_rows;
+use crate::rows_in_order::shown::UNREADABLE;
+use sqlite::{Alter, Connection, Error, Row, params};
+use vault_audit_rows::records::read_head;
+use vault_base::name::{BucketName, ObjectKey};
+
+/// How many entries are held under the key of a head.
+fn read_count(row: &Row) -> Result<u32, Error>
+    ensures { IfOk result (λ count. (x : HeadRow) × (row.now ≡ head_row x) × (x.head.count ≡ count)) }
+{
+    let head_row = read_head(row).map_err(unread)?;
+    match u32::try_from(head_row.head.count) {
+        Ok(count) => Ok(count),
+        Err(_) => Err(UNREADABLE),
+    }
+}
+
+/// How many entries a key holds.
+pub fn find_count<S: Alter>(
+    conn: &mut Connection<S>,
+    bucket: &BucketName,
+    key: &ObjectKey,
+) -> Result<u32, Error>
+    ensures value { HasCleanDisk (state S.Store conn.new) → IfOk result (λ count. (v : Vault) → Keeps (state S.Store conn.old) v → (count ≡ length (held_at v bucket.now key.now)) × Sound v) }
+    ensures read { ReadsQuietly S.Store conn.old conn.new }
+    ensures opened { IsOpenIfOk S.Store conn.new result }
+{
+    let rows = open_rows(
+        conn,
+        "SELECT bucket, key, newest, count FROM heads WHERE bucket = ?1 AND key = ?2",
+        params![bucket.as_str(), key.as_str()],
+    )?;
+    let Some(row) = rows.first() else {
+        return Ok(0);
+    };
+    read_count(row)
+}

@@ -1,0 +1,106 @@
+//! All rows of an ordered read, as what they tell.
+ghost use Rattle.std.specs.Prelude.{◌≡◌, List, map, IfOk};
+ghost use Rattle.vault_audit_model.specs.declared.rows.RuleRow.{RuleRow};
+ghost use Rattle.vault_audit_model.specs.declared.rows.TenureRow.{TenureRow};
+ghost use Rattle.vault_audit_model.specs.Rows.{rule_row, tenure_row};
+ghost use Rattle.vault_store_reads.specs.Shown.{held_row, key_row, set_of, sized_row};
+
+use crate::query::unread;
+use crate::rows_in_order::shown::{HeldRow, SizedRow, UNREADABLE, read_held, read_key, read_sized};
+use sqlite::{Error, Row};
+use std::alloc::Global;
+use vault_audit_rows::records::{read_rule, read_tenure};
+use vault_base::name::ObjectKey;
+use vault_core_model::records::{Tenure, Tenures};
+use vault_rules::rule::Rule;
+use vault_rules::rule_set::RuleSet;
+
+/// Held entries, without their locks.
+pub fn decode_held(alloc: Global, rows: &[Row]) -> Result<Vec<HeldRow>, Error>
+    ensures { IfOk result (λ held. map held_row held.items ≡ rows.now) }
+{
+    let mut held = Vec::new(alloc);
+    for row in rows {
+        let one = read_held(row).ok_or(UNREADABLE)?;
+        held.push(one)?;
+    }
+    Ok(held)
+}
+
+/// Versions and their sizes.
+pub fn decode_sized(alloc: Global, rows: &[Row]) -> Result<Vec<SizedRow>, Error>
+    ensures { IfOk result (λ versions. map sized_row versions.items ≡ rows.now) }
+{
+    let mut versions = Vec::new(alloc);
+    for row in rows {
+        let one = read_sized(row).ok_or(UNREADABLE)?;
+        versions.push(one)?;
+    }
+    Ok(versions)
+}
+
+/// Keys.
+pub fn decode_keys(alloc: Global, rows: &[Row]) -> Result<Vec<ObjectKey>, Error>
+    ensures { IfOk result (λ keys. map key_row keys.items ≡ rows.now) }
+{
+    let mut keys = Vec::new(alloc);
+    for row in rows {
+        let one = read_key(row).map_err(unread)?;
+        keys.push(one)?;
+    }
+    Ok(keys)
+}
+
+/// The rule of a row.
+fn decode_rule(row: &Row) -> Result<Rule, Error>
+    ensures { IfOk result (λ rule. (x : RuleRow) × (row.now ≡ rule_row x) × (rule ≡ x.rule)) }
+{
+    let rule_row = read_rule(row).map_err(unread)?;
+    Ok(rule_row.rule)
+}
+
+/// The rules of these rows.
+fn decode_each_rule(alloc: Global, rows: &[Row]) -> Result<Vec<Rule>, Error>
+    ensures { IfOk result (λ rules. (xs : List RuleRow) × (rows.now ≡ map rule_row xs) × (rules.items ≡ map (λ x. x.rule) xs)) }
+{
+    let mut rules = Vec::new(alloc);
+    for row in rows {
+        let one = decode_rule(row)?;
+        rules.push(one)?;
+    }
+    Ok(rules)
+}
+
+/// The set of rules of these rows; no row is no set.
+pub fn decode_rules(alloc: Global, rows: &[Row]) -> Result<Option<RuleSet>, Error>
+    ensures { IfOk result (λ found. (xs : List RuleRow) × (rows.now ≡ map rule_row xs) × (found ≡ set_of xs)) }
+{
+    let rules = decode_each_rule(alloc, rows)?;
+    if rules.is_empty() {
+        return Ok(None);
+    }
+    match RuleSet::read(rules) {
+        Ok(set) => Ok(Some(set)),
+        Err(_) => Err(UNREADABLE),
+    }
+}
+
+/// The tenure of a row.
+pub fn decode_tenure(row: &Row) -> Result<Tenure, Error>
+    ensures { IfOk result (λ tenure. (x : TenureRow) × (row.now ≡ tenure_row x) × (tenure ≡ x.tenure)) }
+{
+    let tenure_row = read_tenure(row).map_err(unread)?;
+    Ok(tenure_row.tenure)
+}
+
+/// The tenures of these rows.
+pub fn decode_tenures(alloc: Global, rows: &[Row]) -> Result<Tenures, Error>
+    ensures { IfOk result (λ tenures. (xs : List TenureRow) × (rows.now ≡ map tenure_row xs) × (tenures ≡ map (λ x. x.tenure) xs)) }
+{
+    let mut tenures = Tenures::new(alloc);
+    for row in rows {
+        let one = decode_tenure(row)?;
+        tenures.push(one)?;
+    }
+    Ok(tenures)
+}

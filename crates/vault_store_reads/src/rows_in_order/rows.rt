@@ -1,0 +1,158 @@
+//! The queries of the ordered reads, each with the rows that it shows of the vault.
+ghost use Rattle.std.specs.Prelude.{◌≡◌, List, map, reverse, take, Option, option_map, option_to_list, IfOk};
+ghost use Rattle.sqlite_sql.specs.Query.{Query};
+ghost use Rattle.sqlite.specs.Held.{state};
+ghost use Rattle.sqlite.specs.State.{HasCleanDisk};
+ghost use Rattle.sqlite.specs.Values.{bound};
+ghost use Rattle.vault_core_model.specs.Reads.{entries_of, keys_after, setting_of, tenures_of};
+ghost use Rattle.vault_core_model.specs.Sound.{Sound};
+ghost use Rattle.vault_core_model.specs.Totals.{held_versions_in};
+ghost use Rattle.vault_core_model.specs.Vault.{Vault, rules_of};
+ghost use Rattle.vault_audit_model.specs.declared.rows.RuleRow.{RuleRow};
+ghost use Rattle.vault_audit_model.specs.declared.rows.TenureRow.{TenureRow};
+ghost use Rattle.vault_audit_model.specs.Rows.{rule_row, tenure_row};
+ghost use Rattle.vault_store_model.specs.Keeping.{Keeps};
+ghost use Rattle.vault_store_model.specs.Sums.{last_tenure_of};
+ghost use Rattle.vault_store_reads.specs.Queries.{Selects, FindsRows};
+ghost use Rattle.vault_store_reads.specs.Quiet.{OnlyReads, ReadsQuietly, IsOpenIfOk};
+ghost use Rattle.vault_store_reads.specs.Shown.{last_row, entry_shown, key_row, id_row, set_of, sized_row, sized_of, newest_but};
+
+use crate::query::query_rows;
+use sqlite::types::ValueRef;
+use sqlite::{Alter, Connection, Error, Row, params};
+use vault_base::name::{BucketName, KeyPrefix, ObjectKey, VersionId};
+
+/// All rows of a query over the tables of a vault, which shows that the connection is open.
+pub fn open_rows<S: Alter>(
+    conn: &mut Connection<S>,
+    sql: &str,
+    params: &[ValueRef<'_>],
+) -> Result<Vec<Row>, Error>
+    requires { (q : Query) × Selects sql.now q }
+    ensures rows { HasCleanDisk (state S.Store conn.new) → IfOk result (λ rows. (v : Vault) → Keeps (state S.Store conn.old) v → FindsRows v sql.now (bound params.now) rows.items) }
+    ensures read { ReadsQuietly S.Store conn.old conn.new }
+    ensures opened { IsOpenIfOk S.Store conn.new result }
+{
+    conn.query_all(sql, params)
+}
+
+/// The row of a version's last setting.
+pub fn setting_rows<S: Alter>(conn: &mut Connection<S>, id: VersionId) -> Result<Vec<Row>, Error>
+    ensures rows { HasCleanDisk (state S.Store conn.new) → IfOk result (λ rows. (v : Vault) → Keeps (state S.Store conn.old) v → rows.items ≡ map last_row (option_to_list (setting_of v id))) }
+    ensures read { ReadsQuietly S.Store conn.old conn.new }
+    ensures opened { IsOpenIfOk S.Store conn.new result }
+{
+    open_rows(
+        conn,
+        "SELECT n, mode, until, hold FROM settings WHERE id = ?1 ORDER BY n DESC LIMIT 1",
+        params![id.number()],
+    )
+}
+
+/// The row of a version's last tenure.
+pub fn last_tenure_rows<S: Alter>(
+    conn: &mut Connection<S>,
+    id: VersionId,
+) -> Result<Vec<Row>, Error>
+    ensures rows { HasCleanDisk (state S.Store conn.new) → IfOk result (λ rows. (v : Vault) → Keeps (state S.Store conn.old) v → (last : Option TenureRow) × (rows.items ≡ map tenure_row (option_to_list last)) × (option_map (λ x. x.tenure) last ≡ last_tenure_of v id)) }
+    ensures read { ReadsQuietly S.Store conn.old conn.new }
+    ensures opened { IsOpenIfOk S.Store conn.new result }
+{
+    open_rows(
+        conn,
+        "SELECT id, n, dept, moment FROM tenures WHERE id = ?1 ORDER BY n DESC LIMIT 1",
+        params![id.number()],
+    )
+}
+
+/// The rows of a version's tenures.
+pub fn tenure_rows<S: Alter>(conn: &mut Connection<S>, id: VersionId) -> Result<Vec<Row>, Error>
+    ensures rows { HasCleanDisk (state S.Store conn.new) → IfOk result (λ rows. (v : Vault) → Keeps (state S.Store conn.old) v → (tenures : List TenureRow) × (rows.items ≡ map tenure_row tenures) × (map (λ x. x.tenure) tenures ≡ tenures_of v id)) }
+    ensures read { OnlyReads S.Store conn.old conn.new }
+{
+    query_rows(
+        conn,
+        "SELECT id, n, dept, moment FROM tenures WHERE id = ?1 ORDER BY n",
+        params![id.number()],
+    )
+}
+
+/// The rows of a bucket's held versions and their sizes.
+pub fn sized_rows<S: Alter>(
+    conn: &mut Connection<S>,
+    bucket: &BucketName,
+) -> Result<Vec<Row>, Error>
+    ensures rows { HasCleanDisk (state S.Store conn.new) → IfOk result (λ rows. (v : Vault) → Keeps (state S.Store conn.old) v → (rows.items ≡ map sized_row (map sized_of (held_versions_in v bucket.now))) × Sound v) }
+    ensures read { ReadsQuietly S.Store conn.old conn.new }
+    ensures opened { IsOpenIfOk S.Store conn.new result }
+{
+    open_rows(
+        conn,
+        "SELECT id, size FROM entries WHERE bucket = ?1 AND marker = 0 AND removed IS NULL ORDER BY id",
+        params![bucket.as_str()],
+    )
+}
+
+/// The rows of a bucket's rules.
+pub fn rule_rows<S: Alter>(conn: &mut Connection<S>, bucket: &BucketName) -> Result<Vec<Row>, Error>
+    ensures rows { HasCleanDisk (state S.Store conn.new) → IfOk result (λ rows. (v : Vault) → Keeps (state S.Store conn.old) v → (rules : List RuleRow) × (rows.items ≡ map rule_row rules) × (set_of rules ≡ rules_of v bucket.now)) }
+    ensures read { OnlyReads S.Store conn.old conn.new }
+{
+    query_rows(
+        conn,
+        "SELECT bucket, n, id, prefix, enabled, days, lone, nc_days, nc_keep, larger, smaller FROM rules WHERE bucket = ?1 ORDER BY n",
+        params![bucket.as_str()],
+    )
+}
+
+/// The rows of a key's held entries, the newest first: at most `most`. Where that is how many the key holds, no removed one is looked at.
+pub fn entry_rows<S: Alter>(
+    conn: &mut Connection<S>,
+    bucket: &BucketName,
+    key: &ObjectKey,
+    most: u32,
+) -> Result<Vec<Row>, Error>
+    ensures rows { HasCleanDisk (state S.Store conn.new) → IfOk result (λ rows. (v : Vault) → Keeps (state S.Store conn.old) v → (rows.items ≡ take most (reverse (map entry_shown (entries_of v bucket.now key.now)))) × Sound v) }
+    ensures read { ReadsQuietly S.Store conn.old conn.new }
+    ensures opened { IsOpenIfOk S.Store conn.new result }
+{
+    open_rows(
+        conn,
+        "SELECT id, marker, size, admitted FROM entries WHERE bucket = ?1 AND key = ?2 AND removed IS NULL ORDER BY removed, id DESC LIMIT ?3",
+        params![bucket.as_str(), key.as_str(), most],
+    )
+}
+
+/// The rows of the first keys of a bucket behind one.
+pub fn key_rows<S: Alter>(
+    conn: &mut Connection<S>,
+    bucket: &BucketName,
+    after: &KeyPrefix,
+    most: u32,
+) -> Result<Vec<Row>, Error>
+    ensures rows { HasCleanDisk (state S.Store conn.new) → IfOk result (λ rows. (v : Vault) → Keeps (state S.Store conn.old) v → rows.items ≡ map key_row (keys_after v bucket.now after.now most)) }
+    ensures read { OnlyReads S.Store conn.old conn.new }
+{
+    query_rows(
+        conn,
+        "SELECT key FROM heads WHERE bucket = ?1 AND key > ?2 ORDER BY key LIMIT ?3",
+        params![bucket.as_str(), after.as_str(), most],
+    )
+}
+
+/// The row of a key's newest held entry besides one.
+pub fn newest_rows<S: Alter>(
+    conn: &mut Connection<S>,
+    bucket: &BucketName,
+    key: &ObjectKey,
+    id: VersionId,
+) -> Result<Vec<Row>, Error>
+    ensures rows { HasCleanDisk (state S.Store conn.new) → IfOk result (λ rows. (v : Vault) → Keeps (state S.Store conn.old) v → rows.items ≡ map id_row (option_to_list (newest_but v bucket.now key.now id))) }
+    ensures read { OnlyReads S.Store conn.old conn.new }
+{
+    query_rows(
+        conn,
+        "SELECT id FROM entries WHERE bucket = ?1 AND key = ?2 AND id <> ?3 AND removed IS NULL ORDER BY removed, id DESC LIMIT 1",
+        params![bucket.as_str(), key.as_str(), id.number()],
+    )
+}

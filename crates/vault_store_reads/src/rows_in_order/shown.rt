@@ -1,0 +1,104 @@
+//! Rows of the ordered reads, each read as what it tells.
+ghost use Rattle.std.specs.Prelude.{◌≡◌, IfSome, IfOk};
+ghost use Rattle.vault_store_reads.specs.Shown.{last_row, held_row, sized_row, key_row, id_row};
+
+use sqlite::{Error, ErrorCode, Row};
+use vault_audit_rows::cell::{flag, moment, number_within, version_id};
+use vault_audit_rows::misread::Misread;
+use vault_audit_rows::name::object_key;
+use vault_audit_rows::several_columns::retention;
+use vault_base::moment::Moment;
+use vault_base::name::{ObjectKey, VersionId};
+use vault_core_model::records::LastSetting;
+use vault_lock::lock::Lock;
+
+/// What is told of a row that tells nothing of a vault.
+pub const UNREADABLE: Error = Error::SqliteFailure(ErrorCode::DatabaseCorrupt);
+
+/// The last setting of a version.
+pub fn read_last(row: &Row) -> Option<LastSetting>
+    ensures { IfSome result (λ x. row.now ≡ last_row x) }
+{
+    if row.column_count() != 4 {
+        return None;
+    }
+    let count = number_within(row, 0, 1, 1_000_000_000)?;
+    let retention = retention(row, 1, 2)?;
+    let hold = flag(row, 3)?;
+    Some(LastSetting {
+        lock: Lock { retention, hold },
+        count: u64::from(count),
+    })
+}
+
+/// A held entry without its lock.
+#[derive(Clone, Copy)]
+pub struct HeldRow {
+    pub id: VersionId,
+    pub marker: bool,
+    /// In bytes; a marker has 0.
+    pub size: u64,
+    pub admitted: Moment,
+}
+
+/// A held entry without its lock.
+pub fn read_held(row: &Row) -> Option<HeldRow>
+    ensures { IfSome result (λ x. row.now ≡ held_row x) }
+{
+    if row.column_count() != 4 {
+        return None;
+    }
+    let id = version_id(row, 0)?;
+    let marker = flag(row, 1)?;
+    let size = number_within(row, 2, 0, 1_048_576)?;
+    let admitted = moment(row, 3)?;
+    Some(HeldRow {
+        id,
+        marker,
+        size: u64::from(size),
+        admitted,
+    })
+}
+
+/// A version and its size.
+#[derive(Clone, Copy)]
+pub struct SizedRow {
+    pub id: VersionId,
+    /// In bytes.
+    pub size: u64,
+}
+
+/// A version and its size.
+pub fn read_sized(row: &Row) -> Option<SizedRow>
+    ensures { IfSome result (λ x. row.now ≡ sized_row x) }
+{
+    if row.column_count() != 2 {
+        return None;
+    }
+    let id = version_id(row, 0)?;
+    let size = number_within(row, 1, 0, 1_048_576)?;
+    Some(SizedRow {
+        id,
+        size: u64::from(size),
+    })
+}
+
+/// A key.
+pub fn read_key(row: &Row) -> Result<ObjectKey, Misread>
+    ensures { IfOk result (λ key. row.now ≡ key_row key) }
+{
+    if row.column_count() != 1 {
+        return Err(Misread::Wrong);
+    }
+    object_key(row, 0)
+}
+
+/// The id of an entry.
+pub fn read_id(row: &Row) -> Option<VersionId>
+    ensures { IfSome result (λ id. row.now ≡ id_row id) }
+{
+    if row.column_count() != 1 {
+        return None;
+    }
+    version_id(row, 0)
+}
