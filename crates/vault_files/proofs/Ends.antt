@@ -1,13 +1,13 @@
 -- A default that is out of range stays so: what ends too late ends too late also where it begins later.
-use Rattle.std.proofs.Common.{◌≡◌, ℕ, zero, suc, ◌+◌, ◌-◌, ◌/◌, ◌<◌, ◌≤◌, Bool, true, false, Option, Some, None, min, pos, inl, inr, refl, arith}
+use Rattle.std.proofs.Common.{◌≡◌, ℕ, zero, suc, ◌+◌, ◌-◌, ◌<◌, ◌≤◌, Bool, true, false, Option, Some, None, min, pos, inl, inr, refl, arith}
 use Rattle.std.proofs.lemmas.Bool.{cases_lt, ltb-true, ltb-false, leb-false, lt-leb}
 use Rattle.std.proofs.lemmas.Grind.{common_steps}
 use Rattle.std.specs.Prelude.{is_some, option_map, nat_lt, if◌then◌else◌}
 use Rattle.jiff_core.specs.Calendar.{days_in_year, days_in_month}
 use Rattle.jiff_core.proofs.CalendarLemmas.{days_in_month_bounds, day_count_bounds}
 use Rattle.jiff_core.proofs.SignedLemmas.{signed_arith}
-use Rattle.vault_base_time.specs.Calendar.{Passed, year_after, date_in_year, date_of, date_years_later, day_of_date, years_later, IsDate}
-use Rattle.vault_base_time.specs.Days.{last_moment, is_moment}
+use Rattle.vault_base_time.specs.Calendar.{Passed, first_year, last_year, year_after, date_in_year, date_of, date_years_later, day_of_date, years_later, IsDate}
+use Rattle.vault_base_time.specs.Days.{day, last_day, last_moment, is_moment}
 use Rattle.vault_base_time.specs.declared.calendar.Date.{Date}
 use Rattle.vault_base_time.proofs.DayNumbers.{day_count_is, day_of_date_late}
 use Rattle.vault_base_time.proofs.Dates.{date_of_is}
@@ -53,12 +53,12 @@ in_later_year x y h = h
 
 years-rise : (d e : ℕ) → d ≤ e → (date_of d).year ≤ (date_of e).year
 unfolding date_of
-years-rise d e h = in_later_year (year_after 8029 1970 d) (year_after 8029 1970 e) (year_after-rises 8029 1970 d e h)
+years-rise d e h = in_later_year (year_after (last_year - first_year) first_year d) (year_after (last_year - first_year) first_year e) (year_after-rises (last_year - first_year) first_year d e h)
 
 -- ---- years later
 
--- up to 9999 the calendar has the date
-is_later : (n : ℕ) (d : Date) → IsDate d → d.year + n ≤ 9999 → IsDate (date_years_later n d)
+-- up to the last year the calendar has the date
+is_later : (n : ℕ) (d : Date) → IsDate d → d.year + n ≤ last_year → IsDate (date_years_later n d)
 is_later n d is le =
     let bounds = days_in_month_bounds (pos (d.year + n)) d.month in
     let one : 1 ≤ min d.day (days_in_month (pos (d.year + n)) d.month) = grind (arith, common_steps, bounds, is.0.2) in
@@ -66,27 +66,27 @@ is_later n d is le =
     ((omega (arith, signed_arith), is.0.1, (one, most)), omega (arith, is.1))
 
 -- and it lies before the end
-in_range : (d : Date) → IsDate d → day_of_date d ≤ 2932896
+in_range : (d : Date) → IsDate d → day_of_date d ≤ last_day
 in_range d is =
     let bounds = day_count_bounds (pos d.year) d.month d.day is.0 in
     omega (arith, bounds, day_count_is d is.1 is.0.2.0)
 
--- a date past 9999 ends too late
-beyond : (n t : ℕ) → t ≤ last_moment → 9999 < (date_of (t / 86400)).year + n → last_moment < years_later n t
+-- a date past the last year ends too late
+beyond : (n t : ℕ) → t ≤ last_moment → last_year < (date_of (day t)).year + n → last_moment < years_later n t
 beyond n t h late =
-    let start = date_of_is (t / 86400) (omega arith) in
-    let later = date_years_later n (date_of (t / 86400)) in
-    let bounds = days_in_month_bounds (pos ((date_of (t / 86400)).year + n)) (date_of (t / 86400)).month in
+    let start = date_of_is (day t) (omega arith) in
+    let later = date_years_later n (date_of (day t)) in
+    let bounds = days_in_month_bounds (pos ((date_of (day t)).year + n)) (date_of (day t)).month in
     let one : 1 ≤ later.day = grind (arith, common_steps, bounds, start.is.0.2) in
     omega (arith, day_of_date_late later late one)
 
 years-end_late : (n t u : ℕ) → t ≤ u → u ≤ last_moment → last_moment < years_later n t → last_moment < years_later n u
 years-end_late n t u h top late =
-    let start = date_of_is (t / 86400) (omega arith) in
-    let rise = years-rise (t / 86400) (u / 86400) (omega arith) in
-    elim (cases_lt 9999 ((date_of (t / 86400)).year + n)) [
+    let start = date_of_is (day t) (omega arith) in
+    let rise = years-rise (day t) (day u) (omega arith) in
+    elim (cases_lt last_year ((date_of (day t)).year + n)) [
       | inl past ↦ beyond n u top (omega arith)
-      | inr le ↦ absurd (omega (arith, in_range (date_years_later n (date_of (t / 86400))) (is_later n (date_of (t / 86400)) start.is le)))
+      | inr le ↦ absurd (omega (arith, in_range (date_years_later n (date_of (day t))) (is_later n (date_of (day t)) start.is le)))
     ]
 
 end_late : (p : Period) (t u : ℕ) → t ≤ u → u ≤ last_moment → last_moment < end_of p t → last_moment < end_of p u

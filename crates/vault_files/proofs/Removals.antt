@@ -17,7 +17,7 @@ use Rattle.vault_core_model.specs.declared.reply.Reply.TheVariants.{Done, Refuse
 use Rattle.vault_core_model.specs.Change.{changed}
 use Rattle.vault_core_model.specs.Checks.{◌>>=◌}
 use Rattle.vault_core_model.specs.EntryOutcomes.{delete_version, removal_permitted, removal_by}
-use Rattle.vault_core_model.specs.Step.{Answers, Step, Run}
+use Rattle.vault_core_model.specs.Step.{Answers, IsStep, IsRun}
 use Rattle.vault_core_model.specs.Vault.{Vault}
 use Rattle.vault_files.specs.Again.{is_removal}
 use Rattle.vault_files.proofs.Later.{IsLater, later-on, later-same, later-removed}
@@ -56,11 +56,11 @@ removal-noted v t who c (Done x) w h = by_access v t who c x w _ h
 removal-noted v t who c (Refused r) w h = noted_as-same v w h.0
 removal-noted v t who c (Stopped n s) w h = absurd h
 
-step-noted : (v : Vault) (t : ℕ) (who : List ℕ) (c : Command) (r : Reply) (w : Vault) → IsTrue (is_removal c) → Step v t who c r w → IsNotedAs v w
+step-noted : (v : Vault) (t : ℕ) (who : List ℕ) (c : Command) (r : Reply) (w : Vault) → IsTrue (is_removal c) → IsStep v t who c r w → IsNotedAs v w
 step-noted v t who (command.DeleteVersion c) r w is step = removal-noted v t who c r w step
 step-noted v t who _ r w is step = absurd (cc is)
 
-pub run-noted : (v : Vault) (cs : List Timed) (rs : List Reply) (w : Vault) → AllByRecursion (λ c. IsTrue (is_removal c.command)) cs → Run v cs rs w → IsNotedAs v w
+pub run-noted : (v : Vault) (cs : List Timed) (rs : List Reply) (w : Vault) → AllByRecursion (λ c. IsTrue (is_removal c.command)) cs → IsRun v cs rs w → IsNotedAs v w
 run-noted v [] [] w all run = noted_as-same v w run
 run-noted v [] (r ∷ rs) w all run = absurd run
 run-noted v (c ∷ cs) [] w all run = absurd run

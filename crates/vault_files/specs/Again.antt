@@ -10,7 +10,7 @@ use Rattle.vault_core_model.specs.declared.command.Timed.{Timed}
 use Rattle.vault_core_model.specs.declared.reply.Answer.TheVariants as answer
 use Rattle.vault_core_model.specs.declared.reply.Reply.{Reply}
 use Rattle.vault_core_model.specs.declared.reply.Reply.TheVariants.{Done, Refused}
-use Rattle.vault_core_model.specs.Step.{Run}
+use Rattle.vault_core_model.specs.Step.{IsRun}
 use Rattle.vault_core_model.specs.Vault.{Vault}
 use Rattle.vault_files_intake.specs.declared.folder.File.{File}
 use Rattle.vault_files_intake.specs.declared.report.RowReply.{RowReply}
@@ -38,7 +38,7 @@ pub record IsGivenAgain (rows : List RowReply) (stop : Option Refusal) (v : Vaul
   pub removals : List Timed
   pub replies : List Reply
   pub taken : TakesIn (Some files) first who bucket batch list before rows stop between
-  pub removed : Run between removals replies v
+  pub removed : IsRun between removals replies v
   pub only : AreRemovals removals
   pub again : TakesIn (Some files) second who bucket batch list v later cut v'
   pub goes_on : first ≤ second

@@ -1,5 +1,5 @@
 //! A folder of the file system.
-ghost use Rattle.std.specs.Prelude.{◌≡◌, IfOk, string_bytes};
+ghost use Rattle.std.specs.Prelude.{◌≡◌, IfOk};
 ghost use Rattle.std.specs.Path.{path_buf_bytes, path_join};
 
 use crate::opening::{is_file, opened};
@@ -8,8 +8,9 @@ use std::alloc::{AllocError, Global};
 use std::path::{Path, PathBuf};
 use std::rt::Files;
 use vault_core_model::halt::Fault;
+use vault_core_model::limits::MOST_CONTENT;
 use vault_files_intake::file_name::FileName;
-use vault_files_intake::folder::{Folder, MOST_CONTENT};
+use vault_files_intake::folder::Folder;
 
 /// One byte more than a version may have.
 const MOST_READ: u64 = MOST_CONTENT as u64 + 1;

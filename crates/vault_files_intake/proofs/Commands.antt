@@ -6,8 +6,8 @@ use Rattle.vault_core_model.specs.declared.halt.Halt.{Halt}
 use Rattle.vault_core_model.specs.declared.halt.Halt.TheVariants as halt
 use Rattle.vault_core_model.specs.declared.command.Command.TheVariants as command
 use Rattle.vault_core_model.specs.declared.reply.Reply.{Reply}
-use Rattle.vault_core_model.specs.Halts.{Fails}
-use Rattle.vault_core_model.specs.Step.{Step}
+use Rattle.vault_core_model.specs.Halts.{HaltsAs}
+use Rattle.vault_core_model.specs.Step.{IsStep}
 use Rattle.vault_core_model.specs.Vault.{Vault}
 use Rattle.vault_files_intake.specs.Row.{row_of}
 use Rattle.vault_files_intake.specs.declared.row.Row.{Row}
@@ -26,13 +26,13 @@ some_answers None = (λ _. None, λ _. tt)
 some_answers (Some files) = (file_in files, λ _. refl)
 
 -- a cell is at fault
-pub row_failed : (files : Option (List File)) (bucket batch : List ℕ) (line : ℕ) (cells : List (List ℕ)) (e : Halt) → Fails e (row_of cells) → Asks files bucket batch line cells (Err e)
+pub row_failed : (files : Option (List File)) (bucket batch : List ℕ) (line : ℕ) (cells : List (List ℕ)) (e : Halt) → HaltsAs e (row_of cells) → Asks files bucket batch line cells (Err e)
 unfolding command_of
 row_failed files bucket batch line cells (halt.Fault f) h = tt
 row_failed files bucket batch line cells (halt.Refused r) h = let any = some_answers files in (any.0, any.1, rw h refl)
 
 -- the file is at fault
-pub content_failed : (files : Option (List File)) (bucket batch : List ℕ) (line : ℕ) (cells : List (List ℕ)) (row : Row) (found : Option (List ℕ)) (e : Halt) → row_of cells ≡ Ok row → Holds files row.file found → Fails e (content_of found) → Asks files bucket batch line cells (Err e)
+pub content_failed : (files : Option (List File)) (bucket batch : List ℕ) (line : ℕ) (cells : List (List ℕ)) (row : Row) (found : Option (List ℕ)) (e : Halt) → row_of cells ≡ Ok row → Holds files row.file found → HaltsAs e (content_of found) → Asks files bucket batch line cells (Err e)
 unfolding command_of
 content_failed files bucket batch line cells row found (halt.Fault f) read held h = tt
 content_failed files bucket batch line cells row found (halt.Refused r) read held h = let given = answers files row.file found held in (given.0, given.1, rw (read, given.2, h) refl)
@@ -43,5 +43,5 @@ unfolding command_of
 command_made files bucket batch line cells row found content c read held small made = let given = answers files row.file found held in (given.0, given.1, rw (read, given.2, small, made) refl)
 
 -- the command of a row is carried out
-pub command_judged : (files : Option (List File)) (t : ℕ) (who bucket batch : List ℕ) (line : ℕ) (cells : List (List ℕ)) (c : Intake) (v : Vault) (answer : Reply) (v' : Vault) → Asks files bucket batch line cells (Ok c) → (is_fault_reply answer ≡ false) × Step v t who (command.Intake c) answer v' → AnswersRow files t who bucket batch line cells v answer v'
+pub command_judged : (files : Option (List File)) (t : ℕ) (who bucket batch : List ℕ) (line : ℕ) (cells : List (List ℕ)) (c : Intake) (v : Vault) (answer : Reply) (v' : Vault) → Asks files bucket batch line cells (Ok c) → (is_fault_reply answer ≡ false) × IsStep v t who (command.Intake c) answer v' → AnswersRow files t who bucket batch line cells v answer v'
 command_judged files t who bucket batch line cells c v answer v' asked done = (asked.0, asked.1, rw (asked.2) done)

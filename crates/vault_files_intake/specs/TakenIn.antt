@@ -13,7 +13,7 @@ use Rattle.vault_core_model.specs.declared.reply.Reply.{Reply}
 use Rattle.vault_core_model.specs.declared.reply.Reply.TheVariants as reply
 use Rattle.vault_core_model.specs.Checks.{most_content}
 use Rattle.vault_core_model.specs.Halts.{is_device_fault, is_device_refusal, is_device_reply}
-use Rattle.vault_core_model.specs.Step.{Step, is_fault}
+use Rattle.vault_core_model.specs.Step.{IsStep, is_fault}
 use Rattle.vault_core_model.specs.Vault.{Vault}
 use Rattle.vault_values.specs.Fault.{◌>>=◌}
 use Rattle.vault_files_intake.specs.List.{most_list, AreRecordsOf, is_of_five, below_header}
@@ -67,7 +67,7 @@ fault_reply f = reply.Refused (refusal_of f)
 -- a row is refused for a fault of its own and changes nothing, or its command, given at t by that caller, is a step of the history machine
 abbrev pub Judged : Result Intake Refusal → ℕ → List ℕ → Vault → Reply → Vault → Type 0
 Judged (Err r) t who v answer v' = (answer ≡ reply.Refused r) × (v' ≡ v)
-Judged (Ok c) t who v answer v' = (is_fault_reply answer ≡ false) × Step v t who (command.Intake c) answer v'
+Judged (Ok c) t who v answer v' = (is_fault_reply answer ≡ false) × IsStep v t who (command.Intake c) answer v'
 
 -- a row with that number leads from v to v' and is answered so
 abbrev pub AnswersRow : Option (List File) → ℕ → List ℕ → List ℕ → List ℕ → ℕ → List (List ℕ) → Vault → Reply → Vault → Type 0

@@ -1,15 +1,12 @@
 //! Where the files of an intake lie.
 ghost use Rattle.std.specs.Prelude.{◌≡◌, ◌≤◌, ℕ, List, Option, IfOk, option_map};
-ghost use Rattle.vault_core_model.specs.Halts.{Rose};
+ghost use Rattle.vault_core_model.specs.Halts.{RoseOrIsFull};
 ghost use Rattle.vault_files_intake.specs.Folder.{Holds};
 ghost use Rattle.vault_files_intake.specs.declared.folder.File.{File as KnownFile};
 
 use crate::file_name::FileName;
 use vault_base::content::Content;
 use vault_core_model::halt::Fault;
-
-/// The bytes that a version has at most.
-pub const MOST_CONTENT: usize = 1_048_576;
 
 /// A file with its bytes.
 #[derive(Drop)]
@@ -37,5 +34,5 @@ pub trait Folder {
         ensures value { IfOk result (λ found. Holds (files self.old) name.now (option_map (λ f. f.items) found)) }
         ensures same { files self.new ≡ files self.old }
         ensures counted { count self.old ≤ count self.new }
-        ensures device { result ≡ Err Fault.Device → Rose (count self.old) (count self.new) };
+        ensures device { result ≡ Err Fault.Device → RoseOrIsFull (count self.old) (count self.new) };
 }

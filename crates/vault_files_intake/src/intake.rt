@@ -1,11 +1,11 @@
 //! Intake of a list.
-ghost use Rattle.std.specs.Prelude.{◌≡◌, ◌≤◌, ◌⊎◌, ◌+◌, ◌<◌, ◌∷◌, ◌++◌, [], ℕ, List, true, false, map, IfOk, IfErr, OnOk, OnErr, Some};
+ghost use Rattle.std.specs.Prelude.{◌≡◌, ◌≤◌, ◌⊎◌, ◌+◌, ◌<◌, [], false, map, IfErr, OnOk, Some};
 ghost use Rattle.std.specs.List.{list_any};
 ghost use Rattle.csv.specs.Records.{fields_of};
-ghost use Rattle.vault_core_model.specs.Halts.{Rose};
+ghost use Rattle.vault_core_model.specs.Halts.{RoseOrIsFull};
 ghost use Rattle.vault_core_model.specs.Step.{Reached};
 ghost use Rattle.vault_files_intake.specs.TakenIn as spec;
-ghost use Rattle.vault_files_intake.specs.List.{below_header, is_of_five};
+ghost use Rattle.vault_files_intake.specs.List.{below_header};
 
 use crate::folder::Folder;
 use crate::list::{MOST_LIST, is_header, records};
@@ -50,7 +50,7 @@ fn take_next<K: Keeper, F: Folder>(
     ensures files { F.files folder.new ≡ F.files folder.old }
     ensures counted { K.count keeper.old ≤ K.count keeper.new }
     ensures counted_there { F.count folder.old ≤ F.count folder.new }
-    ensures device { result ≡ Err Refusal.Device → Rose (K.count keeper.old) (K.count keeper.new) ⊎ Rose (F.count folder.old) (F.count folder.new) }
+    ensures device { result ≡ Err Refusal.Device → RoseOrIsFull (K.count keeper.old) (K.count keeper.new) ⊎ RoseOrIsFull (F.count folder.old) (F.count folder.new) }
     ensures steady { spec.report_tells_device rows.new.items (spec.stop_of result) ≡ false → (list_any spec.is_device_row rows.old.items ≡ false) × (K.count keeper.new ≡ K.count keeper.old) }
 {
     if cells.len() != 5 {
@@ -85,7 +85,7 @@ fn take_rows<K: Keeper, F: Folder>(
     ensures files { F.files folder.new ≡ F.files folder.old }
     ensures counted { K.count keeper.old ≤ K.count keeper.new }
     ensures counted_there { F.count folder.old ≤ F.count folder.new }
-    ensures device { result.stopped ≡ Some Refusal.Device → Rose (K.count keeper.old) (K.count keeper.new) ⊎ Rose (F.count folder.old) (F.count folder.new) }
+    ensures device { result.stopped ≡ Some Refusal.Device → RoseOrIsFull (K.count keeper.old) (K.count keeper.new) ⊎ RoseOrIsFull (F.count folder.old) (F.count folder.new) }
     ensures steady { spec.report_tells_device result.rows.items result.stopped ≡ false → K.count keeper.new ≡ K.count keeper.old }
 {
     let mut rows = Vec::new(alloc);
@@ -142,7 +142,7 @@ fn take_below<K: Keeper, F: Folder>(
     ensures files { F.files folder.new ≡ F.files folder.old }
     ensures counted { K.count keeper.old ≤ K.count keeper.new }
     ensures counted_there { F.count folder.old ≤ F.count folder.new }
-    ensures device { result.stopped ≡ Some Refusal.Device → Rose (K.count keeper.old) (K.count keeper.new) ⊎ Rose (F.count folder.old) (F.count folder.new) }
+    ensures device { result.stopped ≡ Some Refusal.Device → RoseOrIsFull (K.count keeper.old) (K.count keeper.new) ⊎ RoseOrIsFull (F.count folder.old) (F.count folder.new) }
     ensures steady { spec.report_tells_device result.rows.items result.stopped ≡ false → K.count keeper.new ≡ K.count keeper.old }
 {
     let Some((first, below)) = records.split_first() else {
@@ -180,7 +180,7 @@ pub fn take_in<K: Keeper, F: Folder>(
     ensures counted { K.count keeper.old ≤ K.count keeper.new }
     ensures counted_there { F.count folder.old ≤ F.count folder.new }
     // `Device` comes only where the vault's device or the folder's failed.
-    ensures device { result.stopped ≡ Some Refusal.Device → Rose (K.count keeper.old) (K.count keeper.new) ⊎ Rose (F.count folder.old) (F.count folder.new) }
+    ensures device { result.stopped ≡ Some Refusal.Device → RoseOrIsFull (K.count keeper.old) (K.count keeper.new) ⊎ RoseOrIsFull (F.count folder.old) (F.count folder.new) }
     // Where neither a reply nor the stop tells it, the vault's count of failures is as it was; a folder that failed adds nothing to it.
     ensures steady { spec.report_tells_device result.rows.items result.stopped ≡ false → K.count keeper.new ≡ K.count keeper.old }
 {

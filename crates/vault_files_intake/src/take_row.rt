@@ -1,15 +1,15 @@
 //! One row of a list.
 ghost use Rattle.std.specs.Prelude.{◌≡◌, ◌≢◌, ◌≤◌, ◌⊎◌, false, IfOk, IfErr, OnErr, option_map};
 ghost use Rattle.csv.specs.Records.{fields_of};
-ghost use Rattle.vault_core_model.specs.Halts.{Finds, is_device_reply, Rose};
+ghost use Rattle.vault_core_model.specs.Halts.{ChecksAs, is_device_reply, RoseOrIsFull};
 ghost use Rattle.vault_core_model.specs.declared.command.Command.TheVariants.{Intake as AsIntake};
 ghost use Rattle.vault_core_model.specs.declared.halt.Fault.TheVariants as faults;
 ghost use Rattle.vault_core_model.specs.declared.halt.Halt.TheVariants as halts;
-ghost use Rattle.vault_core_model.specs.Step.{Step, Reached};
+ghost use Rattle.vault_core_model.specs.Step.{IsStep, Reached};
 ghost use Rattle.vault_files_intake.specs.TakenIn as spec;
 ghost use Rattle.vault_files_intake.specs.Row.{row_of};
 
-use crate::folder::{Folder, MOST_CONTENT};
+use crate::folder::Folder;
 use crate::row::{Row, read_row};
 use csv::ByteRecord;
 use std::alloc::{AllocError, Global};
@@ -21,12 +21,13 @@ use vault_core::step::step;
 use vault_core_model::command::{Command, Intake, Put};
 use vault_core_model::halt::{Fault, Halt};
 use vault_core_model::keeper::Keeper;
+use vault_core_model::limits::MOST_CONTENT;
 use vault_core_model::reply::Reply;
 use vault_values::fault::LineFault;
 
 /// What a record asks for.
 fn row(alloc: Global, cells: &ByteRecord) -> Result<Row, Halt>
-    ensures value { Finds result (row_of (fields_of cells.now)) }
+    ensures value { ChecksAs result (row_of (fields_of cells.now)) }
     ensures device { result ≢ Err (halts.Fault faults.Device) }
 {
     match read_row(alloc, cells) {
@@ -39,7 +40,7 @@ fn row(alloc: Global, cells: &ByteRecord) -> Result<Row, Halt>
 /// The content of a file, where there is such a file, and it is small enough.
 #[tactic(auto, unfolding(crate::specs::TakenIn::content_of))]
 fn content(found: Option<Vec<u8>>) -> Result<Content, Halt>
-    ensures value { Finds result (spec.content_of (option_map (λ f. f.items) found)) }
+    ensures value { ChecksAs result (spec.content_of (option_map (λ f. f.items) found)) }
     ensures device { result ≢ Err (halts.Fault faults.Device) }
 {
     let Some(bytes) = found else {
@@ -93,7 +94,7 @@ fn command<F: Folder>(
     ensures asked { spec.Asks (F.files folder.old) bucket.now batch.now line (fields_of cells.now) result }
     ensures files { F.files folder.new ≡ F.files folder.old }
     ensures counted { F.count folder.old ≤ F.count folder.new }
-    ensures device { result ≡ Err (halts.Fault faults.Device) → Rose (F.count folder.old) (F.count folder.new) }
+    ensures device { result ≡ Err (halts.Fault faults.Device) → RoseOrIsFull (F.count folder.old) (F.count folder.new) }
 {
     let row = row(alloc, cells)?;
     let found = folder.read(&row.file)?;
@@ -124,12 +125,12 @@ fn carried_out<K: Keeper>(
     who: &CallerName,
     intake: Intake,
 ) -> Result<Reply, Fault>
-    ensures ok { K.is_honest keeper.new → IfOk result (λ reply. (spec.is_fault_reply reply ≡ false) × Step (K.vault keeper.old) at who.now (AsIntake intake) reply (K.vault keeper.new)) }
+    ensures ok { K.is_honest keeper.new → IfOk result (λ reply. (spec.is_fault_reply reply ≡ false) × IsStep (K.vault keeper.old) at who.now (AsIntake intake) reply (K.vault keeper.new)) }
     ensures err { K.is_honest keeper.new → OnErr result (K.vault keeper.new ≡ K.vault keeper.old) }
     ensures reached { K.is_honest keeper.new → Reached (K.vault keeper.old) → Reached (K.vault keeper.new) }
     ensures honest { K.is_honest keeper.new → K.is_honest keeper.old }
     ensures counted { K.count keeper.old ≤ K.count keeper.new }
-    ensures device { result ≡ Err Fault.Device → Rose (K.count keeper.old) (K.count keeper.new) }
+    ensures device { result ≡ Err Fault.Device → RoseOrIsFull (K.count keeper.old) (K.count keeper.new) }
     ensures steady { spec.tells_device result ≡ false → K.count keeper.new ≡ K.count keeper.old }
 {
     let command = Command::Intake(intake);
@@ -157,7 +158,7 @@ pub(crate) fn take_row<K: Keeper, F: Folder>(
     ensures files { F.files folder.new ≡ F.files folder.old }
     ensures counted { K.count keeper.old ≤ K.count keeper.new }
     ensures counted_there { F.count folder.old ≤ F.count folder.new }
-    ensures device { result ≡ Err Fault.Device → Rose (K.count keeper.old) (K.count keeper.new) ⊎ Rose (F.count folder.old) (F.count folder.new) }
+    ensures device { result ≡ Err Fault.Device → RoseOrIsFull (K.count keeper.old) (K.count keeper.new) ⊎ RoseOrIsFull (F.count folder.old) (F.count folder.new) }
     ensures steady { spec.tells_device result ≡ false → K.count keeper.new ≡ K.count keeper.old }
 {
     match command(alloc, bucket, batch, line, cells, folder) {

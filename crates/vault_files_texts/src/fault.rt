@@ -1,6 +1,5 @@
 //! Why a register was not written to its end.
 ghost use Rattle.std.specs.Prelude.{◌≡◌};
-ghost use Rattle.vault_core_model.specs.declared.halt.Fault.{Fault as KeeperFault};
 ghost use Rattle.vault_files_texts.specs.Faults.{fault_of_keeper};
 ghost use Rattle.vault_files_texts.specs.declared.fault.ExportFault.TheVariants as faults;
 

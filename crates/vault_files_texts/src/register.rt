@@ -7,7 +7,7 @@
 ghost use Rattle.std.specs.Prelude.{◌≡◌, ◌≢◌, ◌≤◌, OnOk, OnErr, true, false, Ok};
 ghost use Rattle.std.specs.List.{flat_map};
 ghost use Rattle.std.specs.Io.KnownBytes.{Appends};
-ghost use Rattle.vault_core_model.specs.Halts.{is_device_given, Rose};
+ghost use Rattle.vault_core_model.specs.Halts.{is_device_given, RoseOrIsFull};
 ghost use Rattle.vault_core_model.specs.Reads.{removed_entries};
 ghost use Rattle.vault_files_texts.specs.Faults.{is_device_met};
 ghost use Rattle.vault_files_texts.specs.Register as spec;
@@ -37,7 +37,7 @@ fn walk_rows<K: Keeper, W: Write>(
     ensures same { K.vault keeper.new ≡ K.vault keeper.old }
     ensures honest { K.is_honest keeper.new → K.is_honest keeper.old }
     ensures counted { K.count keeper.old ≤ K.count keeper.new }
-    ensures device { result ≡ Err Fault.Device → Rose (K.count keeper.old) (K.count keeper.new) }
+    ensures device { result ≡ Err Fault.Device → RoseOrIsFull (K.count keeper.old) (K.count keeper.new) }
     ensures steady { is_device_given result ≡ false → K.count keeper.new ≡ K.count keeper.old }
 {
     keeper.walk_removed(rows)
@@ -54,7 +54,7 @@ fn write_rows<K: Keeper, W: Write>(
     ensures same { K.vault keeper.new ≡ K.vault keeper.old }
     ensures honest { K.is_honest keeper.new → K.is_honest keeper.old }
     ensures counted { K.count keeper.old ≤ K.count keeper.new }
-    ensures device { result ≡ Err ExportFault.Device → Rose (K.count keeper.old) (K.count keeper.new) }
+    ensures device { result ≡ Err ExportFault.Device → RoseOrIsFull (K.count keeper.old) (K.count keeper.new) }
     ensures steady { is_device_met result ≡ false → K.count keeper.new ≡ K.count keeper.old }
 {
     let mut rows = RegisterRows::new(alloc, writer);
@@ -81,7 +81,7 @@ pub fn export_register<K: Keeper, W: Write>(
     ensures same { K.vault keeper.new ≡ K.vault keeper.old }
     ensures honest { K.is_honest keeper.new → K.is_honest keeper.old }
     ensures counted { K.count keeper.old ≤ K.count keeper.new }
-    ensures device { result ≡ Err ExportFault.Device → Rose (K.count keeper.old) (K.count keeper.new) }
+    ensures device { result ≡ Err ExportFault.Device → RoseOrIsFull (K.count keeper.old) (K.count keeper.new) }
     ensures steady { is_device_met result ≡ false → K.count keeper.new ≡ K.count keeper.old }
 {
     write_bytes(writer, HEADER)?;

@@ -10,7 +10,7 @@
 //! handed                         0
 //! byte-days                    100
 //! ```
-ghost use Rattle.std.specs.Prelude.{◌≡◌, ◌++◌, ◌-◌, IfOk, OnOk, length, string_bytes};
+ghost use Rattle.std.specs.Prelude.{◌≡◌, ◌++◌, ◌-◌, IfOk, OnOk, string_bytes};
 ghost use Rattle.vault_files_texts.specs.ReportText as spec;
 
 use std::alloc::{AllocError, Global};

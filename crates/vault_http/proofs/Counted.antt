@@ -1,9 +1,9 @@
 -- On what is answered where the count of failures rose.
-use Rattle.std.proofs.Common.{ℕ, ◌≡◌, List, Bool, true, false, IsTrue, Option, Some, IfErr, OnOk, Result, Ok, Err, ◌⊎◌, inl, inr, refl, subst}
+use Rattle.std.proofs.Common.{ℕ, ◌≡◌, List, Bool, true, false, Option, Some, IfErr, OnOk, Result, Ok, Err, inl, inr, refl, subst}
 use Rattle.std.specs.Io.KnownBytes.{Appends}
 use Rattle.vault_base.specs.declared.refusal.Refusal.{Refusal}
 use Rattle.vault_core_model.specs.Halts.{is_device_reply}
-use Rattle.vault_core_model.specs.Step.{Step}
+use Rattle.vault_core_model.specs.Step.{IsStep}
 use Rattle.vault_core_model.specs.Vault.{Vault}
 use Rattle.vault_core_model.specs.declared.command.Command.{Command}
 use Rattle.vault_core_model.specs.declared.reply.Reply.{Reply}
@@ -26,7 +26,7 @@ reply_sent (Err faults.Memory) at c shown reply a b dropped bytes sent is says s
 
 module _ (Honest : Type 0) (result : Result (Unit {0}) ServeFault) (at : ℕ) (shown : Bool) (who : List ℕ) (old new : Vault) (n n' : ℕ) where
   -- a command was carried out, and its reply sent
-  pub step_steady : (c : Command) (reply : Reply) (a b : Option (List ℕ)) → (Honest → Step old at who c reply new) → (is_device_reply reply ≡ false → n' ≡ n) → ReplySent result at c shown reply a b
+  pub step_steady : (c : Command) (reply : Reply) (a b : Option (List ℕ)) → (Honest → IsStep old at who c reply new) → (is_device_reply reply ≡ false → n' ≡ n) → ReplySent result at c shown reply a b
       → JudgedSteady Honest result at shown who (Ok c) old new n n' a b
   step_steady c reply a b step steady sent = cases (is_device_reply reply) refl
     where

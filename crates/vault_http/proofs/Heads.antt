@@ -1,10 +1,10 @@
 -- Which bytes are a head.
 use Rattle.std.proofs.Common.{◌≡◌, ◌≢◌, ◌≤◌, ℕ, List, [], ◌∷◌, ◌++◌, length, Option, Some, None, IfSome, ◌⊎◌, inl, inr, refl, sym, ap, ◌∙◌, arith, append_assoc, append-nil, length-append, subst}
 use Rattle.std.proofs.lemmas.List.{same_from_push}
-use Rattle.std.specs.Io.KnownBytes.{Consumes, IsAtEnd}
+use Rattle.std.specs.Io.KnownBytes.{Consumes}
 use Rattle.httparse.specs.Grammar.{RequestHead, ReadsRequest, HasNoRequest, print_request, print_end, LineEnd, crlf, lf, print_field, print_blank, print_version}
 use Rattle.std.specs.List.{flat_map}
-use Rattle.std.proofs.KnownBytes.{Consumes-whole, Consumes-trans, Consumes-nil}
+use Rattle.std.proofs.KnownBytes.{Consumes-trans, Consumes-nil}
 use Rattle.std.proofs.Common.{◌<◌, length-take}
 use Rattle.std.proofs.lemmas.List.{length-map}
 use Rattle.httparse.specs.Grammar.{Field}
@@ -63,14 +63,6 @@ front_of (u ∷ us) (x ∷ xs) ys vs e h =
     let m = front_of us xs ys vs tails (omega arith) in
     (m.0, ap (λ t. x ∷ t) m.1 ∙ ap (λ t. t ∷ us ++ m.0) same)
 
--- the input ended before a head did
-pub ended : (a b : Option (List ℕ)) (bs : List ℕ) → Consumes a b bs → IsAtEnd b → HasNoRequest bs → IfSome a HasNoHead
-ended a b bs c e none = Consumes-whole a b bs HasNoHead c e (λ h rest x. none h rest x.0)
-
--- no byte came
-pub emptied : (a b : Option (List ℕ)) (bs : List ℕ) → Consumes a b bs → IsAtEnd b → bs ≡ [] → IfSome a (λ input. input ≡ [])
-emptied a b bs c e none = Consumes-whole a b bs (λ input. input ≡ []) c e none
-
 -- whatever comes, it is no head, or one of too many fields
 pub refused : (a b : Option (List ℕ)) (bs : List ℕ) → Consumes a b bs → RequestOverflows 64 bs → IfSome a HasNoHead
 refused a b bs c over = known a b bs HasNoHead c (λ more h rest x. omega (arith, over more h rest x.0, x.1.1))
@@ -84,10 +76,6 @@ too_long a b bs c long none = known a b bs HasNoHead c (λ more h rest x.
 -- one byte more was taken
 pub taken_more : (a b c : Option (List ℕ)) (bs : List ℕ) (x : ℕ) → Consumes a b bs → NextByte b c (Some x) → Consumes a c (bs ++ x ∷ [])
 taken_more a b c bs x p q = Consumes-trans a b c bs (x ∷ []) p q
-
--- and none more at the end
-pub taken_none : (a b c : Option (List ℕ)) (bs : List ℕ) → Consumes a b bs → NextByte b c None → Consumes a c bs
-taken_none a b c bs p q = subst (Consumes a c) (append-nil bs) (Consumes-trans a b c bs [] p q.0)
 
 fields_count : (buf : List ℕ) (headers : List HeaderSpan) (count : ℕ) (fields : List Field) → AreFieldsAt buf headers count fields → length headers ≡ 64 → length fields ≤ 64
 fields_count buf headers count fields at room =

@@ -55,6 +55,3 @@ pushed_within buf all b is going other = pushed_open buf all b is going (λ e. a
 pub nothing_open : (bs : List ℕ) → bs ≡ [] → IsOpen bs
 nothing_open bs none [] later e never = absurd (cc (sym none ∙ e))
 nothing_open bs none (x ∷ line) later e never = absurd (cc (sym none ∙ e))
-
-pub open_prompt : (bs : List ℕ) → IsOpen bs → IsPrompt bs
-open_prompt bs going line later e never = absurd (going line later e never)

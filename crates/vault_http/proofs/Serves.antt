@@ -6,7 +6,7 @@ use Rattle.std.proofs.KnownBytes.{Appends-trans}
 use Rattle.vault_base.specs.declared.refusal.Refusal.{Refusal}
 use Rattle.vault_base.specs.declared.refusal.Refusal.TheVariants as refusal
 use Rattle.vault_core_model.specs.Halts.{is_device_reply}
-use Rattle.vault_core_model.specs.Step.{Step}
+use Rattle.vault_core_model.specs.Step.{IsStep}
 use Rattle.vault_core_model.specs.Vault.{Vault}
 use Rattle.vault_core_model.specs.declared.command.Command.{Command}
 use Rattle.vault_core_model.specs.declared.reply.Reply.{Reply}
@@ -26,13 +26,13 @@ deny_judged Failed faults.Memory at shown who r old new a b same d = (inl same, 
 deny_judged Failed faults.Write at shown who r old new a b same d = (d.0, (same, d.1), d.2)
 
 -- the answer to a step was written
-pub answer_served : (Failed : Type 0) (at : ℕ) (shown : Bool) (who : List ℕ) (c : Command) (old new : Vault) (a b : Option (List ℕ)) (reply : Reply) (dropped : Bool) (bytes sent : List ℕ) → Step old at who c reply new → dropped ≡ drops c → AnswersReply (Some at) dropped reply shown bytes → (IsTrue (is_device_reply reply) → Failed) → sent ≡ bytes
+pub answer_served : (Failed : Type 0) (at : ℕ) (shown : Bool) (who : List ℕ) (c : Command) (old new : Vault) (a b : Option (List ℕ)) (reply : Reply) (dropped : Bool) (bytes sent : List ℕ) → IsStep old at who c reply new → dropped ≡ drops c → AnswersReply (Some at) dropped reply shown bytes → (IsTrue (is_device_reply reply) → Failed) → sent ≡ bytes
     → Appends a b sent → (out : List ℕ) × Done Failed at shown who c old out new × Appends a b out
 answer_served Failed at shown who c old new a b reply dropped bytes sent step is says failed same p =
     (bytes, (reply, step, subst (λ (t : Bool). AnswersReply (Some at) t reply shown bytes) is says, failed), subst (Appends a b) same p)
 
 -- the answer to a step failed
-pub answer_left : (Failed : Type 0) (at : ℕ) (shown : Bool) (who : List ℕ) (c : Command) (old new : Vault) (a b : Option (List ℕ)) (reply : Reply) (dropped : Bool) (out sent : List ℕ) → Step old at who c reply new → dropped ≡ drops c → AnswersReply (Some at) dropped reply shown out → (IsTrue (is_device_reply reply) → Failed) → sent ≡ out
+pub answer_left : (Failed : Type 0) (at : ℕ) (shown : Bool) (who : List ℕ) (c : Command) (old new : Vault) (a b : Option (List ℕ)) (reply : Reply) (dropped : Bool) (out sent : List ℕ) → IsStep old at who c reply new → dropped ≡ drops c → AnswersReply (Some at) dropped reply shown out → (IsTrue (is_device_reply reply) → Failed) → sent ≡ out
     → (e : ServeFault) → (e ≡ faults.Write) × Begins a b sent → JudgedLeft Failed e at shown who (Ok c) old new a b
 answer_left Failed at shown who c old new a b reply dropped out sent step is says failed same e d =
     let P : ServeFault → Type 0 = λ f. JudgedLeft Failed f at shown who (Ok c) old new a b in

@@ -1,19 +1,16 @@
 -- On what was read of an input.
-use Rattle.std.proofs.Common.{ℕ, ◌≡◌, ◌≤◌, ◌++◌, List, [], length, Option, Some, None, IfSome, Result, inl, inr, refl, ap, ◌∙◌, append-nil, subst}
+use Rattle.std.proofs.Common.{ℕ, ◌≡◌, ◌++◌, List, [], Option, Some, None, IfSome, Result, inl, inr, refl, ap, ◌∙◌, append-nil, subst}
 use Rattle.std.specs.Io.KnownBytes.{Consumes}
-use Rattle.std.proofs.KnownBytes.{Consumes-nil, Consumes-trans}
+use Rattle.std.proofs.KnownBytes.{Consumes-trans}
 use Rattle.httparse.specs.Grammar.{RequestHead, print_request}
 use Rattle.httparse.specs.Spans.{IsRequestAt}
 use Rattle.httparse.specs.declared.spans.HeaderSpan.{HeaderSpan}
 use Rattle.httparse.specs.declared.spans.RequestSpans.{RequestSpans}
 use Rattle.vault_base.specs.declared.refusal.Refusal.{Refusal}
-use Rattle.vault_http.specs.Head.{IsHead, HasNoHead}
+use Rattle.vault_http.specs.Head.{IsHead}
 use Rattle.vault_http_request.specs.declared.plan.Asked.{Asked}
 use Rattle.vault_http.specs.Exchange.{head_asked, spans_asked}
 use Rattle.vault_http.specs.Left.{IsBodyTaken, IsTaken}
-
-pub nothing_taken : (a : Option (List ℕ)) → Consumes a a []
-nothing_taken a = Consumes-nil a
 
 -- the parts of a head ask for what the head does
 same_asked : (moment : Option ℕ) (buf : List ℕ) (headers : List HeaderSpan) (spans : RequestSpans) (h : RequestHead) → IsRequestAt buf headers spans h → spans_asked moment buf headers spans ≡ head_asked moment h
@@ -29,12 +26,6 @@ head_taken moment (Some input) (Some rest) c buf body headers spans p (h, at, is
     let reads : input ≡ print_request h ++ rest = p ∙ ap (λ t. t ++ rest) whole in
     let asked : IsBodyTaken (head_asked moment h) body = subst (λ (j : Result Asked Refusal). IsBodyTaken j body) (same_asked moment buf headers spans h at) t in
     (buf ++ body, Consumes-trans (Some input) (Some rest) c buf body p q, inr (inr (h, rest, body, ((is.0.0, reads), is.1), ap (λ t. t ++ body) whole, asked)))
-
--- there is no head
-pub none_taken : (moment : Option ℕ) (a b : Option (List ℕ)) (buf : List ℕ) → Consumes a b buf → IfSome a HasNoHead → length buf ≤ 16384
-    → IfSome a (λ input. (taken : List ℕ) × Consumes a b taken × IsTaken moment input taken)
-none_taken moment None b buf p none small = tt
-none_taken moment (Some input) b buf p none small = (buf, p, inr (inl (none, small)))
 
 -- there is nothing
 pub end_taken : (moment : Option ℕ) (a b : Option (List ℕ)) (buf : List ℕ) → Consumes a b buf → IfSome a (λ input. input ≡ []) → buf ≡ []

@@ -7,7 +7,7 @@ use Rattle.httparse.specs.declared.spans.RequestSpans.{RequestSpans}
 use Rattle.vault_base.specs.declared.refusal.Refusal.{Refusal}
 use Rattle.vault_base.specs.declared.refusal.Refusal.TheVariants as refusal
 use Rattle.vault_core_model.specs.Halts.{is_device_reply}
-use Rattle.vault_core_model.specs.Step.{Step}
+use Rattle.vault_core_model.specs.Step.{IsStep}
 use Rattle.vault_core_model.specs.Vault.{Vault}
 use Rattle.vault_core_model.specs.declared.command.Command.{Command}
 use Rattle.vault_core_model.specs.declared.command.Command.TheVariants as command
@@ -38,7 +38,7 @@ drops _ = false
 -- that it did is answered only then.
 abbrev pub Done : Type 0 → ℕ → Bool → List ℕ → Command → Vault → List ℕ → Vault → Type 0
 Done Failed at shown who c old out new =
-    (reply : Reply) × Step old at who c reply new × AnswersReply (Some at) (drops c) reply shown out × (IsTrue (is_device_reply reply) → Failed)
+    (reply : Reply) × IsStep old at who c reply new × AnswersReply (Some at) (drops c) reply shown out × (IsTrue (is_device_reply reply) → Failed)
 
 -- a refusal is answered, and nothing is carried out
 abbrev pub Denied : Option ℕ → Bool → Refusal → Option Allow → Vault → List ℕ → Vault → Type 0

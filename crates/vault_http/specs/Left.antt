@@ -4,7 +4,7 @@ use Rattle.std.specs.Io.KnownBytes.{Appends}
 use Rattle.httparse.specs.Grammar.{RequestHead, print_request}
 use Rattle.vault_base.specs.declared.refusal.Refusal.{Refusal}
 use Rattle.vault_base.specs.declared.refusal.Refusal.TheVariants as refusal
-use Rattle.vault_core_model.specs.Step.{Step}
+use Rattle.vault_core_model.specs.Step.{IsStep}
 use Rattle.vault_core_model.specs.Vault.{Vault}
 use Rattle.vault_core_model.specs.declared.command.Command.{Command}
 use Rattle.vault_core_model.specs.declared.reply.Reply.{Reply}
@@ -29,13 +29,13 @@ FromRead reads.Memory e = e ≡ faults.Memory
 -- at most one step was made, at the reading
 abbrev pub AtMostOne : Option ℕ → Vault → Vault → Type 0
 AtMostOne moment old new =
-    (new ≡ old) ⊎ ((at : ℕ) × (who : List ℕ) × (c : Command) × (reply : Reply) × (moment ≡ Some at) × Step old at who c reply new)
+    (new ≡ old) ⊎ ((at : ℕ) × (who : List ℕ) × (c : Command) × (reply : Reply) × (moment ≡ Some at) × IsStep old at who c reply new)
 
 -- ---- what stands after a fault
 
 -- the vault after the step of a command, if there is one
 abbrev pub Stepped : ℕ → List ℕ → Result Command Refusal → Vault → Vault → Type 0
-Stepped at who (Ok c) old new = (reply : Reply) × Step old at who c reply new
+Stepped at who (Ok c) old new = (reply : Reply) × IsStep old at who c reply new
 Stepped at who (Err r) old new = ⊥
 
 -- Behind the body nothing is read any more. Where the answer found no room nothing is written, and at most that step was made; where writing it failed a beginning of it is written, and the vault is as it says.

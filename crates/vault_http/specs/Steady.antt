@@ -3,7 +3,7 @@ use Rattle.std.specs.Prelude.{ℕ, ◌≡◌, ◌⊎◌, List, Bool, IsTrue, Opt
 use Rattle.std.specs.Io.KnownBytes.{Appends}
 use Rattle.vault_base.specs.declared.refusal.Refusal.{Refusal}
 use Rattle.vault_core_model.specs.Halts.{is_device_reply}
-use Rattle.vault_core_model.specs.Step.{Step}
+use Rattle.vault_core_model.specs.Step.{IsStep}
 use Rattle.vault_core_model.specs.Vault.{Vault}
 use Rattle.vault_core_model.specs.declared.command.Command.{Command}
 use Rattle.vault_core_model.specs.declared.reply.Reply.{Reply}
@@ -23,11 +23,11 @@ ReplySent (Err faults.Memory) at c shown reply before after = after ≡ before
 -- The count of failures is as it was; or the command was carried out, its reply tells that the device failed, and that is what is answered. Here and below Honest says that the device has returned what was written; what is said of a step holds then.
 abbrev pub JudgedSteady : Type 0 → Result (Unit {0}) ServeFault → ℕ → Bool → List ℕ → Result Command Refusal → Vault → Vault → ℕ → ℕ → Option (List ℕ) → Option (List ℕ) → Type 0
 JudgedSteady Honest result at shown who judged old new n n' before after =
-    (n' ≡ n) ⊎ ((c : Command) × (reply : Reply) × (judged ≡ Ok c) × (Honest → Step old at who c reply new) × IsTrue (is_device_reply reply) × ReplySent result at c shown reply before after)
+    (n' ≡ n) ⊎ ((c : Command) × (reply : Reply) × (judged ≡ Ok c) × (Honest → IsStep old at who c reply new) × IsTrue (is_device_reply reply) × ReplySent result at c shown reply before after)
 
 -- the same of a request, whose answer stands behind what a client that waits was told
 abbrev pub Steady : Type 0 → Result (Unit {0}) ServeFault → Option ℕ → Vault → Vault → ℕ → ℕ → Option (List ℕ) → Option (List ℕ) → Type 0
 Steady Honest result moment old new n n' before after =
     (n' ≡ n)
-    ⊎ ((at : ℕ) × (moment ≡ Some at) × (who : List ℕ) × (c : Command) × (reply : Reply) × (Honest → Step old at who c reply new) × IsTrue (is_device_reply reply)
+    ⊎ ((at : ℕ) × (moment ≡ Some at) × (who : List ℕ) × (c : Command) × (reply : Reply) × (Honest → IsStep old at who c reply new) × IsTrue (is_device_reply reply)
     × (waits : Bool) × (mid : Option (List ℕ)) × (shown : Bool) × Appends before mid (told waits) × ReplySent result at c shown reply mid after)

@@ -1,7 +1,7 @@
 //! Commands carried out, and refusals, with their answers written.
 ghost use Rattle.std.specs.Prelude.{◌≡◌, ◌≤◌, ℕ, List, IfErr, OnOk, Ok, Err, Some};
 ghost use Rattle.std.specs.Io.KnownBytes.{Appends};
-ghost use Rattle.vault_core_model.specs.Halts.{Rose};
+ghost use Rattle.vault_core_model.specs.Halts.{RoseOrIsFull};
 ghost use Rattle.vault_http.specs.Reply.{AnswersRefusal};
 ghost use Rattle.vault_http.specs.Exchange as spec;
 ghost use Rattle.vault_http.specs.Left as left;
@@ -38,8 +38,8 @@ fn answer<W: Write, K: Keeper>(
     command: &Command,
     shown: bool,
 ) -> Result<(), ServeFault>
-    ensures ok { K.is_honest keeper.new → OnOk result ((out : List ℕ) × spec.Done (Rose (K.count keeper.old) (K.count keeper.new)) at shown who.now command.now (K.vault keeper.old) out (K.vault keeper.new) × Appends (W.contents writer.old) (W.contents writer.new) out) }
-    ensures err { K.is_honest keeper.new → IfErr result (λ e. left.JudgedLeft (Rose (K.count keeper.old) (K.count keeper.new)) e at shown who.now (Ok command.now) (K.vault keeper.old) (K.vault keeper.new) (W.contents writer.old) (W.contents writer.new)) }
+    ensures ok { K.is_honest keeper.new → OnOk result ((out : List ℕ) × spec.Done (RoseOrIsFull (K.count keeper.old) (K.count keeper.new)) at shown who.now command.now (K.vault keeper.old) out (K.vault keeper.new) × Appends (W.contents writer.old) (W.contents writer.new) out) }
+    ensures err { K.is_honest keeper.new → IfErr result (λ e. left.JudgedLeft (RoseOrIsFull (K.count keeper.old) (K.count keeper.new)) e at shown who.now (Ok command.now) (K.vault keeper.old) (K.vault keeper.new) (W.contents writer.old) (W.contents writer.new)) }
     ensures kind { ¬ (result ≡ Err faults.Read) }
     ensures once { K.is_honest keeper.new → left.AtMostOne (Some at) (K.vault keeper.old) (K.vault keeper.new) }
     ensures honest { K.is_honest keeper.new → K.is_honest keeper.old }
@@ -63,8 +63,8 @@ fn finish<W: Write, K: Keeper>(
     command: Command,
     shown: bool,
 ) -> Result<(), ServeFault>
-    ensures ok { K.is_honest keeper.new → OnOk result ((out : List ℕ) × spec.Done (Rose (K.count keeper.old) (K.count keeper.new)) at shown who command (K.vault keeper.old) out (K.vault keeper.new) × Appends (W.contents writer.old) (W.contents writer.new) out) }
-    ensures err { K.is_honest keeper.new → IfErr result (λ e. left.JudgedLeft (Rose (K.count keeper.old) (K.count keeper.new)) e at shown who (Ok command) (K.vault keeper.old) (K.vault keeper.new) (W.contents writer.old) (W.contents writer.new)) }
+    ensures ok { K.is_honest keeper.new → OnOk result ((out : List ℕ) × spec.Done (RoseOrIsFull (K.count keeper.old) (K.count keeper.new)) at shown who command (K.vault keeper.old) out (K.vault keeper.new) × Appends (W.contents writer.old) (W.contents writer.new) out) }
+    ensures err { K.is_honest keeper.new → IfErr result (λ e. left.JudgedLeft (RoseOrIsFull (K.count keeper.old) (K.count keeper.new)) e at shown who (Ok command) (K.vault keeper.old) (K.vault keeper.new) (W.contents writer.old) (W.contents writer.new)) }
     ensures kind { ¬ (result ≡ Err faults.Read) }
     ensures once { K.is_honest keeper.new → left.AtMostOne (Some at) (K.vault keeper.old) (K.vault keeper.new) }
     ensures honest { K.is_honest keeper.new → K.is_honest keeper.old }
@@ -105,8 +105,8 @@ pub fn conclude<W: Write, K: Keeper>(
     judged: Result<Command, Refusal>,
     shown: bool,
 ) -> Result<(), ServeFault>
-    ensures ok { K.is_honest keeper.new → OnOk result ((out : List ℕ) × spec.Judged (Rose (K.count keeper.old) (K.count keeper.new)) at shown who judged (K.vault keeper.old) out (K.vault keeper.new) × Appends (W.contents writer.old) (W.contents writer.new) out) }
-    ensures err { K.is_honest keeper.new → IfErr result (λ e. left.JudgedLeft (Rose (K.count keeper.old) (K.count keeper.new)) e at shown who judged (K.vault keeper.old) (K.vault keeper.new) (W.contents writer.old) (W.contents writer.new)) }
+    ensures ok { K.is_honest keeper.new → OnOk result ((out : List ℕ) × spec.Judged (RoseOrIsFull (K.count keeper.old) (K.count keeper.new)) at shown who judged (K.vault keeper.old) out (K.vault keeper.new) × Appends (W.contents writer.old) (W.contents writer.new) out) }
+    ensures err { K.is_honest keeper.new → IfErr result (λ e. left.JudgedLeft (RoseOrIsFull (K.count keeper.old) (K.count keeper.new)) e at shown who judged (K.vault keeper.old) (K.vault keeper.new) (W.contents writer.old) (W.contents writer.new)) }
     ensures once { K.is_honest keeper.new → left.AtMostOne (Some at) (K.vault keeper.old) (K.vault keeper.new) }
     ensures kind { ¬ (result ≡ Err faults.Read) }
     ensures honest { K.is_honest keeper.new → K.is_honest keeper.old }

@@ -3,7 +3,7 @@ ghost use Rattle.std.specs.Prelude.{◌≡◌, ◌≤◌, ℕ, List, IfErr, IfOk
 ghost use Rattle.std.specs.Io.KnownBytes.{Appends, Consumes};
 ghost use Rattle.httparse.specs.Spans.{IsRequestWithin, span_bytes};
 ghost use Rattle.vault_base.specs.Days.{moment_at};
-ghost use Rattle.vault_core_model.specs.Halts.{Rose};
+ghost use Rattle.vault_core_model.specs.Halts.{RoseOrIsFull};
 ghost use Rattle.vault_http_request.specs.Plan.{IsAt};
 ghost use Rattle.vault_values.specs.Fault.{Gives};
 ghost use Rattle.vault_http.specs.Command.{IsWithinLength};
@@ -44,8 +44,8 @@ fn serve_parts<R: Read, W: Write, K: Keeper>(
     waits: bool,
     shown: bool,
 ) -> Result<(), ServeFault>
-    ensures ok { K.is_honest keeper.new → OnOk result (IfSome (R.remaining reader.old) (λ rest. (out : List ℕ) × spec.PlanServed (Rose (K.count keeper.old) (K.count keeper.new)) shown (spec.plan_of at order size caller locks waits) rest (K.vault keeper.old) out (K.vault keeper.new) × Appends (W.contents writer.old) (W.contents writer.new) out)) }
-    ensures err { K.is_honest keeper.new → IfErr result (λ e. IfSome (R.remaining reader.old) (λ rest. left.PlanLeft (Rose (K.count keeper.old) (K.count keeper.new)) e shown (spec.plan_of at order size caller locks waits) rest (R.remaining reader.new) (K.vault keeper.old) (K.vault keeper.new) (W.contents writer.old) (W.contents writer.new))) }
+    ensures ok { K.is_honest keeper.new → OnOk result (IfSome (R.remaining reader.old) (λ rest. (out : List ℕ) × spec.PlanServed (RoseOrIsFull (K.count keeper.old) (K.count keeper.new)) shown (spec.plan_of at order size caller locks waits) rest (K.vault keeper.old) out (K.vault keeper.new) × Appends (W.contents writer.old) (W.contents writer.new) out)) }
+    ensures err { K.is_honest keeper.new → IfErr result (λ e. IfSome (R.remaining reader.old) (λ rest. left.PlanLeft (RoseOrIsFull (K.count keeper.old) (K.count keeper.new)) e shown (spec.plan_of at order size caller locks waits) rest (R.remaining reader.new) (K.vault keeper.old) (K.vault keeper.new) (W.contents writer.old) (W.contents writer.new))) }
     ensures once { K.is_honest keeper.new → left.AtMostOne (Some at) (K.vault keeper.old) (K.vault keeper.new) }
     ensures unread { result ≡ Err faults.Read → K.vault keeper.new ≡ K.vault keeper.old }
     ensures taken { OnOk result ((taken : List ℕ) × Consumes (R.remaining reader.old) (R.remaining reader.new) taken × IsWithinLength size taken) }
@@ -67,8 +67,8 @@ fn serve_plan<R: Read, W: Write, K: Keeper>(
     plan: Plan,
     shown: bool,
 ) -> Result<(), ServeFault>
-    ensures ok { K.is_honest keeper.new → OnOk result (IfSome (R.remaining reader.old) (λ rest. (out : List ℕ) × spec.PlanServed (Rose (K.count keeper.old) (K.count keeper.new)) shown plan rest (K.vault keeper.old) out (K.vault keeper.new) × Appends (W.contents writer.old) (W.contents writer.new) out)) }
-    ensures err { K.is_honest keeper.new → IfErr result (λ e. IfSome (R.remaining reader.old) (λ rest. left.PlanLeft (Rose (K.count keeper.old) (K.count keeper.new)) e shown plan rest (R.remaining reader.new) (K.vault keeper.old) (K.vault keeper.new) (W.contents writer.old) (W.contents writer.new))) }
+    ensures ok { K.is_honest keeper.new → OnOk result (IfSome (R.remaining reader.old) (λ rest. (out : List ℕ) × spec.PlanServed (RoseOrIsFull (K.count keeper.old) (K.count keeper.new)) shown plan rest (K.vault keeper.old) out (K.vault keeper.new) × Appends (W.contents writer.old) (W.contents writer.new) out)) }
+    ensures err { K.is_honest keeper.new → IfErr result (λ e. IfSome (R.remaining reader.old) (λ rest. left.PlanLeft (RoseOrIsFull (K.count keeper.old) (K.count keeper.new)) e shown plan rest (R.remaining reader.new) (K.vault keeper.old) (K.vault keeper.new) (W.contents writer.old) (W.contents writer.new))) }
     ensures once { K.is_honest keeper.new → left.AtMostOne (Some plan.at) (K.vault keeper.old) (K.vault keeper.new) }
     ensures unread { result ≡ Err faults.Read → K.vault keeper.new ≡ K.vault keeper.old }
     ensures taken { OnOk result ((taken : List ℕ) × Consumes (R.remaining reader.old) (R.remaining reader.new) taken × IsWithinLength plan.terms.length taken) }
@@ -142,8 +142,8 @@ fn serve_asked<R: Read, W: Write, K: Keeper>(
     shown: bool,
 ) -> Result<(), ServeFault>
     requires { IsAt moment.now asked }
-    ensures ok { K.is_honest keeper.new → OnOk result (IfSome (R.remaining reader.old) (λ rest. (out : List ℕ) × spec.AskedServed (Rose (K.count keeper.old) (K.count keeper.new)) moment.now shown asked rest (K.vault keeper.old) out (K.vault keeper.new) × Appends (W.contents writer.old) (W.contents writer.new) out)) }
-    ensures err { K.is_honest keeper.new → IfErr result (λ e. IfSome (R.remaining reader.old) (λ rest. left.AskedLeft (Rose (K.count keeper.old) (K.count keeper.new)) e moment.now shown asked rest (R.remaining reader.new) (K.vault keeper.old) (K.vault keeper.new) (W.contents writer.old) (W.contents writer.new))) }
+    ensures ok { K.is_honest keeper.new → OnOk result (IfSome (R.remaining reader.old) (λ rest. (out : List ℕ) × spec.AskedServed (RoseOrIsFull (K.count keeper.old) (K.count keeper.new)) moment.now shown asked rest (K.vault keeper.old) out (K.vault keeper.new) × Appends (W.contents writer.old) (W.contents writer.new) out)) }
+    ensures err { K.is_honest keeper.new → IfErr result (λ e. IfSome (R.remaining reader.old) (λ rest. left.AskedLeft (RoseOrIsFull (K.count keeper.old) (K.count keeper.new)) e moment.now shown asked rest (R.remaining reader.new) (K.vault keeper.old) (K.vault keeper.new) (W.contents writer.old) (W.contents writer.new))) }
     ensures once { K.is_honest keeper.new → left.AtMostOne moment.now (K.vault keeper.old) (K.vault keeper.new) }
     ensures unread { result ≡ Err faults.Read → K.vault keeper.new ≡ K.vault keeper.old }
     ensures taken { OnOk result ((taken : List ℕ) × Consumes (R.remaining reader.old) (R.remaining reader.new) taken × left.IsAskedTaken asked taken) }
@@ -175,8 +175,8 @@ fn serve_judged<R: Read, W: Write, K: Keeper>(
     shown: bool,
 ) -> Result<(), ServeFault>
     requires { IfOk judged (IsAt moment.now) }
-    ensures ok { K.is_honest keeper.new → (said : spec.Said) → Gives (λ x. x) judged said → OnOk result (IfSome (R.remaining reader.old) (λ rest. (out : List ℕ) × spec.HeadJudged (Rose (K.count keeper.old) (K.count keeper.new)) moment.now shown said rest (K.vault keeper.old) out (K.vault keeper.new) × Appends (W.contents writer.old) (W.contents writer.new) out)) }
-    ensures err { K.is_honest keeper.new → (said : spec.Said) → Gives (λ x. x) judged said → IfErr result (λ e. IfSome (R.remaining reader.old) (λ rest. left.HeadLeft (Rose (K.count keeper.old) (K.count keeper.new)) e moment.now shown said rest (R.remaining reader.new) (K.vault keeper.old) (K.vault keeper.new) (W.contents writer.old) (W.contents writer.new))) }
+    ensures ok { K.is_honest keeper.new → (said : spec.Said) → Gives (λ x. x) judged said → OnOk result (IfSome (R.remaining reader.old) (λ rest. (out : List ℕ) × spec.HeadJudged (RoseOrIsFull (K.count keeper.old) (K.count keeper.new)) moment.now shown said rest (K.vault keeper.old) out (K.vault keeper.new) × Appends (W.contents writer.old) (W.contents writer.new) out)) }
+    ensures err { K.is_honest keeper.new → (said : spec.Said) → Gives (λ x. x) judged said → IfErr result (λ e. IfSome (R.remaining reader.old) (λ rest. left.HeadLeft (RoseOrIsFull (K.count keeper.old) (K.count keeper.new)) e moment.now shown said rest (R.remaining reader.new) (K.vault keeper.old) (K.vault keeper.new) (W.contents writer.old) (W.contents writer.new))) }
     ensures once { K.is_honest keeper.new → left.AtMostOne moment.now (K.vault keeper.old) (K.vault keeper.new) }
     ensures unread { result ≡ Err faults.Read → K.vault keeper.new ≡ K.vault keeper.old }
     ensures taken { (said : spec.Said) → Gives (λ x. x) judged said → OnOk result ((taken : List ℕ) × Consumes (R.remaining reader.old) (R.remaining reader.new) taken × left.IsBodyTaken said taken) }
@@ -204,8 +204,8 @@ fn serve_head<R: Read, W: Write, K: Keeper>(
 ) -> Result<(), ServeFault>
     requires within { IsRequestWithin buf.now headers.now spans }
     requires room { length headers.now ≡ 64 }
-    ensures ok { K.is_honest keeper.new → OnOk result (IfSome (R.remaining reader.old) (λ rest. (out : List ℕ) × spec.HeadJudged (Rose (K.count keeper.old) (K.count keeper.new)) moment.now (spec.is_shown (span_bytes buf.now spans.method)) (spec.spans_asked moment.now buf.now headers.now spans) rest (K.vault keeper.old) out (K.vault keeper.new) × Appends (W.contents writer.old) (W.contents writer.new) out)) }
-    ensures err { K.is_honest keeper.new → IfErr result (λ e. IfSome (R.remaining reader.old) (λ rest. left.HeadLeft (Rose (K.count keeper.old) (K.count keeper.new)) e moment.now (spec.is_shown (span_bytes buf.now spans.method)) (spec.spans_asked moment.now buf.now headers.now spans) rest (R.remaining reader.new) (K.vault keeper.old) (K.vault keeper.new) (W.contents writer.old) (W.contents writer.new))) }
+    ensures ok { K.is_honest keeper.new → OnOk result (IfSome (R.remaining reader.old) (λ rest. (out : List ℕ) × spec.HeadJudged (RoseOrIsFull (K.count keeper.old) (K.count keeper.new)) moment.now (spec.is_shown (span_bytes buf.now spans.method)) (spec.spans_asked moment.now buf.now headers.now spans) rest (K.vault keeper.old) out (K.vault keeper.new) × Appends (W.contents writer.old) (W.contents writer.new) out)) }
+    ensures err { K.is_honest keeper.new → IfErr result (λ e. IfSome (R.remaining reader.old) (λ rest. left.HeadLeft (RoseOrIsFull (K.count keeper.old) (K.count keeper.new)) e moment.now (spec.is_shown (span_bytes buf.now spans.method)) (spec.spans_asked moment.now buf.now headers.now spans) rest (R.remaining reader.new) (K.vault keeper.old) (K.vault keeper.new) (W.contents writer.old) (W.contents writer.new))) }
     ensures once { K.is_honest keeper.new → left.AtMostOne moment.now (K.vault keeper.old) (K.vault keeper.new) }
     ensures unread { result ≡ Err faults.Read → K.vault keeper.new ≡ K.vault keeper.old }
     ensures taken { OnOk result ((taken : List ℕ) × Consumes (R.remaining reader.old) (R.remaining reader.new) taken × left.IsBodyTaken (spec.spans_asked moment.now buf.now headers.now spans) taken) }
@@ -232,8 +232,8 @@ fn serve_at<R: Read, W: Write, K: Keeper>(
     keeper: &mut K,
     moment: Option<Moment>,
 ) -> Result<(), ServeFault>
-    ensures ok { K.is_honest keeper.new → OnOk result (IfSome (R.remaining reader.old) (λ input. (out : List ℕ) × spec.Served (Rose (K.count keeper.old) (K.count keeper.new)) moment input (K.vault keeper.old) out (K.vault keeper.new) × Appends (W.contents writer.old) (W.contents writer.new) out)) }
-    ensures err { K.is_honest keeper.new → IfErr result (λ e. IfSome (R.remaining reader.old) (λ input. left.Left (Rose (K.count keeper.old) (K.count keeper.new)) e moment input (R.remaining reader.new) (K.vault keeper.old) (K.vault keeper.new) (W.contents writer.old) (W.contents writer.new))) }
+    ensures ok { K.is_honest keeper.new → OnOk result (IfSome (R.remaining reader.old) (λ input. (out : List ℕ) × spec.Served (RoseOrIsFull (K.count keeper.old) (K.count keeper.new)) moment input (K.vault keeper.old) out (K.vault keeper.new) × Appends (W.contents writer.old) (W.contents writer.new) out)) }
+    ensures err { K.is_honest keeper.new → IfErr result (λ e. IfSome (R.remaining reader.old) (λ input. left.Left (RoseOrIsFull (K.count keeper.old) (K.count keeper.new)) e moment input (R.remaining reader.new) (K.vault keeper.old) (K.vault keeper.new) (W.contents writer.old) (W.contents writer.new))) }
     ensures once { K.is_honest keeper.new → left.AtMostOne moment (K.vault keeper.old) (K.vault keeper.new) }
     ensures unread { result ≡ Err faults.Read → K.vault keeper.new ≡ K.vault keeper.old }
     ensures taken { OnOk result (IfSome (R.remaining reader.old) (λ input. (taken : List ℕ) × Consumes (R.remaining reader.old) (R.remaining reader.new) taken × left.IsTaken moment input taken)) }
@@ -281,8 +281,8 @@ pub fn serve_one<R: Read, W: Write, K: Keeper>(
     keeper: &mut K,
     reading: i64,
 ) -> Result<(), ServeFault>
-    ensures ok { K.is_honest keeper.new → OnOk result (IfSome (R.remaining reader.old) (λ input. (out : List ℕ) × spec.Served (Rose (K.count keeper.old) (K.count keeper.new)) (moment_at reading) input (K.vault keeper.old) out (K.vault keeper.new) × Appends (W.contents writer.old) (W.contents writer.new) out)) }
-    ensures err { K.is_honest keeper.new → IfErr result (λ e. IfSome (R.remaining reader.old) (λ input. left.Left (Rose (K.count keeper.old) (K.count keeper.new)) e (moment_at reading) input (R.remaining reader.new) (K.vault keeper.old) (K.vault keeper.new) (W.contents writer.old) (W.contents writer.new))) }
+    ensures ok { K.is_honest keeper.new → OnOk result (IfSome (R.remaining reader.old) (λ input. (out : List ℕ) × spec.Served (RoseOrIsFull (K.count keeper.old) (K.count keeper.new)) (moment_at reading) input (K.vault keeper.old) out (K.vault keeper.new) × Appends (W.contents writer.old) (W.contents writer.new) out)) }
+    ensures err { K.is_honest keeper.new → IfErr result (λ e. IfSome (R.remaining reader.old) (λ input. left.Left (RoseOrIsFull (K.count keeper.old) (K.count keeper.new)) e (moment_at reading) input (R.remaining reader.new) (K.vault keeper.old) (K.vault keeper.new) (W.contents writer.old) (W.contents writer.new))) }
     ensures once { K.is_honest keeper.new → left.AtMostOne (moment_at reading) (K.vault keeper.old) (K.vault keeper.new) }
     ensures unread { result ≡ Err faults.Read → K.vault keeper.new ≡ K.vault keeper.old }
     ensures taken { OnOk result (IfSome (R.remaining reader.old) (λ input. (taken : List ℕ) × Consumes (R.remaining reader.old) (R.remaining reader.new) taken × left.IsTaken (moment_at reading) input taken)) }

@@ -1,10 +1,8 @@
 -- What the values of each line are: a command that its members spell, or a refusal of a value.
-use Rattle.std.proofs.Common.{◌≡◌, ◌≢◌, ℕ, Bool, true, false, List, [], ◌∷◌, refl, sym, ◌∙◌, ap, inl, inr, codes}
-use Rattle.std.specs.Prelude.{◌⊎◌, ◌&&◌, IsTrue, if◌then◌else◌, Option, Some, None, is_some, MatchOption, Result, Ok, Err}
+use Rattle.std.proofs.Common.{◌≡◌, ℕ, Bool, true, false, List, [], ◌∷◌, refl, inl, inr, codes}
+use Rattle.std.specs.Prelude.{IsTrue, Option, Some, None, is_some, MatchOption}
 use Rattle.serde_json.specs.Data.{Data}
 use Rattle.serde_json.specs.Find.{get}
-use Rattle.vault_base.specs.declared.refusal.Refusal.{Refusal}
-use Rattle.vault_core_model.specs.declared.command.Command.{Command}
 use Rattle.vault_core_model.specs.declared.command.ListVersions.{ListVersions}
 use Rattle.vault_core_model.specs.declared.command.Put.{Put}
 use Rattle.vault_http_values.specs.declared.shape.Kind.{Kind}
@@ -13,10 +11,10 @@ use Rattle.vault_values.specs.Fault.{◌>>=◌}
 use Rattle.vault_http_values.specs.Locks.{retention_of, optional_retention_of, hold_of, optional_hold_of, bypass_of, default_of}
 use Rattle.vault_http_values.specs.Rules.{rules_of}
 use Rattle.vault_http_values.specs.Shape.{fits, fits_each, are_named, has_members, has_one_content}
-use Rattle.vault_http_values.specs.Spelling.{IsAbsent, IsName, IsBucket, IsSmall, IsId}
+use Rattle.vault_http_values.specs.Spelling.{IsAbsent, IsBucket, IsSmall, IsId}
 use Rattle.vault_http_values.specs.Values.{caller_of, dept_of, optional_dept_of, batch_of, bucket_of, key_of, prefix_of, number_of, optional_number_of, id_of, optional_id_of, rights_of, content_of}
 use Rattle.vault_http_values.proofs.LockLemmas.{reads-retention, reads-optional-retention, reads-hold, reads-optional-hold, reads-bypass, reads-default}
-use Rattle.vault_http_values.proofs.ReadLemmas.{Reads, reads-then, reads-as, left-of, right-of}
+use Rattle.vault_http_values.proofs.ReadLemmas.{Reads, reads-then, left-of, right-of}
 use Rattle.vault_http_values.proofs.RuleLemmas.{reads-rules}
 use Rattle.vault_http_values.proofs.ValueLemmas.{reads-caller, reads-dept, reads-optional-dept, reads-batch, reads-bucket, reads-key, reads-prefix, reads-number, reads-optional-number, reads-id, reads-optional-id, reads-rights, reads-content}
 use Rattle.vault_http_lines.specs.ConfigLines.{set_default_of, get_default_of, set_rules_of, get_rules_of, drop_rules_of, run_of}

@@ -1,5 +1,5 @@
 -- Lines and their grammar: what a value that has the shape of a line is read as, and any other.
-use Rattle.std.proofs.Common.{◌≡◌, ◌≢◌, ℕ, Bool, true, false, List, [], ◌∷◌, refl, sym, ◌∙◌, ap, subst, codes}
+use Rattle.std.proofs.Common.{◌≡◌, ℕ, Bool, true, false, List, [], ◌∷◌, refl, ◌∙◌, ap, codes}
 use Rattle.std.specs.Prelude.{if◌then◌else◌, IsTrue, Option, Some, None, option_and_then, Result, Ok, Err}
 use Rattle.std.specs.List.{find}
 use Rattle.std.specs.Option.{option_map_or}
@@ -9,19 +9,18 @@ use Rattle.serde_json.specs.Data.{Data, null, boolean, string, number, array, ob
 use Rattle.serde_json.specs.Find.{get, as_str}
 use Rattle.vault_base.specs.declared.refusal.Refusal.{Refusal}
 use Rattle.vault_base.specs.declared.refusal.Refusal.TheVariants.{MalformedBody}
-use Rattle.vault_core_model.specs.declared.command.Timed.{Timed}
 use Rattle.vault_values.specs.Fault.{◌>>=◌}
 use Rattle.vault_http_values.specs.Document.{or_malformed}
 use Rattle.vault_http_values.specs.Members.{text_of}
 use Rattle.vault_http_values.specs.Values.{reading_of, asker_of}
-use Rattle.vault_http_values.proofs.ReadLemmas.{Reads, reads-then, left-of}
+use Rattle.vault_http_values.proofs.ReadLemmas.{Reads, reads-then}
 use Rattle.vault_http_values.proofs.ValueLemmas.{reads-reading, reads-asker}
-use Rattle.vault_http_lines.specs.Grammar.{IsDo, verb_in, has_shape, Spells}
+use Rattle.vault_http_lines.specs.Grammar.{IsDo, has_shape, Spells}
 use Rattle.vault_http_lines.specs.ReadLine.{if_shaped, verb_of, values_of, timed_of}
 use Rattle.vault_http_lines.specs.Verb.{verb_name, verbs, verb_named, is_shaped}
 use Rattle.vault_http_lines.specs.declared.verb.Verb.{Verb}
 use Rattle.vault_http_lines.specs.declared.verb.Verb.TheVariants as verb
-use Rattle.vault_http_lines.proofs.CommandLemmas.{Fit, all-fit, reads-values, heading-fits}
+use Rattle.vault_http_lines.proofs.CommandLemmas.{reads-values, heading-fits}
 
 -- what a reading gives, of a line that has the shape or hasn't
 abbrev pub Told : {A : Type 0} → Bool → (A → Type 0) → Result A Refusal → Type 0

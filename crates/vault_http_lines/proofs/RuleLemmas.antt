@@ -1,8 +1,7 @@
 -- The members of a rule, put in from the last to the first.
-use Rattle.std.proofs.Common.{◌≡◌, ℕ, List, codes, refl}
+use Rattle.std.proofs.Common.{◌≡◌, codes, refl}
 use Rattle.std.specs.Prelude.{Option, Some, None, option_map}
-use Rattle.serde_json.specs.Data.{Data, Members, member, put}
-use Rattle.vault_rules.specs.declared.rule.Noncurrent.{Noncurrent}
+use Rattle.serde_json.specs.Data.{Data, member, put}
 use Rattle.vault_rules.specs.declared.rule.Rule.{Rule}
 use Rattle.vault_http_lines.specs.Putting.{put_if}
 use Rattle.vault_http_lines.specs.ReplyLine.{text, whole, if_there, expiration_of, noncurrent_value, named_members, bounded_members, rule_members}

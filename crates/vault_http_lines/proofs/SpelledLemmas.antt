@@ -1,9 +1,9 @@
 -- Members that spell a command are read as that command.
 use Rattle.std.proofs.Common.{◌≡◌, ℕ, Bool, true, false, List, refl, sym, ◌∙◌, ap, inl, inr, codes}
-use Rattle.std.specs.Prelude.{IsTrue, if◌then◌else◌, Option, Some, None, is_some, option_and_then, Result, Ok, Err}
+use Rattle.std.specs.Prelude.{IsTrue, if◌then◌else◌, Option, Some, None, option_and_then, Result, Ok, Err}
 use Rattle.std.specs.Option.{option_map_or}
-use Rattle.serde_json.specs.Data.{Data, string}
-use Rattle.serde_json.specs.Find.{get, as_str}
+use Rattle.serde_json.specs.Data.{Data}
+use Rattle.serde_json.specs.Find.{as_str}
 use Rattle.vault_base.specs.declared.refusal.Refusal.{Refusal}
 use Rattle.vault_base.specs.declared.refusal.Refusal.TheVariants.{MalformedBody}
 use Rattle.vault_core_model.specs.declared.command.Command.{Command}
@@ -32,11 +32,9 @@ use Rattle.vault_core_model.specs.declared.command.SetDefault.{SetDefault}
 use Rattle.vault_core_model.specs.declared.command.SetHold.{SetHold}
 use Rattle.vault_core_model.specs.declared.command.SetRetention.{SetRetention}
 use Rattle.vault_core_model.specs.declared.command.SetRules.{SetRules}
-use Rattle.vault_core_model.specs.declared.command.Timed.{Timed}
 use Rattle.vault_values.specs.Fault.{◌>>=◌}
 use Rattle.vault_http_values.specs.Members.{text_of}
-use Rattle.vault_http_values.specs.Spelling.{IsText, IsName, IsMoment}
-use Rattle.vault_http_values.specs.Values.{reading_of, asker_of}
+use Rattle.vault_http_values.specs.Spelling.{IsName, IsMoment}
 use Rattle.vault_http_values.proofs.SpelledLemmas.{reading-ok, asker-ok, caller-ok, dept-ok, optional-dept-ok, batch-ok, bucket-ok, key-ok, prefix-ok, number-ok, optional-number-ok, id-ok, optional-id-ok, rights-are, content-ok, retention-ok, optional-retention-ok, hold-ok, optional-hold-ok, bypass-ok, default-ok, rules-ok}
 use Rattle.vault_http_lines.specs.ConfigLines.{set_default_of, get_default_of, set_rules_of, get_rules_of, drop_rules_of, run_of}
 use Rattle.vault_http_lines.specs.EntryLines.{put_in, put_of, get_of, head_of, delete_of, delete_version_of, intake_of}

@@ -1,5 +1,5 @@
 -- The grammar of lines: which members the line of each `do` has, and what their values spell.
-use Rattle.std.specs.Prelude.{◌≡◌, ◌≤◌, ◌⊎◌, ℕ, List, length, codes, Bool, false, IsTrue, Option, Some, None, is_some, option_and_then, MatchOption}
+use Rattle.std.specs.Prelude.{◌≡◌, ◌≤◌, ◌⊎◌, ℕ, List, length, codes, Bool, false, IsTrue, Option, Some, is_some, option_and_then, MatchOption}
 use Rattle.std.specs.Option.{option_map_or}
 use Rattle.serde_json.specs.Data.{Data}
 use Rattle.serde_json.specs.Find.{get, as_str}

@@ -10,11 +10,9 @@ use std::alloc::Global;
 use vault_base::name::VersionId;
 use vault_base::refusal::Refusal;
 use vault_core_model::command::{Command, ListVersions};
+use vault_core_model::limits::MOST_LISTED;
 use vault_http_values::values;
 use vault_values::fault::LineFault;
-
-/// How many entries a listing has at most, where that isn't said.
-const MOST: u32 = 1_000;
 
 /// The entry of `after_key` behind which the listing begins; it means nothing without that key.
 #[tactic(auto, unfolding(crate::specs::ListLine::after_id_of))]
@@ -36,7 +34,7 @@ fn most(value: &Value) -> Result<u32, LineFault>
     ensures { Gives (λ x. x) result (spec.most_of (view value.now)) }
 {
     let most = values::optional_number_of("most", value)?;
-    Ok(most.unwrap_or(MOST))
+    Ok(most.unwrap_or(MOST_LISTED))
 }
 
 /// The command of a `list-versions` line, or its first fault: a value's refusal, or want of memory.

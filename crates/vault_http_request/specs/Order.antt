@@ -36,8 +36,8 @@ abbrev pub removed : List ℕ → List ℕ → Option ℕ → Order
 removed bucket key (Some id) = order.DeleteVersion bucket key id
 removed bucket key None = order.Ready (command.Delete (record { bucket = bucket; key = key }))
 
-abbrev pub remove : Object → Order
-remove o = removed o.bucket o.key o.id
+abbrev pub delete : Object → Order
+delete o = removed o.bucket o.key o.id
 
 abbrev pub get_retention : Object → Order
 get_retention o = order.Ready (command.GetRetention (record { bucket = o.bucket; key = o.key; id = o.id }))
@@ -49,7 +49,7 @@ abbrev pub on_object : List ℕ → Object → Result Order Resource
 on_object method o =
     if is_put method then Ok (put o)
     else (if is_get method then Ok (get o)
-    else (if is_head method then Ok (head o) else (if is_delete method then Ok (remove o) else Err resource.Object)))
+    else (if is_head method then Ok (head o) else (if is_delete method then Ok (delete o) else Err resource.Object)))
 
 abbrev pub on_retention : List ℕ → Object → Result Order Resource
 on_retention method o =

@@ -33,7 +33,7 @@ pub enum Order {
 }
 
 fn remove(object: Object) -> Order
-    ensures { result ≡ spec.remove object }
+    ensures { result ≡ spec.delete object }
 {
     let Object { bucket, key, id } = object;
     match id {

@@ -4,12 +4,16 @@ ghost use Rattle.std.specs.Char.{is_ascii_digit};
 ghost use Rattle.std.specs.List.{list_all};
 ghost use Rattle.vault_http_target.specs.Number as spec;
 
+use thiserror::Error;
+
 /// Why a text is no number up to a limit.
-#[derive(Clone, Copy, PartialEq, Eq, Debug)]
+#[derive(Clone, Copy, Debug, PartialEq, Eq, Error)]
 pub enum NumberFault {
     /// It has no digit, or another byte.
+    #[error("the text has no digit, or another byte")]
     Form,
     /// It is above the limit.
+    #[error("the number is above its limit")]
     TooLarge,
 }
 

@@ -13,11 +13,9 @@ use std::alloc::Global;
 use vault_base::name::{BucketName, KeyPrefix, ObjectKey, VersionId};
 use vault_base::refusal::Refusal;
 use vault_core_model::command::ListVersions;
+use vault_core_model::limits::MOST_LISTED;
 use vault_values::fault::LineFault;
 use vault_values::named::prefix_named;
-
-/// How many entries a listing has at most, where that isn't said.
-const MOST: u32 = 1_000;
 
 /// A key of a bucket, and an entry of it; with no id, the current one is meant.
 #[derive(Drop)]
@@ -190,7 +188,7 @@ fn most(text: Option<&str>) -> Result<u32, LineFault>
     ensures { Gives (λ x. x) result (spec.most (option_map (λ t. t.now) text.entry)) }
 {
     let Some(text) = text else {
-        return Ok(MOST);
+        return Ok(MOST_LISTED);
     };
     match number_upto(text.as_bytes(), 4_294_967_295) {
         Ok(number) => Ok(number as u32),

@@ -1,5 +1,5 @@
 -- Retentions, holds and defaults that are read from members of their kinds.
-use Rattle.std.proofs.Common.{◌≡◌, ◌≢◌, ◌<◌, ℕ, Bool, true, false, List, refl, sym, ◌∙◌, ap, codes}
+use Rattle.std.proofs.Common.{◌≡◌, ℕ, Bool, true, false, List, refl, ◌∙◌, ap, codes}
 use Rattle.std.specs.Prelude.{if◌then◌else◌, IsTrue, Option, Some, None, option_map, MatchOption, Result, Ok, Err}
 use Rattle.std.specs.Str.{bytes_eq}
 use Rattle.std.proofs.lemmas.Slice.Eq.{bytes_eq-Decides}
@@ -8,21 +8,16 @@ use Rattle.serde_json.specs.Find.{get}
 use Rattle.vault_base.specs.Moment.{moment_of}
 use Rattle.vault_base.specs.MomentFault.{MomentFault}
 use Rattle.vault_base.specs.MomentFault.TheVariants as moment
-use Rattle.vault_base.specs.declared.refusal.Refusal.{Refusal}
-use Rattle.vault_base.specs.declared.refusal.Refusal.TheVariants.{MalformedBody}
-use Rattle.vault_lock.specs.declared.retention.Default.{Default}
-use Rattle.vault_lock.specs.declared.retention.Mode.{Mode}
 use Rattle.vault_lock.specs.declared.retention.Mode.TheVariants.{Governance, Compliance}
-use Rattle.vault_lock.specs.declared.retention.Retention.{Retention}
 use Rattle.vault_http_values.specs.declared.members.Whole.{Whole}
 use Rattle.vault_http_values.specs.declared.shape.Kind.TheVariants.{Text, OptionalText, OptionalNumber, OptionalFlag}
-use Rattle.vault_values.specs.Fault.{◌>>=◌, or_invalid, if_given}
+use Rattle.vault_values.specs.Fault.{◌>>=◌, or_invalid}
 use Rattle.vault_values.specs.Named.{or_until_refusal, until_named}
 use Rattle.vault_values.specs.Locks.{retention_spelled, both_or_none}
 use Rattle.vault_http_values.specs.Locks.{retention_of, optional_retention_of, hold_of, optional_hold_of, bypass_of, default_spelled, default_of}
-use Rattle.vault_http_values.specs.Members.{text_of, optional_text_of, optional_whole_of, flag_of}
+use Rattle.vault_http_values.specs.Members.{text_of, optional_text_of, optional_whole_of}
 use Rattle.vault_http_values.specs.Shape.{fits}
-use Rattle.vault_http_values.specs.Spelling.{IsAbsent, IsText, IsMoment, IsRetention, IsOptionalRetention, IsHold, IsOptionalHold, IsFlag, IsPeriod, IsDefault}
+use Rattle.vault_http_values.specs.Spelling.{IsAbsent, IsText, IsRetention, IsOptionalRetention, IsHold, IsOptionalHold, IsFlag, IsDefault}
 use Rattle.vault_http_values.specs.Values.{below}
 use Rattle.vault_values.specs.Words.{named, mode_name, mode_named, hold_name, hold_named}
 use Rattle.vault_http_values.proofs.ReadLemmas.{Reads, reads-then, reads-as, IsWhole, reads-text, reads-optional-text, reads-optional-whole, reads-flag}

@@ -1,7 +1,6 @@
 -- Readings of members: what they give, or which refusals.
-use Rattle.std.proofs.Common.{◌≡◌, ◌≢◌, ℕ, Bool, true, false, List, [], ◌∷◌, refl, ap, inl, inr}
-use Rattle.std.specs.Prelude.{◌⊎◌, ◌&&◌, ◌||◌, IsTrue, Option, Some, None, is_some, option_map, option_and_then, MatchOption, Result, Ok, Err}
-use Rattle.std.specs.List.{list_all}
+use Rattle.std.proofs.Common.{◌≡◌, ◌≢◌, ℕ, Bool, true, false, List, refl, inl, inr}
+use Rattle.std.specs.Prelude.{◌⊎◌, ◌&&◌, IsTrue, Option, Some, None, option_map, MatchOption, Result, Ok, Err}
 use Rattle.std.specs.Option.{option_map_or}
 use Rattle.serde_json.specs.Data.{unsigned, negative, float, Data, null, boolean, number, string, array, object, Items, no_items, item}
 use Rattle.serde_json.specs.Find.{get, as_str, as_array}
@@ -9,14 +8,13 @@ use Rattle.vault_base.specs.declared.refusal.Refusal.{Refusal}
 use Rattle.vault_base.specs.declared.refusal.Refusal.TheVariants.{MalformedBody}
 use Rattle.vault_http_values.specs.declared.members.Whole.{Whole}
 use Rattle.vault_http_values.specs.declared.members.Whole.TheVariants.{Negative, Natural}
-use Rattle.vault_http_values.specs.declared.shape.Kind.{Kind}
 use Rattle.vault_http_values.specs.declared.shape.Kind.TheVariants.{Text, OptionalText, Number, OptionalNumber, OptionalFlag, Texts, Rules}
 use Rattle.vault_values.specs.Fault.{◌>>=◌}
 use Rattle.vault_http_values.specs.Document.{or_malformed}
 use Rattle.vault_http_values.specs.Members as members
 use Rattle.vault_http_values.specs.Members.{as_whole, as_texts, text_of, optional_text_of, whole_of, optional_whole_of, texts_of, items_of, flag, flag_of}
-use Rattle.vault_http_values.specs.Shape.{needed, optional, is_text, is_number, is_flag, are_texts, all_items, is_rule, are_rules, fits}
-use Rattle.vault_http_values.specs.Spelling.{IsText, IsNumber, IsFlag, items_of_texts}
+use Rattle.vault_http_values.specs.Shape.{needed, optional, is_text, is_number, is_flag, all_items, is_rule, fits}
+use Rattle.vault_http_values.specs.Spelling.{IsText, IsFlag, items_of_texts}
 
 -- a reading gives what P says, or a refusal of a value
 abbrev pub Reads : {A : Type 0} → (A → Type 0) → Result A Refusal → Type 0

@@ -1,22 +1,21 @@
 -- Lifecycle rules that are read from members of their kinds.
-use Rattle.std.proofs.Common.{◌≡◌, ◌≢◌, ℕ, Bool, true, false, List, [], ◌∷◌, refl, sym, ◌∙◌, ap, subst, inl, inr, codes}
-use Rattle.std.specs.Prelude.{◌⊎◌, ◌&&◌, if◌then◌else◌, IsTrue, Option, Some, None, MatchOption, Result, Ok, Err}
+use Rattle.std.proofs.Common.{◌≡◌, ◌≢◌, ℕ, Bool, true, false, List, [], ◌∷◌, refl, ◌∙◌, ap, subst, inl, inr, codes}
+use Rattle.std.specs.Prelude.{if◌then◌else◌, IsTrue, Option, Some, None, Result, Ok, Err}
 use Rattle.serde_json.specs.Data.{Data, string, array, Items, no_items, item}
 use Rattle.serde_json.specs.Find.{get}
-use Rattle.vault_base.specs.Name.{rule_id_of, is_rule_id}
+use Rattle.vault_base.specs.Name.{is_rule_id}
 use Rattle.vault_base.specs.declared.refusal.Refusal.{Refusal}
 use Rattle.vault_base.specs.declared.refusal.Refusal.TheVariants.{MalformedBody}
 use Rattle.vault_rules.specs.Rules.{rules_fault}
-use Rattle.vault_rules.specs.declared.rule.Noncurrent.{Noncurrent}
 use Rattle.vault_rules.specs.declared.rule.Rule.{Rule}
 use Rattle.vault_rules.specs.declared.rule_set.RuleFault.{RuleFault}
 use Rattle.vault_http_values.specs.declared.rules.Expiration.{Expiration}
-use Rattle.vault_http_values.specs.declared.shape.Kind.TheVariants.{Text, OptionalText, Number, OptionalNumber, OptionalFlag, Rules}
+use Rattle.vault_http_values.specs.declared.shape.Kind.TheVariants.{Text, Rules}
 use Rattle.vault_values.specs.Fault.{◌>>=◌, or_refused, or_invalid, if_given}
 use Rattle.vault_http_values.specs.Members.{items_of, text_of, flag_of}
 use Rattle.vault_http_values.specs.Rules.{rule_id_in, bounds_in, status_in, expiration_spelled, expiration_if, expiration_in, noncurrent_spelled, noncurrent_in, rule_of, rules_in, judged, rules_of}
-use Rattle.vault_http_values.specs.Shape.{fits, needed, optional, is_number, is_text, is_flag, is_within, is_expiration, may_have_expiration, is_noncurrent, may_have_noncurrent, may_have_bounds, has_rule_names, is_rule, all_items}
-use Rattle.vault_http_values.specs.Spelling.{IsAbsent, IsText, IsPrefix, IsSmall, IsOptionalSmall, IsFlag, IsExpiration, IsNoncurrent, AreBounds, IsRule, AreRules, IsRules}
+use Rattle.vault_http_values.specs.Shape.{fits, needed, optional, is_number, is_text, is_within, is_expiration, may_have_expiration, is_noncurrent, may_have_noncurrent, may_have_bounds, has_rule_names, is_rule, all_items}
+use Rattle.vault_http_values.specs.Spelling.{IsText, IsSmall, IsOptionalSmall, IsFlag, IsExpiration, IsNoncurrent, AreBounds, IsRule, AreRules, IsRules}
 use Rattle.vault_http_values.specs.Values.{number_of, optional_number_of, prefix_of}
 use Rattle.vault_values.specs.Words.{status_name, status_named}
 use Rattle.vault_http_values.proofs.LockLemmas.{reads-named}

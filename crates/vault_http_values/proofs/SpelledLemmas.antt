@@ -1,14 +1,11 @@
 -- Members that spell a value are read as that value.
-use Rattle.std.proofs.Common.{◌≡◌, ◌<◌, ℕ, Bool, true, false, List, [], ◌∷◌, refl, sym, ◌∙◌, ap, inl, inr, codes, arith}
-use Rattle.std.specs.Prelude.{nat_lt, if◌then◌else◌, IsTrue, Option, Some, None, MatchOption, Result, Ok, Err}
+use Rattle.std.proofs.Common.{◌≡◌, ◌<◌, ℕ, Bool, true, false, List, [], ◌∷◌, refl, inl, inr, codes, arith}
+use Rattle.std.specs.Prelude.{nat_lt, IsTrue, Option, Some, None, MatchOption, Ok}
 use Rattle.std.proofs.lemmas.Grind.{common_steps}
-use Rattle.hex.specs.Hex.{decode_of}
-use Rattle.serde_json.specs.Data.{Data, boolean, string, number, unsigned, array, Items, no_items, item}
+use Rattle.serde_json.specs.Data.{Data, array, Items, no_items, item}
 use Rattle.serde_json.specs.Find.{get}
 use Rattle.vault_base.specs.Moment.{moment_of}
 use Rattle.vault_base.specs.Name.{is_plain_name, is_version_id}
-use Rattle.vault_base.specs.declared.refusal.Refusal.{Refusal}
-use Rattle.vault_base.specs.declared.refusal.Refusal.TheVariants.{InvalidArgument}
 use Rattle.vault_core_model.specs.declared.rights.Rights.{Rights}
 use Rattle.vault_lock.specs.declared.retention.Default.{Default}
 use Rattle.vault_lock.specs.declared.retention.Mode.{Mode}

@@ -1,12 +1,12 @@
 -- Values that are read from members of their kinds: a refusal of theirs is no fault of shape, and what they are.
 use Rattle.std.proofs.Common.{◌≡◌, ◌≢◌, ◌<◌, ℕ, Bool, true, false, List, [], ◌∷◌, length, refl, sym, ◌∙◌, ap, inl, inr, codes, arith}
-use Rattle.std.specs.Prelude.{◌⊎◌, nat_lt, if◌then◌else◌, IsTrue, Option, Some, None, option_map, MatchOption, Result, Ok, Err}
+use Rattle.std.specs.Prelude.{nat_lt, if◌then◌else◌, IsTrue, Option, Some, None, option_map, MatchOption, Result, Ok, Err}
 use Rattle.std.proofs.lemmas.Grind.{common_steps}
 use Rattle.hex.specs.Hex.{decode_of}
 use Rattle.serde_json.specs.Data.{Data, string, number, unsigned}
 use Rattle.serde_json.specs.Find.{get}
 use Rattle.vault_base.specs.Moment.{moment_of}
-use Rattle.vault_base.specs.Name.{fault_of_size, bucket_name_of, object_key_of, key_prefix_of, plain_name_of, is_bucket_name, is_object_key, is_key_prefix, is_plain_name, is_version_id}
+use Rattle.vault_base.specs.Name.{fault_of_size, is_bucket_name, is_object_key, is_key_prefix, is_plain_name, is_version_id}
 use Rattle.vault_base.specs.Right.{right_of}
 use Rattle.vault_base.specs.MomentFault.{MomentFault}
 use Rattle.vault_base.specs.MomentFault.TheVariants as moment

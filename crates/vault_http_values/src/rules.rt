@@ -1,5 +1,4 @@
 //! Lifecycle rules as S3's JSON has them (API Reference, "PutBucketLifecycleConfiguration").
-ghost use Rattle.std.specs.Prelude.{◌≡◌, option_map};
 ghost use Rattle.serde_json.specs.View.{view, items_view};
 ghost use Rattle.vault_values.specs.Fault.{Gives};
 ghost use Rattle.vault_http_values.specs.Rules as spec;

@@ -24,11 +24,11 @@ if_given read (Some x) = do
   Ok (Some y)
 
 -- a call failed as it was said to, unless memory ran out
-abbrev pub Fails : {Y : Type 0} → LineFault → Result Y Refusal → Type 0
-Fails fault.Memory said = ⊤
-Fails (fault.Refused f) said = said ≡ Err f
+abbrev pub FailsAs : {Y : Type 0} → LineFault → Result Y Refusal → Type 0
+FailsAs fault.Memory said = ⊤
+FailsAs (fault.Refused f) said = said ≡ Err f
 
 -- a call gave what was said, as the function sees it, unless memory ran out
 abbrev pub Gives : {X Y : Type 0} → (X → Y) → Result X LineFault → Result Y Refusal → Type 0
 Gives view (Ok x) said = said ≡ Ok (view x)
-Gives view (Err e) said = Fails e said
+Gives view (Err e) said = FailsAs e said

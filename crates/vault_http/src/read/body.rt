@@ -1,5 +1,5 @@
 //! The body of a request.
-ghost use Rattle.std.specs.Prelude.{◌≡◌, ◌≤◌, IfOk, IfSome, OnOk, ℕ, List, length};
+ghost use Rattle.std.specs.Prelude.{◌≤◌, IfOk, IfSome, OnOk, ℕ, List, length};
 ghost use Rattle.std.specs.Io.KnownBytes.{Consumes};
 ghost use Rattle.vault_http.specs.Body.{Came};
 

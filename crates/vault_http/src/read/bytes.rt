@@ -4,14 +4,17 @@ ghost use Rattle.std.specs.IoError.{error_kind};
 ghost use Rattle.vault_http.specs.Bytes.{NextByte};
 
 use std::io::{ErrorKind, Read, Result};
+use thiserror::Error;
 use vault_io::retry::read_retrying;
 
 /// Why a request couldn't be read.
-#[derive(Clone, Copy, PartialEq, Eq, Debug)]
+#[derive(Clone, Copy, Debug, PartialEq, Eq, Error)]
 pub enum ReadFault {
     /// The reader failed.
+    #[error("the reader failed")]
     Read,
     /// No memory was left for what it gave.
+    #[error("out of memory")]
     Memory,
 }
 

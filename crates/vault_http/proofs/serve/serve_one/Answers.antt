@@ -1,7 +1,7 @@
 use Rattle.std.proofs.Common.{rules, ◌≡◌, ℕ, List, IfSome, OnOk, Option, subst}
 use Rattle.std.specs.Io.KnownBytes.{Appends}
 use Rattle.vault_base.specs.Days.{moment_at}
-use Rattle.vault_core_model.specs.Halts.{Rose}
+use Rattle.vault_core_model.specs.Halts.{RoseOrIsFull}
 use Rattle.vault_http.specs.Exchange as spec
 use Rattle.vault_http.specs.Steady.{Steady}
 use Rattle.vault_http.proofs.serve.serve_one.Goals as goal
@@ -9,7 +9,7 @@ use Rattle.vault_http.proofs.serve.serve_one.Goals as goal
 pub returns-clause-ok : goal.returns-clause-ok
 returns-clause-ok g c = λ h.
     let same : c.from_secs.result ≡ moment_at c.args.reading = search rules in
-    subst (λ (m : Option ℕ). OnOk c.serve_at.result (IfSome (g.R.Read.remaining c.args.reader.now) (λ input. (out : List ℕ) × spec.Served (Rose (g.K.Keeper.count c.args.keeper.now) (g.K.Keeper.count c.serve_at.new.keeper)) m input (g.K.Keeper.vault c.args.keeper.now) out (g.K.Keeper.vault c.serve_at.new.keeper) × Appends (g.W.Write.contents c.args.writer.now) (g.W.Write.contents c.serve_at.new.writer) out))) same (c.serve_at.ensures.ok h)
+    subst (λ (m : Option ℕ). OnOk c.serve_at.result (IfSome (g.R.Read.remaining c.args.reader.now) (λ input. (out : List ℕ) × spec.Served (RoseOrIsFull (g.K.Keeper.count c.args.keeper.now) (g.K.Keeper.count c.serve_at.new.keeper)) m input (g.K.Keeper.vault c.args.keeper.now) out (g.K.Keeper.vault c.serve_at.new.keeper) × Appends (g.W.Write.contents c.args.writer.now) (g.W.Write.contents c.serve_at.new.writer) out))) same (c.serve_at.ensures.ok h)
 
 pub returns-clause-steady : goal.returns-clause-steady
 returns-clause-steady g c =

@@ -1,4 +1,4 @@
-use Rattle.std.proofs.Common.{rules, arith, ◌≡◌, ◌<◌, ◌∙◌, sym, drop, length, true, false, nat_eq}
+use Rattle.std.proofs.Common.{rules, ◌≡◌, ◌∙◌, sym, drop, true, false, nat_eq}
 use Rattle.std.specs.List.{starts_with}
 use Rattle.vault_http_request.proofs.Contains.{contains_here, contains_next}
 use Rattle.vault_http_request.proofs.supported.contains.Goals as goal

@@ -1,4 +1,4 @@
-use Rattle.std.proofs.Common.{rules, ◌≡◌, refl}
+use Rattle.std.proofs.Common.{rules, refl}
 use Rattle.vault_http.specs.Answer.{answer_bytes}
 use Rattle.vault_http.proofs.answer.bytes.write_answer.Goals as goal
 
