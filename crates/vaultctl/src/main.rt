@@ -35,7 +35,7 @@ fn main(rt: HostRuntime) -> ExitCode {
         first: Unknown,
         second: UnknownToo,
     };
-    match run(&rt, starts, &mut err) {
+    match answer_given_words(&rt, starts, &mut err) {
         Ok(status) => ExitCode::from(status),
         Err(error) => ExitCode::from(tell_unread(&mut err, error.kind())),
     }
@@ -69,7 +69,7 @@ fn answer<A: Start, B: Start, R: Read, W: Write, E: Write>(
 }
 
 /// The same of the program's words. `InvalidData` where one isn't UTF-8; any other error is want of memory.
-fn run<A: Start, B: Start, E: Write>(
+fn answer_given_words<A: Start, B: Start, E: Write>(
     rt: &HostRuntime,
     starts: Starts<A, B>,
     err: &mut E,

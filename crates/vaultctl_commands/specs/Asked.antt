@@ -7,26 +7,26 @@ use Rattle.vault_core_model.specs.declared.command.Command.TheVariants as comman
 use Rattle.vault_values.specs.Fault.{◌>>=◌}
 use Rattle.vault_values.specs.Named.{asker_named, bucket_named, name_of}
 use Rattle.vault_values.specs.Rights.{rights_named}
-use Rattle.vaultctl_job.specs.declared.job.Bucket.{Bucket}
-use Rattle.vaultctl_job.specs.declared.job.Caller.{Caller}
-use Rattle.vaultctl_job.specs.declared.job.Certificate.{Certificate}
-use Rattle.vaultctl_job.specs.declared.job.Dept.{Dept}
-use Rattle.vaultctl_job.specs.declared.job.Intake.{Intake}
-use Rattle.vaultctl_job.specs.declared.job.Move.{Move}
-use Rattle.vaultctl_job.specs.declared.job.Report.{Report}
-use Rattle.vaultctl_job.specs.declared.job.Run.{Run}
+use Rattle.vaultctl_job.specs.declared.job.BucketJob.{BucketJob}
+use Rattle.vaultctl_job.specs.declared.job.CallerJob.{CallerJob}
+use Rattle.vaultctl_job.specs.declared.job.CertificateJob.{CertificateJob}
+use Rattle.vaultctl_job.specs.declared.job.DeptJob.{DeptJob}
+use Rattle.vaultctl_job.specs.declared.job.IntakeJob.{IntakeJob}
+use Rattle.vaultctl_job.specs.declared.job.MoveJob.{MoveJob}
+use Rattle.vaultctl_job.specs.declared.job.ReportJob.{ReportJob}
+use Rattle.vaultctl_job.specs.declared.job.RunJob.{RunJob}
 use Rattle.vaultctl_commands.specs.Words.{optional_reading, optional_dept, version_named}
 use Rattle.vaultctl_commands.specs.declared.asked.Asked.{Asked}
 use Rattle.vaultctl_commands.specs.declared.asked.AskedIntake.{AskedIntake}
 
-unfoldable pub dept_of : Dept → Result Asked Refusal
+unfoldable pub dept_of : DeptJob → Result Asked Refusal
 dept_of job = do
   at ← optional_reading job.asking.at
   who ← asker_named job.asking.who
   dept ← name_of job.name
   Ok (record { at = at; who = who; command = command.AddDept (record { dept = dept }) })
 
-unfoldable pub new_caller_of : Caller → Result Command Refusal
+unfoldable pub new_caller_of : CallerJob → Result Command Refusal
 new_caller_of job = do
   caller ← name_of job.name
   dept ← optional_dept job.dept
@@ -34,22 +34,22 @@ new_caller_of job = do
   Ok (command.AddCaller (record { caller = caller; dept = dept; rights = rights }))
 
 -- rights and a department aren't looked at
-unfoldable pub closed_caller_of : Caller → Result Command Refusal
+unfoldable pub closed_caller_of : CallerJob → Result Command Refusal
 closed_caller_of job = do
   caller ← name_of job.name
   Ok (command.CloseCaller (record { caller = caller }))
 
-abbrev pub caller_command_of : Caller → Result Command Refusal
+abbrev pub caller_command_of : CallerJob → Result Command Refusal
 caller_command_of job = if job.close then closed_caller_of job else new_caller_of job
 
-unfoldable pub caller_of : Caller → Result Asked Refusal
+unfoldable pub caller_of : CallerJob → Result Asked Refusal
 caller_of job = do
   at ← optional_reading job.asking.at
   who ← asker_named job.asking.who
   asked ← caller_command_of job
   Ok (record { at = at; who = who; command = asked })
 
-unfoldable pub bucket_of : Bucket → Result Asked Refusal
+unfoldable pub bucket_of : BucketJob → Result Asked Refusal
 bucket_of job = do
   at ← optional_reading job.asking.at
   who ← asker_named job.asking.who
@@ -57,7 +57,7 @@ bucket_of job = do
   dept ← name_of job.dept
   Ok (record { at = at; who = who; command = command.AddBucket (record { bucket = bucket; dept = dept }) })
 
-unfoldable pub move_bucket_of : Move → Result Asked Refusal
+unfoldable pub move_bucket_of : MoveJob → Result Asked Refusal
 move_bucket_of job = do
   at ← optional_reading job.asking.at
   who ← asker_named job.asking.who
@@ -65,21 +65,21 @@ move_bucket_of job = do
   dept ← name_of job.dept
   Ok (record { at = at; who = who; command = command.MoveBucket (record { bucket = bucket; dept = dept }) })
 
-unfoldable pub run_of : Run → Result Asked Refusal
+unfoldable pub run_of : RunJob → Result Asked Refusal
 run_of job = do
   at ← optional_reading job.asking.at
   who ← asker_named job.asking.who
   bucket ← bucket_named job.bucket
   Ok (record { at = at; who = who; command = command.Run (record { bucket = bucket }) })
 
-unfoldable pub report_of : Report → Result Asked Refusal
+unfoldable pub report_of : ReportJob → Result Asked Refusal
 report_of job = do
   at ← optional_reading job.asking.at
   who ← asker_named job.asking.who
   dept ← name_of job.dept
   Ok (record { at = at; who = who; command = command.Report (record { dept = dept }) })
 
-unfoldable pub certificate_of : Certificate → Result Asked Refusal
+unfoldable pub certificate_of : CertificateJob → Result Asked Refusal
 certificate_of job = do
   at ← optional_reading job.asking.at
   who ← asker_named job.asking.who
@@ -87,7 +87,7 @@ certificate_of job = do
   id ← version_named job.version
   Ok (record { at = at; who = who; command = command.Certificate (record { bucket = bucket; id = id }) })
 
-unfoldable pub intake_of : Intake → Result AskedIntake Refusal
+unfoldable pub intake_of : IntakeJob → Result AskedIntake Refusal
 intake_of job = do
   at ← optional_reading job.asking.at
   who ← asker_named job.asking.who

@@ -3,7 +3,7 @@ use Rattle.std.specs.Prelude.{◌≡◌, ◌⊎◌, ℕ, List, Option, Some, Res
 use Rattle.std.specs.Io.KnownBytes.{Appends}
 use Rattle.vault_base.specs.declared.refusal.Refusal.{Refusal}
 use Rattle.vault_base.specs.declared.refusal.Refusal.TheVariants.{Device}
-use Rattle.vault_core_model.specs.Halts.{Rose}
+use Rattle.vault_core_model.specs.Halts.{RoseOrIsFull}
 use Rattle.vault_core_model.specs.Vault.{Vault}
 use Rattle.vault_files.specs.TakenIn.{report_tells_device, TakesIn}
 use Rattle.vault_files.specs.File.{File}
@@ -37,7 +37,7 @@ abbrev pub SteadyIntake : Type 0 → Option (List File) → ℕ → List ℕ →
 SteadyIntake Honest files at who bucket batch list v v' n n' there there' result before after =
     (rows : List RowReply) × (stopped : Option Refusal) × (Honest → TakesIn files at who bucket batch list v rows stopped v')
     × IfOk result (λ told. (told ≡ intake_outcome rows stopped) × Appends before after (lines rows stopped))
-    × (stopped ≡ Some Device → Rose n n' ⊎ Rose there there') × (report_tells_device rows stopped ≡ false → n' ≡ n)
+    × (stopped ≡ Some Device → RoseOrIsFull n n' ⊎ RoseOrIsFull there there') × (report_tells_device rows stopped ≡ false → n' ≡ n)
 
 -- what that says of the vault's failures alone: the count of them is as it was, or the lines tell that a device failed
 abbrev pub IsIntakeSteady : ℕ → ℕ → Result Outcome JobFault → Option (List ℕ) → Option (List ℕ) → Type 0

@@ -32,7 +32,7 @@ pub struct AskedIntake {
 
 /// The department to be added.
 #[tactic(auto, unfolding(crate::specs::Asked::dept_of))]
-pub fn dept(alloc: Global, job: &job::Dept) -> Result<Asked, LineFault>
+pub fn dept(alloc: Global, job: &job::DeptJob) -> Result<Asked, LineFault>
     ensures { Gives (λ x. x) result (spec.dept_of job.now) }
 {
     let at = optional_reading(&job.asking.at)?;
@@ -47,7 +47,7 @@ pub fn dept(alloc: Global, job: &job::Dept) -> Result<Asked, LineFault>
 
 /// The caller to be added.
 #[tactic(auto, unfolding(crate::specs::Asked::new_caller_of))]
-fn new_caller(alloc: Global, job: &job::Caller) -> Result<Command, LineFault>
+fn new_caller(alloc: Global, job: &job::CallerJob) -> Result<Command, LineFault>
     ensures { Gives (λ x. x) result (spec.new_caller_of job.now) }
 {
     let caller = caller_named(alloc, job.name.as_str())?;
@@ -62,7 +62,7 @@ fn new_caller(alloc: Global, job: &job::Caller) -> Result<Command, LineFault>
 
 /// The caller to be closed; rights and a department aren't looked at.
 #[tactic(auto, unfolding(crate::specs::Asked::closed_caller_of))]
-fn closed_caller(alloc: Global, job: &job::Caller) -> Result<Command, LineFault>
+fn closed_caller(alloc: Global, job: &job::CallerJob) -> Result<Command, LineFault>
     ensures { Gives (λ x. x) result (spec.closed_caller_of job.now) }
 {
     let caller = caller_named(alloc, job.name.as_str())?;
@@ -70,7 +70,7 @@ fn closed_caller(alloc: Global, job: &job::Caller) -> Result<Command, LineFault>
 }
 
 /// What is to be done with a caller.
-fn caller_command(alloc: Global, job: &job::Caller) -> Result<Command, LineFault>
+fn caller_command(alloc: Global, job: &job::CallerJob) -> Result<Command, LineFault>
     ensures { Gives (λ x. x) result (spec.caller_command_of job.now) }
 {
     if job.close {
@@ -82,7 +82,7 @@ fn caller_command(alloc: Global, job: &job::Caller) -> Result<Command, LineFault
 
 /// The caller to be added, or to be closed.
 #[tactic(auto, unfolding(crate::specs::Asked::caller_of))]
-pub fn caller(alloc: Global, job: &job::Caller) -> Result<Asked, LineFault>
+pub fn caller(alloc: Global, job: &job::CallerJob) -> Result<Asked, LineFault>
     ensures { Gives (λ x. x) result (spec.caller_of job.now) }
 {
     let at = optional_reading(&job.asking.at)?;
@@ -93,7 +93,7 @@ pub fn caller(alloc: Global, job: &job::Caller) -> Result<Asked, LineFault>
 
 /// The bucket to be added.
 #[tactic(auto, unfolding(crate::specs::Asked::bucket_of))]
-pub fn bucket(alloc: Global, job: &job::Bucket) -> Result<Asked, LineFault>
+pub fn bucket(alloc: Global, job: &job::BucketJob) -> Result<Asked, LineFault>
     ensures { Gives (λ x. x) result (spec.bucket_of job.now) }
 {
     let at = optional_reading(&job.asking.at)?;
@@ -109,7 +109,7 @@ pub fn bucket(alloc: Global, job: &job::Bucket) -> Result<Asked, LineFault>
 
 /// The move of a bucket to another department.
 #[tactic(auto, unfolding(crate::specs::Asked::move_bucket_of))]
-pub fn move_bucket(alloc: Global, job: &job::Move) -> Result<Asked, LineFault>
+pub fn move_bucket(alloc: Global, job: &job::MoveJob) -> Result<Asked, LineFault>
     ensures { Gives (λ x. x) result (spec.move_bucket_of job.now) }
 {
     let at = optional_reading(&job.asking.at)?;
@@ -125,7 +125,7 @@ pub fn move_bucket(alloc: Global, job: &job::Move) -> Result<Asked, LineFault>
 
 /// The run of a bucket's rules.
 #[tactic(auto, unfolding(crate::specs::Asked::run_of))]
-pub fn run(alloc: Global, job: &job::Run) -> Result<Asked, LineFault>
+pub fn run(alloc: Global, job: &job::RunJob) -> Result<Asked, LineFault>
     ensures { Gives (λ x. x) result (spec.run_of job.now) }
 {
     let at = optional_reading(&job.asking.at)?;
@@ -140,7 +140,7 @@ pub fn run(alloc: Global, job: &job::Run) -> Result<Asked, LineFault>
 
 /// The report on a department.
 #[tactic(auto, unfolding(crate::specs::Asked::report_of))]
-pub fn report(alloc: Global, job: &job::Report) -> Result<Asked, LineFault>
+pub fn report(alloc: Global, job: &job::ReportJob) -> Result<Asked, LineFault>
     ensures { Gives (λ x. x) result (spec.report_of job.now) }
 {
     let at = optional_reading(&job.asking.at)?;
@@ -155,7 +155,7 @@ pub fn report(alloc: Global, job: &job::Report) -> Result<Asked, LineFault>
 
 /// The certificate of a removed version.
 #[tactic(auto, unfolding(crate::specs::Asked::certificate_of))]
-pub fn certificate(alloc: Global, job: &job::Certificate) -> Result<Asked, LineFault>
+pub fn certificate(alloc: Global, job: &job::CertificateJob) -> Result<Asked, LineFault>
     ensures { Gives (λ x. x) result (spec.certificate_of job.now) }
 {
     let at = optional_reading(&job.asking.at)?;
@@ -171,7 +171,7 @@ pub fn certificate(alloc: Global, job: &job::Certificate) -> Result<Asked, LineF
 
 /// The intake of a batch into a bucket.
 #[tactic(auto, unfolding(crate::specs::Asked::intake_of))]
-pub fn intake(alloc: Global, job: &job::Intake) -> Result<AskedIntake, LineFault>
+pub fn intake(alloc: Global, job: &job::IntakeJob) -> Result<AskedIntake, LineFault>
     ensures { Gives (λ x. x) result (spec.intake_of job.now) }
 {
     let at = optional_reading(&job.asking.at)?;

@@ -2,8 +2,8 @@
 ghost use Rattle.std.specs.Prelude.{◌≡◌, ◌≢◌, ◌≤◌, IsTrue, IfOk, OnErr, Err, Ok};
 ghost use Rattle.std.specs.Io.KnownBytes.{Appends};
 ghost use Rattle.vault_core.specs.Told.{CountAsTold};
-ghost use Rattle.vault_core_model.specs.Halts.{is_device_reply, Rose};
-ghost use Rattle.vault_core_model.specs.Step.{Step, Reached};
+ghost use Rattle.vault_core_model.specs.Halts.{is_device_reply, RoseOrIsFull};
+ghost use Rattle.vault_core_model.specs.Step.{IsStep, Reached};
 ghost use Rattle.vault_core_model.specs.declared.reply.Reply.{Reply as AnyReply};
 ghost use Rattle.vault_core_model.specs.declared.reply.Reply.TheVariants.{Refused};
 ghost use Rattle.vaultctl_commands.specs.Printed as spec;
@@ -74,15 +74,15 @@ pub fn carry_out<K: Keeper, W: Write>(
 ) -> Result<Outcome, JobFault>
     // The reply is that of one step of the machine, and it is what is printed. It tells that the device failed only
     // where the count of failures rose, or stands at its greatest value.
-    ensures ok { K.is_honest keeper.new → IfOk result (λ outcome. (reply : AnyReply) × Step (K.vault keeper.old) at who.now command.now reply (K.vault keeper.new)
+    ensures ok { K.is_honest keeper.new → IfOk result (λ outcome. (reply : AnyReply) × IsStep (K.vault keeper.old) at who.now command.now reply (K.vault keeper.new)
         × (outcome ≡ spec.outcome_of reply) × Appends (W.contents out.old) (W.contents out.new) (spec.printed reply)
-        × (IsTrue (is_device_reply reply) → Rose (K.count keeper.old) (K.count keeper.new))) }
-    ensures err { K.is_honest keeper.new → OnErr result ((reply : AnyReply) × Step (K.vault keeper.old) at who.now command.now reply (K.vault keeper.new)) }
+        × (IsTrue (is_device_reply reply) → RoseOrIsFull (K.count keeper.old) (K.count keeper.new))) }
+    ensures err { K.is_honest keeper.new → OnErr result ((reply : AnyReply) × IsStep (K.vault keeper.old) at who.now command.now reply (K.vault keeper.new)) }
     // Whatever the device does, what is answered is what the printed reply says.
     ensures told { IfOk result (λ outcome. spec.TellsReply outcome (W.contents out.old) (W.contents out.new)) }
     // And there is one reply, printed where anything is, which tells that the device failed just where the count of
     // failures rose, or can rise no further; where it doesn't tell it, the count is as it was.
-    ensures steady { (reply : AnyReply) × (K.is_honest keeper.new → Step (K.vault keeper.old) at who.now command.now reply (K.vault keeper.new))
+    ensures steady { (reply : AnyReply) × (K.is_honest keeper.new → IsStep (K.vault keeper.old) at who.now command.now reply (K.vault keeper.new))
         × IfOk result (λ outcome. (outcome ≡ spec.outcome_of reply) × Appends (W.contents out.old) (W.contents out.new) (spec.printed reply))
         × CountAsTold (K.count keeper.old) (K.count keeper.new) (is_device_reply reply) }
     ensures reached { K.is_honest keeper.new → Reached (K.vault keeper.old) → Reached (K.vault keeper.new) }

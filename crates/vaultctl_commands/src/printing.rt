@@ -1,5 +1,5 @@
 //! Texts to standard output.
-ghost use Rattle.std.specs.Prelude.{◌≡◌, ◌≢◌, OnOk};
+ghost use Rattle.std.specs.Prelude.{◌≢◌, OnOk};
 ghost use Rattle.std.specs.Io.KnownBytes.{Appends};
 
 use crate::fault::JobFault;

@@ -6,20 +6,20 @@ use Rattle.std.specs.Str.{bytes_eq}
 use Rattle.std.specs.Str.Parse.{digits_value, without_leading_plus}
 use Rattle.clap.specs.Words.{Row, Text, all_of, first_of, one_of}
 use Rattle.vaultctl_job.specs.declared.job.Asking.{Asking}
-use Rattle.vaultctl_job.specs.declared.job.Init.{Init}
-use Rattle.vaultctl_job.specs.declared.job.Dept.{Dept}
-use Rattle.vaultctl_job.specs.declared.job.Caller.{Caller}
-use Rattle.vaultctl_job.specs.declared.job.Bucket.{Bucket}
-use Rattle.vaultctl_job.specs.declared.job.Move.{Move}
-use Rattle.vaultctl_job.specs.declared.job.Intake.{Intake}
-use Rattle.vaultctl_job.specs.declared.job.Run.{Run}
-use Rattle.vaultctl_job.specs.declared.job.Report.{Report}
-use Rattle.vaultctl_job.specs.declared.job.Certificate.{Certificate}
-use Rattle.vaultctl_job.specs.declared.job.Register.{Register}
-use Rattle.vaultctl_job.specs.declared.job.Verify.{Verify}
-use Rattle.vaultctl_job.specs.declared.job.Replay.{Replay}
-use Rattle.vaultctl_job.specs.declared.job.Serve.{Serve}
-use Rattle.vaultctl_job.specs.declared.job.Migrate.{Migrate}
+use Rattle.vaultctl_job.specs.declared.job.InitJob.{InitJob}
+use Rattle.vaultctl_job.specs.declared.job.DeptJob.{DeptJob}
+use Rattle.vaultctl_job.specs.declared.job.CallerJob.{CallerJob}
+use Rattle.vaultctl_job.specs.declared.job.BucketJob.{BucketJob}
+use Rattle.vaultctl_job.specs.declared.job.MoveJob.{MoveJob}
+use Rattle.vaultctl_job.specs.declared.job.IntakeJob.{IntakeJob}
+use Rattle.vaultctl_job.specs.declared.job.RunJob.{RunJob}
+use Rattle.vaultctl_job.specs.declared.job.ReportJob.{ReportJob}
+use Rattle.vaultctl_job.specs.declared.job.CertificateJob.{CertificateJob}
+use Rattle.vaultctl_job.specs.declared.job.RegisterJob.{RegisterJob}
+use Rattle.vaultctl_job.specs.declared.job.VerifyJob.{VerifyJob}
+use Rattle.vaultctl_job.specs.declared.job.ReplayJob.{ReplayJob}
+use Rattle.vaultctl_job.specs.declared.job.ServeJob.{ServeJob}
+use Rattle.vaultctl_job.specs.declared.job.MigrateJob.{MigrateJob}
 use Rattle.vaultctl_job.specs.declared.job.Job.{Job}
 use Rattle.vaultctl_job.specs.declared.job.Job.TheVariants as job
 
@@ -51,13 +51,13 @@ asking_of rows = record { who = text_of (codes "as") rows; at = first_of (codes 
 abbrev pub file_of : List Row → Text
 file_of rows = text_of (codes "FILE") rows
 
-unfoldable pub init_of : List Row → Init
+unfoldable pub init_of : List Row → InitJob
 init_of rows = record { file = file_of rows }
 
-unfoldable pub dept_of : List Row → Dept
+unfoldable pub dept_of : List Row → DeptJob
 dept_of rows = record { file = file_of rows; name = text_of (codes "NAME") rows; asking = asking_of rows }
 
-unfoldable pub caller_of : List Row → Caller
+unfoldable pub caller_of : List Row → CallerJob
 caller_of rows = record {
   file = file_of rows;
   name = text_of (codes "NAME") rows;
@@ -67,13 +67,13 @@ caller_of rows = record {
   close = is_set (codes "close") rows;
 }
 
-unfoldable pub bucket_of : List Row → Bucket
+unfoldable pub bucket_of : List Row → BucketJob
 bucket_of rows = record { file = file_of rows; name = text_of (codes "NAME") rows; dept = text_of (codes "DEPT") rows; asking = asking_of rows }
 
-unfoldable pub move_of : List Row → Move
+unfoldable pub move_of : List Row → MoveJob
 move_of rows = record { file = file_of rows; bucket = text_of (codes "BUCKET") rows; dept = text_of (codes "DEPT") rows; asking = asking_of rows }
 
-unfoldable pub intake_of : List Row → Intake
+unfoldable pub intake_of : List Row → IntakeJob
 intake_of rows = record {
   file = file_of rows;
   bucket = text_of (codes "BUCKET") rows;
@@ -83,13 +83,13 @@ intake_of rows = record {
   asking = asking_of rows;
 }
 
-unfoldable pub run_of : List Row → Run
+unfoldable pub run_of : List Row → RunJob
 run_of rows = record { file = file_of rows; bucket = text_of (codes "BUCKET") rows; asking = asking_of rows }
 
-unfoldable pub report_of : List Row → Report
+unfoldable pub report_of : List Row → ReportJob
 report_of rows = record { file = file_of rows; dept = text_of (codes "DEPT") rows; asking = asking_of rows }
 
-unfoldable pub certificate_of : List Row → Certificate
+unfoldable pub certificate_of : List Row → CertificateJob
 certificate_of rows = record {
   file = file_of rows;
   bucket = text_of (codes "BUCKET") rows;
@@ -97,19 +97,19 @@ certificate_of rows = record {
   asking = asking_of rows;
 }
 
-unfoldable pub register_of : List Row → Register
+unfoldable pub register_of : List Row → RegisterJob
 register_of rows = record { file = file_of rows }
 
-unfoldable pub verify_of : List Row → Verify
+unfoldable pub verify_of : List Row → VerifyJob
 verify_of rows = record { file = file_of rows }
 
-unfoldable pub replay_of : List Row → Replay
+unfoldable pub replay_of : List Row → ReplayJob
 replay_of rows = record { file = first_of (codes "FILE") rows }
 
-unfoldable pub serve_of : List Row → Serve
+unfoldable pub serve_of : List Row → ServeJob
 serve_of rows = record { file = file_of rows; port = number_of 65536 (codes "PORT") rows; count = number_of 4294967296 (codes "count") rows }
 
-unfoldable pub migrate_of : List Row → Migrate
+unfoldable pub migrate_of : List Row → MigrateJob
 migrate_of rows = record { old = text_of (codes "OLD") rows; new = text_of (codes "NEW") rows }
 
 -- what a subcommand of that name asks for with these words

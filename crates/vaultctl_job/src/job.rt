@@ -10,13 +10,13 @@ pub struct Asking {
 
 /// `init FILE`
 #[derive(Drop)]
-pub struct Init {
+pub struct InitJob {
     pub file: Word,
 }
 
 /// `dept FILE NAME --as C [--at T]`
 #[derive(Drop)]
-pub struct Dept {
+pub struct DeptJob {
     pub file: Word,
     pub name: Word,
     pub asking: Asking,
@@ -24,7 +24,7 @@ pub struct Dept {
 
 /// `caller FILE NAME [RIGHT]... --as C [--at T] [--dept D] [--close]`
 #[derive(Drop)]
-pub struct Caller {
+pub struct CallerJob {
     pub file: Word,
     pub name: Word,
     pub rights: Words,
@@ -35,7 +35,7 @@ pub struct Caller {
 
 /// `bucket FILE NAME DEPT --as C [--at T]`
 #[derive(Drop)]
-pub struct Bucket {
+pub struct BucketJob {
     pub file: Word,
     pub name: Word,
     pub dept: Word,
@@ -44,17 +44,17 @@ pub struct Bucket {
 
 /// `move FILE BUCKET DEPT --as C [--at T]`
 #[derive(Drop)]
-pub struct Move {
+pub struct MoveJob {
     pub file: Word,
     pub bucket: Word,
-    /// The department that the bucket becomes.
+    /// The department that the bucket moves to.
     pub dept: Word,
     pub asking: Asking,
 }
 
 /// `intake FILE BUCKET BATCH LIST FOLDER --as C [--at T]`
 #[derive(Drop)]
-pub struct Intake {
+pub struct IntakeJob {
     pub file: Word,
     pub bucket: Word,
     pub batch: Word,
@@ -65,7 +65,7 @@ pub struct Intake {
 
 /// `run FILE BUCKET --as C [--at T]`
 #[derive(Drop)]
-pub struct Run {
+pub struct RunJob {
     pub file: Word,
     pub bucket: Word,
     pub asking: Asking,
@@ -73,7 +73,7 @@ pub struct Run {
 
 /// `report FILE DEPT --as C [--at T]`
 #[derive(Drop)]
-pub struct Report {
+pub struct ReportJob {
     pub file: Word,
     pub dept: Word,
     pub asking: Asking,
@@ -81,7 +81,7 @@ pub struct Report {
 
 /// `certificate FILE BUCKET VERSION --as C [--at T]`
 #[derive(Drop)]
-pub struct Certificate {
+pub struct CertificateJob {
     pub file: Word,
     pub bucket: Word,
     pub version: Word,
@@ -90,25 +90,25 @@ pub struct Certificate {
 
 /// `register FILE`
 #[derive(Drop)]
-pub struct Register {
+pub struct RegisterJob {
     pub file: Word,
 }
 
 /// `verify FILE`
 #[derive(Drop)]
-pub struct Verify {
+pub struct VerifyJob {
     pub file: Word,
 }
 
 /// `replay [FILE]`: without a file over a new vault in memory.
 #[derive(Drop)]
-pub struct Replay {
+pub struct ReplayJob {
     pub file: Option<Word>,
 }
 
 /// `serve FILE PORT [--count N]`
 #[derive(Drop)]
-pub struct Serve {
+pub struct ServeJob {
     pub file: Word,
     pub port: u16,
     /// How many requests are served.
@@ -117,7 +117,7 @@ pub struct Serve {
 
 /// `migrate OLD NEW`
 #[derive(Drop)]
-pub struct Migrate {
+pub struct MigrateJob {
     /// The file of an earlier version.
     pub old: Word,
     /// The file that gets the copy.
@@ -127,18 +127,18 @@ pub struct Migrate {
 /// What the program is to do.
 #[derive(Drop)]
 pub enum Job {
-    Init(Init),
-    Dept(Dept),
-    Caller(Caller),
-    Bucket(Bucket),
-    Move(Move),
-    Intake(Intake),
-    Run(Run),
-    Report(Report),
-    Certificate(Certificate),
-    Register(Register),
-    Verify(Verify),
-    Replay(Replay),
-    Serve(Serve),
-    Migrate(Migrate),
+    Init(InitJob),
+    Dept(DeptJob),
+    Caller(CallerJob),
+    Bucket(BucketJob),
+    Move(MoveJob),
+    Intake(IntakeJob),
+    Run(RunJob),
+    Report(ReportJob),
+    Certificate(CertificateJob),
+    Register(RegisterJob),
+    Verify(VerifyJob),
+    Replay(ReplayJob),
+    Serve(ServeJob),
+    Migrate(MigrateJob),
 }

@@ -4,8 +4,8 @@ ghost use Rattle.clap.specs.Words.{all_of, found_of, rows_of, first_of};
 ghost use Rattle.vaultctl_job.specs.Jobs as spec;
 
 use crate::job::{
-    Asking, Bucket, Caller, Certificate, Dept, Init, Intake, Job, Migrate, Move, Register, Replay,
-    Report, Run, Serve, Verify,
+    Asking, BucketJob, CallerJob, CertificateJob, DeptJob, InitJob, IntakeJob, Job, MigrateJob,
+    MoveJob, RegisterJob, ReplayJob, ReportJob, RunJob, ServeJob, VerifyJob,
 };
 use crate::word::{Word, Words};
 use clap::ArgMatches;
@@ -97,19 +97,19 @@ fn asking(alloc: Global, matches: &ArgMatches<'_>) -> Result<Asking, AllocError>
 }
 
 #[tactic(auto, unfolding(crate::specs::Jobs::init_of))]
-fn init(alloc: Global, matches: &ArgMatches<'_>) -> Result<Init, AllocError>
+fn init(alloc: Global, matches: &ArgMatches<'_>) -> Result<InitJob, AllocError>
     ensures { IfOk result (λ job. job ≡ spec.init_of (rows_of (found_of matches.now))) }
 {
-    Ok(Init {
+    Ok(InitJob {
         file: word(alloc, matches, "FILE")?,
     })
 }
 
 #[tactic(auto, unfolding(crate::specs::Jobs::dept_of))]
-fn dept(alloc: Global, matches: &ArgMatches<'_>) -> Result<Dept, AllocError>
+fn dept(alloc: Global, matches: &ArgMatches<'_>) -> Result<DeptJob, AllocError>
     ensures { IfOk result (λ job. job ≡ spec.dept_of (rows_of (found_of matches.now))) }
 {
-    Ok(Dept {
+    Ok(DeptJob {
         file: word(alloc, matches, "FILE")?,
         name: word(alloc, matches, "NAME")?,
         asking: asking(alloc, matches)?,
@@ -117,10 +117,10 @@ fn dept(alloc: Global, matches: &ArgMatches<'_>) -> Result<Dept, AllocError>
 }
 
 #[tactic(auto, unfolding(crate::specs::Jobs::caller_of))]
-fn caller(alloc: Global, matches: &ArgMatches<'_>) -> Result<Caller, AllocError>
+fn caller(alloc: Global, matches: &ArgMatches<'_>) -> Result<CallerJob, AllocError>
     ensures { IfOk result (λ job. job ≡ spec.caller_of (rows_of (found_of matches.now))) }
 {
-    Ok(Caller {
+    Ok(CallerJob {
         file: word(alloc, matches, "FILE")?,
         name: word(alloc, matches, "NAME")?,
         rights: words(alloc, matches, "RIGHT")?,
@@ -131,10 +131,10 @@ fn caller(alloc: Global, matches: &ArgMatches<'_>) -> Result<Caller, AllocError>
 }
 
 #[tactic(auto, unfolding(crate::specs::Jobs::bucket_of))]
-fn bucket(alloc: Global, matches: &ArgMatches<'_>) -> Result<Bucket, AllocError>
+fn bucket(alloc: Global, matches: &ArgMatches<'_>) -> Result<BucketJob, AllocError>
     ensures { IfOk result (λ job. job ≡ spec.bucket_of (rows_of (found_of matches.now))) }
 {
-    Ok(Bucket {
+    Ok(BucketJob {
         file: word(alloc, matches, "FILE")?,
         name: word(alloc, matches, "NAME")?,
         dept: word(alloc, matches, "DEPT")?,
@@ -143,10 +143,10 @@ fn bucket(alloc: Global, matches: &ArgMatches<'_>) -> Result<Bucket, AllocError>
 }
 
 #[tactic(auto, unfolding(crate::specs::Jobs::move_of))]
-fn moving(alloc: Global, matches: &ArgMatches<'_>) -> Result<Move, AllocError>
+fn moving(alloc: Global, matches: &ArgMatches<'_>) -> Result<MoveJob, AllocError>
     ensures { IfOk result (λ job. job ≡ spec.move_of (rows_of (found_of matches.now))) }
 {
-    Ok(Move {
+    Ok(MoveJob {
         file: word(alloc, matches, "FILE")?,
         bucket: word(alloc, matches, "BUCKET")?,
         dept: word(alloc, matches, "DEPT")?,
@@ -155,10 +155,10 @@ fn moving(alloc: Global, matches: &ArgMatches<'_>) -> Result<Move, AllocError>
 }
 
 #[tactic(auto, unfolding(crate::specs::Jobs::intake_of))]
-fn intake(alloc: Global, matches: &ArgMatches<'_>) -> Result<Intake, AllocError>
+fn intake(alloc: Global, matches: &ArgMatches<'_>) -> Result<IntakeJob, AllocError>
     ensures { IfOk result (λ job. job ≡ spec.intake_of (rows_of (found_of matches.now))) }
 {
-    Ok(Intake {
+    Ok(IntakeJob {
         file: word(alloc, matches, "FILE")?,
         bucket: word(alloc, matches, "BUCKET")?,
         batch: word(alloc, matches, "BATCH")?,
@@ -169,10 +169,10 @@ fn intake(alloc: Global, matches: &ArgMatches<'_>) -> Result<Intake, AllocError>
 }
 
 #[tactic(auto, unfolding(crate::specs::Jobs::run_of))]
-fn run(alloc: Global, matches: &ArgMatches<'_>) -> Result<Run, AllocError>
+fn run(alloc: Global, matches: &ArgMatches<'_>) -> Result<RunJob, AllocError>
     ensures { IfOk result (λ job. job ≡ spec.run_of (rows_of (found_of matches.now))) }
 {
-    Ok(Run {
+    Ok(RunJob {
         file: word(alloc, matches, "FILE")?,
         bucket: word(alloc, matches, "BUCKET")?,
         asking: asking(alloc, matches)?,
@@ -180,10 +180,10 @@ fn run(alloc: Global, matches: &ArgMatches<'_>) -> Result<Run, AllocError>
 }
 
 #[tactic(auto, unfolding(crate::specs::Jobs::report_of))]
-fn report(alloc: Global, matches: &ArgMatches<'_>) -> Result<Report, AllocError>
+fn report(alloc: Global, matches: &ArgMatches<'_>) -> Result<ReportJob, AllocError>
     ensures { IfOk result (λ job. job ≡ spec.report_of (rows_of (found_of matches.now))) }
 {
-    Ok(Report {
+    Ok(ReportJob {
         file: word(alloc, matches, "FILE")?,
         dept: word(alloc, matches, "DEPT")?,
         asking: asking(alloc, matches)?,
@@ -191,10 +191,10 @@ fn report(alloc: Global, matches: &ArgMatches<'_>) -> Result<Report, AllocError>
 }
 
 #[tactic(auto, unfolding(crate::specs::Jobs::certificate_of))]
-fn certificate(alloc: Global, matches: &ArgMatches<'_>) -> Result<Certificate, AllocError>
+fn certificate(alloc: Global, matches: &ArgMatches<'_>) -> Result<CertificateJob, AllocError>
     ensures { IfOk result (λ job. job ≡ spec.certificate_of (rows_of (found_of matches.now))) }
 {
-    Ok(Certificate {
+    Ok(CertificateJob {
         file: word(alloc, matches, "FILE")?,
         bucket: word(alloc, matches, "BUCKET")?,
         version: word(alloc, matches, "VERSION")?,
@@ -203,37 +203,37 @@ fn certificate(alloc: Global, matches: &ArgMatches<'_>) -> Result<Certificate, A
 }
 
 #[tactic(auto, unfolding(crate::specs::Jobs::register_of))]
-fn register(alloc: Global, matches: &ArgMatches<'_>) -> Result<Register, AllocError>
+fn register(alloc: Global, matches: &ArgMatches<'_>) -> Result<RegisterJob, AllocError>
     ensures { IfOk result (λ job. job ≡ spec.register_of (rows_of (found_of matches.now))) }
 {
-    Ok(Register {
+    Ok(RegisterJob {
         file: word(alloc, matches, "FILE")?,
     })
 }
 
 #[tactic(auto, unfolding(crate::specs::Jobs::verify_of))]
-fn verify(alloc: Global, matches: &ArgMatches<'_>) -> Result<Verify, AllocError>
+fn verify(alloc: Global, matches: &ArgMatches<'_>) -> Result<VerifyJob, AllocError>
     ensures { IfOk result (λ job. job ≡ spec.verify_of (rows_of (found_of matches.now))) }
 {
-    Ok(Verify {
+    Ok(VerifyJob {
         file: word(alloc, matches, "FILE")?,
     })
 }
 
 #[tactic(auto, unfolding(crate::specs::Jobs::replay_of))]
-fn replay(alloc: Global, matches: &ArgMatches<'_>) -> Result<Replay, AllocError>
+fn replay(alloc: Global, matches: &ArgMatches<'_>) -> Result<ReplayJob, AllocError>
     ensures { IfOk result (λ job. job ≡ spec.replay_of (rows_of (found_of matches.now))) }
 {
-    Ok(Replay {
+    Ok(ReplayJob {
         file: optional_word(alloc, matches, "FILE")?,
     })
 }
 
 #[tactic(auto, unfolding(crate::specs::Jobs::serve_of))]
-fn serve(alloc: Global, matches: &ArgMatches<'_>) -> Result<Serve, AllocError>
+fn serve(alloc: Global, matches: &ArgMatches<'_>) -> Result<ServeJob, AllocError>
     ensures { IfOk result (λ job. job ≡ spec.serve_of (rows_of (found_of matches.now))) }
 {
-    Ok(Serve {
+    Ok(ServeJob {
         file: word(alloc, matches, "FILE")?,
         port: port(matches),
         count: count(matches),
@@ -241,10 +241,10 @@ fn serve(alloc: Global, matches: &ArgMatches<'_>) -> Result<Serve, AllocError>
 }
 
 #[tactic(auto, unfolding(crate::specs::Jobs::migrate_of))]
-fn migrate(alloc: Global, matches: &ArgMatches<'_>) -> Result<Migrate, AllocError>
+fn migrate(alloc: Global, matches: &ArgMatches<'_>) -> Result<MigrateJob, AllocError>
     ensures { IfOk result (λ job. job ≡ spec.migrate_of (rows_of (found_of matches.now))) }
 {
-    Ok(Migrate {
+    Ok(MigrateJob {
         old: word(alloc, matches, "OLD")?,
         new: word(alloc, matches, "NEW")?,
     })

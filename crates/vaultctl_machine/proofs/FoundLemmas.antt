@@ -17,7 +17,7 @@ use Rattle.vault_audit_model.specs.Rows.{meta_columns_as}
 use Rattle.vault_audit_model.specs.Spells.{AreSoundAs}
 use Rattle.vault_audit_model.specs.Tables.{meta_tree}
 use Rattle.vault_audit_model.specs.Values.{number}
-use Rattle.vaultctl_machine.specs.Files.{AreTreesAs, IsFoundAs, IsFoundEarlier, IsHeldAs}
+use Rattle.vaultctl_machine.specs.Files.{AreSoundEarlier, AreTreesAs, IsFoundAs, IsFoundEarlier, IsHeldAs}
 
 -- a disk that is clean was clean before
 pub was_clean : (old new : State) (Commits : Trees → Type 0) → Survives old new Commits → HasCleanDisk new → HasCleanDisk old
@@ -69,3 +69,14 @@ module _ (n : Edition) (image : Image) (s : State) (v : Vault) (opens : Opens s)
       let same = one_edition n m trees v w spelled is in
       let there : AreTreesAs n w trees = subst (λ k. AreTreesAs k w trees) (sym same) is in
       same_vault_as n _ v w spelled.spells there.spells
+
+-- ---- the same of tables of one of the two earlier editions
+
+module _ (image : Image) (s : State) (v : Vault) (opens : Opens s) (found : FindsIn image s) where
+  pub found_of_earlier : AreSoundEarlier s.now v → IsFoundEarlier image v
+  found_of_earlier (inl sound) = found_earlier First image s v opens found sound (inl refl)
+  found_of_earlier (inr sound) = found_earlier Second image s v opens found sound (inr refl)
+
+  pub held_of_earlier : AreSoundEarlier s.now v → (m : Edition) (w : Vault) → IsHeldAs m image w → v ≡ w
+  held_of_earlier (inl sound) = held_in_files First image s v opens found sound
+  held_of_earlier (inr sound) = held_in_files Second image s v opens found sound

@@ -1,6 +1,16 @@
 -- From what a copying says of the vaults that old tables spell to the one that is kept.
-use Rattle.std.proofs.Common.{◌≡◌, Result, Ok, Err, sym, subst}
-use Rattle.std.specs.Prelude.{IfOk}
+use Rattle.std.proofs.Common.{◌≡◌, ◌⊎◌, inl, inr, Result, Ok, Err, sym, subst}
+use Rattle.std.specs.Prelude.{IfOk, IfErr}
+use Rattle.sqlite.specs.Effect.{Database}
+use Rattle.vault_base.specs.declared.refusal.Refusal.{Refusal}
+use Rattle.vault_base.specs.declared.refusal.Refusal.TheVariants.{Damaged}
+use Rattle.vault_base.specs.declared.refusal.Table.{Table}
+use Rattle.vault_core_model.specs.Vault.{Vault}
+use Rattle.vault_audit_model.specs.declared.schema.Edition.{Edition}
+use Rattle.vault_audit_model.specs.declared.schema.Edition.TheVariants.{First, Second}
+use Rattle.vault_audit_model.specs.Spells.{AreSoundAs}
+use Rattle.vault_audit_model.specs.Tables.{schema_of}
+use Rattle.vaultctl_machine.specs.Files.{AreSoundEarlier}
 
 module _ {V K E : Type 0} (Clean : Type 0) (IsClean : K → Type 0) (Spells : V → Type 0) (kept : K → V) where
   -- where some vault is spelled, and each that is spelled is the one that is kept, that one is
@@ -10,3 +20,27 @@ module _ {V K E : Type 0} (Clean : Type 0) (IsClean : K → Type 0) (Spells : V 
       let it = some old in
       subst Spells (sym (same old new it.0 it.1)) it.1
   kept_is_spelled (Err e) some same = tt
+
+-- ---- of which edition tables are told to be
+
+module _ (n : Edition) (db : Database) where
+  sound_as : (v : Vault) → (n ≡ First) ⊎ (n ≡ Second) → AreSoundAs n db v → AreSoundEarlier db v
+  sound_as v (inl is) sound = inl (subst (λ m. AreSoundAs m db v) is sound)
+  sound_as v (inr is) sound = inr (subst (λ m. AreSoundAs m db v) is sound)
+
+  -- where tables are sound as those of that edition, they are as those of an earlier one
+  pub kept_is_earlier : {K E : Type 0} (Clean : Type 0) (IsClean : K → Type 0) (kept : K → Vault) (r : Result K E) → (n ≡ First) ⊎ (n ≡ Second)
+      → IfOk r (λ k. Clean → IsClean k → AreSoundAs n db (kept k)) → IfOk r (λ k. Clean → IsClean k → AreSoundEarlier db (kept k))
+  kept_is_earlier Clean IsClean kept (Ok k) earlier is = λ old new. sound_as (kept k) earlier (is old new)
+  kept_is_earlier Clean IsClean kept (Err e) earlier is = tt
+
+-- where the edition is told by the schema, tables that are sound as those of an earlier one are sound as those of that one
+pub sound_as_told : (n : Edition) (db : Database) (v : Vault) → (db.schema ≡ schema_of First → n ≡ First) → (db.schema ≡ schema_of Second → n ≡ Second) → AreSoundEarlier db v → AreSoundAs n db v
+sound_as_told n db v first second (inl sound) = subst (λ m. AreSoundAs m db v) (sym (first sound.spells.schema)) sound
+sound_as_told n db v first second (inr sound) = subst (λ m. AreSoundAs m db v) (sym (second sound.spells.schema)) sound
+
+-- so none of them is told as damaged
+pub never_damaged : {K C : Type 0} (n : Edition) (db : Database) (Clean : Type 0) (v : Vault) (r : Result K (Refusal × C)) → AreSoundAs n db v
+    → IfErr r (λ e. Clean → (t : Table) → e.0 ≡ Damaged t → (w : Vault) → ¬ AreSoundAs n db w) → IfErr r (λ e. Clean → (t : Table) → ¬ (e.0 ≡ Damaged t))
+never_damaged n db Clean v (Ok k) sound is = tt
+never_damaged n db Clean v (Err e) sound is = λ clean t same. is clean t same v sound

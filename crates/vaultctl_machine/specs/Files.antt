@@ -1,5 +1,6 @@
 -- The vault that a file and its log hold.
 use Rattle.std.specs.Prelude.{◌⊎◌}
+use Rattle.sqlite.specs.Effect.{Database}
 use Rattle.sqlite.specs.Files.{AreFoundIn, HoldsDatabase}
 use Rattle.sqlite_trees.specs.Tree.{Trees}
 use Rattle.sqlite_wal.specs.Recovery.{Image}
@@ -22,7 +23,11 @@ IsHeldAs n image v = (trees : Trees) × HoldsDatabase image trees × AreTreesAs 
 abbrev pub IsFoundAs : Edition → Image → Vault → Type 0
 IsFoundAs n image v = (trees : Trees) × AreFoundIn image trees × AreTreesAs n v trees
 
--- the same of one of the editions before the newest
+-- tables are sound as those of one of the editions before the newest, and spell this vault
+abbrev pub AreSoundEarlier : Database → Vault → Type 0
+AreSoundEarlier db v = AreSoundAs First db v ⊎ AreSoundAs Second db v
+
+-- an opening finds tables in them that are of one of these, are sound and spell this vault
 abbrev pub IsFoundEarlier : Image → Vault → Type 0
 IsFoundEarlier image v = IsFoundAs First image v ⊎ IsFoundAs Second image v
 

@@ -1,5 +1,5 @@
 -- What is seen of a file and its log before they are opened.
-use Rattle.std.specs.Prelude.{ℕ, ◌∷◌, ◌++◌, ◌&&◌, ◌||◌, [], Bool, false, not, nat_lt, List, Option, None, Some, is_some, codes, if◌then◌else◌}
+use Rattle.std.specs.Prelude.{ℕ, ◌+◌, ◌-◌, ◌^◌, ◌∷◌, ◌++◌, ◌&&◌, ◌||◌, [], Bool, false, not, min, nat_lt, List, Option, None, Some, is_some, codes, if◌then◌else◌}
 use Rattle.vaultctl_machine.specs.declared.places.Place.{Place}
 
 -- the first bytes of each file that holds tables
@@ -22,3 +22,11 @@ may_be_made place = if place.is_free then not (may_have_changes place.log) else 
 -- one of the two files is there
 abbrev pub is_used : Place → Bool
 is_used place = place.is_there || is_some place.log
+
+-- how many vaults were looked for, after one look more; the count stops at 2^64 - 1
+abbrev pub after_a_look : ℕ → ℕ
+after_a_look looked = min (looked + 1) (2 ^ 64 - 1)
+
+-- how many vaults were given out, with one more; the count stops at 2^64 - 1
+abbrev pub with_one_given : ℕ → ℕ
+with_one_given given = min (given + 1) (2 ^ 64 - 1)

@@ -1,5 +1,5 @@
 //! Vaults of an earlier edition, copied into new files.
-ghost use Rattle.std.specs.Prelude.{◌≡◌, ◌+◌, ◌-◌, ◌^◌, IfOk, min};
+ghost use Rattle.std.specs.Prelude.{◌≡◌, ◌≢◌, IfOk, IfErr, OnOk, OnErr};
 ghost use Rattle.sqlite.specs.Files.{file_state, over_files, IsOpened};
 ghost use Rattle.sqlite.specs.Held.{state};
 ghost use Rattle.sqlite.specs.Start.{FindsIn};
@@ -7,9 +7,11 @@ ghost use Rattle.sqlite.specs.State.{HasCleanDisk};
 ghost use Rattle.sqlite_wal.specs.Files.{image_at};
 ghost use Rattle.vault_audit_model.specs.declared.schema.Edition.{Edition};
 ghost use Rattle.vault_audit_model.specs.Spells.{AreSound, AreSoundAs};
+ghost use Rattle.vault_base.specs.declared.refusal.Table.{Table};
 ghost use Rattle.vault_core_model.specs.Vault.{Vault};
 ghost use Rattle.vault_store.specs.Kept.{kept_vault};
-ghost use Rattle.vaultctl_machine.specs.Files.{IsFoundEarlier, IsHeldAs};
+ghost use Rattle.vaultctl_machine.specs.Files.{AreSoundEarlier, IsFoundEarlier, IsHeldAs};
+ghost use Rattle.vaultctl_machine.specs.Places.{after_a_look, with_one_given};
 
 use crate::editions::edition_of;
 use crate::places::place_at;
@@ -53,6 +55,7 @@ fn copy<O: Alter, S: Alter>(
     ensures found { IfOk result.outcome (λ k. HasCleanDisk (state O.Store result.source) → HasCleanDisk (state S.Store k.conn)
         → AreSoundAs edition (state O.Store source).now (kept_vault S.Store k.opening.at.items k.opening.known k.made.items)) }
     ensures sound { IfOk result.outcome (λ k. HasCleanDisk (state S.Store k.conn) → AreSound (state S.Store k.conn).now (kept_vault S.Store k.opening.at.items k.opening.known k.made.items)) }
+    ensures damaged { IfErr result.outcome (λ e. HasCleanDisk (state O.Store result.source) → (t : Table) → e.0 ≡ Refusal.Damaged t → (v : Vault) → ¬ AreSoundAs edition (state O.Store source).now v) }
 {
     let mut source = source;
     let outcome = SqlKeeper::migrate(alloc, &mut source, edition, new);
@@ -71,6 +74,7 @@ fn copy_to_file<O: Alter, B: Start>(
     ensures found { IfOk result.outcome (λ k. HasCleanDisk (state O.Store result.source) → HasCleanDisk (file_state k.conn)
         → AreSoundAs edition (state O.Store source).now (kept_vault over_files k.opening.at.items k.opening.known k.made.items)) }
     ensures sound { IfOk result.outcome (λ k. HasCleanDisk (file_state k.conn) → AreSound (file_state k.conn).now (kept_vault over_files k.opening.at.items k.opening.known k.made.items)) }
+    ensures damaged { IfErr result.outcome (λ e. HasCleanDisk (state O.Store result.source) → (t : Table) → e.0 ≡ Refusal.Damaged t → (v : Vault) → ¬ AreSoundAs edition (state O.Store source).now v) }
 {
     copy(alloc, source, edition, new)
 }
@@ -86,8 +90,27 @@ fn copy_file<A: Start, B: Start>(
     ensures found { IfOk result.outcome (λ k. HasCleanDisk (file_state result.source) → HasCleanDisk (file_state k.conn)
         → AreSoundAs edition (file_state source).now (kept_vault over_files k.opening.at.items k.opening.known k.made.items)) }
     ensures sound { IfOk result.outcome (λ k. HasCleanDisk (file_state k.conn) → AreSound (file_state k.conn).now (kept_vault over_files k.opening.at.items k.opening.known k.made.items)) }
+    ensures damaged { IfErr result.outcome (λ e. HasCleanDisk (file_state result.source) → (t : Table) → e.0 ≡ Refusal.Damaged t → (v : Vault) → ¬ AreSoundAs edition (file_state source).now v) }
 {
     copy_to_file(alloc, source, edition, new)
+}
+
+/// The same of tables of one of the two earlier editions, which their columns tell.
+fn copy_earlier<A: Start, B: Start>(
+    alloc: Global,
+    source: Connection<VaultStore<A>>,
+    new: Connection<VaultStore<B>>,
+) -> Copied<VaultStore<A>, VaultStore<B>>
+    ensures clean { HasCleanDisk (file_state result.source) → HasCleanDisk (file_state source) }
+    ensures found { IfOk result.outcome (λ k. HasCleanDisk (file_state result.source) → HasCleanDisk (file_state k.conn)
+        → AreSoundEarlier (file_state source).now (kept_vault over_files k.opening.at.items k.opening.known k.made.items)) }
+    ensures sound { IfOk result.outcome (λ k. HasCleanDisk (file_state k.conn) → AreSound (file_state k.conn).now (kept_vault over_files k.opening.at.items k.opening.known k.made.items)) }
+    // Tables that are sound as those of one of the two are never told as damaged.
+    ensures undamaged { (v : Vault) → AreSoundEarlier (file_state source).now v
+        → IfErr result.outcome (λ e. HasCleanDisk (file_state result.source) → (t : Table) → e.0 ≢ Refusal.Damaged t) }
+{
+    let edition = edition_of(source.schema());
+    copy_file(alloc, source, edition, new)
 }
 
 /// The file that gets a copy.
@@ -195,13 +218,39 @@ fn copy_into<A: Start, B: Start>(
     ensures held { (n : Edition) (v : Vault) → IsHeldAs n (image_at A.Start) v → IfOk result (λ m. HasCleanDisk (file_state m.source) → HasCleanDisk (file_state m.vault.conn)
         → kept_vault over_files m.vault.opening.at.items m.vault.opening.known m.vault.made.items ≡ v) }
 {
-    let edition = edition_of(source.schema());
-    let Copied { source, outcome } = copy_file(rt.alloc(), source, edition, new);
+    let Copied { source, outcome } = copy_earlier(rt.alloc(), source, new);
     match outcome {
         Ok(vault) => Ok(Migrated { source, vault }),
         Err((refusal, new)) => {
             leave(source);
             abandon(rt, target, new);
+            Err(Unopened::Refused(refusal))
+        }
+    }
+}
+
+/// Copies the vault in the files at one path into those at another.
+///
+/// The errors are those of `Machine::migrate`.
+fn copy_at<A: Start, B: Start>(
+    rt: &HostRuntime,
+    old: &str,
+    new: &str,
+    starts: Starts<A, B>,
+) -> Result<Migrated<VaultStore<A>, VaultStore<B>>, Unopened>
+    ensures sound { IfOk result (λ m. HasCleanDisk (file_state m.vault.conn) → AreSound (file_state m.vault.conn).now (kept_vault over_files m.vault.opening.at.items m.vault.opening.known m.vault.made.items)) }
+    ensures found { IfOk result (λ m. HasCleanDisk (file_state m.source) → HasCleanDisk (file_state m.vault.conn)
+        → IsFoundEarlier (image_at A.Start) (kept_vault over_files m.vault.opening.at.items m.vault.opening.known m.vault.made.items)) }
+    ensures held { (n : Edition) (v : Vault) → IsHeldAs n (image_at A.Start) v → IfOk result (λ m. HasCleanDisk (file_state m.source) → HasCleanDisk (file_state m.vault.conn)
+        → kept_vault over_files m.vault.opening.at.items m.vault.opening.known m.vault.made.items ≡ v) }
+{
+    let Starts { first, second } = starts;
+    let target = Target::of(rt, new)?;
+    let source = connect_there(rt, old, first)?;
+    match connect_new(rt, &target, second) {
+        Ok(conn) => copy_into(rt, &target, source, conn),
+        Err(refusal) => {
+            leave(source);
             Err(Unopened::Refused(refusal))
         }
     }
@@ -230,7 +279,10 @@ impl<'a> Machine<'a> {
         new: &str,
         starts: Starts<A, B>,
     ) -> Result<Migrated<VaultStore<A>, VaultStore<B>>, Unopened>
-        ensures looked { self.new.looked ≡ min (self.old.looked + 1) (2 ^ 64 - 1) }
+        ensures looked { self.new.looked ≡ after_a_look self.old.looked }
+        // It is counted just where there is a copy.
+        ensures counted { OnOk result (self.new.given ≡ with_one_given self.old.given) }
+        ensures uncounted { OnErr result (self.new.given ≡ self.old.given) }
         ensures sound { IfOk result (λ m. HasCleanDisk (file_state m.vault.conn) → AreSound (file_state m.vault.conn).now (kept_vault over_files m.vault.opening.at.items m.vault.opening.known m.vault.made.items)) }
         // The vault of the copy is the one that the tables spell which were found in the old files.
         ensures found { IfOk result (λ m. HasCleanDisk (file_state m.source) → HasCleanDisk (file_state m.vault.conn)
@@ -240,15 +292,8 @@ impl<'a> Machine<'a> {
             → kept_vault over_files m.vault.opening.at.items m.vault.opening.known m.vault.made.items ≡ v) }
     {
         let rt = self.look();
-        let Starts { first, second } = starts;
-        let target = Target::of(rt, new)?;
-        let source = connect_there(rt, old, first)?;
-        match connect_new(rt, &target, second) {
-            Ok(conn) => copy_into(rt, &target, source, conn),
-            Err(refusal) => {
-                leave(source);
-                Err(Unopened::Refused(refusal))
-            }
-        }
+        let migrated = copy_at(rt, old, new, starts)?;
+        self.count_given();
+        Ok(migrated)
     }
 }

@@ -2,14 +2,17 @@
 ghost use Rattle.std.specs.Prelude.{◌≡◌};
 ghost use Rattle.vaultctl_machine.specs.Faults as spec;
 
+use thiserror::Error;
 use vault_base::refusal::Refusal;
 
 /// Why the vault in a file isn't opened or made.
-#[derive(Clone, Copy, Debug, PartialEq, Eq)]
+#[derive(Clone, Copy, Debug, PartialEq, Eq, Error)]
 pub enum Unopened {
     /// Another program has the file or its log open, if only to read. It is told as `Device`.
+    #[error("another program has the file or its log open")]
     Held,
     /// For another cause, which is told as this.
+    #[error("{}", .0.name())]
     Refused(Refusal),
 }
 

@@ -1,5 +1,5 @@
 //! Vaults in files.
-ghost use Rattle.std.specs.Prelude.{◌≡◌, ◌+◌, ◌-◌, ◌^◌, IfOk, min};
+ghost use Rattle.std.specs.Prelude.{◌≡◌, IfOk, OnOk, OnErr};
 ghost use Rattle.sqlite.specs.Files.{file_state, over_files, IsOpened};
 ghost use Rattle.sqlite.specs.Start.{FindsIn};
 ghost use Rattle.sqlite.specs.State.{HasCleanDisk};
@@ -9,6 +9,7 @@ ghost use Rattle.vault_core_model.specs.Vault.{Vault, opening};
 ghost use Rattle.vault_store.specs.Kept.{kept_vault};
 ghost use Rattle.vaultctl_machine.specs.Faults as spec;
 ghost use Rattle.vaultctl_machine.specs.Files.{IsFoundIn, IsHeldIn};
+ghost use Rattle.vaultctl_machine.specs.Places.{after_a_look, with_one_given};
 
 use crate::places::place_at;
 use crate::unopened::Unopened;
@@ -25,11 +26,12 @@ pub type VaultStore<S> = FileStore<FileFrom<S>>;
 /// A vault in files.
 pub type FileVault<S> = SqlKeeper<VaultStore<S>>;
 
-/// The files of the machine, and how many vaults were looked for there.
+/// The files of the machine, how many vaults were looked for there, and how many were given out: opened, made or copied.
 #[derive(Drop)]
 pub struct Machine<'a> {
     rt: &'a HostRuntime,
     looked: u64,
+    given: u64,
 }
 
 /// What a failure to open a file is told as, where a vault should be in it.
@@ -165,12 +167,49 @@ fn made_in<S: Start>(
     }
 }
 
+/// The vault in the files at a path.
+///
+/// The errors are those of `Machine::open`.
+fn opened_at<S: Start>(rt: &HostRuntime, path: &str, start: S) -> Result<FileVault<S>, Unopened>
+    ensures sound { IfOk result (λ vault. HasCleanDisk (file_state vault.conn) → AreSound (file_state vault.conn).now (kept_vault over_files vault.opening.at.items vault.opening.known vault.made.items)) }
+    ensures found { IfOk result (λ vault. HasCleanDisk (file_state vault.conn) → IsFoundIn (image_at S.Start) (kept_vault over_files vault.opening.at.items vault.opening.known vault.made.items)) }
+    ensures held { (v : Vault) → IsHeldIn (image_at S.Start) v → IfOk result (λ vault. HasCleanDisk (file_state vault.conn) → kept_vault over_files vault.opening.at.items vault.opening.known vault.made.items ≡ v) }
+{
+    match connect_there(rt, path, start) {
+        Ok(conn) => found_in(rt.alloc(), conn),
+        Err(cause) => Err(cause),
+    }
+}
+
+/// A new vault in the files at a path.
+///
+/// The errors are those of `Machine::make`.
+fn made_at<S: Start>(rt: &HostRuntime, path: &str, start: S) -> Result<FileVault<S>, Unopened>
+    ensures opening { IfOk result (λ vault. HasCleanDisk (file_state vault.conn) → kept_vault over_files vault.opening.at.items vault.opening.known vault.made.items ≡ opening) }
+    ensures sound { IfOk result (λ vault. HasCleanDisk (file_state vault.conn) → AreSound (file_state vault.conn).now opening) }
+{
+    match place_at(rt, path) {
+        Ok(place) if place.may_be_made() => {}
+        Ok(_) => return Err(Unopened::Refused(Refusal::NameTaken)),
+        Err(error) => return Err(unseen(error)),
+    }
+    match connect(rt, path, start) {
+        Ok(conn) => made_in(rt.alloc(), conn),
+        Err(error) => Err(cause(error, unmade(error))),
+    }
+}
+
 impl<'a> Machine<'a> {
     /// The files of a machine, where no vault was looked for yet.
     pub fn new(rt: &'a HostRuntime) -> Machine<'a>
-        ensures { result.looked ≡ 0 }
+        ensures looked { result.looked ≡ 0 }
+        ensures given { result.given ≡ 0 }
     {
-        Machine { rt, looked: 0 }
+        Machine {
+            rt,
+            looked: 0,
+            given: 0,
+        }
     }
 
     /// The runtime.
@@ -180,10 +219,19 @@ impl<'a> Machine<'a> {
 
     /// Counts that a vault is looked for, and answers the runtime.
     pub(crate) fn look(&mut self) -> &'a HostRuntime
-        ensures { self.new.looked ≡ min (self.old.looked + 1) (2 ^ 64 - 1) }
+        ensures looked { self.new.looked ≡ after_a_look self.old.looked }
+        ensures given { self.new.given ≡ self.old.given }
     {
         self.looked = self.looked.saturating_add(1);
         self.rt
+    }
+
+    /// Counts that a vault is given out.
+    pub(crate) fn count_given(&mut self)
+        ensures given { self.new.given ≡ with_one_given self.old.given }
+        ensures looked { self.new.looked ≡ self.old.looked }
+    {
+        self.given = self.given.saturating_add(1);
     }
 
     /// Opens the vault in a file: its tables have to be sound. `start` stands for what the file and its log hold.
@@ -193,7 +241,10 @@ impl<'a> Machine<'a> {
     /// it is, with nothing beside it. `Memory` where memory was refused, `Device` where the file can't be read, and
     /// `Held` where another program has it.
     pub fn open<S: Start>(&mut self, path: &str, start: S) -> Result<FileVault<S>, Unopened>
-        ensures looked { self.new.looked ≡ min (self.old.looked + 1) (2 ^ 64 - 1) }
+        ensures looked { self.new.looked ≡ after_a_look self.old.looked }
+        // It is counted just where there is one.
+        ensures counted { OnOk result (self.new.given ≡ with_one_given self.old.given) }
+        ensures uncounted { OnErr result (self.new.given ≡ self.old.given) }
         ensures sound { IfOk result (λ vault. HasCleanDisk (file_state vault.conn) → AreSound (file_state vault.conn).now (kept_vault over_files vault.opening.at.items vault.opening.known vault.made.items)) }
         // The vault that is opened is the one that the tables spell which were found in the files.
         ensures found { IfOk result (λ vault. HasCleanDisk (file_state vault.conn) → IsFoundIn (image_at S.Start) (kept_vault over_files vault.opening.at.items vault.opening.known vault.made.items)) }
@@ -201,10 +252,9 @@ impl<'a> Machine<'a> {
         ensures held { (v : Vault) → IsHeldIn (image_at S.Start) v → IfOk result (λ vault. HasCleanDisk (file_state vault.conn) → kept_vault over_files vault.opening.at.items vault.opening.known vault.made.items ≡ v) }
     {
         let rt = self.look();
-        match connect_there(rt, path, start) {
-            Ok(conn) => found_in(rt.alloc(), conn),
-            Err(cause) => Err(cause),
-        }
+        let vault = opened_at(rt, path, start)?;
+        self.count_given();
+        Ok(vault)
     }
 
     /// Makes a new vault in a file that isn't there or is empty. `start` stands for what the file and its log hold.
@@ -213,19 +263,16 @@ impl<'a> Machine<'a> {
     /// `Memory` where memory was refused, `Device` where the file can't be made, and `Held` where another program
     /// has it.
     pub fn make<S: Start>(&mut self, path: &str, start: S) -> Result<FileVault<S>, Unopened>
-        ensures looked { self.new.looked ≡ min (self.old.looked + 1) (2 ^ 64 - 1) }
+        ensures looked { self.new.looked ≡ after_a_look self.old.looked }
+        // It is counted just where there is one.
+        ensures counted { OnOk result (self.new.given ≡ with_one_given self.old.given) }
+        ensures uncounted { OnErr result (self.new.given ≡ self.old.given) }
         ensures opening { IfOk result (λ vault. HasCleanDisk (file_state vault.conn) → kept_vault over_files vault.opening.at.items vault.opening.known vault.made.items ≡ opening) }
         ensures sound { IfOk result (λ vault. HasCleanDisk (file_state vault.conn) → AreSound (file_state vault.conn).now opening) }
     {
         let rt = self.look();
-        match place_at(rt, path) {
-            Ok(place) if place.may_be_made() => {}
-            Ok(_) => return Err(Unopened::Refused(Refusal::NameTaken)),
-            Err(error) => return Err(unseen(error)),
-        }
-        match connect(rt, path, start) {
-            Ok(conn) => made_in(rt.alloc(), conn),
-            Err(error) => Err(cause(error, unmade(error))),
-        }
+        let vault = made_at(rt, path, start)?;
+        self.count_given();
+        Ok(vault)
     }
 }

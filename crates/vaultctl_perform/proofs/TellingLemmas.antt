@@ -1,13 +1,9 @@
 -- On what is written piece by piece.
-use Rattle.std.proofs.Common.{ℕ, List, [], ◌++◌, ◌∙◌, Option, Result, Ok, Err, ap, refl, sym, append-nil, append_assoc}
+use Rattle.std.proofs.Common.{ℕ, List, [], ◌++◌, ◌∙◌, Option, Result, Ok, Err, ap, sym, append-nil, append_assoc}
 use Rattle.std.specs.Prelude.{OnOk, OnErr}
 use Rattle.std.specs.Io.KnownBytes.{Appends}
-use Rattle.std.proofs.KnownBytes.{Appends-nil, Appends-trans}
+use Rattle.std.proofs.KnownBytes.{Appends-trans}
 use Rattle.vault_io.specs.Begins.{Begins}
-
--- nothing is a beginning of nothing
-pub begins_nothing : (a : Option (List ℕ)) → Begins a a []
-begins_nothing a = ([], [], refl, Appends-nil a)
 
 -- a beginning of the front
 pub begins_sooner : (a b : Option (List ℕ)) (front back : List ℕ) → Begins a b front → Begins a b (front ++ back)

@@ -4,7 +4,7 @@ use Rattle.std.specs.Io.KnownBytes.{Appends}
 use Rattle.vault_base.specs.declared.refusal.Refusal.TheVariants.{ClockOutOfRange}
 use Rattle.vault_core.specs.Told.{CountAsTold}
 use Rattle.vault_core_model.specs.Halts.{is_device_reply}
-use Rattle.vault_core_model.specs.Step.{Step}
+use Rattle.vault_core_model.specs.Step.{IsStep}
 use Rattle.vault_core_model.specs.Vault.{Vault}
 use Rattle.vault_core_model.specs.declared.reply.Reply.{Reply}
 use Rattle.vault_core_model.specs.declared.reply.Reply.TheVariants.{Refused}
@@ -17,7 +17,7 @@ use Rattle.vaultctl_commands.specs.declared.asked.Asked.{Asked}
 -- It was done by one step at that reading, and the reply to it is printed. That the device failed is told only where it did.
 abbrev pub IsDone : Type 0 → ℕ → Asked → Vault → Vault → Outcome → Option (List ℕ) → Option (List ℕ) → Type 0
 IsDone Failed at asked v v' told before after =
-    (reply : Reply) × Step v at asked.who asked.command reply v' × (told ≡ outcome_of reply) × Appends before after (printed reply) × (IsTrue (is_device_reply reply) → Failed)
+    (reply : Reply) × IsStep v at asked.who asked.command reply v' × (told ≡ outcome_of reply) × Appends before after (printed reply) × (IsTrue (is_device_reply reply) → Failed)
 
 -- the clock shows no moment: that is told, and nothing is done
 abbrev pub IsUnread : Vault → Vault → Outcome → Option (List ℕ) → Option (List ℕ) → Type 0
@@ -31,7 +31,7 @@ IsDoneAt Failed None asked v v' told before after = ((at : ℕ) × IsDone Failed
 -- One step was made at that reading, and its reply is printed where anything is. The reply tells that the device failed just where the count of failures rose, or can rise no further; where it doesn't, the count is as it was. Honest says that the device has returned what was written.
 abbrev pub IsSteady : Type 0 → ℕ → Asked → Vault → Vault → ℕ → ℕ → Result Outcome JobFault → Option (List ℕ) → Option (List ℕ) → Type 0
 IsSteady Honest at asked v v' n n' result before after =
-    (reply : Reply) × (Honest → Step v at asked.who asked.command reply v') × IfOk result (λ told. (told ≡ outcome_of reply) × Appends before after (printed reply))
+    (reply : Reply) × (Honest → IsStep v at asked.who asked.command reply v') × IfOk result (λ told. (told ≡ outcome_of reply) × Appends before after (printed reply))
     × CountAsTold n n' (is_device_reply reply)
 
 -- the clock shows no moment: nothing is done, and the count is as it was

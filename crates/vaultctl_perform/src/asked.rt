@@ -1,7 +1,7 @@
 //! Jobs that ask one thing of the vault in a file: their values, then the file, then the reading, then the step.
 ghost use Rattle.std.specs.Prelude.{◌≡◌, ◌≢◌, ◌≤◌, ℕ, IfOk, Result, Err, Some};
 ghost use Rattle.vault_base.specs.declared.refusal.Refusal.{Refusal as AnyRefusal};
-ghost use Rattle.vault_core_model.specs.Halts.{Rose};
+ghost use Rattle.vault_core_model.specs.Halts.{RoseOrIsFull};
 ghost use Rattle.vault_core_model.specs.Step.{Reached};
 ghost use Rattle.vault_values.specs.Fault.{Gives};
 ghost use Rattle.vaultctl_commands.specs.Printed.{TellsReply};
@@ -46,7 +46,7 @@ fn carry_out_asked<C: Clock, K: Keeper, W: Write>(
     out: &mut W,
 ) -> Result<Outcome, JobFault>
     // It is one step, by the caller who asks and at the reading that is given, and what is printed is the reply to it.
-    ensures done { K.is_honest keeper.new → IfOk result (λ told. spec.IsDoneAt (Rose (K.count keeper.old) (K.count keeper.new)) asked.now.at asked.now (K.vault keeper.old) (K.vault keeper.new) told (W.contents out.old) (W.contents out.new)) }
+    ensures done { K.is_honest keeper.new → IfOk result (λ told. spec.IsDoneAt (RoseOrIsFull (K.count keeper.old) (K.count keeper.new)) asked.now.at asked.now (K.vault keeper.old) (K.vault keeper.new) told (W.contents out.old) (W.contents out.new)) }
     // Whatever the device does, what is answered is what the printed reply says.
     ensures told { IfOk result (λ told. TellsReply told (W.contents out.old) (W.contents out.new)) }
     // And that the device failed is told just where it did, whatever it does.

@@ -2,7 +2,8 @@
 //!
 //! What they do over any keeper has no clause of its own: one would have a call's proof carry all that the keeper
 //! of a file holds.
-ghost use Rattle.std.specs.Prelude.{◌≡◌, ◌≢◌};
+ghost use Rattle.std.specs.Prelude.{◌≡◌, ◌≢◌, OnOk};
+ghost use Rattle.vaultctl_machine.specs.Places.{with_one_given};
 ghost use Rattle.vaultctl_perform.specs.Status as spec;
 
 use crate::replay::fault_of;
@@ -23,7 +24,9 @@ use vaultctl_replay::{ReplayFault, replay};
 use vaultctl_serve::{PortFault, serve};
 
 /// Makes the vault in a file and closes it.
-fn make<S: Start>(machine: &mut Machine<'_>, file: &str, start: S) -> Result<(), Unopened> {
+fn make<S: Start>(machine: &mut Machine<'_>, file: &str, start: S) -> Result<(), Unopened>
+    ensures { OnOk result (machine.new.given ≡ with_one_given machine.old.given) }
+{
     close_vault(machine.make(file, start)?);
     Ok(())
 }
@@ -41,6 +44,8 @@ fn tell_made<E: Write>(err: &mut E, made: Result<(), Unopened>) -> u8
 /// Makes a new vault in a file, and prints nothing.
 pub fn init<S: Start, E: Write>(machine: &mut Machine<'_>, file: &str, start: S, err: &mut E) -> u8
     ensures status { result ≢ 2 }
+    // Status 0 says that a vault was made.
+    ensures given { result ≡ 0 → machine.new.given ≡ with_one_given machine.old.given }
 {
     let made = make(machine, file, start);
     tell_made(err, made)

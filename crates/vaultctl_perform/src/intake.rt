@@ -9,7 +9,6 @@ ghost use Rattle.vaultctl_commands.specs.declared.asked.AskedIntake.{AskedIntake
 use crate::asked::reading;
 use crate::telling::{status, tell_cause, tell_fault, tell_value};
 use sqlite::Start;
-use std::alloc::Global;
 use std::io::Write;
 use vault_base::refusal::Refusal;
 use vault_core_model::halt::Fault;
@@ -23,7 +22,7 @@ use vaultctl_commands::carrying::tell_refusal;
 use vaultctl_commands::fault::JobFault;
 use vaultctl_commands::intake::{take_in_and_tell, tell_unread_list};
 use vaultctl_commands::outcome::Outcome;
-use vaultctl_job::job::Intake;
+use vaultctl_job::job::IntakeJob;
 use vaultctl_machine::terminal::terminal;
 use vaultctl_machine::vaults::{FileVault, Machine, close_vault};
 
@@ -69,7 +68,7 @@ fn take_in_list<K: Keeper, W: Write>(
     rt: &HostRuntime,
     keeper: &mut K,
     asked: &AskedIntake,
-    job: &Intake,
+    job: &IntakeJob,
     out: &mut W,
 ) -> Result<Outcome, JobFault>
     ensures told { IfOk result (λ told. told ≡ Outcome.Done → TellsIntake Outcome.Done (W.contents out.old) (W.contents out.new)) }
@@ -92,7 +91,7 @@ fn take_in_keeper<K: Keeper, W: Write>(
     rt: &HostRuntime,
     keeper: &mut K,
     asked: &AskedIntake,
-    job: &Intake,
+    job: &IntakeJob,
     out: &mut W,
 ) -> Result<Outcome, JobFault>
     ensures told { IfOk result (λ told. told ≡ Outcome.Done → TellsIntake Outcome.Done (W.contents out.old) (W.contents out.new)) }
@@ -107,7 +106,7 @@ fn take_in_vault<S: Start, W: Write>(
     rt: &HostRuntime,
     vault: FileVault<S>,
     asked: &AskedIntake,
-    job: &Intake,
+    job: &IntakeJob,
     out: &mut W,
 ) -> Result<Outcome, JobFault>
     ensures told { IfOk result (λ told. told ≡ Outcome.Done → TellsIntake Outcome.Done (W.contents out.old) (W.contents out.new)) }
@@ -124,7 +123,7 @@ fn take_in_file<S: Start, W: Write, E: Write>(
     machine: &mut Machine<'_>,
     start: S,
     asked: &AskedIntake,
-    job: &Intake,
+    job: &IntakeJob,
     out: &mut W,
     err: &mut E,
 ) -> u8
@@ -143,7 +142,7 @@ fn take_in_asked<S: Start, W: Write, E: Write>(
     machine: &mut Machine<'_>,
     start: S,
     asked: &Result<AskedIntake, LineFault>,
-    job: &Intake,
+    job: &IntakeJob,
     out: &mut W,
     err: &mut E,
 ) -> u8
@@ -165,7 +164,7 @@ pub fn take_in<S: Start, W: Write, E: Write>(
     machine: &mut Machine<'_>,
     start: S,
     asked: Result<AskedIntake, LineFault>,
-    job: &Intake,
+    job: &IntakeJob,
     out: &mut W,
     err: &mut E,
 ) -> u8

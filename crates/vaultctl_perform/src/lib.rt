@@ -1,7 +1,7 @@
 //! Carries out what the program's words ask for.
 #![tactic(auto)]
 
-ghost use Rattle.std.specs.Prelude.{◌≡◌, ◌≢◌, ℕ, List, [], None, Some, map, string_bytes};
+ghost use Rattle.std.specs.Prelude.{◌≡◌, ◌≢◌, [], None, Some, map, string_bytes};
 ghost use Rattle.clap.specs.Words.{fault_of};
 ghost use Rattle.vaultctl_job.specs.Words.{job_for, vaultctl};
 ghost use Rattle.vaultctl_job.specs.declared.job.Job.{Job as AnyJob};
@@ -24,7 +24,7 @@ use std::io::{Read, Write};
 use vaultctl_commands::asked as values;
 use vaultctl_commands::fault::JobFault;
 use vaultctl_job::fault::WordsFault;
-use vaultctl_job::job::{Job, Replay};
+use vaultctl_job::job::{Job, ReplayJob};
 use vaultctl_job::words::job_of;
 use vaultctl_machine::starts::Starts;
 use vaultctl_machine::vaults::Machine;
@@ -32,7 +32,7 @@ use vaultctl_machine::vaults::Machine;
 fn replay_script<S: Start, R: Read, W: Write, E: Write>(
     machine: &mut Machine<'_>,
     start: S,
-    job: &Replay,
+    job: &ReplayJob,
     reader: &mut R,
     out: &mut W,
     err: &mut E,

@@ -1,6 +1,7 @@
 //! The vault of an earlier version, copied into a new file.
-ghost use Rattle.std.specs.Prelude.{◌≡◌, ◌≢◌, ◌+◌, ◌-◌, ◌^◌, IfOk, Ok, min, string_bytes};
+ghost use Rattle.std.specs.Prelude.{◌≡◌, ◌≢◌, IfOk, OnOk, Ok};
 ghost use Rattle.std.specs.Io.KnownBytes.{Appends};
+ghost use Rattle.vaultctl_machine.specs.Places.{after_a_look, with_one_given};
 ghost use Rattle.vaultctl_perform.specs.Told as spec;
 
 use crate::telling::{status, tell_cause};
@@ -21,7 +22,8 @@ fn copy<A: Start, B: Start>(
     new: &str,
     starts: Starts<A, B>,
 ) -> Result<(), Unopened>
-    ensures looked { machine.new.looked ≡ min (machine.old.looked + 1) (2 ^ 64 - 1) }
+    ensures looked { machine.new.looked ≡ after_a_look machine.old.looked }
+    ensures given { OnOk result (machine.new.given ≡ with_one_given machine.old.given) }
 {
     close_migrated(machine.migrate(old, new, starts)?);
     Ok(())
@@ -55,8 +57,9 @@ pub fn migrate<A: Start, B: Start, W: Write, E: Write>(
     out: &mut W,
     err: &mut E,
 ) -> u8
-    ensures looked { machine.new.looked ≡ min (machine.old.looked + 1) (2 ^ 64 - 1) }
-    // Status 0 says that `migrated` was printed.
+    ensures looked { machine.new.looked ≡ after_a_look machine.old.looked }
+    // Status 0 says that a vault was copied, and `migrated` printed.
+    ensures given { result ≡ 0 → machine.new.given ≡ with_one_given machine.old.given }
     ensures told { result ≡ 0 → Appends (W.contents out.old) (W.contents out.new) spec.migrated_line }
     ensures status { result ≢ 2 }
 {

@@ -1,6 +1,7 @@
 //! Whether the vault in a file is sound.
-ghost use Rattle.std.specs.Prelude.{◌≡◌, ◌≢◌, IfOk, Ok, string_bytes};
+ghost use Rattle.std.specs.Prelude.{◌≡◌, ◌≢◌, IfOk, OnOk, Ok, string_bytes};
 ghost use Rattle.std.specs.Io.KnownBytes.{Appends};
+ghost use Rattle.vaultctl_machine.specs.Places.{with_one_given};
 ghost use Rattle.vaultctl_perform.specs.Told as spec;
 
 use crate::telling::{status, tell_cause};
@@ -66,7 +67,9 @@ fn tell_opened<W: Write, E: Write>(
 }
 
 /// Opens the vault in a file and closes it.
-fn look<S: Start>(machine: &mut Machine<'_>, file: &str, start: S) -> Result<(), Unopened> {
+fn look<S: Start>(machine: &mut Machine<'_>, file: &str, start: S) -> Result<(), Unopened>
+    ensures { OnOk result (machine.new.given ≡ with_one_given machine.old.given) }
+{
     close_vault(machine.open(file, start)?);
     Ok(())
 }
@@ -79,7 +82,8 @@ pub fn verify<S: Start, W: Write, E: Write>(
     out: &mut W,
     err: &mut E,
 ) -> u8
-    // Status 0 says that `sound` was printed.
+    // Status 0 says that a vault was opened, and `sound` printed.
+    ensures given { result ≡ 0 → machine.new.given ≡ with_one_given machine.old.given }
     ensures told { result ≡ 0 → Appends (W.contents out.old) (W.contents out.new) spec.sound_line }
     ensures status { result ≢ 2 }
 {

@@ -32,14 +32,6 @@ take_next s i h = rw (add-one, take-suc s i 0)
 pub whole_cut : (s : List ℕ) (i : ℕ) → i < length s → s ≡ (take i s ++ get_or s i 0 ∷ []) ++ drop (i + 1) s
 whole_cut s i h = rw (← take_next s i h) (sym (take-append-drop (i + 1) s))
 
-pub last_of-some : (part : List ℕ) → (length part == 0) ≡ false → last_of part ≡ unended_of part ∷ []
-last_of-some [] e = cc
-last_of-some (b ∷ bs) e = refl
-
-pub last_of-none : (part : List ℕ) → (length part == 0) ≡ true → last_of part ≡ []
-last_of-none [] e = refl
-last_of-none (b ∷ bs) e = absurd (grind arith)
-
 take-nil : (most : ℕ) → take {A = ℕ} most [] ≡ []
 take-nil zero = refl
 take-nil (suc n) = refl

@@ -11,8 +11,8 @@ use Rattle.std.proofs.lemmas.List.Folds.{list_any-append}
 use Rattle.vault_core.specs.Told.{CountAsTold}
 use Rattle.vault_core.proofs.Device.{count_as_told}
 use Rattle.vault_base.specs.declared.refusal.Refusal.{Refusal}
-use Rattle.vault_core_model.specs.Halts.{is_device_reply, Rose}
-use Rattle.vault_core_model.specs.Step.{Run, Reached, Step}
+use Rattle.vault_core_model.specs.Halts.{is_device_reply, RoseOrIsFull}
+use Rattle.vault_core_model.specs.Step.{IsRun, Reached, IsStep}
 use Rattle.vault_core_model.specs.Vault.{Vault, opening}
 use Rattle.vault_core_model.specs.declared.command.Timed.{Timed}
 use Rattle.vault_core_model.specs.declared.reply.Reply.{Reply}
@@ -81,7 +81,7 @@ refusal_replied H v n r (Ok t) told = (reply.Refused r ∷ [], (refl, refl, refl
 refusal_replied H v n r (Err e) told = told
 
 -- a step that was made, with what its reply tells of the count of failures
-module _ (H : Type 0) (v v' : Vault) (n n' : ℕ) (c : Timed) (r : Reply) (made : H → Step v c.at c.who c.command r v') (counted : n ≤ n') (device : IsTrue (is_device_reply r) → Rose n n') (steady : is_device_reply r ≡ false → n' ≡ n) where
+module _ (H : Type 0) (v v' : Vault) (n n' : ℕ) (c : Timed) (r : Reply) (made : H → IsStep v c.at c.who c.command r v') (counted : n ≤ n') (device : IsTrue (is_device_reply r) → RoseOrIsFull n n') (steady : is_device_reply r ≡ false → n' ≡ n) where
   answered : Answers H v n (Command c) (r ∷ []) v' n'
   answered = (r, made, refl, counted, count_as_told n n' (is_device_reply r) device steady)
 
@@ -244,20 +244,20 @@ either_steady H G back a b c i j k u v w bytes part E at_end (Err x) first e ok 
 
 -- ---- vaults that runs lead to
 
-Run-then : (a b c : Vault) (cs ds : List Timed) (rs ss : List Reply) → Run a cs rs b → Run b ds ss c → Run a (cs ++ ds) (rs ++ ss) c
-Run-then a b c [] ds [] ss r s =
-    let P : Vault → Type 0 = λ v. Run v ds ss c in
+IsRun-then : (a b c : Vault) (cs ds : List Timed) (rs ss : List Reply) → IsRun a cs rs b → IsRun b ds ss c → IsRun a (cs ++ ds) (rs ++ ss) c
+IsRun-then a b c [] ds [] ss r s =
+    let P : Vault → Type 0 = λ v. IsRun v ds ss c in
     subst P r s
-Run-then a b c [] ds (x ∷ rs) ss r s = absurd r
-Run-then a b c (x ∷ cs) ds [] ss r s = absurd r
-Run-then a b c (x ∷ cs) ds (y ∷ rs) ss r s = (r.0, r.1, Run-then r.0 b c cs ds rs ss r.2 s)
+IsRun-then a b c [] ds (x ∷ rs) ss r s = absurd r
+IsRun-then a b c (x ∷ cs) ds [] ss r s = absurd r
+IsRun-then a b c (x ∷ cs) ds (y ∷ rs) ss r s = (r.0, r.1, IsRun-then r.0 b c cs ds rs ss r.2 s)
 
 module _ (H : Type 0) (h : H) where
   Answers-reached : (v v' : Vault) (n n' : ℕ) (asked : Line) (out : List Reply) → Answers H v n asked out v' n' → Reached v → Reached v'
   Answers-reached v v' n n' Skip out a q = subst Reached (sym a.1) q
   Answers-reached v v' n n' (Refused r) out a q = subst Reached (sym a.1) q
   Answers-reached v v' n n' (Command c) out a q =
-      (q.0 ++ c ∷ [], q.1 ++ a.0 ∷ [], Run-then opening v v' q.0 (c ∷ []) q.1 (a.0 ∷ []) q.2 (v', a.1 h, refl))
+      (q.0 ++ c ∷ [], q.1 ++ a.0 ∷ [], IsRun-then opening v v' q.0 (c ∷ []) q.1 (a.0 ∷ []) q.2 (v', a.1 h, refl))
 
   Runs-reached : (v v' : Vault) (n n' : ℕ) (asked : List Line) (out : List Reply) → Runs H v n asked out v' n' → Reached v → Reached v'
   Runs-reached v v' n n' [] out r q = subst Reached (sym r.1) q

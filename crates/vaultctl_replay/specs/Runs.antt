@@ -4,7 +4,7 @@ use Rattle.std.specs.Io.KnownBytes.{Appends}
 use Rattle.std.specs.List.{flat_map, list_any}
 use Rattle.vault_core.specs.Told.{CountAsTold}
 use Rattle.vault_core_model.specs.Halts.{is_device_reply}
-use Rattle.vault_core_model.specs.Step.{Step}
+use Rattle.vault_core_model.specs.Step.{IsStep}
 use Rattle.vault_core_model.specs.Vault.{Vault}
 use Rattle.vault_core_model.specs.declared.reply.Reply.{Reply}
 use Rattle.vault_core_model.specs.declared.reply.Reply.TheVariants as reply
@@ -23,7 +23,7 @@ abbrev pub Answers : Type 0 → Vault → ℕ → Line → List Reply → Vault 
 Answers Honest v n Skip replies v' n' = (replies ≡ []) × (v' ≡ v) × (n' ≡ n)
 Answers Honest v n (Refused r) replies v' n' = (replies ≡ reply.Refused r ∷ []) × (v' ≡ v) × (n' ≡ n)
 Answers Honest v n (Command c) replies v' n' =
-    (r : Reply) × (Honest → Step v c.at c.who c.command r v') × (replies ≡ r ∷ []) × (n ≤ n') × CountAsTold n n' (is_device_reply r)
+    (r : Reply) × (Honest → IsStep v c.at c.who c.command r v') × (replies ≡ r ∷ []) × (n ≤ n') × CountAsTold n n' (is_device_reply r)
 
 -- the line was carried out, and this is to be written of its reply
 abbrev pub Replied : Type 0 → Vault → ℕ → Line → List ℕ → Vault → ℕ → Type 0

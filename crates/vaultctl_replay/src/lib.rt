@@ -1,7 +1,7 @@
 //! Script lines from any reader, carried out over any keeper, with their replies to any writer.
 #![tactic(auto)]
 
-ghost use Rattle.std.specs.Prelude.{◌≡◌, ◌≤◌, ℕ, List, [], OnOk, OnErr};
+ghost use Rattle.std.specs.Prelude.{◌≡◌, ◌≤◌, ℕ, List, OnOk, OnErr};
 ghost use Rattle.std.specs.Io.KnownBytes.{Consumes, IsAtEnd};
 ghost use Rattle.vault_core_model.specs.Step.{Reached};
 ghost use Rattle.vaultctl_replay.specs.Runs.{AnswersAll, AnswersEnded, AnswersSome, Steady};

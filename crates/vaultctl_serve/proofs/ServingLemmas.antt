@@ -4,7 +4,7 @@ use Rattle.std.proofs.lemmas.List.{length-append}
 use Rattle.std.specs.Io.KnownBytes.{Keeps}
 use Rattle.vault_core_model.specs.Step.{Reached}
 use Rattle.vault_core_model.specs.Vault.{Vault}
-use Rattle.vault_core_laws.proofs.Runs.{Run-append}
+use Rattle.vault_core_laws.proofs.Runs.{IsRun-append}
 use Rattle.vault_http.specs.Left.{AtMostOne}
 use Rattle.vaultctl_serve.specs.Serving.{Stepped}
 
@@ -23,12 +23,12 @@ Stepped-append few more old mid new first second = (
   first.0 ++ second.0,
   first.1 ++ second.1,
   omega (arith, length-append first.0 second.0, first.2, second.2),
-  Run-append old mid new first.0 second.0 first.1 second.1 first.3 second.3,
+  IsRun-append old mid new first.0 second.0 first.1 second.1 first.3 second.3,
 )
 
 pub Stepped-reached : (most : ℕ) (old new : Vault) → Stepped most old new → Reached old → Reached new
 Stepped-reached most old new stepped before =
-    (before.0 ++ stepped.0, before.1 ++ stepped.1, Run-append _ _ _ before.0 stepped.0 before.1 stepped.1 before.2 stepped.3)
+    (before.0 ++ stepped.0, before.1 ++ stepped.1, IsRun-append _ _ _ before.0 stepped.0 before.1 stepped.1 before.2 stepped.3)
 
 pub Keeps-same : (u : Option (List ℕ)) → Keeps u u
 Keeps-same None = tt

@@ -1,8 +1,6 @@
 use Rattle.std.proofs.Common.{◌≡◌, ◌∙◌, true, false, ap, sym}
 use Rattle.std.specs.List.{list_any}
 use Rattle.sqlite.specs.Schema.{Schema}
-use Rattle.vault_audit_model.specs.declared.schema.Edition.TheVariants.{Second}
-use Rattle.vault_audit_model.specs.Tables.{schema_of}
 use Rattle.vaultctl_machine.specs.Editions as spec
 use Rattle.vaultctl_machine.proofs.editions.edition_of.Goals as goal
 

@@ -1,0 +1,5 @@
+use Rattle.vaultctl_perform.proofs.StatusLemmas.{holds_of_done}
+use Rattle.vaultctl_perform.proofs.verify.verify.Goals as goal
+
+pub returns-clause-given : goal.returns-clause-given
+returns-clause-given g c = λ z. holds_of_done _ c.look-opened.result (c.tell_opened.ensures.sound z).0 c.look-opened.ensures
