@@ -1,11 +1,12 @@
 //! Each row's request, cut behind every byte.
 use crate::exchange::{Exchange, answer, answer_whole, compare};
 use crate::rows::{Deed, rows};
-use crate::vault::{Filled, edge, told};
+use crate::vault::{Filled, told};
 use std::alloc::Global;
 use std::test::Fail;
 use vault_core_list::list_keeper::ListKeeper;
 use vault_core_model::keeper::Keeper;
+use vault_transcript::telling::edge;
 
 /// The first so many bytes get their one answer, and change nothing.
 fn cut<K: Keeper>(

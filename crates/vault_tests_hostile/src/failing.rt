@@ -1,13 +1,14 @@
 //! Readers that fail behind each byte of each row's request, and writers that fail at each of its writes.
 use crate::exchange::{Exchange, compare, serve};
 use crate::rows::{Deed, rows};
-use crate::vault::{Filled, edge, told};
+use crate::vault::{Filled, told};
 use std::alloc::Global;
 use std::test::Fail;
 use vault_core_list::list_keeper::ListKeeper;
 use vault_core_model::keeper::Keeper;
 use vault_failing::streams::{FailingReader, FailingWriter};
 use vault_http::ServeFault;
+use vault_transcript::telling::edge;
 
 /// Serves what a reader gives before it fails: what is written, and what is answered.
 fn serve_from<K: Keeper>(

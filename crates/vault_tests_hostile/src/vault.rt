@@ -52,11 +52,6 @@ fn played<K: Keeper + Drop>(alloc: Global, keeper: K, transcript: &str) -> Resul
     Ok(keeper)
 }
 
-/// The moment of the last change in seconds, and the id that the next entry gets.
-pub fn edge<K: Keeper>(keeper: &mut K) -> Result<(u64, u64), Fail> {
-    Ok((keeper.last()?.secs(), keeper.next_id()?))
-}
-
 /// All that replies tell of the vault: the report, what is held, its locks, contents, the default, the rules.
 pub fn told<K: Keeper>(alloc: Global, keeper: &mut K) -> Result<String, Fail> {
     replies(alloc, keeper, READS.as_bytes())

@@ -4,6 +4,7 @@ use std::io::{Read, Write};
 use std::test::Fail;
 use vault_core_model::keeper::Keeper;
 use vault_http::{ServeFault, serve_one};
+use vault_transcript::requests::wire;
 use vault_transcript::transcript::opened;
 
 /// 2024-01-15T10:30:00Z.
@@ -31,24 +32,6 @@ pub enum Row<'a> {
         status: &'a str,
         body: &'a str,
     },
-}
-
-fn push_wire(bytes: &mut String, text: &str) -> Result<(), AllocError> {
-    for c in text.chars() {
-        if c == '|' {
-            bytes.push_str("\r\n")?;
-        } else {
-            bytes.push(c)?;
-        }
-    }
-    Ok(())
-}
-
-/// A text with CR LF for each `|`.
-pub fn wire(alloc: Global, text: &str) -> Result<String, AllocError> {
-    let mut bytes = String::new(alloc);
-    push_wire(&mut bytes, text)?;
-    Ok(bytes)
 }
 
 fn push_repeated(text: &mut String, part: &str, count: u32) -> Result<(), AllocError> {

@@ -1,5 +1,5 @@
 //! What a fault of the reader, the writer or the device leaves behind.
-use crate::exchange::{READING, Row, answer, serve, walk, wire};
+use crate::exchange::{READING, Row, answer, serve, walk};
 use std::alloc::Global;
 use std::io::BufWriter;
 use std::test::Fail;
@@ -7,6 +7,7 @@ use vault_core::fuse_keeper::FuseKeeper;
 use vault_core_model::keeper::Keeper;
 use vault_failing::streams::{FailingReader, FailingWriter};
 use vault_http::ServeFault;
+use vault_transcript::requests::wire;
 use vault_transcript::transcript::opened;
 
 const PUT: &str =

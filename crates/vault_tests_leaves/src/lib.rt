@@ -1,11 +1,13 @@
 //! Tests of the crates that know no vault: names and digests, moments, locks, lifecycle rules, a department's sums,
-//! and the reader and the writer that fail.
+//! the messages of errors, and the reader and the writer that fail.
 #![tactic(auto)]
 
 #[cfg(test)]
 mod failing;
 #[cfg(test)]
 mod locks;
+#[cfg(test)]
+mod messages;
 #[cfg(test)]
 mod moments;
 #[cfg(test)]

@@ -1,80 +1,80 @@
 //! What a new vault's tables hold, and which stores are left as they are.
+use crate::actions::Action;
 use crate::files::{take_in_closed_files, take_in_files};
-use crate::steps::Step;
 use std::test::Fail;
 use vault_base::refusal::Refusal;
 
 /// Each of both counts is one at most, as its rows have a key among these values.
-const HAS_FIRST_ROWS: Step<'static> = Step::Number(
+const HAS_FIRST_ROWS: Action<'static> = Action::Number(
     "SELECT (SELECT count(*) FROM meta WHERE one = 1 AND schema = 3 AND last = 0 AND next = 1 AND moves = 0) + (SELECT count(*) FROM callers WHERE name = 'registrar' AND dept IS NULL AND rights = 1 AND closed = 0)",
     Some(2),
 );
 
-const HAS_TWO_ROWS: Step<'static> = Step::Number(
+const HAS_TWO_ROWS: Action<'static> = Action::Number(
     "SELECT (SELECT count(*) FROM meta) + (SELECT count(*) FROM callers)",
     Some(2),
 );
 
 #[test]
 fn a_new_vault_has_two_rows(rt: HostRuntime) -> Result<(), Fail> {
-    let steps = &[
-        Step::Fill(None),
+    let actions = &[
+        Action::Fill(None),
         HAS_FIRST_ROWS,
         HAS_TWO_ROWS,
-        Step::Number(
+        Action::Number(
             "SELECT (SELECT count(*) FROM departments) + (SELECT count(*) FROM buckets) + (SELECT count(*) FROM rules) + (SELECT count(*) FROM intake)",
             Some(0),
         ),
-        Step::Number(
+        Action::Number(
             "SELECT (SELECT count(*) FROM entries) + (SELECT count(*) FROM contents) + (SELECT count(*) FROM settings) + (SELECT count(*) FROM heads) + (SELECT count(*) FROM tenures)",
             Some(0),
         ),
     ];
-    take_in_files(rt.alloc(), steps)
+    take_in_files(rt.alloc(), actions)
 }
 
 #[test]
 fn a_vault_is_not_made_twice(rt: HostRuntime) -> Result<(), Fail> {
-    let steps = &[
-        Step::Fill(None),
-        Step::Fill(Some(Refusal::NameTaken)),
+    let actions = &[
+        Action::Fill(None),
+        Action::Fill(Some(Refusal::NameTaken)),
         HAS_FIRST_ROWS,
         HAS_TWO_ROWS,
     ];
-    take_in_files(rt.alloc(), steps)
+    take_in_files(rt.alloc(), actions)
 }
 
 #[test]
 fn a_store_with_another_table_is_left_as_it_was(rt: HostRuntime) -> Result<(), Fail> {
-    let steps = &[
-        Step::Change(
+    let actions = &[
+        Action::Change(
             "CREATE TABLE shelf (id INTEGER PRIMARY KEY) STRICT; INSERT INTO shelf VALUES (7)",
         ),
-        Step::Fill(Some(Refusal::NameTaken)),
-        Step::Number("SELECT id FROM shelf", Some(7)),
-        Step::Number("SELECT count(*) FROM meta", None),
+        Action::Fill(Some(Refusal::NameTaken)),
+        Action::Number("SELECT id FROM shelf", Some(7)),
+        Action::Number("SELECT count(*) FROM meta", None),
     ];
-    take_in_files(rt.alloc(), steps)
+    take_in_files(rt.alloc(), actions)
 }
 
 #[test]
 fn a_begun_transaction_is_left_as_it_was(rt: HostRuntime) -> Result<(), Fail> {
-    let steps = &[
-        Step::Change("BEGIN"),
-        Step::Fill(Some(Refusal::Device)),
-        Step::Change("COMMIT"),
-        Step::Fill(None),
+    let actions = &[
+        Action::Change("BEGIN"),
+        Action::Fill(Some(Refusal::Device)),
+        Action::Change("COMMIT"),
+        Action::Fill(None),
     ];
-    take_in_files(rt.alloc(), steps)
+    take_in_files(rt.alloc(), actions)
 }
 
 #[test]
 fn a_new_vault_stands_in_its_file(rt: HostRuntime) -> Result<(), Fail> {
-    let made = &[Step::Fill(None)];
+    let made = &[Action::Fill(None)];
     let found = &[
         HAS_FIRST_ROWS,
         HAS_TWO_ROWS,
-        Step::Fill(Some(Refusal::NameTaken)),
+        Action::Fill(Some(Refusal::NameTaken)),
     ];
     take_in_closed_files(rt.alloc(), made, found)
 }

@@ -1,31 +1,14 @@
 //! Requests over a vault, each with the answer that it is to get.
-use std::alloc::{AllocError, Global};
+use std::alloc::Global;
 use std::io::{Read, Write};
 use std::test::Fail;
 use vault_core_model::keeper::Keeper;
 use vault_http::{ServeFault, serve_one};
+use vault_transcript::requests::wire;
 use vault_transcript::trial::compare;
 
 /// 2024-01-15T10:30:00Z.
 const READING: i64 = 1_705_314_600;
-
-fn push_wire(bytes: &mut String, text: &str) -> Result<(), AllocError> {
-    for c in text.chars() {
-        if c == '|' {
-            bytes.push_str("\r\n")?;
-        } else {
-            bytes.push(c)?;
-        }
-    }
-    Ok(())
-}
-
-/// A text with CR LF for each `|`.
-fn wire(alloc: Global, text: &str) -> Result<String, AllocError> {
-    let mut bytes = String::new(alloc);
-    push_wire(&mut bytes, text)?;
-    Ok(bytes)
-}
 
 // This has no clause, so that the proof of a test does not carry the state of each call.
 fn serve<R: Read, W: Write, K: Keeper>(

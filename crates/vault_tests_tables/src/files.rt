@@ -1,5 +1,5 @@
-//! Steps that are taken over the files of a vault in memory.
-use crate::steps::{Step, take_all};
+//! Actions that are taken over the files of a vault in memory.
+use crate::actions::{Action, take_all};
 use sqlite::{Connection, Error, FileStore, Files, Options};
 use sqlite_disk::Memory;
 use std::alloc::Global;
@@ -37,29 +37,29 @@ fn closed(conn: Connection<InFiles>) -> Result<Files<Memory>, Error> {
     }
 }
 
-/// Takes steps over these files, and closes them.
+/// Takes actions over these files, and closes them.
 fn take_over(
     alloc: Global,
     files: Files<Memory>,
-    steps: &[Step<'_>],
+    actions: &[Action<'_>],
 ) -> Result<Files<Memory>, Fail> {
-    let (taken, conn) = take_all(alloc, connected(alloc, files)?, steps);
+    let (taken, conn) = take_all(alloc, connected(alloc, files)?, actions);
     let left = closed(conn);
     taken?;
     Ok(left?)
 }
 
-/// Takes steps over empty files.
-pub fn take_in_files(alloc: Global, steps: &[Step<'_>]) -> Result<(), Fail> {
-    drop(take_over(alloc, empty_files(alloc), steps)?);
+/// Takes actions over empty files.
+pub fn take_in_files(alloc: Global, actions: &[Action<'_>]) -> Result<(), Fail> {
+    drop(take_over(alloc, empty_files(alloc), actions)?);
     Ok(())
 }
 
-/// Takes steps over empty files, and the second ones over the same, closed and opened again.
+/// Takes actions over empty files, and the second ones over the same, closed and opened again.
 pub fn take_in_closed_files(
     alloc: Global,
-    first: &[Step<'_>],
-    second: &[Step<'_>],
+    first: &[Action<'_>],
+    second: &[Action<'_>],
 ) -> Result<(), Fail> {
     let files = take_over(alloc, empty_files(alloc), first)?;
     drop(take_over(alloc, files, second)?);

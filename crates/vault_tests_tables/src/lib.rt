@@ -3,6 +3,8 @@
 #![tactic(auto)]
 
 #[cfg(test)]
+mod actions;
+#[cfg(test)]
 mod commands;
 #[cfg(test)]
 mod create;
@@ -18,7 +20,5 @@ mod lookups;
 mod opens;
 #[cfg(test)]
 mod reads;
-#[cfg(test)]
-mod steps;
 #[cfg(test)]
 mod trials;

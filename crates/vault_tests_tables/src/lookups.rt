@@ -10,7 +10,7 @@ use vault_store::create::fill;
 use vault_store_reads::heads::read_head;
 use vault_store_reads::meta::read_last;
 use vault_store_reads::names::{has_department, read_totals};
-use vault_store_reads::ordered::reads::{read_entries, read_keys};
+use vault_store_reads::rows_in_order::reads::{read_entries, read_keys};
 
 /// A department, its bucket, a key of it, and where the bucket's keys begin.
 #[derive(Drop)]

@@ -1,98 +1,98 @@
 //! Which stores are opened as a vault, what comes back with a refusal, and commands over those stores.
+use crate::actions::Action;
 use crate::files::take_in_files;
-use crate::steps::Step;
 use std::test::Fail;
 use vault_base::refusal::{Refusal, Table};
 
 #[test]
 fn a_vault_that_was_made_is_opened_again(rt: HostRuntime) -> Result<(), Fail> {
-    let steps = &[
-        Step::Make(None),
-        Step::Open(None),
-        Step::Number("SELECT next FROM meta", Some(1)),
-        Step::Number(
+    let actions = &[
+        Action::Make(None),
+        Action::Open(None),
+        Action::Number("SELECT next FROM meta", Some(1)),
+        Action::Number(
             "SELECT count(*) FROM callers WHERE name = 'registrar'",
             Some(1),
         ),
     ];
-    take_in_files(rt.alloc(), steps)
+    take_in_files(rt.alloc(), actions)
 }
 
 #[test]
 fn a_store_without_tables_is_no_vault(rt: HostRuntime) -> Result<(), Fail> {
-    let steps = &[
-        Step::Open(Some(Refusal::Damaged(Table::Meta))),
-        Step::Number("SELECT count(*) FROM meta", None),
+    let actions = &[
+        Action::Open(Some(Refusal::Damaged(Table::Meta))),
+        Action::Number("SELECT count(*) FROM meta", None),
     ];
-    take_in_files(rt.alloc(), steps)
+    take_in_files(rt.alloc(), actions)
 }
 
 #[test]
 fn a_vault_is_not_made_over_another(rt: HostRuntime) -> Result<(), Fail> {
-    let steps = &[
-        Step::Make(None),
-        Step::Make(Some(Refusal::NameTaken)),
-        Step::Open(None),
+    let actions = &[
+        Action::Make(None),
+        Action::Make(Some(Refusal::NameTaken)),
+        Action::Open(None),
     ];
-    take_in_files(rt.alloc(), steps)
+    take_in_files(rt.alloc(), actions)
 }
 
 #[test]
 fn a_vault_with_a_wrong_next_id_is_damaged(rt: HostRuntime) -> Result<(), Fail> {
-    let steps = &[
-        Step::Make(None),
-        Step::Change("UPDATE meta SET next = 2"),
-        Step::Open(Some(Refusal::Damaged(Table::Meta))),
-        Step::Number("SELECT next FROM meta", Some(2)),
+    let actions = &[
+        Action::Make(None),
+        Action::Change("UPDATE meta SET next = 2"),
+        Action::Open(Some(Refusal::Damaged(Table::Meta))),
+        Action::Number("SELECT next FROM meta", Some(2)),
     ];
-    take_in_files(rt.alloc(), steps)
+    take_in_files(rt.alloc(), actions)
 }
 
 #[test]
 fn a_vault_is_not_opened_inside_a_transaction(rt: HostRuntime) -> Result<(), Fail> {
-    let steps = &[
-        Step::Make(None),
-        Step::Change("BEGIN"),
-        Step::Open(Some(Refusal::Device)),
-        Step::StandsInside,
+    let actions = &[
+        Action::Make(None),
+        Action::Change("BEGIN"),
+        Action::Open(Some(Refusal::Device)),
+        Action::StandsInside,
     ];
-    take_in_files(rt.alloc(), steps)
+    take_in_files(rt.alloc(), actions)
 }
 
 #[test]
 fn a_vault_with_another_table_is_damaged(rt: HostRuntime) -> Result<(), Fail> {
-    let steps = &[
-        Step::Make(None),
-        Step::Change(
+    let actions = &[
+        Action::Make(None),
+        Action::Change(
             "CREATE TABLE shelf (id INTEGER PRIMARY KEY) STRICT; INSERT INTO shelf VALUES (7)",
         ),
-        Step::Open(Some(Refusal::Damaged(Table::Meta))),
-        Step::Number("SELECT id FROM shelf", Some(7)),
+        Action::Open(Some(Refusal::Damaged(Table::Meta))),
+        Action::Number("SELECT id FROM shelf", Some(7)),
     ];
-    take_in_files(rt.alloc(), steps)
+    take_in_files(rt.alloc(), actions)
 }
 
 #[test]
 fn commands_are_carried_out_one_after_another(rt: HostRuntime) -> Result<(), Fail> {
-    let steps = &[
-        Step::Fill(None),
-        Step::Commands("done\nNameTaken\nClockBack\n"),
-        Step::Number(
+    let actions = &[
+        Action::Fill(None),
+        Action::Commands("done\nNameTaken\nClockBack\n"),
+        Action::Number(
             "SELECT count(*) FROM departments WHERE name = 'records'",
             Some(1),
         ),
-        Step::Number("SELECT last FROM meta", Some(1_705_309_200)),
+        Action::Number("SELECT last FROM meta", Some(1_705_309_200)),
     ];
-    take_in_files(rt.alloc(), steps)
+    take_in_files(rt.alloc(), actions)
 }
 
 #[test]
 fn no_command_is_carried_out_over_damaged_tables(rt: HostRuntime) -> Result<(), Fail> {
-    let steps = &[
-        Step::Fill(None),
-        Step::Change("UPDATE meta SET next = 2"),
-        Step::Commands("Damaged"),
-        Step::Number("SELECT count(*) FROM departments", Some(0)),
+    let actions = &[
+        Action::Fill(None),
+        Action::Change("UPDATE meta SET next = 2"),
+        Action::Commands("Damaged"),
+        Action::Number("SELECT count(*) FROM departments", Some(0)),
     ];
-    take_in_files(rt.alloc(), steps)
+    take_in_files(rt.alloc(), actions)
 }

@@ -1,7 +1,7 @@
 //! Trials on a new vault in tables in memory, whose device doesn't fail: contents, an intake and requests.
+use crate::actions::{Action, take_all};
 use crate::exchange::answer;
 use crate::intake::take_in_twice;
-use crate::steps::{Step, take_all};
 use sqlite::{Alter, Connection};
 use std::alloc::Global;
 use std::test::Fail;
@@ -49,24 +49,24 @@ fn carry_out_in<S: Alter, T: Trial>(
     }
 }
 
-/// The same, and steps that are taken over the tables behind it.
+/// The same, and actions that are taken over the tables behind it.
 fn carry_out_and_take<S: Alter, T: Trial>(
     alloc: Global,
     conn: Connection<S>,
     trial: &T,
-    steps: &[Step<'_>],
+    actions: &[Action<'_>],
 ) -> (Result<(), Fail>, Connection<S>) {
     let (tried, conn) = carry_out_in(alloc, conn, trial);
     match tried {
-        Ok(()) => take_all(alloc, conn, steps),
+        Ok(()) => take_all(alloc, conn, actions),
         Err(fail) => (Err(fail), conn),
     }
 }
 
-/// Carries a trial out on a new vault in tables in memory, and takes steps over these.
-fn try_in_memory<T: Trial>(alloc: Global, trial: &T, steps: &[Step<'_>]) -> Result<(), Fail> {
+/// Carries a trial out on a new vault in tables in memory, and takes actions over these.
+fn try_in_memory<T: Trial>(alloc: Global, trial: &T, actions: &[Action<'_>]) -> Result<(), Fail> {
     let conn = Connection::open_in_memory(alloc)?;
-    let (tried, conn) = carry_out_and_take(alloc, conn, trial, steps);
+    let (tried, conn) = carry_out_and_take(alloc, conn, trial, actions);
     drop(conn);
     tried
 }
@@ -165,10 +165,10 @@ impl Trial for Requests {
 }
 
 /// The vault is opened behind them; and again, with one byte more in the department's row.
-const REOPENED: [Step<'static>; 3] = [
-    Step::Open(None),
-    Step::Change("UPDATE departments SET held = held + 1 WHERE name = 'records'"),
-    Step::Open(Some(Refusal::Damaged(Table::Departments))),
+const REOPENED: [Action<'static>; 3] = [
+    Action::Open(None),
+    Action::Change("UPDATE departments SET held = held + 1 WHERE name = 'records'"),
+    Action::Open(Some(Refusal::Damaged(Table::Departments))),
 ];
 
 #[test]

@@ -14,6 +14,11 @@ const READS: &str = r#"
 {"at":"2024-01-16T00:00:00Z","as":"ann","do":"get","bucket":"docs","key":"2024/b"}
 "#;
 
+/// The moment of the last change in seconds, and the id that the next entry gets.
+pub fn edge<K: Keeper>(keeper: &mut K) -> Result<(u64, u64), Fail> {
+    Ok((keeper.last()?.secs(), keeper.next_id()?))
+}
+
 /// All that replies tell of the vault.
 pub fn told<K: Keeper>(alloc: Global, keeper: &mut K) -> Result<String, Fail> {
     replies(alloc, keeper, READS.as_bytes())

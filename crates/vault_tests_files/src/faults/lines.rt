@@ -2,7 +2,7 @@
 use std::alloc::Global;
 use std::test::Fail;
 use vault_core_model::keeper::Keeper;
-use vault_transcript::telling::{tells_still, told};
+use vault_transcript::telling::{edge, tells_still, told};
 use vault_transcript::transcript::{play, replies};
 use vault_transcript::trial::{Trial, compare, try_on_new};
 
@@ -80,11 +80,6 @@ fn answered<K: Keeper>(
     input.extend_from_slice(behind.as_bytes())?;
     let given = replies(alloc, keeper, input.as_slice())?;
     compare(name, given.as_str(), wanted)
-}
-
-/// The moment of the last change in seconds, and the id that the next entry gets.
-fn edge<K: Keeper>(keeper: &mut K) -> Result<(u64, u64), Fail> {
-    Ok((keeper.last()?.secs(), keeper.next_id()?))
 }
 
 /// Carries a bad line out, and a good one behind it.

@@ -1,14 +1,14 @@
 //! Lists that are taken in again.
 use crate::batch::Listed;
-use crate::intake::taking::{FILES, LIST, Step, carry_out_in_new};
+use crate::intake::taking::{Action, FILES, LIST, carry_out_in_new};
 use std::test::Fail;
 
 /// The first file with another byte.
 const OTHER_FILES: [(&str, &str); 2] = [("a.txt", "c"), ("b.txt", "b")];
 
 /// A list over these files, of which those lines are to be printed.
-fn taken<'a>(files: &'a [(&'a str, &'a str)], list: &'a str, wanted: &'a str) -> Step<'a> {
-    Step::Taken(Listed {
+fn taken<'a>(files: &'a [(&'a str, &'a str)], list: &'a str, wanted: &'a str) -> Action<'a> {
+    Action::Taken(Listed {
         files,
         left: None,
         list: list.as_bytes(),
@@ -23,7 +23,7 @@ fn rows_given_again_keep_their_ids(rt: HostRuntime) -> Result<(), Fail> {
         &[
             (
                 "two puts",
-                Step::Played(
+                Action::Played(
                     r#"
 {"at":"2024-01-15T10:30:00Z","as":"ann","do":"put","bucket":"docs","key":"k","text":"one"}
   {"ok":{"version_id":1}}
@@ -46,7 +46,7 @@ fn rows_given_again_keep_their_ids(rt: HostRuntime) -> Result<(), Fail> {
             ),
             (
                 "the report",
-                Step::Played(
+                Action::Played(
                     r#"
 {"at":"2024-01-15T10:30:00Z","as":"registrar","do":"report","dept":"records"}
   {"ok":{"admitted":8,"at":"2024-01-15T10:30:00Z","byte_days":0,"dept":"records","handed":0,"held":8,"received":0,"removed":0}}
@@ -68,7 +68,7 @@ fn a_removed_version_is_not_admitted_again(rt: HostRuntime) -> Result<(), Fail> 
             ),
             (
                 "a removal",
-                Step::Played(
+                Action::Played(
                     r#"
 {"at":"2024-01-15T10:30:00Z","as":"ann","do":"delete-version","bucket":"docs","key":"2024/a","id":1}
   {"ok":{"cause":"request","delete_marker":false,"version_id":1}}
@@ -81,7 +81,7 @@ fn a_removed_version_is_not_admitted_again(rt: HostRuntime) -> Result<(), Fail> 
             ),
             (
                 "the report",
-                Step::Played(
+                Action::Played(
                     r#"
 {"at":"2024-01-15T10:30:00Z","as":"registrar","do":"report","dept":"records"}
   {"ok":{"admitted":2,"at":"2024-01-15T10:30:00Z","byte_days":0,"dept":"records","handed":0,"held":1,"received":0,"removed":1}}

@@ -1,4 +1,4 @@
-//! A list over two files, and steps in a vault.
+//! A list over two files, and actions in a vault.
 use crate::batch::{Listed, take};
 use std::alloc::Global;
 use std::test::Fail;
@@ -15,46 +15,46 @@ pub const FILES: [(&str, &str); 2] = [("a.txt", "a"), ("b.txt", "b")];
 
 /// What is done with a vault.
 #[derive(Clone, Copy)]
-pub enum Step<'a> {
+pub enum Action<'a> {
     /// A transcript is carried out.
     Played(&'a str),
     /// A list is taken in.
     Taken(Listed<'a>),
 }
 
-fn carry_out_step<K: Keeper>(
+fn carry_out_action<K: Keeper>(
     alloc: Global,
     keeper: &mut K,
     name: &str,
-    step: &Step<'_>,
+    action: &Action<'_>,
 ) -> Result<(), Fail> {
-    match step {
-        Step::Played(transcript) => play(alloc, keeper, transcript),
-        Step::Taken(listed) => take(alloc, keeper, name, listed),
+    match action {
+        Action::Played(transcript) => play(alloc, keeper, transcript),
+        Action::Taken(listed) => take(alloc, keeper, name, listed),
     }
 }
 
-/// Steps one after another, each with its name.
+/// Actions one after another, each with its name.
 #[derive(Clone, Copy)]
-struct Steps<'a> {
-    steps: &'a [(&'a str, Step<'a>)],
+struct Actions<'a> {
+    actions: &'a [(&'a str, Action<'a>)],
 }
 
-impl Trial for Steps<'_> {
+impl Trial for Actions<'_> {
     fn carry_out<K: Keeper>(&self, alloc: Global, keeper: &mut K) -> Result<(), Fail> {
-        for (name, step) in self.steps {
-            carry_out_step(alloc, keeper, name, step)?;
+        for (name, action) in self.actions {
+            carry_out_action(alloc, keeper, name, action)?;
         }
         Ok(())
     }
 }
 
-/// Carries steps out in a new vault, each with the name that its failure has.
-pub fn carry_out_in_new(alloc: Global, steps: &[(&str, Step<'_>)]) -> Result<(), Fail> {
-    try_on_new(alloc, &Steps { steps })
+/// Carries actions out in a new vault, each with the name that its failure has.
+pub fn carry_out_in_new(alloc: Global, actions: &[(&str, Action<'_>)]) -> Result<(), Fail> {
+    try_on_new(alloc, &Actions { actions })
 }
 
 /// Fails unless those lines are printed of a list in a new vault.
 pub fn take_in_new(alloc: Global, listed: Listed<'_>) -> Result<(), Fail> {
-    carry_out_in_new(alloc, &[("the list", Step::Taken(listed))])
+    carry_out_in_new(alloc, &[("the list", Action::Taken(listed))])
 }

@@ -1,4 +1,4 @@
-//! What is done to a store, step by step, with what is to come of each.
+//! What is done to a store, action by action, with what is to come of each.
 use crate::commands::are_answered;
 use sqlite::{Alter, Connection, Error};
 use std::alloc::Global;
@@ -7,9 +7,9 @@ use vault_base::refusal::Refusal;
 use vault_store::create::fill;
 use vault_store::sql_keeper::SqlKeeper;
 
-/// A step.
+/// An action.
 #[derive(Clone, Copy)]
-pub enum Step<'a> {
+pub enum Action<'a> {
     /// A vault is made by a keeper, or refused for this.
     Make(Option<Refusal>),
     /// A new vault's tables are made, or refused for this.
@@ -26,51 +26,55 @@ pub enum Step<'a> {
     StandsInside,
 }
 
-/// Takes steps. Fails with the number of the first that goes otherwise, counted from 1.
+/// Takes actions. Fails with the number of the first that goes otherwise, counted from 1.
 pub fn take_all<S: Alter>(
     alloc: Global,
     conn: Connection<S>,
-    steps: &[Step<'_>],
+    actions: &[Action<'_>],
 ) -> (Result<(), Fail>, Connection<S>) {
     let mut conn = conn;
     let mut number = 0u64;
-    for step in steps {
-        let (goes_so, next) = take(alloc, conn, step);
+    for action in actions {
+        let (goes_so, next) = take(alloc, conn, action);
         conn = next;
         number = number.saturating_add(1);
         if !goes_so {
-            return (Err(Fail::new(format_args!("step {number}"))), conn);
+            return (Err(Fail::new(format_args!("action {number}"))), conn);
         }
     }
     (Ok(()), conn)
 }
 
-/// Whether the step goes as it is to go.
-fn take<S: Alter>(alloc: Global, conn: Connection<S>, step: &Step<'_>) -> (bool, Connection<S>) {
-    match step {
-        Step::Make(wanted) => {
+/// Whether the action goes as it is to go.
+fn take<S: Alter>(
+    alloc: Global,
+    conn: Connection<S>,
+    action: &Action<'_>,
+) -> (bool, Connection<S>) {
+    match action {
+        Action::Make(wanted) => {
             let (refusal, conn) = make(alloc, conn);
             (refusal == *wanted, conn)
         }
-        Step::Fill(wanted) => {
+        Action::Fill(wanted) => {
             let (refusal, conn) = fill_tables(conn);
             (refusal == *wanted, conn)
         }
-        Step::Open(wanted) => {
+        Action::Open(wanted) => {
             let (refusal, conn) = open(alloc, conn);
             (refusal == *wanted, conn)
         }
-        Step::Change(sql) => change(conn, sql),
-        Step::Number(sql, wanted) => {
+        Action::Change(sql) => change(conn, sql),
+        Action::Number(sql, wanted) => {
             let (found, conn) = number(conn, sql);
             (found == *wanted, conn)
         }
-        Step::Commands(names) => are_answered(alloc, conn, names),
-        Step::StandsInside => (!conn.is_autocommit(), conn),
+        Action::Commands(names) => are_answered(alloc, conn, names),
+        Action::StandsInside => (!conn.is_autocommit(), conn),
     }
 }
 
-// These have no clause, so that the proof of a step does not carry the state of each call.
+// These have no clause, so that the proof of an action does not carry the state of each call.
 
 fn make<S: Alter>(alloc: Global, conn: Connection<S>) -> (Option<Refusal>, Connection<S>) {
     match SqlKeeper::create(alloc, conn) {
