@@ -10,6 +10,7 @@ import pathlib
 import shutil
 import sqlite3
 import subprocess
+import time
 
 PEER = pathlib.Path(__file__).resolve().parent / "peer.py"
 
@@ -175,17 +176,20 @@ def copy(path, to):
 
 
 class Vaults:
-    """The vaults of a run of the bench, each made when it is first asked for."""
+    """The vaults of a run of the bench, each made when it is first asked for; of each shape the seconds that it took
+    to make, and those of this process's processor."""
 
     def __init__(self, program, folder):
-        self.program, self.folder, self.made, self.count = program, folder, {}, 0
+        self.program, self.folder, self.made, self.took, self.count = program, folder, {}, {}, 0
 
     def of(self, shape):
         """The file of a vault of this shape. It isn't to be changed: `copy` it first."""
         if shape not in self.made:
             self.count += 1
             path = self.folder / f"{self.count}.vault"
+            began, before = time.perf_counter(), time.process_time()
             make(self.program, path, shape)
+            self.took[shape] = time.perf_counter() - began, time.process_time() - before
             self.made[shape] = path
         return self.made[shape]
 

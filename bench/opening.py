@@ -13,7 +13,7 @@ from turns import PEER, PROGRAM, words
 
 MIB = 1 << 20
 # How often the bytes of its contents have to be free as memory before a vault is opened here.
-ENOUGH = 6
+ENOUGH = 3
 
 
 def open_once(vaults, who, path):
@@ -28,7 +28,7 @@ def open_once(vaults, who, path):
 def verify(vaults, path):
     printed, seconds, processor, most = talk.run([vaults.program, "verify", path])
     if printed != "sound\n":
-        sys.exit(f"{path}: {printed}")
+        raise talk.Ended(f"{path}: {printed}")
     return seconds, processor, most
 
 
@@ -50,13 +50,15 @@ def note(results, what, size, who, measured):
 
 
 def measure(wanted, vaults, results, shape, size):
-    """Opens and verifies a vault, again and again; SQLite's checks stand beside `verify`."""
+    """Opens and verifies a vault, again and again; SQLite's checks stand beside `verify`. How long it took to make the
+    file stands there too."""
     path = vaults.of(shape)
     for _ in range(wanted.repeat):
         for who in (PROGRAM, PEER):
             note(results, "open to first reply", size, who, open_once(vaults, who, path))
         note(results, "verify", size, PROGRAM, verify(vaults, path))
         note(results, "verify", size, PEER, integrity(path))
+    results.note("the file, made", size, PEER, *vaults.took[shape])
 
 
 def by_size(wanted, vaults, results):
@@ -66,9 +68,9 @@ def by_size(wanted, vaults, results):
 
 
 def by_departments(wanted, vaults, results):
-    """Vaults of 10,000 entries in buckets of one department and of a hundred, opened in turn; the size that is told is
+    """Vaults whose entries are in buckets of one department and of a hundred, opened in turn; the size that is told is
     the number of departments."""
-    shapes = {count: fixture.Shape(10_000, departments=count) for count in (1, 100)}
+    shapes = {count: fixture.Shape(wanted.entries, departments=count) for count in (1, 100)}
     for _ in range(wanted.turns):
         for count, shape in shapes.items():
             path = vaults.of(shape)
@@ -78,11 +80,14 @@ def by_departments(wanted, vaults, results):
 
 def by_bytes(wanted, vaults, results):
     """Vaults of rising bytes of contents of 1 MiB; the size that is told is in MiB. Each is removed behind it. What the
-    machine may have too little memory for isn't measured."""
+    machine may have too little memory for isn't measured; where there was too little all the same, it is told."""
     for mebibytes in wanted.volumes:
         if talk.free_memory() - talk.SPARED < ENOUGH * mebibytes * MIB:
             print(f"volume: too little memory is free for {mebibytes:,} MiB of contents", flush=True)
             continue
         shape = fixture.Shape(mebibytes, size=MIB)
-        measure(wanted, vaults, results, shape, mebibytes)
+        try:
+            measure(wanted, vaults, results, shape, mebibytes)
+        except talk.Ended as ended:
+            print(f"volume: {mebibytes:,} MiB of contents: {ended}", flush=True)
         vaults.drop(shape)

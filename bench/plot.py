@@ -68,7 +68,7 @@ def points_of(kept, line, scale):
 def steps_to(most):
     """Even steps from 0 to beyond a number."""
     step = 10 ** math.floor(math.log10(most))
-    step = next(it for it in (step / 5, step / 2, step) if most / it <= 8)
+    step = next(it for it in (step / 5, step / 2, step, 2 * step) if most / it <= 8)
     return [step * i for i in range(math.ceil(most / step) + 1)]
 
 

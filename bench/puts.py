@@ -4,13 +4,16 @@ import fixture
 import lines
 from turns import Pair
 
-KINDS = {
-    "keys in order": fixture.Shape(10_000),
-    "keys in a random order": fixture.Shape(10_000, scattered=True),
-    "a hundred departments": fixture.Shape(10_000, departments=100),
-    "contents of 100 KiB": fixture.Shape(300, size=100 << 10),
-    "contents of 1 MiB": fixture.Shape(30, size=1 << 20),
-}
+
+def kinds(entries):
+    """Vaults that differ from the first in one thing; those of large contents have fewer entries."""
+    return {
+        "keys in order": fixture.Shape(entries),
+        "keys in a random order": fixture.Shape(entries, scattered=True),
+        "a hundred departments": fixture.Shape(entries, departments=100),
+        "contents of 100 KiB": fixture.Shape(entries * 3 // 100, size=100 << 10),
+        "contents of 1 MiB": fixture.Shape(entries * 3 // 1_000, size=1 << 20),
+    }
 
 
 def by_size(wanted, vaults, results):
@@ -25,7 +28,7 @@ def by_size(wanted, vaults, results):
 
 def by_kind(wanted, vaults, results):
     """Puts on new keys of one size of vault, in vaults that differ in one thing."""
-    for name, shape in KINDS.items():
+    for name, shape in kinds(wanted.entries).items():
         pair = Pair(vaults.program, vaults.of(shape), vaults.folder)
         ops = max(1, min(wanted.ops, wanted.ops * 16_384 // shape.size))
         pair.measure(results, name, shape.entries, lines.put_new(shape), wanted.turns, ops)
@@ -39,8 +42,6 @@ def reads(wanted, vaults, results):
         pair = Pair(vaults.program, vaults.of(shape), vaults.folder)
         pair.measure(results, "get", size, lines.get(shape), wanted.turns, wanted.ops)
         pair.measure(results, "report", size, lines.report(shape), wanted.turns, wanted.ops)
-        pair.end(results, "get", size)
-        alone = Pair(vaults.program, vaults.of(shape), vaults.folder, both=False)
         few = max(1, wanted.ops // 5)
-        alone.measure(results, "list 100 versions", size, lines.list_page(shape), wanted.turns, few)
-        alone.end(results, "list 100 versions", size)
+        pair.measure(results, "list 100 versions", size, lines.list_page(shape), wanted.turns, few, alone=True)
+        pair.end(results, "get", size)

@@ -9,17 +9,20 @@ import statistics
 from turns import PEER, PROGRAM
 
 UNITS = {"microseconds": 1e6, "milliseconds": 1e3}
-GROUPS = (PROGRAM, PEER, "times", "most MiB")
-COLUMNS = ("wall", "processor", "wall", "processor", "wall", "processor", PROGRAM, PEER)
 # Where a page has the table of a part.
 PLACE = re.compile(r"(<!-- bench (\w+) -->\n)```\n.*?```\n", re.DOTALL)
+# The GiB of memory for which it is told how much a vault may have.
+FREE = (1, 2, 4, 8, 16)
+# A put is to take at most so many times what the peer takes, so that it is 1.25 times as fast.
+MOST_TIMES = 0.8
 
 
 class Results:
-    """The rows of a part of the bench; `unit` is microseconds or milliseconds for one, `how` when and how it ran."""
+    """The rows of a part of the bench; `unit` is microseconds or milliseconds for one, `how` when and how it ran, and
+    `beside` what the program is compared with."""
 
-    def __init__(self, part, unit, how):
-        self.part, self.unit, self.how, self.rows = part, unit, how, {}
+    def __init__(self, part, unit, how, beside=PEER):
+        self.part, self.unit, self.how, self.beside, self.rows = part, unit, how, beside, {}
 
     def row(self, what, size, who):
         return self.rows.setdefault((what, size), {}).setdefault(who, {"wall": [], "processor": [], "memory": 0})
@@ -35,7 +38,7 @@ class Results:
 
     def kept(self):
         rows = [{"what": what, "size": size, "how": self.how, **found} for (what, size), found in self.rows.items()]
-        return {"unit": self.unit, "rows": rows}
+        return {"unit": self.unit, "beside": self.beside, "rows": rows}
 
     def show(self):
         print("\n" + table(self.part, self.kept()), end="", flush=True)
@@ -64,11 +67,11 @@ def shown(number, digits=0):
     return "-" if not number else f"{number:,.{digits}f}"
 
 
-def cells(found):
-    """The cells of a row: of the program, the peer, one by the other, and the memory of both."""
-    numbers = [median(found, who, kind) for who in (PROGRAM, PEER) for kind in ("wall", "processor")]
+def cells(found, both):
+    """The cells of a row: of the program, what stands beside it, one by the other, and the memory of both."""
+    numbers = [median(found, who, kind) for who in both for kind in ("wall", "processor")]
     times = [one / other if one and other else None for one, other in zip(numbers, numbers[2:])]
-    memory = [found.get(who, {}).get("memory") for who in (PROGRAM, PEER)]
+    memory = [found.get(who, {}).get("memory") for who in both]
     few = 1 if any(it and it < 10 for it in numbers) else 0
     return [shown(it, few) for it in numbers] + [shown(it, 2) for it in times] + [shown(it, 1) for it in memory]
 
@@ -84,24 +87,70 @@ def measured(rows):
 
 
 def table(part, kept):
-    """The rows of a part: of the program and the peer the median and the processor's time in it, how often the one is
-    in the other, and the most memory of both."""
+    """The rows of a part: of the program and what stands beside it the median and the processor's time in it, how often
+    the one is in the other, and the most memory of both."""
+    both = (PROGRAM, kept.get("beside", PEER))
     lines = [
         *measured(kept["rows"]),
-        f"{part + ', ' + kept['unit'] + ' for one':40}" + "".join(f"{it:>20}" for it in GROUPS),
-        f"{'':30}{'size':>10}" + "".join(f"{it:>10}" for it in COLUMNS),
+        f"{part + ', ' + kept['unit'] + ' for one':40}" + "".join(f"{it:>20}" for it in (*both, "times", "most MiB")),
+        f"{'':30}{'size':>10}" + "".join(f"{it:>10}" for it in (*["wall", "processor"] * 3, *both)),
     ]
     for row in kept["rows"]:
-        lines.append(f"{row['what']:30}{row['size']:>10,}" + "".join(f"{it:>10}" for it in cells(row)))
+        lines.append(f"{row['what']:30}{row['size']:>10,}" + "".join(f"{it:>10}" for it in cells(row, both)))
+    return "".join(it.rstrip() + "\n" for it in lines)
+
+
+def memory_by_size(rows):
+    """The most memory that the program had at each size, by rising size."""
+    most = {}
+    for row in rows:
+        memory = row.get(PROGRAM, {}).get("memory", 0)
+        most[row["size"]] = max(most.get(row["size"], 0), memory)
+    return sorted((size, memory) for size, memory in most.items() if memory)
+
+
+def room(points):
+    """How much a vault may have where so much memory is free: memory goes as a line through the first and the last of
+    the volumes that were opened."""
+    (least, low), (most, high) = points[0], points[-1]
+    each = (high - low) / (most - least)
+    more = low - each * least
+    held = [(1_024 * free - more) / each for free in FREE]
+    lines = [
+        f"by {least:,} and {most:,} MiB of contents: {each:.2f} MiB of memory for one, and {more:,.0f} more",
+        f"{'GiB of free memory':30}" + "".join(f"{it:>10,}" for it in FREE),
+        f"{'MiB of contents, at most':30}" + "".join(f"{it:>10,.0f}" for it in held),
+    ]
+    return "\n".join(lines) + "\n"
+
+
+def aim(rows):
+    """How often the peer's time is in the program's, for each put by the size of the vault, and how many are above what
+    is aimed at."""
+    times = {}
+    for row in rows:
+        one, other = (median(row, who, "wall") for who in (PROGRAM, PEER))
+        times.setdefault(row["what"], {})[row["size"]] = one / other
+    sizes = sorted({size for found in times.values() for size in found})
+    every = [it for found in times.values() for it in found.values()]
+    lines = [f"{'':30}" + "".join(f"{it:>10,}" for it in sizes)]
+    for what, found in times.items():
+        lines.append(f"{what:30}" + "".join(f"{shown(found.get(it), 2):>10}" for it in sizes))
+    lines.append(f"above {MOST_TIMES}: {sum(it > MOST_TIMES for it in every)} of {len(every)}")
     return "".join(it.rstrip() + "\n" for it in lines)
 
 
 def fill(results, page):
     """Puts the tables of a file of results into their places in a page."""
     kept, page = json.loads(pathlib.Path(results).read_text()), pathlib.Path(page)
+    tables = {part: table(part, found) for part, found in kept.items()}
+    if "puts" in kept:
+        tables["aim"] = aim(kept["puts"]["rows"])
+    volumes = memory_by_size(kept.get("volume", {"rows": []})["rows"])
+    if len(volumes) > 1:
+        tables["room"] = room(volumes)
 
     def filled(place):
-        part = place[2]
-        return f"{place[1]}```\n{table(part, kept[part])}```\n" if part in kept else place[0]
+        return f"{place[1]}```\n{tables[place[2]]}```\n" if place[2] in tables else place[0]
 
     page.write_text(PLACE.sub(filled, page.read_text()))

@@ -43,6 +43,10 @@ def spare_others():
     resource.setrlimit(resource.RLIMIT_AS, (most, most))
 
 
+class Ended(SystemExit):
+    """A process ended before it had done what it was asked for."""
+
+
 class Talk:
     """A process that is asked by lines and answers each by a line; `began` is when it was started."""
 
@@ -61,7 +65,7 @@ class Talk:
         seconds = time.perf_counter() - began
         sender.join()
         if not replies[-1]:
-            raise SystemExit(f"{self.process.args} ended with status {self.process.wait()}")
+            raise Ended(f"{self.process.args} ended with status {self.process.wait()}")
         return replies, seconds, processor_time(self.process.pid) - before
 
     def _send(self, text):
@@ -89,17 +93,17 @@ def watch(pid, done, peaks):
 def run(words):
     """What a process prints, the seconds that it takes, those of a processor, and its most memory, in MiB."""
     done, peaks = threading.Event(), []
-    before, began = os.times(), time.perf_counter()
+    began = time.perf_counter()
     process = subprocess.Popen(words, stdout=subprocess.PIPE, preexec_fn=spare_others)
     watcher = threading.Thread(target=watch, args=(process.pid, done, peaks))
     watcher.start()
     printed = process.stdout.read().decode()
-    process.wait()
-    seconds, after = time.perf_counter() - began, os.times()
+    _, status, used = os.wait4(process.pid, 0)
+    seconds = time.perf_counter() - began
+    process.returncode = os.waitstatus_to_exitcode(status)
     done.set()
     watcher.join()
-    took = after.children_user + after.children_system - before.children_user - before.children_system
-    return printed, seconds, took, max(peaks, default=0)
+    return printed, seconds, used.ru_utime + used.ru_stime, max(peaks, default=0)
 
 
 def free_port():

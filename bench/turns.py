@@ -38,18 +38,17 @@ class Pair:
             path = fixture.copy(whole, folder / f"{who}.vault")
             self.talks[who] = talk.Talk(words(who, program, path))
 
-    def measure(self, results, what, size, source, turns, ops):
-        """Has them take so many lines of a source in each turn, and notes the times for one line."""
+    def measure(self, results, what, size, source, turns, ops, alone=False):
+        """Has them, or the program alone, take so many lines of a source in each turn, and notes the times for one
+        line."""
         asked = [list(itertools.islice(source, ops)) for _ in range(turns + 1)]
-        self.take(asked[0], what)
-        for turn, some in enumerate(asked[1:]):
-            for who, (seconds, processor) in self.take(some, what, turn % 2).items():
-                results.note(what, size, who, seconds / ops, processor / ops)
-
-    def take(self, some, what, peer_first=False):
-        """Has each take these lines."""
-        order = sorted(self.talks, key=lambda who: (who == PEER) != bool(peer_first))
-        return {who: ask(self.talks[who], some, what) for who in order}
+        order = [PROGRAM] if alone else list(self.talks)
+        for turn, some in enumerate(asked):
+            for who in order:
+                seconds, processor = ask(self.talks[who], some, what)
+                if turn > 0:
+                    results.note(what, size, who, seconds / ops, processor / ops)
+            order.reverse()
 
     def end(self, results, what, size):
         """Ends both, and notes the most memory that each had."""

@@ -11,6 +11,10 @@ from turns import PROGRAM, Pair
 
 # Files of so many bytes are taken in.
 FILE_SIZES = {"small": fixture.CONTENT, "large": 1 << 20}
+# The vault that they are taken into.
+SMALL = fixture.Shape(100)
+# A run of more changes is made once.
+MANY_CHANGES = 10_000
 
 
 def run_once(vaults, shape):
@@ -29,7 +33,7 @@ def run_once(vaults, shape):
 def runs(wanted, vaults, results):
     """Lifecycle runs that put a marker on each key, by one change."""
     for size in wanted.sizes:
-        for _ in range(wanted.repeat):
+        for _ in range(wanted.repeat if size <= MANY_CHANGES else 1):
             seconds, processor, most = run_once(vaults, fixture.Shape(size))
             results.note("lifecycle run, a change", size, PROGRAM, seconds / size, processor / size)
             results.note_memory("lifecycle run, a change", size, PROGRAM, most)
@@ -50,7 +54,7 @@ def make_files(folder, count, size):
 
 def intake_once(vaults, files, listed, count):
     """The seconds of an intake, with the opening and closing of a small vault; those of a processor; the most memory."""
-    path = fixture.copy(vaults.of(fixture.Shape(1_000)), vaults.folder / "intake.vault")
+    path = fixture.copy(vaults.of(SMALL), vaults.folder / "intake.vault")
     asked = [path, "docs", "batch", listed, files, "--as", "ann", "--at", fixture.AT]
     printed, *measured = talk.run([vaults.program, "intake", *asked])
     if printed.count(" admitted ") != count:
