@@ -29,10 +29,6 @@ unfolding IsNotRun
 refused_keeps old new sql params e v (inl it) = unchanged_keeps old new v it.1
 refused_keeps old new sql params e v (inr it) = undone_keeps old new v it.3
 
--- a crash in a look whether the connection is open leaves what a crash before it left
-pub looked : (a b c : State) → Survives a b (λ _. ¬ IsTrue a.is_open) → Survives b c (λ _. ⊥) → Survives a c (λ _. ¬ IsTrue a.is_open)
-looked a b c one two = survives_then a b c _ _ _ (λ _ db shut. shut) (λ _ db none. absurd none) one two
-
 -- a read of a connection that is open leaves a crash what any steps before it left
 pub open_then : (Left : Trees → Type 0) (a b c : State) → (HasCleanDisk b → IsTrue b.is_open) → Survives a b Left → Survives b c (λ _. ¬ IsTrue b.is_open) → Survives a c Left
 open_then Left a b c stays one two =
@@ -42,6 +38,12 @@ open_then Left a b c stays one two =
 -- so does one in a read of a connection that is open
 pub read_then : (a b c : State) → (HasCleanDisk b → IsTrue b.is_open) → Survives a b (λ _. ¬ IsTrue a.is_open) → Survives b c (λ _. ¬ IsTrue b.is_open) → Survives a c (λ _. ¬ IsTrue a.is_open)
 read_then a b c stays one two = open_then (λ _. ¬ IsTrue a.is_open) a b c stays one two
+
+-- so does one behind a read that leaves an open connection open
+pub read_after : (a b c : State) → (HasCleanDisk b → IsTrue a.is_open → IsTrue b.is_open) → Survives a b (λ _. ¬ IsTrue a.is_open) → Survives b c (λ _. ¬ IsTrue b.is_open) → Survives a c (λ _. ¬ IsTrue a.is_open)
+read_after a b c stays one two =
+    survives_then a b c _ _ _ (λ _ db shut. shut)
+    (λ clean db shut is_open. let mid : HasCleanDisk b = omega (arith, clean, two.clean) in shut (stays mid is_open)) one two
 
 -- a connection that is not clean is shut, and so keeps what one that is clean keeps
 pub keeps_now : {S : Type 0} (g : Ghosts S) (h : Held S) (v : Vault) → ((g.view h.store).is_clean ≡ false → (g.view h.store).is_open ≡ false) → (HasCleanDisk (state g h) → Keeps (state g h) v) → Keeps (state g h) v

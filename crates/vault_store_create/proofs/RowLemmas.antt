@@ -1,5 +1,5 @@
 -- The rows that tell a record of their table are put in as they are.
-use Rattle.std.proofs.Common.{◌≡◌, ℕ, List, [], ◌∷◌, map, Bool, true, false, Option, Some, None, Ok, refl, sym, subst, ◌∙◌}
+use Rattle.std.proofs.Common.{◌≡◌, ℕ, [], ◌∷◌, map, Bool, true, false, Option, Some, None, Ok, refl, sym, subst, ◌∙◌}
 use Rattle.sqlite_value.specs.declared.value.Value.TheVariants.{Null, Text, Blob}
 use Rattle.sqlite_value.specs.Order.{Row}
 use Rattle.sqlite_schema.specs.declared.schema.Kind.TheVariants as kind
@@ -23,10 +23,11 @@ use Rattle.vault_audit_model.specs.declared.rows.HeadRow.{HeadRow}
 use Rattle.vault_audit_model.specs.declared.rows.TenureRow.{TenureRow}
 use Rattle.vault_audit_model.specs.Rows.{meta_row, department_row, caller_row, bucket_row, rule_row, entry_row, content_row, setting_row, note_row, head_row, tenure_row, rights_number, default_mode, default_days, default_years, noncurrent_days, noncurrent_newer, author_kind, author_name, removal_at, removal_cause, removal_by, retention_mode, retention_until}
 use Rattle.vault_audit_model.specs.Tables.{vault_schema, meta, departments, callers, buckets, rules, entries, contents, settings, intake, heads, tenures}
-use Rattle.vault_audit_model.specs.Values.{number, number_or_null, bytes_or_null, flag, flag_or_null}
+use Rattle.vault_audit_model.specs.Values.{number, number_or_null, flag, flag_or_null}
 use Rattle.vault_audit_model.proofs.ValueLemmas.{cast_null}
 use Rattle.vault_store_model.specs.Edits.{with_row}
-use Rattle.vault_store_edits.proofs.CastLemmas.{cast_number, cast_number_or_null, cast_flag, cast_flag_or_null, cast_text_or_null, bound_text}
+use Rattle.vault_store_edits.proofs.BoundLemmas.{bound_bytes}
+use Rattle.vault_store_edits.proofs.CastLemmas.{cast_number, cast_number_or_null, cast_flag, cast_flag_or_null, cast_text_or_null, cast_kind, cast_name, entry_source, bound_text}
 use Rattle.vault_store_edits.proofs.StatementLemmas.{Leaves, inserts}
 use Rattle.vault_store_create.specs.Copied.{PutsRow}
 use Rattle.vault_store_create.specs.Listings.{putting_of}
@@ -38,10 +39,6 @@ use Rattle.vault_store_create.proofs.ListingLemmas.{meta_terms, puts_meta, depar
 bound_number : (o : Option ℕ) → bound_value (number_or_null o) ≡ number_or_null o
 bound_number None = refl
 bound_number (Some n) = refl
-
-bound_bytes : (o : Option (List ℕ)) → bound_value (bytes_or_null o) ≡ bytes_or_null o
-bound_bytes None = refl
-bound_bytes (Some b) = refl
 
 bound_flag : (b : Bool) → bound_value (flag b) ≡ flag b
 bound_flag false = refl
@@ -151,19 +148,6 @@ rule_put old new r =
     let larger : cast kind.Integer (number_or_null r.rule.larger) ≡ number_or_null r.rule.larger = cast_number_or_null _ in
     let smaller : cast kind.Integer (number_or_null r.rule.smaller) ≡ number_or_null r.rule.smaller = cast_number_or_null _ in
     rw (cast_null, cast_number r.place, cast_flag r.rule.enabled, days, cast_flag r.rule.lone_markers, old, newer, larger, smaller) refl) old new
-
-cast_kind : (by : Author) → cast kind.Integer (author_kind by) ≡ author_kind by
-cast_kind (author.Caller name) = cast_flag false
-cast_kind (author.Rule id) = cast_flag true
-
-cast_name : (by : Author) → cast kind.Text (author_name by) ≡ author_name by
-cast_name (author.Caller name) = refl
-cast_name (author.Rule id) = refl
-
-abbrev entry_source : Entry → Row
-entry_source e =
-    number e.id ∷ Null ∷ Text e.bucket ∷ Text e.key ∷ flag e.marker ∷ number e.size ∷ bytes_or_null e.digest ∷ number e.admitted ∷ author_kind e.by
-    ∷ author_name e.by ∷ removal_at e.removal ∷ removal_cause e.removal ∷ removal_by e.removal ∷ []
 
 entry_put : (old new : State) (e : Entry) → PutsIn table.Entries old new (entry_row e)
 entry_put old new e =

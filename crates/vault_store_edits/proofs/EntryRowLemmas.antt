@@ -11,8 +11,6 @@ use Rattle.sqlite_rules.specs.Edit.{with_rowid}
 use Rattle.sqlite.specs.Effect.{IsDatabase}
 use Rattle.sqlite.specs.State.{State, Executes}
 use Rattle.vault_base.specs.declared.refusal.Table.TheVariants as table
-use Rattle.vault_core_model.specs.declared.records.Author.{Author}
-use Rattle.vault_core_model.specs.declared.records.Author.TheVariants as author
 use Rattle.vault_core_model.specs.declared.records.Entry.{Entry}
 use Rattle.vault_core_model.specs.declared.records.Note.{Note}
 use Rattle.vault_core_model.specs.declared.records.Removal.{Removal}
@@ -20,9 +18,9 @@ use Rattle.vault_audit_model.specs.declared.rows.ContentRow.{ContentRow}
 use Rattle.vault_audit_model.specs.declared.rows.HeadRow.{HeadRow}
 use Rattle.vault_audit_model.specs.declared.rows.SettingRow.{SettingRow}
 use Rattle.vault_audit_model.specs.declared.rows.TenureRow.{TenureRow}
-use Rattle.vault_audit_model.specs.Rows.{entry_row, content_row, setting_row, note_row, head_row, tenure_row, author_kind, author_name, removal_at, removal_cause, removal_by, retention_mode, retention_until}
+use Rattle.vault_audit_model.specs.Rows.{entry_row, content_row, setting_row, note_row, head_row, tenure_row, removal_at, removal_cause, removal_by, retention_mode, retention_until}
 use Rattle.vault_audit_model.specs.Tables.{vault_schema, entries, contents, settings, intake, heads, tenures, entries_tree, contents_tree, heads_tree}
-use Rattle.vault_audit_model.specs.Values.{number, bytes_or_null, flag}
+use Rattle.vault_audit_model.specs.Values.{number}
 use Rattle.vault_store_model.specs.Copies.{with_tenures, is_held_version, moved_row}
 use Rattle.vault_store_model.specs.Edits.{with_row, with_changed, without}
 use Rattle.vault_store_edits.specs.Apart.{IsApart}
@@ -30,7 +28,7 @@ use Rattle.vault_store_edits.specs.Trees.{columns_of}
 use Rattle.vault_store_model.specs.Scans.{passes}
 use Rattle.vault_store_model.specs.Tests.{is_text, is_number, is_numbered, is_of_key, removed_row, with_head_columns}
 use Rattle.vault_audit_model.proofs.ValueLemmas.{cast_null, cast_int}
-use Rattle.vault_store_edits.proofs.CastLemmas.{cast_number, cast_number_or_null, cast_flag, cast_flag_or_null, cast_text_or_null}
+use Rattle.vault_store_edits.proofs.CastLemmas.{cast_number, cast_number_or_null, cast_flag, cast_flag_or_null, cast_text_or_null, cast_kind, cast_name, entry_source}
 use Rattle.vault_store_edits.proofs.CopyLemmas.{copies}
 use Rattle.vault_store_edits.proofs.StatementLemmas.{Leaves, inserts, updates, deletes}
 use Rattle.vault_store_edits.proofs.TestLemmas.{text_test, number_test}
@@ -48,21 +46,8 @@ keyed bucket key rest r = ap₂ ◌&&◌ (text_test bucket (column r 1)) (and_tr
 
 -- ---- entries
 
-pub kind_taken : (by : Author) → cast kind.Integer (author_kind by) ≡ author_kind by
-kind_taken (author.Caller name) = cast_flag false
-kind_taken (author.Rule id) = cast_flag true
-
-pub name_taken : (by : Author) → cast kind.Text (author_name by) ≡ author_name by
-name_taken (author.Caller name) = refl
-name_taken (author.Rule id) = refl
-
 abbrev pub entry_params : Entry → Row
 entry_params e = entry_row e
-
-abbrev pub entry_source : Entry → Row
-entry_source e =
-    number e.id ∷ Null ∷ Text e.bucket ∷ Text e.key ∷ flag e.marker ∷ number e.size ∷ bytes_or_null e.digest ∷ number e.admitted ∷ author_kind e.by
-    ∷ author_name e.by ∷ removal_at e.removal ∷ removal_cause e.removal ∷ removal_by e.removal ∷ []
 
 pub puts_entry : (e : Entry) (old new : State) (count : ℕ) → old.now.schema ≡ vault_schema → Executes entry_text (entry_params e) old new (Ok count) → Leaves old new (with_row table.Entries (entry_row e))
 puts_entry e =
@@ -71,7 +56,7 @@ puts_entry e =
     let at : cast kind.Integer (removal_at e.removal) ≡ removal_at e.removal = cast_number_or_null _ in
     let cause : cast kind.Integer (removal_cause e.removal) ≡ removal_cause e.removal = cast_number_or_null _ in
     let by : cast kind.Text (removal_by e.removal) ≡ removal_by e.removal = cast_text_or_null _ in
-    rw (cast_number e.id, cast_flag e.marker, cast_number e.size, cast_number e.admitted, kind_taken e.by, name_taken e.by, at, cause, by) refl)
+    rw (cast_number e.id, cast_flag e.marker, cast_number e.size, cast_number e.admitted, cast_kind e.by, cast_name e.by, at, cause, by) refl)
 
 abbrev pub removal_params : ℕ → Removal → Row
 removal_params id r = number id ∷ removal_at (Some r) ∷ removal_cause (Some r) ∷ removal_by (Some r) ∷ []

@@ -1,4 +1,4 @@
-mod BoundLemmas
+pub mod BoundLemmas
 pub mod CastLemmas
 pub mod CopyLemmas
 mod EntryRowLemmas

@@ -11,7 +11,7 @@ ghost use Rattle.sqlite.specs.Values.{bound};
 ghost use Rattle.vault_core_model.specs.Vault.{Vault};
 ghost use Rattle.vault_store_model.specs.Keeping.{Keeps};
 ghost use Rattle.vault_store_reads.specs.Queries.{Selects, FindsRows};
-ghost use Rattle.vault_store_reads.specs.Quiet.{OnlyReads};
+ghost use Rattle.vault_store_reads.specs.Quiet.{OnlyReads, IsOpenIfOk};
 
 use sqlite::types::ValueRef;
 use sqlite::{Alter, Connection, Error, ErrorCode, Row};
@@ -28,6 +28,7 @@ pub fn query_rows<S: Alter>(
     // An error is the store's.
     ensures err { HasCleanDisk (state S.Store conn.new) → IfErr result (FailsToQuery sql.now (bound params.now) (state S.Store conn.old) (state S.Store conn.new)) }
     ensures read { OnlyReads S.Store conn.old conn.new }
+    ensures open { IsOpenIfOk S.Store conn.new result }
 {
     conn.query_all(sql, params)
 }

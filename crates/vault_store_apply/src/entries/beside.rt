@@ -1,7 +1,7 @@
 //! What a removal reads of the vault beside its entry and their place.
-ghost use Rattle.std.specs.Prelude.{◌≡◌, false, option_map, unwrap_or, IsTrue, IfOk, OnOk};
+ghost use Rattle.std.specs.Prelude.{◌≡◌, option_map, unwrap_or, IsTrue, IfOk, OnOk};
 ghost use Rattle.sqlite.specs.Held.{state};
-ghost use Rattle.sqlite.specs.State.{HasCleanDisk, Survives};
+ghost use Rattle.sqlite.specs.State.{HasCleanDisk};
 ghost use Rattle.vault_core_model.specs.declared.records.Tenure.{Tenure};
 ghost use Rattle.vault_core_model.specs.Reads.{head_of};
 ghost use Rattle.vault_core_model.specs.Vault.{Vault};
@@ -11,7 +11,6 @@ ghost use Rattle.vault_store_reads.specs.Shown.{newest_but};
 ghost use Rattle.vault_store_apply.specs.Heads.{holds_no_other};
 ghost use Rattle.vault_store_reads.specs.Quiet.{OnlyReads};
 
-use crate::entries::open::check_open;
 use sqlite::{Alter, Connection, Error};
 use vault_base::moment::Moment;
 use vault_base::name::VersionId;
@@ -42,9 +41,7 @@ fn find_newest_but<S: Alter>(
     if holds_no_other(head, id) {
         return Ok(None);
     }
-    let newest = read_newest_but(conn, &entry.bucket, &entry.key, id)?;
-    check_open(conn)?;
-    Ok(newest)
+    read_newest_but(conn, &entry.bucket, &entry.key, id)
 }
 
 /// Since when a tenure is; where there is none, that moment.
@@ -78,8 +75,6 @@ pub struct Beside {
 }
 
 /// Reads that, by the head of the key.
-///
-/// It first looks whether the connection is open, so that nothing is to be known of what was read before.
 pub fn read_beside<S: Alter>(
     conn: &mut Connection<S>,
     entry: &Entry,
@@ -88,12 +83,8 @@ pub fn read_beside<S: Alter>(
 ) -> Result<Beside, Error>
     ensures value { HasCleanDisk (state S.Store conn.new) → IfOk result (λ beside. (v : Vault) → Keeps (state S.Store conn.old) v → head ≡ head_of v entry.now.bucket entry.now.key
         → (beside.newest ≡ newest_but v entry.now.bucket entry.now.key id) × (beside.since ≡ unwrap_or (option_map (λ (t : Tenure). t.from) (last_tenure_of v id)) entry.now.admitted)) }
-    ensures same { HasCleanDisk (state S.Store conn.new) → (v : Vault) → Keeps (state S.Store conn.old) v → Keeps (state S.Store conn.new) v }
-    ensures honest { HasCleanDisk (state S.Store conn.new) → HasCleanDisk (state S.Store conn.old) }
-    ensures mode { conn.old.in_transaction ≡ false → conn.new.in_transaction ≡ false }
-    ensures crash { (v : Vault) → Keeps (state S.Store conn.old) v → Survives (state S.Store conn.old) (state S.Store conn.new) (λ _. ⊥) }
+    ensures read { OnlyReads S.Store conn.old conn.new }
 {
-    check_open(conn)?;
     let newest = find_newest_but(conn, entry, id, head)?;
     let since = find_begin(conn, entry, id)?;
     Ok(Beside { newest, since })

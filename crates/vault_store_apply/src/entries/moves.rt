@@ -14,8 +14,7 @@ ghost use Rattle.vault_store_reads.specs.Quiet.{OnlyReads, IsOpenIfOk};
 ghost use Rattle.vault_store_edits.specs.Commits.{KeepsIfErr};
 
 use crate::commit::commit_part;
-use crate::entries::open::check_open;
-use crate::entries::place::{read_config, read_sums};
+use crate::entries::place::read_config;
 use crate::parts::moves::MovedBucket;
 use sqlite::{Alter, Connection, Error, ErrorCode};
 use std::alloc::Global;
@@ -23,23 +22,9 @@ use vault_base::moment::Moment;
 use vault_base::name::{BucketName, DeptName};
 use vault_core_model::records::BucketConfig;
 use vault_store_reads::meta::read_moves;
+use vault_store_reads::names::read_totals;
 use vault_store_reads::rows_in_order::reads::read_bucket_held;
 use vault_tally::row::Row;
-
-/// The bytes of the held versions of a bucket, and their weight.
-fn find_held<S: Alter>(
-    conn: &mut Connection<S>,
-    alloc: Global,
-    bucket: &BucketName,
-) -> Result<(u64, u64), Error>
-    ensures value { HasCleanDisk (state S.Store conn.new) → IfOk result (λ held. (v : Vault) → Keeps (state S.Store conn.old) v → (held.0 ≡ bucket_bytes v bucket.now) × (held.1 ≡ bucket_weight v bucket.now)) }
-    ensures open { IsOpenIfOk S.Store conn.new result }
-    ensures read { OnlyReads S.Store conn.old conn.new }
-{
-    let held = read_bucket_held(conn, alloc, bucket)?;
-    check_open(conn)?;
-    Ok(held)
-}
 
 /// The number behind so many moves. `TooBig` beyond 32 bits.
 fn next_number(moves: u32) -> Result<u32, Error>
@@ -58,7 +43,6 @@ fn find_number<S: Alter>(conn: &mut Connection<S>) -> Result<u32, Error>
     ensures read { OnlyReads S.Store conn.old conn.new }
 {
     let moves = read_moves(conn)?;
-    check_open(conn)?;
     next_number(moves)
 }
 
@@ -81,7 +65,7 @@ fn read_load<S: Alter>(
     ensures open { IsOpenIfOk S.Store conn.new result }
     ensures read { OnlyReads S.Store conn.old conn.new }
 {
-    let held = find_held(conn, alloc, bucket)?;
+    let held = read_bucket_held(conn, alloc, bucket)?;
     let number = find_number(conn)?;
     Ok(Load {
         bytes: held.0,
@@ -110,8 +94,8 @@ fn read_hands<S: Alter>(
     ensures read { OnlyReads S.Store conn.old conn.new }
 {
     let config = read_config(conn, bucket)?;
-    let giver = read_sums(conn, &config.dept)?;
-    let taker = read_sums(conn, dept)?;
+    let giver = read_totals(conn, &config.dept)?;
+    let taker = read_totals(conn, dept)?;
     Ok(Hands {
         config,
         giver,

@@ -8,9 +8,8 @@ ghost use Rattle.vault_core_model.specs.Vault.{Vault, config_of};
 ghost use Rattle.vault_store_model.specs.Keeping.{Keeps};
 ghost use Rattle.vault_store_reads.specs.Quiet.{OnlyReads, IsOpenIfOk};
 
-use crate::entries::open::check_open;
 use sqlite::{Alter, Connection, Error};
-use vault_base::name::{BucketName, DeptName, ObjectKey};
+use vault_base::name::{BucketName, ObjectKey};
 use vault_core_model::records::{BucketConfig, Head};
 use vault_store_reads::heads::read_head;
 use vault_store_reads::names::{read_bucket, read_totals};
@@ -26,19 +25,7 @@ pub fn read_config<S: Alter>(
     ensures read { OnlyReads S.Store conn.old conn.new }
 {
     let found = read_bucket(conn, bucket)?;
-    check_open(conn)?;
     found.ok_or(Error::QueryReturnedNoRows)
-}
-
-/// The sums of a department.
-pub fn read_sums<S: Alter>(conn: &mut Connection<S>, dept: &DeptName) -> Result<Row, Error>
-    ensures value { HasCleanDisk (state S.Store conn.new) → IfOk result (λ sums. (v : Vault) → Keeps (state S.Store conn.old) v → IsRowFor v dept.now sums) }
-    ensures open { IsOpenIfOk S.Store conn.new result }
-    ensures read { OnlyReads S.Store conn.old conn.new }
-{
-    let sums = read_totals(conn, dept)?;
-    check_open(conn)?;
-    Ok(sums)
 }
 
 /// The configuration of an entry's bucket, the sums of its department, and the head of its key.
@@ -57,10 +44,11 @@ pub fn read_place<S: Alter>(
 ) -> Result<Place, Error>
     ensures value { HasCleanDisk (state S.Store conn.new) → IfOk result (λ place. (v : Vault) → Keeps (state S.Store conn.old) v
         → (Some place.config ≡ config_of v bucket.now) × IsRowFor v place.config.dept place.sums × (place.head ≡ head_of v bucket.now key.now)) }
+    ensures open { IsOpenIfOk S.Store conn.new result }
     ensures read { OnlyReads S.Store conn.old conn.new }
 {
     let config = read_config(conn, bucket)?;
-    let sums = read_sums(conn, &config.dept)?;
+    let sums = read_totals(conn, &config.dept)?;
     let head = read_head(conn, bucket, key)?;
     Ok(Place { config, sums, head })
 }

@@ -16,7 +16,6 @@ ghost use Rattle.vault_store_edits.specs.Commits.{KeepsIfErr};
 
 use crate::commit::commit_part;
 use crate::entries::beside::read_beside;
-use crate::entries::open::check_open;
 use crate::entries::place::read_place;
 use crate::parts::entry::RemovedEntry;
 use sqlite::{Alter, Connection, Error};
@@ -33,7 +32,6 @@ fn find_entry<S: Alter>(conn: &mut Connection<S>, id: VersionId) -> Result<Entry
     ensures read { OnlyReads S.Store conn.old conn.new }
 {
     let found = read_entry(conn, id)?;
-    check_open(conn)?;
     found.ok_or(Error::QueryReturnedNoRows)
 }
 

@@ -36,7 +36,7 @@ pub fn find_count<S: Alter>(
 ) -> Result<u32, Error>
     ensures value { HasCleanDisk (state S.Store conn.new) → IfOk result (λ count. (v : Vault) → Keeps (state S.Store conn.old) v → (count ≡ length (held_at v bucket.now key.now)) × Sound v) }
     ensures read { ReadsQuietly S.Store conn.old conn.new }
-    ensures opened { IsOpenIfOk S.Store conn.new result }
+    ensures open { IsOpenIfOk S.Store conn.new result }
 {
     let rows = open_rows(
         conn,

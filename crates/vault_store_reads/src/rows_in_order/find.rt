@@ -28,7 +28,7 @@ pub fn find_setting<S: Alter>(
 ) -> Result<Option<LastSetting>, Error>
     ensures value { HasCleanDisk (state S.Store conn.new) → IfOk result (λ found. (v : Vault) → Keeps (state S.Store conn.old) v → found ≡ setting_of v id) }
     ensures read { ReadsQuietly S.Store conn.old conn.new }
-    ensures opened { IsOpenIfOk S.Store conn.new result }
+    ensures open { IsOpenIfOk S.Store conn.new result }
 {
     let rows = setting_rows(conn, id)?;
     let Some(row) = rows.first() else {
@@ -45,7 +45,7 @@ pub fn find_last_tenure<S: Alter>(
 ) -> Result<Option<Tenure>, Error>
     ensures value { HasCleanDisk (state S.Store conn.new) → IfOk result (λ found. (v : Vault) → Keeps (state S.Store conn.old) v → found ≡ last_tenure_of v id) }
     ensures read { ReadsQuietly S.Store conn.old conn.new }
-    ensures opened { IsOpenIfOk S.Store conn.new result }
+    ensures open { IsOpenIfOk S.Store conn.new result }
 {
     let rows = last_tenure_rows(conn, id)?;
     let Some(row) = rows.first() else {
@@ -59,7 +59,7 @@ pub fn find_last_tenure<S: Alter>(
 fn with_lock<S: Alter>(conn: &mut Connection<S>, held: HeldRow) -> Result<Held, Error>
     ensures value { HasCleanDisk (state S.Store conn.new) → IfOk result (λ locked. (v : Vault) → Keeps (state S.Store conn.old) v → locked ≡ with_lock_in v held) }
     ensures read { ReadsQuietly S.Store conn.old conn.new }
-    ensures opened { IsOpenIfOk S.Store conn.new result }
+    ensures open { IsOpenIfOk S.Store conn.new result }
 {
     let last = find_setting(conn, held.id)?;
     let lock = last.map_or(
@@ -86,7 +86,7 @@ fn with_locks<S: Alter>(
 ) -> Result<Vec<Held>, Error>
     ensures value { HasCleanDisk (state S.Store conn.new) → IfOk result (λ locked. (v : Vault) → Keeps (state S.Store conn.old) v → locked.items ≡ map (with_lock_in v) entries.now) }
     ensures read { ReadsQuietly S.Store conn.old conn.new }
-    ensures opened { HasCleanDisk (state S.Store conn.new) → IsTrue (state S.Store conn.old).is_open → OnOk result (IsTrue (state S.Store conn.new).is_open) }
+    ensures open { HasCleanDisk (state S.Store conn.new) → IsTrue (state S.Store conn.old).is_open → OnOk result (IsTrue (state S.Store conn.new).is_open) }
 {
     let mut locked = Vec::new(alloc);
     for entry in entries {
@@ -105,7 +105,7 @@ fn find_bare<S: Alter>(
 ) -> Result<Vec<HeldRow>, Error>
     ensures value { HasCleanDisk (state S.Store conn.new) → IfOk result (λ held. (v : Vault) → Keeps (state S.Store conn.old) v → (map held_row held.items ≡ map entry_shown (entries_of v bucket.now key.now)) × Sound v) }
     ensures read { ReadsQuietly S.Store conn.old conn.new }
-    ensures opened { IsOpenIfOk S.Store conn.new result }
+    ensures open { IsOpenIfOk S.Store conn.new result }
 {
     let count = find_count(conn, bucket, key)?;
     if count == 0 {

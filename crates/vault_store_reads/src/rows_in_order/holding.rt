@@ -22,7 +22,7 @@ use vault_base::name::{BucketName, VersionId};
 fn find_day<S: Alter>(conn: &mut Connection<S>, id: VersionId) -> Result<u64, Error>
     ensures value { HasCleanDisk (state S.Store conn.new) → IfOk result (λ day. (v : Vault) → Keeps (state S.Store conn.old) v → day ≡ last_day_from (tenures_of v id)) }
     ensures read { ReadsQuietly S.Store conn.old conn.new }
-    ensures opened { IsOpenIfOk S.Store conn.new result }
+    ensures open { IsOpenIfOk S.Store conn.new result }
 {
     let last = find_last_tenure(conn, id)?;
     let Some(tenure) = last else {
@@ -48,7 +48,7 @@ fn sum_versions<S: Alter>(
 ) -> Result<(u64, u64), Error>
     ensures value { HasCleanDisk (state S.Store conn.new) → IfOk result (λ sums. (v : Vault) → Keeps (state S.Store conn.old) v → (sums.0 ≡ sum_by (λ (x : SizedRow). x.size) versions.now) × (sums.1 ≡ sum_by (weight_in v) versions.now)) }
     ensures read { ReadsQuietly S.Store conn.old conn.new }
-    ensures opened { HasCleanDisk (state S.Store conn.new) → IsTrue (state S.Store conn.old).is_open → OnOk result (IsTrue (state S.Store conn.new).is_open) }
+    ensures open { HasCleanDisk (state S.Store conn.new) → IsTrue (state S.Store conn.old).is_open → OnOk result (IsTrue (state S.Store conn.new).is_open) }
 {
     let mut bytes = 0;
     let mut weight = 0;
@@ -69,6 +69,7 @@ pub fn find_bucket_held<S: Alter>(
 ) -> Result<(u64, u64), Error>
     ensures value { HasCleanDisk (state S.Store conn.new) → IfOk result (λ held. (v : Vault) → Keeps (state S.Store conn.old) v → (held.0 ≡ bucket_bytes v bucket.now) × (held.1 ≡ bucket_weight v bucket.now)) }
     ensures read { ReadsQuietly S.Store conn.old conn.new }
+    ensures open { IsOpenIfOk S.Store conn.new result }
 {
     let rows = sized_rows(conn, bucket)?;
     let versions = decode_sized(alloc, &rows)?;

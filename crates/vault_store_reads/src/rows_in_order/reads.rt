@@ -8,7 +8,7 @@ ghost use Rattle.vault_core_model.specs.Vault.{Vault, rules_of};
 ghost use Rattle.vault_store_model.specs.Keeping.{Keeps};
 ghost use Rattle.vault_store_model.specs.Sums.{last_tenure_of};
 ghost use Rattle.vault_store_reads.specs.Shown.{newest_but};
-ghost use Rattle.vault_store_reads.specs.Quiet.{OnlyReads};
+ghost use Rattle.vault_store_reads.specs.Quiet.{OnlyReads, IsOpenIfOk};
 
 use crate::rows_in_order::decode::{decode_keys, decode_rules, decode_tenures};
 use crate::rows_in_order::find::{find_entries, find_last_tenure, find_setting};
@@ -66,6 +66,7 @@ pub fn read_newest_but<S: Alter>(
 ) -> Result<Option<VersionId>, Error>
     ensures value { HasCleanDisk (state S.Store conn.new) → IfOk result (λ found. (v : Vault) → Keeps (state S.Store conn.old) v → found ≡ newest_but v bucket.now key.now id) }
     ensures read { OnlyReads S.Store conn.old conn.new }
+    ensures open { IsOpenIfOk S.Store conn.new result }
 {
     let rows = newest_rows(conn, bucket, key, id)?;
     let Some(row) = rows.first() else {
@@ -125,6 +126,7 @@ pub fn read_bucket_held<S: Alter>(
 ) -> Result<(u64, u64), Error>
     ensures value { HasCleanDisk (state S.Store conn.new) → IfOk result (λ held. (v : Vault) → Keeps (state S.Store conn.old) v → (held.0 ≡ bucket_bytes v bucket.now) × (held.1 ≡ bucket_weight v bucket.now)) }
     ensures read { OnlyReads S.Store conn.old conn.new }
+    ensures open { IsOpenIfOk S.Store conn.new result }
 {
     find_bucket_held(conn, alloc, bucket)
 }

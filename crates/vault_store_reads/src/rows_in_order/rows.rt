@@ -31,7 +31,7 @@ pub fn open_rows<S: Alter>(
     requires { (q : Query) × Selects sql.now q }
     ensures rows { HasCleanDisk (state S.Store conn.new) → IfOk result (λ rows. (v : Vault) → Keeps (state S.Store conn.old) v → FindsRows v sql.now (bound params.now) rows.items) }
     ensures read { ReadsQuietly S.Store conn.old conn.new }
-    ensures opened { IsOpenIfOk S.Store conn.new result }
+    ensures open { IsOpenIfOk S.Store conn.new result }
 {
     conn.query_all(sql, params)
 }
@@ -40,7 +40,7 @@ pub fn open_rows<S: Alter>(
 pub fn setting_rows<S: Alter>(conn: &mut Connection<S>, id: VersionId) -> Result<Vec<Row>, Error>
     ensures rows { HasCleanDisk (state S.Store conn.new) → IfOk result (λ rows. (v : Vault) → Keeps (state S.Store conn.old) v → rows.items ≡ map last_row (option_to_list (setting_of v id))) }
     ensures read { ReadsQuietly S.Store conn.old conn.new }
-    ensures opened { IsOpenIfOk S.Store conn.new result }
+    ensures open { IsOpenIfOk S.Store conn.new result }
 {
     open_rows(
         conn,
@@ -56,7 +56,7 @@ pub fn last_tenure_rows<S: Alter>(
 ) -> Result<Vec<Row>, Error>
     ensures rows { HasCleanDisk (state S.Store conn.new) → IfOk result (λ rows. (v : Vault) → Keeps (state S.Store conn.old) v → (last : Option TenureRow) × (rows.items ≡ map tenure_row (option_to_list last)) × (option_map (λ x. x.tenure) last ≡ last_tenure_of v id)) }
     ensures read { ReadsQuietly S.Store conn.old conn.new }
-    ensures opened { IsOpenIfOk S.Store conn.new result }
+    ensures open { IsOpenIfOk S.Store conn.new result }
 {
     open_rows(
         conn,
@@ -84,7 +84,7 @@ pub fn sized_rows<S: Alter>(
 ) -> Result<Vec<Row>, Error>
     ensures rows { HasCleanDisk (state S.Store conn.new) → IfOk result (λ rows. (v : Vault) → Keeps (state S.Store conn.old) v → (rows.items ≡ map sized_row (map sized_of (held_versions_in v bucket.now))) × Sound v) }
     ensures read { ReadsQuietly S.Store conn.old conn.new }
-    ensures opened { IsOpenIfOk S.Store conn.new result }
+    ensures open { IsOpenIfOk S.Store conn.new result }
 {
     open_rows(
         conn,
@@ -114,7 +114,7 @@ pub fn entry_rows<S: Alter>(
 ) -> Result<Vec<Row>, Error>
     ensures rows { HasCleanDisk (state S.Store conn.new) → IfOk result (λ rows. (v : Vault) → Keeps (state S.Store conn.old) v → (rows.items ≡ take most (reverse (map entry_shown (entries_of v bucket.now key.now)))) × Sound v) }
     ensures read { ReadsQuietly S.Store conn.old conn.new }
-    ensures opened { IsOpenIfOk S.Store conn.new result }
+    ensures open { IsOpenIfOk S.Store conn.new result }
 {
     open_rows(
         conn,
@@ -149,6 +149,7 @@ pub fn newest_rows<S: Alter>(
 ) -> Result<Vec<Row>, Error>
     ensures rows { HasCleanDisk (state S.Store conn.new) → IfOk result (λ rows. (v : Vault) → Keeps (state S.Store conn.old) v → rows.items ≡ map id_row (option_to_list (newest_but v bucket.now key.now id))) }
     ensures read { OnlyReads S.Store conn.old conn.new }
+    ensures open { IsOpenIfOk S.Store conn.new result }
 {
     query_rows(
         conn,

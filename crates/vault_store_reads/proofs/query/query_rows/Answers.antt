@@ -2,6 +2,7 @@ use Rattle.std.proofs.Common.{arith}
 use Rattle.sqlite.specs.Held.{state}
 use Rattle.sqlite.specs.Values.{bound}
 use Rattle.vault_store_reads.proofs.QueryLemmas.{finds, keeps_after, survives_query, if_shown}
+use Rattle.vault_store_reads.proofs.OpenLemmas.{open_after}
 use Rattle.vault_store_reads.proofs.query.query_rows.Goals as goal
 
 pub returns-clause-rows : goal.returns-clause-rows
@@ -17,3 +18,6 @@ returns-clause-read g c = record {
   mode = c.query_all.ensures.mode;
   crash = λ v was. survives_query c.args.sql.now (bound c.args.params.now) (state g.S.Store c.args.conn.now) (state g.S.Store c.query_all.new.self) v was c.requires.0 c.requires.1 c.query_all.ensures.survives;
 }
+
+pub returns-clause-open : goal.returns-clause-open
+returns-clause-open g c clean = open_after _ _ _ _ (λ rows. rows.items) c.query_all.result (c.query_all.ensures.ok clean)

@@ -1,25 +1,7 @@
 use Rattle.std.proofs.Common.{sym, ◌∙◌}
-use Rattle.sqlite.specs.Held.{state}
-use Rattle.vault_store_apply.proofs.ReadLemmas.{looked}
 use Rattle.vault_store_apply.proofs.RemovalLemmas.{no_other}
 use Rattle.vault_store_apply.proofs.entries.beside.find_newest_but.Goals as goal
 
 pub returns-then-holds_no_other-clause-value : goal.returns-then-holds_no_other-clause-value
 returns-then-holds_no_other-clause-value g c clean v was is =
     no_other v c.args.entry.now.bucket c.args.entry.now.key c.args.id c.args.head (sym c.holds_no_other.ensures ∙ c.if-holds_no_other.true) is
-
-pub returns-clause-read : goal.returns-clause-read
-returns-clause-read g c = record {
-  same = λ clean v was. c.in_ok-check_open.ensures.same clean v (c.in_ok-newest.ensures.read.same (c.in_ok-check_open.ensures.honest clean) v was);
-  honest = λ clean. c.in_ok-newest.ensures.read.honest (c.in_ok-check_open.ensures.honest clean);
-  mode = λ alone. c.in_ok-check_open.ensures.mode (c.in_ok-newest.ensures.read.mode alone);
-  crash = λ v was. looked (state g.S.Store c.args.conn.now) (state g.S.Store c.read_newest_but.new.conn) (state g.S.Store c.check_open.new.conn) (c.in_ok-newest.ensures.read.crash v was) c.in_ok-check_open.ensures.survives;
-}
-
-pub returns-in_err-check_open-clause-read : goal.returns-in_err-check_open-clause-read
-returns-in_err-check_open-clause-read g c = record {
-  same = λ clean v was. c.in_err-check_open.ensures.same clean v (c.in_ok-newest.ensures.read.same (c.in_err-check_open.ensures.honest clean) v was);
-  honest = λ clean. c.in_ok-newest.ensures.read.honest (c.in_err-check_open.ensures.honest clean);
-  mode = λ alone. c.in_err-check_open.ensures.mode (c.in_ok-newest.ensures.read.mode alone);
-  crash = λ v was. looked (state g.S.Store c.args.conn.now) (state g.S.Store c.read_newest_but.new.conn) (state g.S.Store c.check_open.new.conn) (c.in_ok-newest.ensures.read.crash v was) c.in_err-check_open.ensures.survives;
-}

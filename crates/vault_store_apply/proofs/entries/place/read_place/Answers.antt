@@ -21,7 +21,7 @@ returns-clause-read g c = record {
   crash = λ v was.
       let s0 = state g.S.Store c.args.conn.now in
       let h1 = c.read_config.new.conn in
-      let h2 = c.read_sums.new.conn in
+      let h2 = c.read_totals.new.conn in
       let s3 = state g.S.Store c.read_head.new.conn in
       let was1 = keeps_now g.S.Store h1 v (g.met.S.Store.shut_if_dirty h1.store) (λ clean. c.in_ok-config.ensures.read.same clean v was) in
       let was2 = keeps_now g.S.Store h2 v (g.met.S.Store.shut_if_dirty h2.store) (λ clean. c.in_ok-sums.ensures.read.same clean v was1) in
@@ -37,7 +37,7 @@ returns-in_err-sums-clause-read g c = record {
   crash = λ v was.
       let s0 = state g.S.Store c.args.conn.now in
       let h1 = c.read_config.new.conn in
-      let h2 = c.read_sums.new.conn in
+      let h2 = c.read_totals.new.conn in
       let was1 = keeps_now g.S.Store h1 v (g.met.S.Store.shut_if_dirty h1.store) (λ clean. c.in_ok-config.ensures.read.same clean v was) in
       read_then s0 (state g.S.Store h1) (state g.S.Store h2) c.in_ok-config.ensures.open (c.in_ok-config.ensures.read.crash v was) (c.in_err-sums.ensures.read.crash v was1);
 }
@@ -53,7 +53,7 @@ returns-in_err-head-clause-read g c = record {
   crash = λ v was.
       let s0 = state g.S.Store c.args.conn.now in
       let h1 = c.read_config.new.conn in
-      let h2 = c.read_sums.new.conn in
+      let h2 = c.read_totals.new.conn in
       let s3 = state g.S.Store c.read_head.new.conn in
       let was1 = keeps_now g.S.Store h1 v (g.met.S.Store.shut_if_dirty h1.store) (λ clean. c.in_ok-config.ensures.read.same clean v was) in
       let was2 = keeps_now g.S.Store h2 v (g.met.S.Store.shut_if_dirty h2.store) (λ clean. c.in_ok-sums.ensures.read.same clean v was1) in

@@ -8,7 +8,7 @@ use Rattle.vault_store_apply.specs.Applies.{Changes, IsChanged}
 use Rattle.vault_store_edits.proofs.TransactionLemmas.{on_err_here}
 use Rattle.vault_store_edits.proofs.TransactionLemmas.{on_err_all}
 use Rattle.vault_store_apply.proofs.ApplyLemmas.{on_ok_then, shut_leaves}
-use Rattle.vault_store_apply.proofs.ReadLemmas.{keeps_now, looked, read_then}
+use Rattle.vault_store_apply.proofs.ReadLemmas.{keeps_now, read_then}
 use Rattle.vault_store_apply.proofs.RemovalLemmas.{edits_removal}
 use Rattle.vault_store_apply.proofs.entries.removal.remove.Goals as goal
 
@@ -17,7 +17,7 @@ returns-clause-done g c clean given =
     let old = state g.S.Store c.args.conn.now in
     let new = state g.S.Store c.commit_part-removed.new.conn in
     let clean3 : HasCleanDisk (state g.S.Store c.read_beside.new.conn) = omega (arith, clean, c.commit_part-removed.ensures.crash.clean) in
-    let clean2 = c.in-Ok-read_beside.ensures.honest clean3 in
+    let clean2 = c.in-Ok-read_beside.ensures.read.honest clean3 in
     let clean1 = c.in-Ok.ensures.read.honest clean2 in
     let t = c.args.at in
     let low : t ≤ last_moment = omega (arith, c.secs-in_range.ensures.value, c.secs-in_range.ensures.range) in
@@ -26,7 +26,7 @@ returns-clause-done g c clean given =
     (λ by v was later allowed.
     let was1 = c.in_ok-entry.ensures.read.same clean1 v was in
     let was2 = c.in-Ok.ensures.read.same clean2 v was1 in
-    let was3 = c.in-Ok-read_beside.ensures.same clean3 v was2 in
+    let was3 = c.in-Ok-read_beside.ensures.read.same clean3 v was2 in
     by v it given was3 later allowed
     (λ is_open.
     let told = c.in-Ok.ensures.value clean2 v was1 in
@@ -49,13 +49,13 @@ returns-clause-crash g c given v was =
     let was1 = keeps_now g.S.Store h1 v (g.met.S.Store.shut_if_dirty h1.store) (λ clean. c.in_ok-entry.ensures.read.same clean v was) in
     let was2 = keeps_now g.S.Store h2 v (g.met.S.Store.shut_if_dirty h2.store) (λ clean. c.in-Ok.ensures.read.same clean v was1) in
     let first = read_then old (state g.S.Store h1) (state g.S.Store h2) c.in_ok-entry.ensures.open (c.in_ok-entry.ensures.read.crash v was) (c.in-Ok.ensures.read.crash v was1) in
-    let reads = looked old (state g.S.Store h2) (state g.S.Store h3) first (c.in-Ok-read_beside.ensures.crash v was2) in
+    let reads = read_then old (state g.S.Store h2) (state g.S.Store h3) c.in-Ok.ensures.open first (c.in-Ok-read_beside.ensures.read.crash v was2) in
     survives_then old (state g.S.Store h3) new _ _ (IsChanged old v t it) (λ _ trees shut is_open. absurd (shut is_open))
     (λ late trees by was_open later allowed.
     let clean3 : HasCleanDisk (state g.S.Store h3) = omega (arith, late, c.commit_part-removed.ensures.crash.clean) in
-    let clean2 = c.in-Ok-read_beside.ensures.honest clean3 in
+    let clean2 = c.in-Ok-read_beside.ensures.read.honest clean3 in
     let clean1 = c.in-Ok.ensures.read.honest clean2 in
-    let was3 = c.in-Ok-read_beside.ensures.same clean3 v was2 in
+    let was3 = c.in-Ok-read_beside.ensures.read.same clean3 v was2 in
     by v it given was3 later allowed
     (λ is_open.
     let told = c.in-Ok.ensures.value clean2 v was1 in
@@ -69,10 +69,10 @@ returns-clause-crash g c given v was =
 pub returns-clause-nothing : goal.returns-clause-nothing
 returns-clause-nothing g c clean =
     let clean3 : HasCleanDisk (state g.S.Store c.read_beside.new.conn) = omega (arith, clean, c.commit_part-removed.ensures.crash.clean) in
-    let clean2 = c.in-Ok-read_beside.ensures.honest clean3 in
+    let clean2 = c.in-Ok-read_beside.ensures.read.honest clean3 in
     let clean1 = c.in-Ok.ensures.read.honest clean2 in
     on_err_all c.commit_part-removed.result (c.commit_part-removed.ensures.nothing clean)
-    (λ keeps v was. keeps v (c.in-Ok-read_beside.ensures.same clean3 v (c.in-Ok.ensures.read.same clean2 v (c.in_ok-entry.ensures.read.same clean1 v was))))
+    (λ keeps v was. keeps v (c.in-Ok-read_beside.ensures.read.same clean3 v (c.in-Ok.ensures.read.same clean2 v (c.in_ok-entry.ensures.read.same clean1 v was))))
 
 pub returns-in_err-entry-clause-crash : goal.returns-in_err-entry-clause-crash
 returns-in_err-entry-clause-crash g c given v was =
@@ -96,7 +96,7 @@ returns-in-Err-read_beside-clause-crash g c given v was =
     let was1 = keeps_now g.S.Store h1 v (g.met.S.Store.shut_if_dirty h1.store) (λ clean. c.in_ok-entry.ensures.read.same clean v was) in
     let was2 = keeps_now g.S.Store h2 v (g.met.S.Store.shut_if_dirty h2.store) (λ clean. c.in-Ok.ensures.read.same clean v was1) in
     let first = read_then old (state g.S.Store h1) (state g.S.Store h2) c.in_ok-entry.ensures.open (c.in_ok-entry.ensures.read.crash v was) (c.in-Ok.ensures.read.crash v was1) in
-    shut_leaves old s3 v c.args.at (change.Remove c.args.id c.args.removal.now) (looked old (state g.S.Store h2) s3 first (c.in-Err-read_beside.ensures.crash v was2))
+    shut_leaves old s3 v c.args.at (change.Remove c.args.id c.args.removal.now) (read_then old (state g.S.Store h2) s3 c.in-Ok.ensures.open first (c.in-Err-read_beside.ensures.read.crash v was2))
 
 pub returns-in_err-entry-clause-nothing : goal.returns-in_err-entry-clause-nothing
 returns-in_err-entry-clause-nothing g c clean = on_err_here _ (c.in_err-entry.ensures.read.same clean)
@@ -107,6 +107,6 @@ returns-in-Err-clause-nothing g c clean v was =
 
 pub returns-in-Err-read_beside-clause-nothing : goal.returns-in-Err-read_beside-clause-nothing
 returns-in-Err-read_beside-clause-nothing g c clean v was =
-    let clean2 = c.in-Err-read_beside.ensures.honest clean in
+    let clean2 = c.in-Err-read_beside.ensures.read.honest clean in
     let clean1 = c.in-Ok.ensures.read.honest clean2 in
-    c.in-Err-read_beside.ensures.same clean v (c.in-Ok.ensures.read.same clean2 v (c.in_ok-entry.ensures.read.same clean1 v was))
+    c.in-Err-read_beside.ensures.read.same clean v (c.in-Ok.ensures.read.same clean2 v (c.in_ok-entry.ensures.read.same clean1 v was))

@@ -17,7 +17,7 @@ returns-in_err-rows-clause-read g c = record {
   same = λ clean v was. c.entry_rows.ensures.read.same clean v (c.find_count.ensures.read.same (c.entry_rows.ensures.read.honest clean) v was);
   honest = λ clean. c.find_count.ensures.read.honest (c.entry_rows.ensures.read.honest clean);
   mode = λ alone. c.entry_rows.ensures.read.mode (c.find_count.ensures.read.mode alone);
-  survives = quiet_then _ _ _ c.find_count.ensures.read.same (λ clean _. c.in_ok-count.ensures.opened clean) c.find_count.ensures.read.survives c.entry_rows.ensures.read.survives;
+  survives = quiet_then _ _ _ c.find_count.ensures.read.same (λ clean _. c.in_ok-count.ensures.open clean) c.find_count.ensures.read.survives c.entry_rows.ensures.read.survives;
 }
 
 pub returns-in_err-held-clause-read : goal.returns-in_err-held-clause-read
@@ -25,7 +25,7 @@ returns-in_err-held-clause-read g c = record {
   same = λ clean v was. c.entry_rows.ensures.read.same clean v (c.find_count.ensures.read.same (c.entry_rows.ensures.read.honest clean) v was);
   honest = λ clean. c.find_count.ensures.read.honest (c.entry_rows.ensures.read.honest clean);
   mode = λ alone. c.entry_rows.ensures.read.mode (c.find_count.ensures.read.mode alone);
-  survives = quiet_then _ _ _ c.find_count.ensures.read.same (λ clean _. c.in_ok-count.ensures.opened clean) c.find_count.ensures.read.survives c.entry_rows.ensures.read.survives;
+  survives = quiet_then _ _ _ c.find_count.ensures.read.same (λ clean _. c.in_ok-count.ensures.open clean) c.find_count.ensures.read.survives c.entry_rows.ensures.read.survives;
 }
 
 pub returns-clause-read : goal.returns-clause-read
@@ -33,7 +33,7 @@ returns-clause-read g c = record {
   same = λ clean v was. c.entry_rows.ensures.read.same clean v (c.find_count.ensures.read.same (c.entry_rows.ensures.read.honest clean) v was);
   honest = λ clean. c.find_count.ensures.read.honest (c.entry_rows.ensures.read.honest clean);
   mode = λ alone. c.entry_rows.ensures.read.mode (c.find_count.ensures.read.mode alone);
-  survives = quiet_then _ _ _ c.find_count.ensures.read.same (λ clean _. c.in_ok-count.ensures.opened clean) c.find_count.ensures.read.survives c.entry_rows.ensures.read.survives;
+  survives = quiet_then _ _ _ c.find_count.ensures.read.same (λ clean _. c.in_ok-count.ensures.open clean) c.find_count.ensures.read.survives c.entry_rows.ensures.read.survives;
 }
 
 pub returns-clause-value : goal.returns-clause-value

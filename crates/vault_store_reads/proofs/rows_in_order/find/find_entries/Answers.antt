@@ -16,5 +16,5 @@ returns-clause-read g c = record {
   same = λ clean v was. c.with_locks.ensures.read.same clean v (c.find_bare.ensures.read.same (c.with_locks.ensures.read.honest clean) v was);
   honest = λ clean. c.find_bare.ensures.read.honest (c.with_locks.ensures.read.honest clean);
   mode = λ alone. c.with_locks.ensures.read.mode (c.find_bare.ensures.read.mode alone);
-  survives = quiet_then _ _ _ c.find_bare.ensures.read.same (λ clean _. c.in_ok-entries.ensures.opened clean) c.find_bare.ensures.read.survives c.with_locks.ensures.read.survives;
+  survives = quiet_then _ _ _ c.find_bare.ensures.read.same (λ clean _. c.in_ok-entries.ensures.open clean) c.find_bare.ensures.read.survives c.with_locks.ensures.read.survives;
 }

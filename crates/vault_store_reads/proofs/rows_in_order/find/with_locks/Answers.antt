@@ -32,5 +32,5 @@ loop-entry-preserved g c =
       honest = λ clean. c.loop-entry.invariant.honest (c.with_lock.ensures.read.honest clean);
       mode = λ alone. c.with_lock.ensures.read.mode (c.loop-entry.invariant.mode alone);
       survives = quiet_then _ _ _ c.loop-entry.invariant.same c.loop-entry.invariant.opened c.loop-entry.invariant.survives c.with_lock.ensures.read.survives;
-      opened = λ clean _. c.in_ok-one.ensures.opened clean;
+      opened = λ clean _. c.in_ok-one.ensures.open clean;
     }

@@ -17,5 +17,8 @@ returns-clause-read g c = record {
   same = λ clean v was. c.sum_versions.ensures.read.same clean v (c.sized_rows.ensures.read.same (c.sum_versions.ensures.read.honest clean) v was);
   honest = λ clean. c.sized_rows.ensures.read.honest (c.sum_versions.ensures.read.honest clean);
   mode = λ alone. c.sum_versions.ensures.read.mode (c.sized_rows.ensures.read.mode alone);
-  survives = quiet_then _ _ _ c.sized_rows.ensures.read.same (λ clean _. c.in_ok-rows.ensures.opened clean) c.sized_rows.ensures.read.survives c.sum_versions.ensures.read.survives;
+  survives = quiet_then _ _ _ c.sized_rows.ensures.read.same (λ clean _. c.in_ok-rows.ensures.open clean) c.sized_rows.ensures.read.survives c.sum_versions.ensures.read.survives;
 }
+
+pub returns-clause-open : goal.returns-clause-open
+returns-clause-open g c clean = c.sum_versions.ensures.open clean (c.in_ok-rows.ensures.open (c.sum_versions.ensures.read.honest clean))

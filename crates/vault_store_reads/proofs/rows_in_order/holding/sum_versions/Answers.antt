@@ -35,5 +35,5 @@ loop-version-preserved g c =
       honest = λ clean. c.loop-version.invariant.honest (c.find_day.ensures.read.honest clean);
       mode = λ alone. c.find_day.ensures.read.mode (c.loop-version.invariant.mode alone);
       survives = quiet_then _ _ _ c.loop-version.invariant.same c.loop-version.invariant.opened c.loop-version.invariant.survives c.find_day.ensures.read.survives;
-      opened = λ clean _. c.in_ok-day.ensures.opened clean;
+      opened = λ clean _. c.in_ok-day.ensures.open clean;
     }

@@ -15,5 +15,5 @@ returns-clause-read g c = record {
   survives = quiet _ _ _ _ c.requires.0 c.requires.1 c.query_all.ensures.survives;
 }
 
-pub returns-clause-opened : goal.returns-clause-opened
-returns-clause-opened g c clean = open_after _ _ _ _ (λ rows. rows.items) c.query_all.result (c.query_all.ensures.ok clean)
+pub returns-clause-open : goal.returns-clause-open
+returns-clause-open g c clean = open_after _ _ _ _ (λ rows. rows.items) c.query_all.result (c.query_all.ensures.ok clean)
