@@ -14,7 +14,6 @@ ghost use Rattle.vault_store_edits.specs.Commits.{KeepsIfErr};
 
 use crate::entries::admission::admit;
 use crate::entries::moves::move_bucket;
-use crate::entries::open::check_open;
 use crate::entries::removal::remove;
 use crate::entries::settings::add_setting;
 use crate::records::{
@@ -54,6 +53,18 @@ fn make<S: Alter>(
         Change::AddSetting(id, setting) => add_setting(conn, at, *id, setting),
         Change::Remove(id, removal) => remove(conn, at, *id, removal),
     }
+}
+
+/// Refuses a connection that a failure has shut; of any other nothing is changed.
+fn check_open<S: Alter>(conn: &mut Connection<S>) -> Result<(), Error>
+    ensures open { IsOpenIfOk S.Store conn.new result }
+    ensures same { HasCleanDisk (state S.Store conn.new) → (v : Vault) → Keeps (state S.Store conn.old) v → Keeps (state S.Store conn.new) v }
+    ensures honest { HasCleanDisk (state S.Store conn.new) → HasCleanDisk (state S.Store conn.old) }
+    ensures mode { conn.old.in_transaction ≡ false → conn.new.in_transaction ≡ false }
+    ensures survives { Survives (state S.Store conn.old) (state S.Store conn.new) (λ _. ⊥) }
+{
+    let _statement = conn.prepare("SELECT last FROM meta")?;
+    Ok(())
 }
 
 /// Makes a change at a moment, which becomes the last one; or changes nothing.

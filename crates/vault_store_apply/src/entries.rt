@@ -3,7 +3,6 @@
 pub mod admission;
 mod beside;
 pub mod moves;
-pub mod open;
 mod place;
 pub mod removal;
 pub mod settings;

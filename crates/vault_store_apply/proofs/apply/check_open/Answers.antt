@@ -1,7 +1,7 @@
 use Rattle.std.proofs.Common.{[]}
 use Rattle.sqlite.specs.Held.{state}
 use Rattle.vault_store_apply.proofs.ReadLemmas.{unchanged_keeps, refused_keeps}
-use Rattle.vault_store_apply.proofs.entries.open.check_open.Goals as goal
+use Rattle.vault_store_apply.proofs.apply.check_open.Goals as goal
 
 pub returns-clause-same : goal.returns-clause-same
 returns-clause-same g c clean v was =
