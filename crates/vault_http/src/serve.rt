@@ -263,7 +263,7 @@ fn serve_at<R: Read, W: Write, K: Keeper>(
 /// which is in seconds since 1970. Not one byte is answered by none.
 ///
 /// Nothing behind the head is read where no body belongs to the request, and of a body no more than
-/// its `content-length`; the reader is asked for one byte at a time, so give a `BufReader` over a
+/// its `content-length`; of a head the reader is asked for one byte at a time, so give a `BufReader` over a
 /// file or a socket.
 ///
 /// `Read` comes where the reader failed: no step was made. `Write` comes where the writer failed, and

@@ -1,7 +1,8 @@
-//! A reader's bytes, one by one.
-ghost use Rattle.std.specs.Prelude.{◌≢◌, IfErr, IfOk};
+//! A reader's bytes, one by one and in pieces.
+ghost use Rattle.std.specs.Prelude.{◌≢◌, ◌<◌, IfErr, IfOk, length};
+ghost use Rattle.std.specs.Io.{ReadsAtMost};
 ghost use Rattle.std.specs.IoError.{error_kind};
-ghost use Rattle.vault_http.specs.Bytes.{NextByte};
+ghost use Rattle.vault_http.specs.Bytes.{NextByte, NextBytes};
 
 use std::io::{ErrorKind, Read, Result};
 use thiserror::Error;
@@ -18,13 +19,24 @@ pub enum ReadFault {
     Memory,
 }
 
-/// The next byte, or none at the end. A read that a signal interrupts is tried again, and never told.
+/// The next bytes, at the front of a buffer, and how many; none only at the end. A read that a signal interrupts is
+/// tried again, and never told.
+pub fn next_bytes<R: Read>(reader: &mut R, buf: &mut [u8]) -> Result<usize>
+    requires { 0 < length buf.old }
+    ensures bound { ReadsAtMost result buf.new }
+    ensures next { IfOk result (NextBytes (R.remaining reader.old) (R.remaining reader.new) buf.new) }
+    ensures retried { IfErr result (λ e. error_kind e ≢ ErrorKind.Interrupted) }
+{
+    read_retrying(reader, buf)
+}
+
+/// The next byte, or none at the end, likewise.
 pub fn next_byte<R: Read>(reader: &mut R) -> Result<Option<u8>>
     ensures next { IfOk result (λ next. NextByte (R.remaining reader.old) (R.remaining reader.new) next) }
     ensures retried { IfErr result (λ e. error_kind e ≢ ErrorKind.Interrupted) }
 {
     let mut one = [0u8; 1];
-    match read_retrying(reader, &mut one) {
+    match next_bytes(reader, &mut one) {
         Ok(0) => Ok(None),
         Ok(_) => Ok(Some(one[0])),
         Err(error) => Err(error),
