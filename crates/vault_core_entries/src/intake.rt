@@ -1,5 +1,6 @@
 //! A line of an intake batch.
 ghost use Rattle.std.specs.Prelude.{◌≡◌, ◌≤◌, ◌+◌, length, IsTrue, IfOk, IfErr, OnOk, Some, None, false};
+ghost use Rattle.sha2.specs.Sha256.{sha256};
 ghost use Rattle.vault_core_model.specs.Halts.{ChecksAs, AnswersAs, is_device, is_device_refusal, RoseOrIsFull};
 ghost use Rattle.vault_core_model.specs.EntryOutcomes.{new_version};
 ghost use Rattle.vault_core_model.specs.IntakeOutcome as outcome;
@@ -9,6 +10,7 @@ ghost use Rattle.vault_tally.specs.Row.{quota};
 
 use crate::admission::{find_access_to_put, find_lock_to_admit, new_version};
 use std::alloc::{AllocError, Global};
+use vault_base::content::{Content, Digest};
 use vault_base::moment::Moment;
 use vault_base::name::{CallerName, DeptName, VersionId};
 use vault_base::refusal::Refusal;
@@ -18,7 +20,7 @@ use vault_core_model::change::{Admission, Change};
 use vault_core_model::command::{Intake, Put};
 use vault_core_model::halt::Halt;
 use vault_core_model::keeper::{Keeper, make_change};
-use vault_core_model::records::Note;
+use vault_core_model::records::{Entry, Note};
 use vault_core_model::reply::{Answer, TakenIn};
 use vault_lock::lock::Lock;
 use vault_lock::retention::Retention;
@@ -110,7 +112,8 @@ fn new_admission(
     ensures note { IfOk result (λ admission. admission.note ≡ Some (outcome.new_note id command.now)) }
 {
     let history = new_version(alloc, id, at, who, dept, &command.put, lock)?;
-    match new_note(id, command) {
+    let digest = digest_of(&history.entry, &command.put.content);
+    match new_note(id, command, digest) {
         Ok(note) => Ok(Admission {
             history,
             note: Some(note),
@@ -192,8 +195,19 @@ fn is_same_hold(one: Option<bool>, other: Option<bool>) -> bool
     }
 }
 
-/// The note of an accepted line.
-fn new_note(id: VersionId, command: &Intake) -> Result<Note, AllocError>
+/// The digest of an entry that has just these bytes, which aren't gone through again.
+fn digest_of(entry: &Entry, content: &Content) -> Digest
+    ensures { entry.now.digest ≡ Some (sha256 content.now) → result ≡ sha256 content.now }
+{
+    match entry.digest {
+        Some(digest) => digest,
+        None => content.digest(),
+    }
+}
+
+/// The note of an accepted line, whose content has that digest.
+fn new_note(id: VersionId, command: &Intake, digest: Digest) -> Result<Note, AllocError>
+    requires { digest ≡ sha256 command.now.put.content }
     ensures { IfOk result (λ note. note ≡ outcome.new_note id command.now) }
 {
     let put = &command.put;
@@ -203,7 +217,7 @@ fn new_note(id: VersionId, command: &Intake) -> Result<Note, AllocError>
         line: command.line,
         key: put.key.clone()?,
         size: put.content.len() as u64,
-        digest: put.content.digest(),
+        digest,
         retention: put.retention,
         hold: put.hold,
         id,
