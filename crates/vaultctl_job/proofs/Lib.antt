@@ -1,3 +1,3 @@
-pub mod AddingLemmas
+pub mod FoldLemmas
 pub mod NumberLemmas
 pub mod WordsLemmas

@@ -1,6 +1,6 @@
 -- The command line, as one of clap's simple commands.
-use Rattle.std.specs.Prelude.{List, codes, Option, true, option_and_then}
-use Rattle.clap.specs.Words.{App, Row, Text, new_app, with_rule, with_subcommand, subcommand_of}
+use Rattle.std.specs.Prelude.{List, [], ◌∷◌, codes, fold, Option, true, option_and_then}
+use Rattle.clap.specs.Words.{App, Row, Shape, Text, new_app, with_rule, with_subcommand, subcommand_of}
 use Rattle.vaultctl_job.specs.Arguments as arg
 use Rattle.vaultctl_job.specs.Jobs.{job_named}
 use Rattle.vaultctl_job.specs.declared.fault.WordsFault.{WordsFault}
@@ -71,17 +71,15 @@ migrate_app = with_rule (with_rule (new_app (codes "migrate")) (arg.place (codes
 abbrev pub needing_subcommand : App → App
 needing_subcommand a = record a { top = record a.top { subcommand_required = true; disable_help_subcommand = true } }
 
-abbrev pub with_records : App → App
-with_records a = with_subcommand (with_subcommand (with_subcommand (with_subcommand (with_subcommand a init_app.top) dept_app.top) caller_app.top) bucket_app.top) move_app.top
-
-abbrev pub with_work : App → App
-with_work a = with_subcommand (with_subcommand (with_subcommand (with_subcommand a intake_app.top) run_app.top) report_app.top) certificate_app.top
-
-abbrev pub with_files : App → App
-with_files a = with_subcommand (with_subcommand (with_subcommand (with_subcommand (with_subcommand a register_app.top) verify_app.top) replay_app.top) serve_app.top) migrate_app.top
+-- the subcommands, in the order in which help shows them
+abbrev pub subcommands : List Shape
+subcommands =
+    init_app.top ∷ dept_app.top ∷ caller_app.top ∷ bucket_app.top ∷ move_app.top
+    ∷ intake_app.top ∷ run_app.top ∷ report_app.top ∷ certificate_app.top
+    ∷ register_app.top ∷ verify_app.top ∷ replay_app.top ∷ serve_app.top ∷ migrate_app.top ∷ []
 
 unfoldable pub vaultctl : App
-vaultctl = with_files (with_work (with_records (needing_subcommand (new_app (codes "vaultctl")))))
+vaultctl = fold with_subcommand (needing_subcommand (new_app (codes "vaultctl"))) subcommands
 
 -- what a subcommand with its words asks for
 abbrev pub job_in : Option (Text × List Row) → Option Job

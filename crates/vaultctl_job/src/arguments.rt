@@ -1,38 +1,62 @@
 //! The words that subcommands take, each with what help says of it.
-ghost use Rattle.std.specs.Prelude.{◌≡◌, false};
-ghost use Rattle.clap.specs.Words.{app_of, new_app, rule_of};
+ghost use Rattle.std.specs.Prelude.{◌≡◌, IfOk, false, fold, map};
+ghost use Rattle.clap.specs.Words.{app_of, rule_of, with_rule};
 ghost use Rattle.clap.specs.declared.builder.command.Command.TheViews.{out-Command};
 ghost use Rattle.vaultctl_job.specs.Arguments as spec;
+ghost use Rattle.vaultctl_job.specs.Forms.{rule_for};
 
 use clap::{Arg, ArgAction, Command, value_parser};
-use std::alloc::Global;
+use std::alloc::{AllocError, Global};
 
-/// A command of that name, with what it does and an example of it, and as yet no words.
-pub fn named<'a>(alloc: Global, name: &'a str, about: &'a str, example: &'a str) -> Command<'a>
-    ensures app { app_of result ≡ new_app name.entry.now }
-    ensures local { (out-Command result).has_globals ≡ false }
-{
-    Command::new(alloc, name).about(about).after_help(example)
+/// A word that a subcommand takes.
+#[derive(Clone, Copy)]
+pub(crate) enum Argument {
+    /// It has to be there, by its place.
+    Place {
+        name: &'static str,
+        help: &'static str,
+    },
+    /// It may be left out, by its place.
+    OptionalPlace {
+        name: &'static str,
+        help: &'static str,
+    },
+    /// The rights of a new caller, any number of them.
+    Rights,
+    /// The port on which requests are taken.
+    Port,
+    /// How many requests are served.
+    Count,
+    /// The caller who asks.
+    Asker,
+    /// The moment at which it is asked.
+    Moment,
+    /// The department of a new caller.
+    Home,
+    /// A caller is closed.
+    Close,
 }
 
-/// A word that has to be there, by its place.
-pub fn place<'a>(alloc: Global, name: &'a str, help: &'a str) -> Arg<'a>
+pub(crate) const FILE: Argument = Argument::Place {
+    name: "FILE",
+    help: "The vault's file",
+};
+
+fn place<'a>(alloc: Global, name: &'a str, help: &'a str) -> Arg<'a>
     ensures rule { rule_of result ≡ spec.place name.entry.now }
     ensures local { result.global ≡ false }
 {
     Arg::new(alloc, name).required(true).help(help)
 }
 
-/// A word that may be left out, by its place.
-pub fn optional_place<'a>(alloc: Global, name: &'a str, help: &'a str) -> Arg<'a>
+fn optional_place<'a>(alloc: Global, name: &'a str, help: &'a str) -> Arg<'a>
     ensures rule { rule_of result ≡ spec.optional_place name.entry.now }
     ensures local { result.global ≡ false }
 {
     Arg::new(alloc, name).help(help)
 }
 
-/// The rights of a new caller, any number of them.
-pub fn rights<'a>(alloc: Global) -> Arg<'a>
+fn rights<'a>(alloc: Global) -> Arg<'a>
     ensures rule { rule_of result ≡ spec.rights }
     ensures local { result.global ≡ false }
 {
@@ -41,8 +65,7 @@ pub fn rights<'a>(alloc: Global) -> Arg<'a>
     )
 }
 
-/// The port on which requests are taken.
-pub fn port<'a>(alloc: Global) -> Arg<'a>
+fn port<'a>(alloc: Global) -> Arg<'a>
     ensures rule { rule_of result ≡ spec.port }
     ensures local { result.global ≡ false }
 {
@@ -52,8 +75,7 @@ pub fn port<'a>(alloc: Global) -> Arg<'a>
         .help("The port on 127.0.0.1: a number from 1 to 65535")
 }
 
-/// How many requests are served.
-pub fn count<'a>(alloc: Global) -> Arg<'a>
+fn count<'a>(alloc: Global) -> Arg<'a>
     ensures rule { rule_of result ≡ spec.count }
     ensures local { result.global ≡ false }
 {
@@ -65,8 +87,7 @@ pub fn count<'a>(alloc: Global) -> Arg<'a>
         .help("Ends after so many requests, 1 to 1000000")
 }
 
-/// The caller who asks.
-pub fn asker<'a>(alloc: Global) -> Arg<'a>
+fn asker<'a>(alloc: Global) -> Arg<'a>
     ensures rule { rule_of result ≡ spec.asker }
     ensures local { result.global ≡ false }
 {
@@ -77,8 +98,7 @@ pub fn asker<'a>(alloc: Global) -> Arg<'a>
         .help("The name of the caller who asks")
 }
 
-/// The moment at which it is asked.
-pub fn moment<'a>(alloc: Global) -> Arg<'a>
+fn moment<'a>(alloc: Global) -> Arg<'a>
     ensures rule { rule_of result ≡ spec.moment }
     ensures local { result.global ≡ false }
 {
@@ -87,8 +107,7 @@ pub fn moment<'a>(alloc: Global) -> Arg<'a>
     )
 }
 
-/// The department of a new caller.
-pub fn home<'a>(alloc: Global) -> Arg<'a>
+fn home<'a>(alloc: Global) -> Arg<'a>
     ensures rule { rule_of result ≡ spec.home }
     ensures local { result.global ≡ false }
 {
@@ -98,8 +117,7 @@ pub fn home<'a>(alloc: Global) -> Arg<'a>
         .help("The department that the caller belongs to")
 }
 
-/// A caller is closed.
-pub fn close<'a>(alloc: Global) -> Arg<'a>
+fn close<'a>(alloc: Global) -> Arg<'a>
     ensures rule { rule_of result ≡ spec.close }
     ensures local { result.global ≡ false }
 {
@@ -107,4 +125,37 @@ pub fn close<'a>(alloc: Global) -> Arg<'a>
         .long("close")
         .action(ArgAction::SetTrue)
         .help("Closes the caller for good; rights and --dept are\nnot looked at")
+}
+
+/// The argument as clap has it.
+fn made<'a>(alloc: Global, argument: Argument) -> Arg<'a>
+    ensures rule { rule_of result ≡ rule_for argument }
+    ensures local { result.global ≡ false }
+{
+    match argument {
+        Argument::Place { name, help } => place(alloc, name, help),
+        Argument::OptionalPlace { name, help } => optional_place(alloc, name, help),
+        Argument::Rights => rights(alloc),
+        Argument::Port => port(alloc),
+        Argument::Count => count(alloc),
+        Argument::Asker => asker(alloc),
+        Argument::Moment => moment(alloc),
+        Argument::Home => home(alloc),
+        Argument::Close => close(alloc),
+    }
+}
+
+/// The command with these words behind those that it has, in their order.
+pub(crate) fn with_arguments<'a>(
+    alloc: Global,
+    mut command: Command<'a>,
+    arguments: &[Argument],
+) -> Result<Command<'a>, AllocError>
+    ensures app { IfOk result (λ c. app_of c ≡ fold with_rule (app_of command.entry) (map rule_for arguments.now)) }
+    ensures local { IfOk result (λ c. (out-Command c).has_globals ≡ (out-Command command.entry).has_globals) }
+{
+    for argument in arguments {
+        command = command.arg(made(alloc, *argument))?;
+    }
+    Ok(command)
 }

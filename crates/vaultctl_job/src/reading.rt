@@ -96,6 +96,26 @@ fn asking(alloc: Global, matches: &ArgMatches<'_>) -> Result<Asking, AllocError>
     })
 }
 
+/// The file, and who asks.
+fn asked(alloc: Global, matches: &ArgMatches<'_>) -> Result<(Word, Asking), AllocError>
+    ensures { IfOk result (λ read. (read.0 ≡ spec.file_of (rows_of (found_of matches.now)))
+        × (read.1 ≡ spec.asking_of (rows_of (found_of matches.now)))) }
+{
+    Ok((word(alloc, matches, "FILE")?, asking(alloc, matches)?))
+}
+
+fn two_words(
+    alloc: Global,
+    matches: &ArgMatches<'_>,
+    first: &str,
+    second: &str,
+) -> Result<(Word, Word), AllocError>
+    ensures { IfOk result (λ read. (read.0 ≡ spec.text_of first.now (rows_of (found_of matches.now)))
+        × (read.1 ≡ spec.text_of second.now (rows_of (found_of matches.now)))) }
+{
+    Ok((word(alloc, matches, first)?, word(alloc, matches, second)?))
+}
+
 #[tactic(auto, unfolding(crate::specs::Jobs::init_of))]
 fn init(alloc: Global, matches: &ArgMatches<'_>) -> Result<InitJob, AllocError>
     ensures { IfOk result (λ job. job ≡ spec.init_of (rows_of (found_of matches.now))) }
@@ -109,10 +129,11 @@ fn init(alloc: Global, matches: &ArgMatches<'_>) -> Result<InitJob, AllocError>
 fn dept(alloc: Global, matches: &ArgMatches<'_>) -> Result<DeptJob, AllocError>
     ensures { IfOk result (λ job. job ≡ spec.dept_of (rows_of (found_of matches.now))) }
 {
+    let (file, asking) = asked(alloc, matches)?;
     Ok(DeptJob {
-        file: word(alloc, matches, "FILE")?,
+        file,
         name: word(alloc, matches, "NAME")?,
-        asking: asking(alloc, matches)?,
+        asking,
     })
 }
 
@@ -120,11 +141,12 @@ fn dept(alloc: Global, matches: &ArgMatches<'_>) -> Result<DeptJob, AllocError>
 fn caller(alloc: Global, matches: &ArgMatches<'_>) -> Result<CallerJob, AllocError>
     ensures { IfOk result (λ job. job ≡ spec.caller_of (rows_of (found_of matches.now))) }
 {
+    let (file, asking) = asked(alloc, matches)?;
     Ok(CallerJob {
-        file: word(alloc, matches, "FILE")?,
+        file,
         name: word(alloc, matches, "NAME")?,
         rights: words(alloc, matches, "RIGHT")?,
-        asking: asking(alloc, matches)?,
+        asking,
         dept: optional_word(alloc, matches, "dept")?,
         close: is_set(matches, "close"),
     })
@@ -134,11 +156,13 @@ fn caller(alloc: Global, matches: &ArgMatches<'_>) -> Result<CallerJob, AllocErr
 fn bucket(alloc: Global, matches: &ArgMatches<'_>) -> Result<BucketJob, AllocError>
     ensures { IfOk result (λ job. job ≡ spec.bucket_of (rows_of (found_of matches.now))) }
 {
+    let (file, asking) = asked(alloc, matches)?;
+    let (name, dept) = two_words(alloc, matches, "NAME", "DEPT")?;
     Ok(BucketJob {
-        file: word(alloc, matches, "FILE")?,
-        name: word(alloc, matches, "NAME")?,
-        dept: word(alloc, matches, "DEPT")?,
-        asking: asking(alloc, matches)?,
+        file,
+        name,
+        dept,
+        asking,
     })
 }
 
@@ -146,11 +170,13 @@ fn bucket(alloc: Global, matches: &ArgMatches<'_>) -> Result<BucketJob, AllocErr
 fn moving(alloc: Global, matches: &ArgMatches<'_>) -> Result<MoveJob, AllocError>
     ensures { IfOk result (λ job. job ≡ spec.move_of (rows_of (found_of matches.now))) }
 {
+    let (file, asking) = asked(alloc, matches)?;
+    let (bucket, dept) = two_words(alloc, matches, "BUCKET", "DEPT")?;
     Ok(MoveJob {
-        file: word(alloc, matches, "FILE")?,
-        bucket: word(alloc, matches, "BUCKET")?,
-        dept: word(alloc, matches, "DEPT")?,
-        asking: asking(alloc, matches)?,
+        file,
+        bucket,
+        dept,
+        asking,
     })
 }
 
@@ -158,13 +184,16 @@ fn moving(alloc: Global, matches: &ArgMatches<'_>) -> Result<MoveJob, AllocError
 fn intake(alloc: Global, matches: &ArgMatches<'_>) -> Result<IntakeJob, AllocError>
     ensures { IfOk result (λ job. job ≡ spec.intake_of (rows_of (found_of matches.now))) }
 {
+    let (file, asking) = asked(alloc, matches)?;
+    let (bucket, batch) = two_words(alloc, matches, "BUCKET", "BATCH")?;
+    let (list, folder) = two_words(alloc, matches, "LIST", "FOLDER")?;
     Ok(IntakeJob {
-        file: word(alloc, matches, "FILE")?,
-        bucket: word(alloc, matches, "BUCKET")?,
-        batch: word(alloc, matches, "BATCH")?,
-        list: word(alloc, matches, "LIST")?,
-        folder: word(alloc, matches, "FOLDER")?,
-        asking: asking(alloc, matches)?,
+        file,
+        bucket,
+        batch,
+        list,
+        folder,
+        asking,
     })
 }
 
@@ -172,10 +201,11 @@ fn intake(alloc: Global, matches: &ArgMatches<'_>) -> Result<IntakeJob, AllocErr
 fn run(alloc: Global, matches: &ArgMatches<'_>) -> Result<RunJob, AllocError>
     ensures { IfOk result (λ job. job ≡ spec.run_of (rows_of (found_of matches.now))) }
 {
+    let (file, asking) = asked(alloc, matches)?;
     Ok(RunJob {
-        file: word(alloc, matches, "FILE")?,
+        file,
         bucket: word(alloc, matches, "BUCKET")?,
-        asking: asking(alloc, matches)?,
+        asking,
     })
 }
 
@@ -183,10 +213,11 @@ fn run(alloc: Global, matches: &ArgMatches<'_>) -> Result<RunJob, AllocError>
 fn report(alloc: Global, matches: &ArgMatches<'_>) -> Result<ReportJob, AllocError>
     ensures { IfOk result (λ job. job ≡ spec.report_of (rows_of (found_of matches.now))) }
 {
+    let (file, asking) = asked(alloc, matches)?;
     Ok(ReportJob {
-        file: word(alloc, matches, "FILE")?,
+        file,
         dept: word(alloc, matches, "DEPT")?,
-        asking: asking(alloc, matches)?,
+        asking,
     })
 }
 
@@ -194,11 +225,13 @@ fn report(alloc: Global, matches: &ArgMatches<'_>) -> Result<ReportJob, AllocErr
 fn certificate(alloc: Global, matches: &ArgMatches<'_>) -> Result<CertificateJob, AllocError>
     ensures { IfOk result (λ job. job ≡ spec.certificate_of (rows_of (found_of matches.now))) }
 {
+    let (file, asking) = asked(alloc, matches)?;
+    let (bucket, version) = two_words(alloc, matches, "BUCKET", "VERSION")?;
     Ok(CertificateJob {
-        file: word(alloc, matches, "FILE")?,
-        bucket: word(alloc, matches, "BUCKET")?,
-        version: word(alloc, matches, "VERSION")?,
-        asking: asking(alloc, matches)?,
+        file,
+        bucket,
+        version,
+        asking,
     })
 }
 
@@ -244,10 +277,8 @@ fn serve(alloc: Global, matches: &ArgMatches<'_>) -> Result<ServeJob, AllocError
 fn migrate(alloc: Global, matches: &ArgMatches<'_>) -> Result<MigrateJob, AllocError>
     ensures { IfOk result (λ job. job ≡ spec.migrate_of (rows_of (found_of matches.now))) }
 {
-    Ok(MigrateJob {
-        old: word(alloc, matches, "OLD")?,
-        new: word(alloc, matches, "NEW")?,
-    })
+    let (old, new) = two_words(alloc, matches, "OLD", "NEW")?;
+    Ok(MigrateJob { old, new })
 }
 
 /// The job of the subcommand of that name, with its words.
@@ -258,22 +289,21 @@ pub fn job_named(
 ) -> Result<Option<Job>, AllocError>
     ensures { IfOk result (λ job. job ≡ spec.job_named name.now (rows_of (found_of matches.now))) }
 {
-    let job = match name {
-        "init" => Job::Init(init(alloc, matches)?),
-        "dept" => Job::Dept(dept(alloc, matches)?),
-        "caller" => Job::Caller(caller(alloc, matches)?),
-        "bucket" => Job::Bucket(bucket(alloc, matches)?),
-        "move" => Job::Move(moving(alloc, matches)?),
-        "intake" => Job::Intake(intake(alloc, matches)?),
-        "run" => Job::Run(run(alloc, matches)?),
-        "report" => Job::Report(report(alloc, matches)?),
-        "certificate" => Job::Certificate(certificate(alloc, matches)?),
-        "register" => Job::Register(register(alloc, matches)?),
-        "verify" => Job::Verify(verify(alloc, matches)?),
-        "replay" => Job::Replay(replay(alloc, matches)?),
-        "serve" => Job::Serve(serve(alloc, matches)?),
-        "migrate" => Job::Migrate(migrate(alloc, matches)?),
-        _ => return Ok(None),
-    };
-    Ok(Some(job))
+    match name {
+        "init" => Ok(Some(Job::Init(init(alloc, matches)?))),
+        "dept" => Ok(Some(Job::Dept(dept(alloc, matches)?))),
+        "caller" => Ok(Some(Job::Caller(caller(alloc, matches)?))),
+        "bucket" => Ok(Some(Job::Bucket(bucket(alloc, matches)?))),
+        "move" => Ok(Some(Job::Move(moving(alloc, matches)?))),
+        "intake" => Ok(Some(Job::Intake(intake(alloc, matches)?))),
+        "run" => Ok(Some(Job::Run(run(alloc, matches)?))),
+        "report" => Ok(Some(Job::Report(report(alloc, matches)?))),
+        "certificate" => Ok(Some(Job::Certificate(certificate(alloc, matches)?))),
+        "register" => Ok(Some(Job::Register(register(alloc, matches)?))),
+        "verify" => Ok(Some(Job::Verify(verify(alloc, matches)?))),
+        "replay" => Ok(Some(Job::Replay(replay(alloc, matches)?))),
+        "serve" => Ok(Some(Job::Serve(serve(alloc, matches)?))),
+        "migrate" => Ok(Some(Job::Migrate(migrate(alloc, matches)?))),
+        _ => Ok(None),
+    }
 }

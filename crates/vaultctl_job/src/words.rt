@@ -6,9 +6,7 @@ ghost use Rattle.vaultctl_job.specs.Words.{vaultctl, job_for, job_in, needing_su
 use crate::fault::WordsFault;
 use crate::job::Job;
 use crate::reading::job_named;
-use crate::subcommands::files::with_files;
-use crate::subcommands::records::with_records;
-use crate::subcommands::work::with_work;
+use crate::subcommands::{named, subcommands, with_subcommands};
 use clap::error::ErrorKind;
 use clap::{ArgMatches, Command, Error};
 use std::alloc::{AllocError, Global};
@@ -21,18 +19,16 @@ fn needs_subcommand<'a>(command: Command<'a>) -> Command<'a>
         .disable_help_subcommand(true)
 }
 
-#[tactic(auto, unfolding(crate::specs::Words::vaultctl))]
 fn command<'a>(alloc: Global) -> Result<Command<'a>, AllocError>
     ensures { IfOk result (λ c. app_of c ≡ vaultctl) }
 {
-    let top = Command::new(alloc, "vaultctl")
-        .about("A records vault: what is put in stays until its retention ends")
-        .after_help(
-            "'vaultctl COMMAND --help' tells the words of a command, and how it refuses.\n\nExample:\n  vaultctl init records.vault\n  vaultctl dept records.vault records --as registrar\n  vaultctl verify records.vault\n\nStatus: 0 done; 1 refused, stopped, or a fault; 2 the words aren't understood,\nor ask for help.\n\nMore: man vaultctl, and the manual: docs/MANUAL.md, in the package\nhtml/MANUAL.html.",
-        );
-    let top = with_records(alloc, needs_subcommand(top))?;
-    let top = with_work(alloc, top)?;
-    with_files(alloc, top)
+    let top = named(
+        alloc,
+        "vaultctl",
+        "A records vault: what is put in stays until its retention ends",
+        "'vaultctl COMMAND --help' tells the words of a command, and how it refuses.\n\nExample:\n  vaultctl init records.vault\n  vaultctl dept records.vault records --as registrar\n  vaultctl verify records.vault\n\nStatus: 0 done; 1 refused, stopped, or a fault; 2 the words aren't understood,\nor ask for help.\n\nMore: man vaultctl, and the manual: docs/MANUAL.md, in the package\nhtml/MANUAL.html.",
+    );
+    with_subcommands(alloc, needs_subcommand(top), subcommands())
 }
 
 /// The job of the subcommand that was met.

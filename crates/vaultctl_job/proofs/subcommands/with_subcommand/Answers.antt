@@ -1,0 +1,10 @@
+use Rattle.std.proofs.Common.{ap, ◌∙◌}
+use Rattle.std.proofs.lemmas.Result.{IfOk-weaker}
+use Rattle.clap.specs.Words.{App, app_of, with_subcommand}
+use Rattle.vaultctl_job.proofs.subcommands.with_subcommand.Goals as goal
+
+pub returns-in-Ok : goal.returns-in-Ok
+returns-in-Ok c =
+    IfOk-weaker c.subcommand.result _ _
+    (λ r h. h.shape c.in-Ok.ensures.local ∙ ap (λ (a : App). with_subcommand (app_of c.args.command) a.top) c.in-Ok.ensures.app)
+    c.subcommand.ensures
