@@ -1,135 +1,165 @@
 //! Heads: how they may be written, and how far they are read.
-use crate::exchange::{READING, Row, exchanges, serve};
+use crate::exchange::{READING, all_hold, exchange, serve};
 use std::alloc::Global;
 use std::test::Fail;
 use vault_core_model::keeper::Keeper;
-use vault_transcript::transcript::opened;
+use vault_transcript::trial::{Trial, try_on_new};
 
-/// How many bytes of an input are left unread behind an exchange.
-fn left_behind<K: Keeper>(alloc: Global, keeper: &mut K, input: &[u8]) -> Result<usize, Fail> {
-    let mut reader = input;
-    let mut written = Vec::new(alloc);
-    serve(alloc, &mut reader, &mut written, keeper, READING)?;
-    Ok(reader.len())
+/// Cut, of another protocol, or without one.
+const NO_HEADS: &str = r#"|
+HEAD /docs/a HTTP/1.1|x-vault
+GET /docs/a HTTP/2.0|x-vault-caller: ann||
+GET /docs/a|
+  HTTP/1.1 400 Bad Request|date: Mon, 15 Jan 2024 10:30:00 GMT|connection: close|content-type: application/json|content-length: 33||{"code":"InvalidArgument","n":10}"#;
+
+#[test]
+fn no_heads(rt: HostRuntime) -> Result<(), Fail> {
+    all_hold(rt.alloc(), &[NO_HEADS])
 }
 
-/// Fails unless so many bytes of each input are left.
+/// A request with a part so many times where `#` stands.
+fn exchange_long<K: Keeper>(
+    alloc: Global,
+    keeper: &mut K,
+    (request, part, count): (&str, &str, usize),
+    wanted: &str,
+) -> Result<(), Fail> {
+    let parts = part.repeat(alloc, count)?;
+    let request = request.replace(alloc, "#", parts.as_str())?;
+    exchange(alloc, keeper, READING, request.as_str(), wanted)
+}
+
+const WITH_HEADERS: &str = "GET /docs/a HTTP/1.1|x-vault-caller: ann|#|";
+
+/// The rest of the head is 50 bytes.
+const WITH_VALUE: &str = "GET /docs/a HTTP/1.1|x-vault-caller: ann|a: #||";
+
+const FITS: &str = "HTTP/1.1 404 .. \"n\":5}";
+
+const TOO_LARGE: &str = "HTTP/1.1 400 .. \"n\":10}";
+
+const TOO_LONG: &str = "HTTP/1.1 400 Bad Request .. {\"code\":\"KeyTooLongError\",\"n\":14}";
+
+/// 64 headers, 16,384 bytes, and 1,024 bytes of a key or a prefix.
+const LIMITS: [((&str, &str, usize), &str); 6] = [
+    ((WITH_HEADERS, "a: b|", 63), FITS),
+    ((WITH_HEADERS, "a: b|", 64), TOO_LARGE),
+    ((WITH_VALUE, "b", 16_334), FITS),
+    ((WITH_VALUE, "b", 16_335), TOO_LARGE),
+    (("GET /docs/#?what HTTP/1.1||", "k", 1_025), TOO_LONG),
+    (
+        (
+            "GET /docs?versions&version-id-marker=x&prefix=# HTTP/1.1||",
+            "k",
+            1_025,
+        ),
+        TOO_LONG,
+    ),
+];
+
+/// Heads of each limit, and beyond.
+struct LongHeads;
+
+impl Trial for LongHeads {
+    fn carry_out<K: Keeper>(&self, alloc: Global, keeper: &mut K) -> Result<(), Fail> {
+        for (request, wanted) in LIMITS {
+            exchange_long(alloc, keeper, request, wanted)?;
+        }
+        Ok(())
+    }
+}
+
+#[test]
+fn limits(rt: HostRuntime) -> Result<(), Fail> {
+    try_on_new(rt.alloc(), &LongHeads)
+}
+
+/// Fails unless so many bytes of an input are left unread behind an exchange.
 fn are_left<K: Keeper>(
     alloc: Global,
     keeper: &mut K,
-    inputs: &[(&str, usize)],
+    input: &str,
+    wanted: usize,
 ) -> Result<(), Fail> {
-    for (input, wanted) in inputs {
-        let left = left_behind(alloc, keeper, input.as_bytes())?;
-        if left != *wanted {
-            return Err(Fail::new(format_args!(
-                "wanted {wanted} bytes left, got {left}, of {input}"
-            )));
-        }
+    let mut reader = input.as_bytes();
+    serve(alloc, &mut reader, &mut Vec::new(alloc), keeper, READING)?;
+    let left = reader.len();
+    if left == wanted {
+        return Ok(());
     }
-    Ok(())
+    Err(Fail::new(format_args!("wanted {wanted} bytes left, got {left}, of {input}")))
 }
 
-/// Behind a head without a body, and behind a body of its length.
+/// Behind a head without a body, behind a body of its length, and behind a head that is refused.
+const LEFT: [(&str, usize); 3] = [
+    (
+        "GET /docs/a HTTP/1.1\r\nx-vault-caller: ann\r\ncontent-length: 4\r\n\r\nmore",
+        4,
+    ),
+    (
+        "PUT /docs/a HTTP/1.1\r\nx-vault-caller: ann\r\ncontent-length: 5\r\n\r\nhellomore",
+        4,
+    ),
+    (
+        "PUT /docs/a HTTP/1.1\r\nx-vault-caller: Ann\r\ncontent-length: 5\r\n\r\nhello",
+        5,
+    ),
+];
+
+/// Inputs that go on behind an exchange.
+struct BehindExchanges;
+
+impl Trial for BehindExchanges {
+    fn carry_out<K: Keeper>(&self, alloc: Global, keeper: &mut K) -> Result<(), Fail> {
+        for (input, wanted) in LEFT {
+            are_left(alloc, keeper, input, wanted)?;
+        }
+        Ok(())
+    }
+}
+
 #[test]
 fn what_comes_behind_is_left(rt: HostRuntime) -> Result<(), Fail> {
-    let alloc = rt.alloc();
-    let mut keeper = opened(alloc)?;
-    let told = are_left(
-        alloc,
-        &mut keeper,
-        &[
-            (
-                "GET /docs/a HTTP/1.1\r\nx-vault-caller: ann\r\ncontent-length: 4\r\n\r\nmore",
-                4,
-            ),
-            (
-                "PUT /docs/a HTTP/1.1\r\nx-vault-caller: ann\r\ncontent-length: 5\r\n\r\nhellomore",
-                4,
-            ),
-            (
-                "PUT /docs/a HTTP/1.1\r\nx-vault-caller: Ann\r\ncontent-length: 5\r\n\r\nhello",
-                5,
-            ),
-        ],
-    );
-    drop(keeper);
-    told
+    try_on_new(rt.alloc(), &BehindExchanges)
 }
 
 /// Names in any letter case, blanks round values, bare line feeds, a blank line in front.
-#[test]
-fn heads_of_other_forms(rt: HostRuntime) -> Result<(), Fail> {
-    exchanges(
-        rt.alloc(),
-        &[
-            Row::Whole(
-                "|PUT /docs/%61?x-id=PutObject&x-id=2 HTTP/1.1\nX-Vault-Caller: \t ann \nCONTENT-length:1\n\nx",
-                "HTTP/1.1 200 OK|date: Mon, 15 Jan 2024 10:30:00 GMT|connection: close|content-length: 0|x-amz-version-id: 1||",
-            ),
-            Row::Ends("GET /docs/a HTTP/1.0|x-vault-caller:ann||", "", "\r\n\r\nx"),
-        ],
-    )
-}
+const OTHER_FORM: &str =
+    "|PUT /docs/%61?x-id=PutObject&x-id=2 HTTP/1.1\nX-Vault-Caller: \t ann \nCONTENT-length:1\n\nx";
 
-/// Cut, of another protocol, or with too many headers; nothing at all isn't answered.
-#[test]
-fn no_heads(rt: HostRuntime) -> Result<(), Fail> {
-    let bad =
-        "HTTP/1.1 400 Bad Request|date: Mon, 15 Jan 2024 10:30:00 GMT|connection: close|content-type: application/json|content-length: 33||{\"code\":\"InvalidArgument\",\"n\":10}";
-    exchanges(
-        rt.alloc(),
-        &[
-            Row::Whole("", ""),
-            Row::Whole("|", bad),
-            Row::Whole("HEAD /docs/a HTTP/1.1|x-vault", bad),
-            Row::Whole("GET /docs/a HTTP/2.0|x-vault-caller: ann||", bad),
-            Row::Whole("GET /docs/a|", bad),
-            // Where the reading is no moment either, there is no date.
-            Row::At(
-                -1,
-                "GET|",
-                "HTTP/1.1 400 Bad Request|connection: close|content-type: application/json|content-length: 33||{\"code\":\"InvalidArgument\",\"n\":10}",
-            ),
-        ],
-    )
-}
+/// Heads that stand in no line: of another form, and nothing at all, which isn't answered. And where the reading is no
+/// moment either, there is no date.
+const UNUSUAL: [(i64, &str, &str); 4] = [
+    (
+        READING,
+        OTHER_FORM,
+        "HTTP/1.1 200 OK|date: Mon, 15 Jan 2024 10:30:00 GMT|connection: close|content-length: 0|x-amz-version-id: 1||",
+    ),
+    (
+        READING,
+        "GET /docs/a HTTP/1.0|x-vault-caller:ann||",
+        "HTTP/1.1 200 OK .. ||x",
+    ),
+    (READING, "", ""),
+    (
+        -1,
+        "GET|",
+        "HTTP/1.1 400 Bad Request|connection: close|content-type: application/json|content-length: 33||{\"code\":\"InvalidArgument\",\"n\":10}",
+    ),
+];
 
-/// A head with so many headers beside the first.
-fn with_headers(count: u32, status: &'static str, body: &'static str) -> Row<'static> {
-    Row::Long {
-        front: "GET /docs/a HTTP/1.1|x-vault-caller: ann|",
-        part: "a: b|",
-        count,
-        behind: "|",
-        status,
-        body,
+struct OtherHeads;
+
+impl Trial for OtherHeads {
+    fn carry_out<K: Keeper>(&self, alloc: Global, keeper: &mut K) -> Result<(), Fail> {
+        for (reading, request, wanted) in UNUSUAL {
+            exchange(alloc, keeper, reading, request, wanted)?;
+        }
+        Ok(())
     }
 }
 
-/// A head with a value of so many bytes.
-fn with_value(count: u32, status: &'static str) -> Row<'static> {
-    Row::Long {
-        front: "GET /docs/a HTTP/1.1|x-vault-caller: ann|a: ",
-        part: "b",
-        count,
-        behind: "||",
-        status,
-        body: "",
-    }
-}
-
-/// 64 headers, and 16,384 bytes.
 #[test]
-fn limits(rt: HostRuntime) -> Result<(), Fail> {
-    exchanges(
-        rt.alloc(),
-        &[
-            with_headers(63, "HTTP/1.1 404", "\"n\":5}"),
-            with_headers(64, "HTTP/1.1 400", "\"n\":10}"),
-            // The rest of the head is 50 bytes.
-            with_value(16_334, "HTTP/1.1 404"),
-            with_value(16_335, "HTTP/1.1 400"),
-        ],
-    )
+fn unusual_heads(rt: HostRuntime) -> Result<(), Fail> {
+    try_on_new(rt.alloc(), &OtherHeads)
 }
