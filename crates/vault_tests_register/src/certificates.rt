@@ -77,14 +77,9 @@ impl Trial for Certified<'_> {
     }
 }
 
-#[test]
-fn a_removed_version_has_a_certificate(rt: HostRuntime) -> Result<(), Fail> {
-    try_behind(
-        rt.alloc(),
-        HELLO,
-        &Certified {
-            number: 1,
-            wanted: "CERTIFICATE OF DESTRUCTION
+const OF_A_VERSION: Certified<'static> = Certified {
+    number: 1,
+    wanted: "CERTIFICATE OF DESTRUCTION
 version: 1
 bucket: docs
 key: a
@@ -96,20 +91,13 @@ cause: request ann
 days held: 1
 seal: babe1fbf67fe33f09a389d035a2f9f8d338e2a540880ba7c25bf8434d06237cb
 ",
-            seal: Some("babe1fbf67fe33f09a389d035a2f9f8d338e2a540880ba7c25bf8434d06237cb"),
-        },
-    )
-}
+    seal: Some("babe1fbf67fe33f09a389d035a2f9f8d338e2a540880ba7c25bf8434d06237cb"),
+};
 
 /// A department that had the version twice is named twice.
-#[test]
-fn a_version_of_moved_buckets_tells_each_department(rt: HostRuntime) -> Result<(), Fail> {
-    try_behind(
-        rt.alloc(),
-        MOVED,
-        &Certified {
-            number: 1,
-            wanted: "CERTIFICATE OF DESTRUCTION
+const OF_MOVED_BUCKETS: Certified<'static> = Certified {
+    number: 1,
+    wanted: "CERTIFICATE OF DESTRUCTION
 version: 1
 bucket: docs
 key: a
@@ -124,19 +112,13 @@ of which court: 1
 of which records: 2
 seal: 4f471f820465925fa75c2b89e5fceb80d40e0da254bfc2e7ca1314c87ecb650c
 ",
-            seal: Some("4f471f820465925fa75c2b89e5fceb80d40e0da254bfc2e7ca1314c87ecb650c"),
-        },
-    )
-}
+    seal: Some("4f471f820465925fa75c2b89e5fceb80d40e0da254bfc2e7ca1314c87ecb650c"),
+};
 
-#[test]
-fn a_version_without_bytes_has_one(rt: HostRuntime) -> Result<(), Fail> {
-    try_behind(
-        rt.alloc(),
-        EMPTY,
-        &Certified {
-            number: 1,
-            wanted: "CERTIFICATE OF DESTRUCTION
+/// A version without bytes has one.
+const WITHOUT_BYTES: Certified<'static> = Certified {
+    number: 1,
+    wanted: "CERTIFICATE OF DESTRUCTION
 version: 1
 bucket: docs
 key: k
@@ -148,20 +130,25 @@ cause: request ann
 days held: 0
 seal: 89f9808aa4fda5e26cb1ec8bf9df72ee4301848af177a916afa86d7c31b3b7f7
 ",
-            seal: Some("89f9808aa4fda5e26cb1ec8bf9df72ee4301848af177a916afa86d7c31b3b7f7"),
-        },
-    )
-}
+    seal: Some("89f9808aa4fda5e26cb1ec8bf9df72ee4301848af177a916afa86d7c31b3b7f7"),
+};
+
+/// A marker has none.
+const OF_A_MARKER: Certified<'static> = Certified {
+    number: 2,
+    wanted: "MethodNotAllowed",
+    seal: None,
+};
 
 #[test]
-fn a_removed_marker_has_none(rt: HostRuntime) -> Result<(), Fail> {
-    try_behind(
-        rt.alloc(),
-        EMPTY,
-        &Certified {
-            number: 2,
-            wanted: "MethodNotAllowed",
-            seal: None,
-        },
-    )
+fn what_was_removed_is_certified(rt: HostRuntime) -> Result<(), Fail> {
+    for (transcript, certified) in &[
+        (HELLO, OF_A_VERSION),
+        (MOVED, OF_MOVED_BUCKETS),
+        (EMPTY, WITHOUT_BYTES),
+        (EMPTY, OF_A_MARKER),
+    ] {
+        try_behind(rt.alloc(), transcript, certified)?;
+    }
+    Ok(())
 }

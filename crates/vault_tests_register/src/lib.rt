@@ -4,8 +4,6 @@
 #[cfg(test)]
 mod certificates;
 #[cfg(test)]
-mod cut;
-#[cfg(test)]
 mod export;
 #[cfg(test)]
 mod registers;

@@ -76,13 +76,8 @@ impl Trial for Reported<'_> {
     }
 }
 
-#[test]
-fn labels_stand_left_and_numbers_right(rt: HostRuntime) -> Result<(), Fail> {
-    try_behind(
-        rt.alloc(),
-        HUNDRED,
-        &Reported {
-            wanted: "department  records
+/// Labels stand left, and numbers right.
+const TOLD_OF_HUNDRED: &str = "department  records
 at          2024-01-16T00:00:00Z
 admitted                     100
 received                       0
@@ -90,18 +85,10 @@ held                           0
 removed                      100
 handed                         0
 byte-days                    100
-",
-        },
-    )
-}
+";
 
-#[test]
-fn a_report_tells_what_came_and_went_with_buckets(rt: HostRuntime) -> Result<(), Fail> {
-    try_behind(
-        rt.alloc(),
-        HANDED,
-        &Reported {
-            wanted: "department  records
+/// A report tells what came and went with buckets.
+const TOLD_OF_HANDED: &str = "department  records
 at          2024-01-16T00:00:00Z
 admitted                       7
 received                       5
@@ -109,7 +96,12 @@ held                           0
 removed                        2
 handed                        10
 byte-days                      5
-",
-        },
-    )
+";
+
+#[test]
+fn reports_are_told(rt: HostRuntime) -> Result<(), Fail> {
+    for (transcript, wanted) in &[(HUNDRED, TOLD_OF_HUNDRED), (HANDED, TOLD_OF_HANDED)] {
+        try_behind(rt.alloc(), transcript, &Reported { wanted })?;
+    }
+    Ok(())
 }

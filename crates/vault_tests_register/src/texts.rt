@@ -40,6 +40,22 @@ pub const MOVED: &str = r#"
   {"ok":{"cause":"request","delete_marker":false,"version_id":1}}
 "#;
 
+/// Three entries are removed.
+pub const REMOVALS: &str = r#"
+{"at":"2024-01-15T10:30:00Z","as":"ann","do":"put","bucket":"docs","key":"2024/a","text":"hello"}
+  {"ok":{"version_id":1}}
+{"at":"2024-01-15T10:30:00Z","as":"ann","do":"put","bucket":"docs","key":"2024/a","text":""}
+  {"ok":{"version_id":2}}
+{"at":"2024-01-15T10:30:00Z","as":"ann","do":"delete","bucket":"docs","key":"2024/b"}
+  {"ok":{"delete_marker":true,"version_id":3}}
+{"at":"2024-01-15T10:30:00Z","as":"ann","do":"delete-version","bucket":"docs","key":"2024/a","id":1}
+  {"ok":{"cause":"request","delete_marker":false,"version_id":1}}
+{"at":"2024-01-15T10:30:00Z","as":"ann","do":"delete-version","bucket":"docs","key":"2024/a","id":2}
+  {"ok":{"cause":"request","delete_marker":false,"version_id":2}}
+{"at":"2024-01-15T10:30:00Z","as":"ann","do":"delete-version","bucket":"docs","key":"2024/b","id":3}
+  {"ok":{"cause":"request","delete_marker":true,"version_id":3}}
+"#;
+
 /// A reading, and ann.
 pub fn asking(alloc: Global, at: &str) -> Result<(Moment, CallerName), Fail> {
     let at = Moment::read(at).ok().ok_or("at")?;
