@@ -5,10 +5,8 @@
 #[cfg(test)]
 mod full;
 #[cfg(test)]
-mod full_keeper;
-#[cfg(test)]
-mod noting_keeper;
-#[cfg(test)]
 mod pages;
 #[cfg(test)]
 mod removed;
+#[cfg(test)]
+mod watched_keeper;

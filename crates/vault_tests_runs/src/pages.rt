@@ -1,87 +1,124 @@
 //! What a run asks of its keeper over buckets of so many keys that they are read in pages.
-use crate::noting_keeper::NotingKeeper;
+use crate::watched_keeper::WatchedKeeper;
 use std::alloc::Global;
-use std::process::Abort;
 use std::test::Fail;
-use vault_core_list::list_keeper::ListKeeper;
-use vault_transcript::transcript::{opened, play};
+use vault_core_model::keeper::Keeper;
+use vault_transcript::transcript::play;
+use vault_transcript::trial::{Trial, compare, try_behind};
 
 const RULES: &str = r#"
 {"at":"2014-01-01T00:00:00Z","as":"ann","do":"set-rules","bucket":"docs","rules":[{"ID":"r1","Status":"Enabled","Expiration":{"Days":1}}]}
   {"ok":{}}
 "#;
 
-const RUN: &str = r#"
-{"at":"2024-03-02T00:00:00Z","as":"ann","do":"run","bucket":"docs"}
-"#;
+/// What each key gets, as the texts round its name and its id, and what a run does with it.
+struct Filling {
+    before: &'static str,
+    between: &'static str,
+    behind: &'static str,
+    /// The calls by which a run makes its change.
+    change: &'static str,
+}
 
-/// The keys `k1001`, `k1002` .. get an entry each, with the ids 1, 2 ..
-fn vault(alloc: Global, keys: u32, command: &str, marker: &str) -> Result<ListKeeper, Fail> {
-    let mut keeper = opened(alloc)?;
-    play(alloc, &mut keeper, RULES)?;
+/// Versions, which a run marks; and delete markers alone, with which a run removes the key, and so asks for no id.
+const FILLINGS: [Filling; 2] = [
+    Filling {
+        before: "{\"at\":\"2024-03-01T00:00:00Z\",\"as\":\"ann\",\"do\":\"put\",\"bucket\":\"docs\",\"key\":\"k",
+        between: "\",\"text\":\"x\"}\n  {\"ok\":{\"version_id\":",
+        behind: "}}\n",
+        change: "next id\nadmit\n",
+    },
+    Filling {
+        before: "{\"at\":\"2024-03-01T00:00:00Z\",\"as\":\"ann\",\"do\":\"delete\",\"bucket\":\"docs\",\"key\":\"k",
+        between: "\"}\n  {\"ok\":{\"delete_marker\":true,\"version_id\":",
+        behind: "}}\n",
+        change: "remove\n",
+    },
+];
+
+fn text_of(alloc: Global, number: u32) -> Result<String, Fail> {
+    Ok(format!(in alloc; "{number}")?)
+}
+
+/// The key `k1001` gets an entry with the id 1, `k1002` one with the id 2 ..
+fn fill_key<K: Keeper>(
+    alloc: Global,
+    keeper: &mut K,
+    filling: &Filling,
+    id: u32,
+) -> Result<(), Fail> {
+    let key = text_of(alloc, id.saturating_add(1_000))?;
+    let id = text_of(alloc, id)?;
+    let pieces = [
+        filling.before,
+        key.as_str(),
+        filling.between,
+        id.as_str(),
+        filling.behind,
+    ];
+    let lines = pieces.concat(alloc)?;
+    play(alloc, keeper, lines.as_str())
+}
+
+fn fill<K: Keeper>(
+    alloc: Global,
+    keeper: &mut K,
+    filling: &Filling,
+    keys: u32,
+) -> Result<(), Fail> {
     for id in 1..=keys {
-        let key = id.saturating_add(1_000);
-        let lines = format!(in alloc;
-            "{{\"at\":\"2024-03-01T00:00:00Z\",\"as\":\"ann\",\"bucket\":\"docs\",\"key\":\"k{key}\",{command}}}\n  {{\"ok\":{{{marker}\"version_id\":{id}}}}}\n"
-        )?;
-        play(alloc, &mut keeper, lines.as_str())?;
+        fill_key(alloc, keeper, filling, id)?;
     }
-    Ok(keeper)
+    Ok(())
 }
 
-/// Each key has a version, which a run marks.
-fn with_versions(alloc: Global, keys: u32) -> Result<ListKeeper, Fail> {
-    vault(alloc, keys, "\"do\":\"put\",\"text\":\"x\"", "")
+/// What a run asks of its keeper at the key of that number. Behind 256 keys it asks for more.
+fn calls_at(alloc: Global, number: u32, change: &str) -> Result<String, Fail> {
+    let key = text_of(alloc, number.saturating_add(1_000))?;
+    let key = key.as_str();
+    if number % 256 == 0 {
+        let calls = [
+            "entries k",
+            key,
+            "\n",
+            change,
+            "256 keys after k",
+            key,
+            "\n",
+        ];
+        return Ok(calls.concat(alloc)?);
+    }
+    let calls = ["entries k", key, "\n", change];
+    Ok(calls.concat(alloc)?)
 }
 
-/// Each key has a delete marker alone, with which a run removes the key.
-fn with_markers(alloc: Global, keys: u32) -> Result<ListKeeper, Fail> {
-    vault(alloc, keys, "\"do\":\"delete\"", "\"delete_marker\":true,")
+fn push_calls(alloc: Global, calls: &mut String, number: u32, change: &str) -> Result<(), Fail> {
+    let at_key = calls_at(alloc, number, change)?;
+    Ok(calls.push_str(at_key.as_str())?)
 }
+
+/// What a run asks of its keeper before the first key.
+const FIRST_CALLS: &str = "last\ncaller ann\nbucket docs\nrules docs\n256 keys after \n";
 
 /// What a run asks of its keeper over so many keys, each with this change: at most 256 keys behind the last
 /// one seen, and at each key its entries before its change. A page of fewer keys is the last.
 fn calls_wanted(alloc: Global, keys: u32, change: &str) -> Result<String, Fail> {
-    let mut calls = String::from_str(
-        alloc,
-        "last\ncaller ann\nbucket docs\nrules docs\n256 keys after \n",
-    )?;
+    let mut calls = String::from_str(alloc, FIRST_CALLS)?;
     for number in 1..=keys {
-        let key = number.saturating_add(1_000);
-        let at_key = format!(in alloc; "entries k{key}\n{change}\n")?;
-        calls.push_str(at_key.as_str())?;
-        if number % 256 == 0 {
-            let page = format!(in alloc; "256 keys after k{key}\n")?;
-            calls.push_str(page.as_str())?;
-        }
+        push_calls(alloc, &mut calls, number, change)?;
     }
     Ok(calls)
 }
 
-/// Runs over a vault, and compares the calls.
-fn compare_calls(
-    rt: &impl Abort,
-    alloc: Global,
-    vault: ListKeeper,
-    reply: &str,
-    calls: &str,
-) -> Result<(), Fail> {
-    let mut keeper = NotingKeeper::new(alloc, vault);
-    let transcript = format!(in alloc; "{RUN}  {reply}\n")?;
-    play(alloc, &mut keeper, transcript.as_str())?;
-    assert_eq!(rt; keeper.calls(), calls);
-    Ok(())
+fn compare_wanted(alloc: Global, keys: u32, change: &str, calls: &str) -> Result<(), Fail> {
+    let wanted = calls_wanted(alloc, keys, change)?;
+    compare("the calls", calls, wanted.as_str())
 }
 
-#[test]
-fn a_run_reads_each_key_before_it_changes_it(rt: HostRuntime) -> Result<(), Fail> {
-    let alloc = rt.alloc();
-    let vault = with_versions(alloc, 3)?;
-    compare_calls(
-        &rt,
-        alloc,
-        vault,
-        r#"{"ok":{"changes":3,"lone":0,"marked":3,"removed":0}}"#,
+/// The calls over three keys, by the change at each.
+const CALLS: [(&str, &str); 2] = [
+    (
+        "next id\nadmit\n",
         "last\n\
          caller ann\n\
          bucket docs\n\
@@ -96,18 +133,9 @@ fn a_run_reads_each_key_before_it_changes_it(rt: HostRuntime) -> Result<(), Fail
          entries k1003\n\
          next id\n\
          admit\n",
-    )
-}
-
-#[test]
-fn a_run_that_removes_its_keys_asks_for_no_id(rt: HostRuntime) -> Result<(), Fail> {
-    let alloc = rt.alloc();
-    let vault = with_markers(alloc, 3)?;
-    compare_calls(
-        &rt,
-        alloc,
-        vault,
-        r#"{"ok":{"changes":3,"lone":3,"marked":0,"removed":0}}"#,
+    ),
+    (
+        "remove\n",
         "last\n\
          caller ann\n\
          bucket docs\n\
@@ -119,63 +147,105 @@ fn a_run_that_removes_its_keys_asks_for_no_id(rt: HostRuntime) -> Result<(), Fai
          remove\n\
          entries k1003\n\
          remove\n",
-    )
+    ),
+];
+
+/// Each key is read before it is changed.
+#[test]
+fn calls_over_three_keys(rt: HostRuntime) -> Result<(), Fail> {
+    for (change, calls) in &CALLS {
+        compare_wanted(rt.alloc(), 3, change, calls)?;
+    }
+    Ok(())
 }
 
-/// A page of 256 keys may have another behind it.
-#[test]
-fn behind_256_keys_more_are_asked_for(rt: HostRuntime) -> Result<(), Fail> {
-    let alloc = rt.alloc();
-    let vault = with_versions(alloc, 256)?;
-    let calls = calls_wanted(alloc, 256, "next id\nadmit")?;
-    compare_calls(
-        &rt,
-        alloc,
-        vault,
-        r#"{"ok":{"changes":256,"lone":0,"marked":256,"removed":0}}"#,
-        calls.as_str(),
-    )
+/// A run over so many keys.
+#[derive(Clone, Copy)]
+struct Run<'a> {
+    filling: &'a Filling,
+    keys: u32,
+    transcript: &'a str,
 }
 
-#[test]
-fn a_257th_key_is_on_a_page_of_its_own(rt: HostRuntime) -> Result<(), Fail> {
-    let alloc = rt.alloc();
-    let vault = with_versions(alloc, 257)?;
-    let calls = calls_wanted(alloc, 257, "next id\nadmit")?;
-    compare_calls(
-        &rt,
-        alloc,
-        vault,
-        r#"{"ok":{"changes":257,"lone":0,"marked":257,"removed":0}}"#,
-        calls.as_str(),
-    )
+impl Run<'_> {
+    /// What the run asks of its keeper.
+    fn calls<K: Keeper>(&self, alloc: Global, keeper: &mut K) -> Result<String, Fail> {
+        let mut watched = WatchedKeeper::new(alloc, keeper, u64::MAX);
+        play(alloc, &mut watched, self.transcript)?;
+        Ok(watched.into_calls())
+    }
 }
 
-#[test]
-fn three_pages_are_read_of_600_keys(rt: HostRuntime) -> Result<(), Fail> {
-    let alloc = rt.alloc();
-    let vault = with_versions(alloc, 600)?;
-    let calls = calls_wanted(alloc, 600, "next id\nadmit")?;
-    compare_calls(
-        &rt,
-        alloc,
-        vault,
-        r#"{"ok":{"changes":600,"lone":0,"marked":600,"removed":0}}"#,
-        calls.as_str(),
-    )
+impl Trial for Run<'_> {
+    fn carry_out<K: Keeper>(&self, alloc: Global, keeper: &mut K) -> Result<(), Fail> {
+        fill(alloc, keeper, self.filling, self.keys)?;
+        let calls = self.calls(alloc, keeper)?;
+        compare_wanted(alloc, self.keys, self.filling.change, calls.as_str())
+    }
 }
 
-/// The last key seen is the place to go on from, also where it is gone.
+/// By the filling and the number of keys. A page of 256 keys may have another behind it; a 257th key is on a page of
+/// its own; three pages are read of 600 keys. The last key seen is the place to go on from, also where it is gone.
+const RUNS: [(usize, u32, &str); 6] = [
+    (
+        0,
+        3,
+        r#"
+{"at":"2024-03-02T00:00:00Z","as":"ann","do":"run","bucket":"docs"}
+  {"ok":{"changes":3,"lone":0,"marked":3,"removed":0}}
+"#,
+    ),
+    (
+        1,
+        3,
+        r#"
+{"at":"2024-03-02T00:00:00Z","as":"ann","do":"run","bucket":"docs"}
+  {"ok":{"changes":3,"lone":3,"marked":0,"removed":0}}
+"#,
+    ),
+    (
+        0,
+        256,
+        r#"
+{"at":"2024-03-02T00:00:00Z","as":"ann","do":"run","bucket":"docs"}
+  {"ok":{"changes":256,"lone":0,"marked":256,"removed":0}}
+"#,
+    ),
+    (
+        0,
+        257,
+        r#"
+{"at":"2024-03-02T00:00:00Z","as":"ann","do":"run","bucket":"docs"}
+  {"ok":{"changes":257,"lone":0,"marked":257,"removed":0}}
+"#,
+    ),
+    (
+        0,
+        600,
+        r#"
+{"at":"2024-03-02T00:00:00Z","as":"ann","do":"run","bucket":"docs"}
+  {"ok":{"changes":600,"lone":0,"marked":600,"removed":0}}
+"#,
+    ),
+    (
+        1,
+        600,
+        r#"
+{"at":"2024-03-02T00:00:00Z","as":"ann","do":"run","bucket":"docs"}
+  {"ok":{"changes":600,"lone":600,"marked":0,"removed":0}}
+"#,
+    ),
+];
+
 #[test]
-fn three_pages_are_read_of_600_keys_that_go(rt: HostRuntime) -> Result<(), Fail> {
-    let alloc = rt.alloc();
-    let vault = with_markers(alloc, 600)?;
-    let calls = calls_wanted(alloc, 600, "remove")?;
-    compare_calls(
-        &rt,
-        alloc,
-        vault,
-        r#"{"ok":{"changes":600,"lone":600,"marked":0,"removed":0}}"#,
-        calls.as_str(),
-    )
+fn a_run_asks_for_its_keys_in_pages(rt: HostRuntime) -> Result<(), Fail> {
+    for (filling, keys, transcript) in &RUNS {
+        let run = Run {
+            filling: FILLINGS.get(*filling).ok_or("a filling")?,
+            keys: *keys,
+            transcript,
+        };
+        try_behind(rt.alloc(), RULES, &run)?;
+    }
+    Ok(())
 }

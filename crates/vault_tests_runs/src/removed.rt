@@ -1,12 +1,11 @@
 //! What a vault keeps of removed entries, and which rule it names.
 use std::alloc::{AllocError, Global};
-use std::process::Abort;
 use std::test::Fail;
 use vault_base::name::VersionId;
-use vault_core_list::list_keeper::ListKeeper;
+use vault_core_model::halt::Fault;
 use vault_core_model::keeper::{Keeper, Sink};
 use vault_core_model::records::{Author, Cause, Entry};
-use vault_transcript::transcript::{opened, play};
+use vault_transcript::trial::{Trial, compare, try_behind, try_on_new};
 
 /// Takes a line of each removed entry while it has room for one.
 #[derive(Drop)]
@@ -17,27 +16,30 @@ struct Register {
 }
 
 /// A line of the entry: its id, its key and the cause of its removal.
-fn line_of(alloc: Global, entry: &Entry) -> Result<String, AllocError> {
+fn push_line(
+    register: &mut Register,
+    entry: &Entry,
+    word: &str,
+    name: &str,
+) -> Result<(), AllocError> {
     let number = entry.id.number();
     let key = entry.key.as_str();
-    let (word, name) = cause_of(entry);
-    format!(in alloc; "{number} {key} {word} {name}\n")
+    let line = format!(in register.alloc; "{number} {key} {word} {name}\n")?;
+    register.lines.push_str(line.as_str())
 }
 
-fn push_entry(alloc: Global, lines: &mut String, entry: &Entry) -> Result<(), AllocError> {
-    let line = line_of(alloc, entry)?;
-    lines.push_str(line.as_str())?;
-    Ok(())
+fn push_cause(register: &mut Register, entry: &Entry, cause: &Cause) -> Result<(), AllocError> {
+    match cause {
+        Cause::Request(caller) => push_line(register, entry, "request", caller.as_str()),
+        Cause::Bypass(caller) => push_line(register, entry, "bypass", caller.as_str()),
+        Cause::Rule(rule) => push_line(register, entry, "rule", rule.as_str()),
+    }
 }
 
-fn cause_of(entry: &Entry) -> (&'static str, &str) {
+fn push_entry(register: &mut Register, entry: &Entry) -> Result<(), AllocError> {
     match &entry.removal {
-        None => ("held", ""),
-        Some(removal) => match &removal.cause {
-            Cause::Request(caller) => ("request", caller.as_str()),
-            Cause::Bypass(caller) => ("bypass", caller.as_str()),
-            Cause::Rule(rule) => ("rule", rule.as_str()),
-        },
+        None => push_line(register, entry, "held", ""),
+        Some(removal) => push_cause(register, entry, &removal.cause),
     }
 }
 
@@ -49,7 +51,7 @@ impl Sink for Register {
             return false;
         }
         self.room -= 1;
-        push_entry(self.alloc, &mut self.lines, entry).is_ok()
+        push_entry(self, entry).is_ok()
     }
 }
 
@@ -74,76 +76,65 @@ const THREE_REMOVALS: &str = r#"
   {"ok":{"changes":1,"lone":0,"marked":0,"removed":1}}
 "#;
 
-/// Walks over the removed entries with room for so many: whether all were taken, and their lines.
-fn walk(
-    rt: &impl Abort,
+/// Hands the removed entries on. It has no clause, so that no proof of a test carries what `walk_removed` promises.
+fn hand_on<K: Keeper>(keeper: &mut K, register: &mut Register) -> Result<bool, Fault> {
+    keeper.walk_removed(register)
+}
+
+/// Fails unless all were taken just where they should be, and these are their lines.
+fn compare_walk<K: Keeper>(
     alloc: Global,
-    keeper: &mut ListKeeper,
-    room: u32,
-    all: bool,
-    lines: &str,
+    keeper: &mut K,
+    walk: (u32, bool, &str),
 ) -> Result<(), Fail> {
+    let (room, all, wanted) = walk;
     let mut register = Register {
         alloc,
         lines: String::new(alloc),
         room,
     };
-    let walked = keeper.walk_removed(&mut register);
-    assert!(rt; walked == Ok(all));
-    assert_eq!(rt; register.lines.as_str(), lines);
-    Ok(())
+    if hand_on(keeper, &mut register)? != all {
+        return Err(Fail::new(format_args!("with room for {room} all are to be taken: {all}")));
+    }
+    compare("the removed entries", register.lines.as_str(), wanted)
 }
 
-fn with_three_removed(alloc: Global) -> Result<ListKeeper, Fail> {
-    let mut keeper = opened(alloc)?;
-    play(alloc, &mut keeper, THREE_REMOVALS)?;
-    Ok(keeper)
+/// Walks over the removed entries, one behind the other: the room, whether all are taken, and their lines.
+#[derive(Clone, Copy)]
+struct Walks<'a> {
+    walks: &'a [(u32, bool, &'a str)],
 }
 
+impl Trial for Walks<'_> {
+    fn carry_out<K: Keeper>(&self, alloc: Global, keeper: &mut K) -> Result<(), Fail> {
+        for walk in self.walks {
+            compare_walk(alloc, keeper, *walk)?;
+        }
+        Ok(())
+    }
+}
+
+const ALL: &str = "1 b rule r1\n2 a bypass gov\n4 a request ann\n";
+
+const WALKS: [(u32, bool, &str); 5] = [
+    (9, true, ALL),
+    (0, false, ""),
+    (1, false, "1 b rule r1\n"),
+    (2, false, "1 b rule r1\n2 a bypass gov\n"),
+    (3, true, ALL),
+];
+
+/// By rising id. A sink that refuses is handed none behind the one that it refused. With room for just all of them it
+/// refuses none.
 #[test]
-fn removed_entries_are_handed_on_by_rising_id(rt: HostRuntime) -> Result<(), Fail> {
-    let alloc = rt.alloc();
-    let mut keeper = with_three_removed(alloc)?;
-    walk(
-        &rt,
-        alloc,
-        &mut keeper,
-        9,
-        true,
-        "1 b rule r1\n2 a bypass gov\n4 a request ann\n",
-    )
-}
-
-/// It is handed none behind the one that it refused. With room for just all of them it refuses none.
-#[test]
-fn a_sink_that_refuses_has_got_a_beginning(rt: HostRuntime) -> Result<(), Fail> {
-    let alloc = rt.alloc();
-    let mut keeper = with_three_removed(alloc)?;
-    walk(&rt, alloc, &mut keeper, 0, false, "")?;
-    walk(&rt, alloc, &mut keeper, 1, false, "1 b rule r1\n")?;
-    walk(
-        &rt,
-        alloc,
-        &mut keeper,
-        2,
-        false,
-        "1 b rule r1\n2 a bypass gov\n",
-    )?;
-    walk(
-        &rt,
-        alloc,
-        &mut keeper,
-        3,
-        true,
-        "1 b rule r1\n2 a bypass gov\n4 a request ann\n",
-    )
+fn removed_entries_are_handed_on(rt: HostRuntime) -> Result<(), Fail> {
+    try_behind(rt.alloc(), THREE_REMOVALS, &Walks { walks: &WALKS })
 }
 
 #[test]
 fn where_nothing_was_removed_nothing_is_handed_on(rt: HostRuntime) -> Result<(), Fail> {
-    let alloc = rt.alloc();
-    let mut keeper = opened(alloc)?;
-    walk(&rt, alloc, &mut keeper, 0, true, "")
+    let walks = [(0, true, "")];
+    try_on_new(rt.alloc(), &Walks { walks: &walks })
 }
 
 /// Of the rules, one is disabled and one is for other keys. Of the other two, `first` stands before
@@ -167,32 +158,43 @@ const RULES_IN_ORDER: &str = r#"
   {"ok":{"changes":6,"lone":2,"marked":2,"removed":2}}
 "#;
 
-/// Who admitted the entry of that id: `caller` or `rule`, and the name.
-fn author(alloc: Global, keeper: &mut ListKeeper, number: u32) -> Result<String, Fail> {
+fn compare_name(by: &Author, wanted: &str) -> Result<(), Fail> {
+    match by {
+        Author::Caller(caller) => compare("the author", caller.as_str(), wanted),
+        Author::Rule(rule) => compare("the author", rule.as_str(), wanted),
+    }
+}
+
+/// Fails unless the entry of that id was admitted by the caller or the rule of that name.
+fn compare_author<K: Keeper>(keeper: &mut K, number: u32, name: &str) -> Result<(), Fail> {
     let id = VersionId::new(number).ok_or("id")?;
     let entry = keeper.entry(id)?.ok_or("entry")?;
-    match &entry.by {
-        Author::Caller(caller) => Ok(String::from_str(alloc, caller.as_str())?),
-        Author::Rule(rule) => Ok(String::from_str(alloc, rule.as_str())?),
+    compare_name(&entry.by, name)
+}
+
+const IN_ORDER: (u32, bool, &str) = (
+    9,
+    true,
+    "1 b rule first\n3 c rule first\n4 a rule second\n6 d rule second\n",
+);
+
+const AUTHORS: [(u32, &str); 3] = [(5, "ann"), (7, "second"), (8, "first")];
+
+/// The removed entries, and who admitted others.
+struct RulesInOrder;
+
+impl Trial for RulesInOrder {
+    fn carry_out<K: Keeper>(&self, alloc: Global, keeper: &mut K) -> Result<(), Fail> {
+        compare_walk(alloc, keeper, IN_ORDER)?;
+        for (number, name) in &AUTHORS {
+            compare_author(keeper, *number, name)?;
+        }
+        Ok(())
     }
 }
 
 /// At the run both rules make due what came in February, and `second` alone what came in March.
 #[test]
 fn the_first_rule_that_makes_due_is_the_cause(rt: HostRuntime) -> Result<(), Fail> {
-    let alloc = rt.alloc();
-    let mut keeper = opened(alloc)?;
-    play(alloc, &mut keeper, RULES_IN_ORDER)?;
-    walk(
-        &rt,
-        alloc,
-        &mut keeper,
-        9,
-        true,
-        "1 b rule first\n3 c rule first\n4 a rule second\n6 d rule second\n",
-    )?;
-    assert_eq!(rt; author(alloc, &mut keeper, 5)?.as_str(), "ann");
-    assert_eq!(rt; author(alloc, &mut keeper, 7)?.as_str(), "second");
-    assert_eq!(rt; author(alloc, &mut keeper, 8)?.as_str(), "first");
-    Ok(())
+    try_behind(rt.alloc(), RULES_IN_ORDER, &RulesInOrder)
 }

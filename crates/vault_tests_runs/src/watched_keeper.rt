@@ -1,11 +1,10 @@
-//! A keeper that notes what is asked of it, for tests of how a run goes about its work.
+//! A keeper that notes what is asked of it and runs out of ids, for tests of how a run goes about its work.
 use std::alloc::{AllocError, Global};
 use vault_base::content::Content;
 use vault_base::moment::Moment;
 use vault_base::name::{
     BatchName, BucketName, CallerName, DeptName, KeyPrefix, ObjectKey, VersionId,
 };
-use vault_core_list::list_keeper::ListKeeper;
 use vault_core_model::change::Change;
 use vault_core_model::halt::Fault;
 use vault_core_model::keeper::{Keeper, Sink};
@@ -14,34 +13,46 @@ use vault_rules::plan::Held;
 use vault_rules::rule_set::RuleSet;
 use vault_tally::row::Row;
 
-/// Answers what a list keeper does, and notes each call but walks as a line.
+/// The id behind the last one that an entry may have.
+const PAST_THE_LAST: u64 = 1_000_000_001;
+
+/// Answers what the keeper below does, and notes each call but walks as a line. After so many ids it says that none is
+/// left. Once it has said so, it refuses every change with `Memory`.
 #[derive(Drop)]
-pub struct NotingKeeper {
-    keeper: ListKeeper,
+pub struct WatchedKeeper<'a, K> {
+    keeper: &'a mut K,
     calls: String,
+    /// How many ids it still tells as they are.
+    ids: u64,
+    is_full: bool,
 }
 
-impl NotingKeeper {
-    /// A keeper of which nothing was asked yet.
-    pub fn new(alloc: Global, keeper: ListKeeper) -> NotingKeeper {
-        NotingKeeper {
+impl<'a, K> WatchedKeeper<'a, K> {
+    /// A keeper over another one, of which nothing was asked yet, that tells so many ids before it is full.
+    pub fn new(alloc: Global, keeper: &'a mut K, ids: u64) -> WatchedKeeper<'a, K> {
+        WatchedKeeper {
             keeper,
             calls: String::new(alloc),
+            ids,
+            is_full: false,
         }
     }
 
-    /// The calls so far, a line each.
-    pub fn calls(&self) -> &str {
-        self.calls.as_str()
+    /// The calls, a line each.
+    pub fn into_calls(self) -> String {
+        self.calls
     }
 }
 
-/// Notes a call, and what it was about.
-fn note_call(calls: &mut String, call: &str, about: &str) -> Result<(), AllocError> {
+fn push_call(calls: &mut String, call: &str, about: &str) -> Result<(), AllocError> {
     calls.push_str(call)?;
     calls.push_str(about)?;
-    calls.push('\n')?;
-    Ok(())
+    calls.push('\n')
+}
+
+/// Notes a call, and what it was about. A note without room is left out, so that the calls aren't those wanted.
+fn note_call(calls: &mut String, call: &str, about: &str) {
+    let _ = push_call(calls, call, about);
 }
 
 /// What a change is, as far as runs make it.
@@ -53,70 +64,77 @@ fn kind_of(change: &Change) -> &'static str {
     }
 }
 
-impl Keeper for NotingKeeper {
-    ghost is_honest = { λ _. Unit {0} };
+impl<K: Keeper> Keeper for WatchedKeeper<'_, K> {
+    ghost use Rattle.std.specs.Prelude.{◌≡◌, false};
 
-    ghost vault = { λ k. k.keeper };
+    // What it answers holds of its vault until it has said that it is full.
+    ghost is_honest = { λ k. (k.is_full ≡ false) × K.is_honest k.keeper.now };
 
-    ghost count = { λ _. 0 };
+    ghost vault = { λ k. K.vault k.keeper.now };
+
+    ghost count = { λ k. K.count k.keeper.now };
 
     fn faults(&self) -> u64 {
-        0
+        self.keeper.faults()
     }
 
     fn last(&mut self) -> Result<Moment, Fault> {
-        let last = self.keeper.last();
-        note_call(&mut self.calls, "last", "")?;
-        last
+        note_call(&mut self.calls, "last", "");
+        self.keeper.last()
     }
 
     fn next_id(&mut self) -> Result<u64, Fault> {
-        note_call(&mut self.calls, "next id", "")?;
+        note_call(&mut self.calls, "next id", "");
+        if self.ids == 0 {
+            self.is_full = true;
+            return Ok(PAST_THE_LAST);
+        }
+        self.ids -= 1;
         self.keeper.next_id()
     }
 
     fn caller(&mut self, name: &CallerName) -> Result<Option<Caller>, Fault> {
-        note_call(&mut self.calls, "caller ", name.as_str())?;
+        note_call(&mut self.calls, "caller ", name.as_str());
         self.keeper.caller(name)
     }
 
     fn dept(&mut self, name: &DeptName) -> Result<bool, Fault> {
-        note_call(&mut self.calls, "dept ", name.as_str())?;
+        note_call(&mut self.calls, "dept ", name.as_str());
         self.keeper.dept(name)
     }
 
     fn bucket(&mut self, name: &BucketName) -> Result<Option<BucketConfig>, Fault> {
-        note_call(&mut self.calls, "bucket ", name.as_str())?;
+        note_call(&mut self.calls, "bucket ", name.as_str());
         self.keeper.bucket(name)
     }
 
     fn rules(&mut self, bucket: &BucketName) -> Result<Option<RuleSet>, Fault> {
-        note_call(&mut self.calls, "rules ", bucket.as_str())?;
+        note_call(&mut self.calls, "rules ", bucket.as_str());
         self.keeper.rules(bucket)
     }
 
     fn head(&mut self, bucket: &BucketName, key: &ObjectKey) -> Result<Option<Head>, Fault> {
-        note_call(&mut self.calls, "head ", key.as_str())?;
+        note_call(&mut self.calls, "head ", key.as_str());
         self.keeper.head(bucket, key)
     }
 
     fn entries(&mut self, bucket: &BucketName, key: &ObjectKey) -> Result<Vec<Held>, Fault> {
-        note_call(&mut self.calls, "entries ", key.as_str())?;
+        note_call(&mut self.calls, "entries ", key.as_str());
         self.keeper.entries(bucket, key)
     }
 
     fn entry(&mut self, id: VersionId) -> Result<Option<Entry>, Fault> {
-        note_call(&mut self.calls, "entry", "")?;
+        note_call(&mut self.calls, "entry", "");
         self.keeper.entry(id)
     }
 
     fn setting(&mut self, id: VersionId) -> Result<Option<LastSetting>, Fault> {
-        note_call(&mut self.calls, "setting", "")?;
+        note_call(&mut self.calls, "setting", "");
         self.keeper.setting(id)
     }
 
     fn content(&mut self, id: VersionId) -> Result<Option<Content>, Fault> {
-        note_call(&mut self.calls, "content", "")?;
+        note_call(&mut self.calls, "content", "");
         self.keeper.content(id)
     }
 
@@ -131,7 +149,7 @@ impl Keeper for NotingKeeper {
         } else {
             "keys after "
         };
-        note_call(&mut self.calls, call, after.as_str())?;
+        note_call(&mut self.calls, call, after.as_str());
         self.keeper.keys(bucket, after, most)
     }
 
@@ -141,7 +159,7 @@ impl Keeper for NotingKeeper {
         batch: &BatchName,
         line: u32,
     ) -> Result<Option<Note>, Fault> {
-        note_call(&mut self.calls, "note", "")?;
+        note_call(&mut self.calls, "note", "");
         self.keeper.note(bucket, batch, line)
     }
 
@@ -150,27 +168,30 @@ impl Keeper for NotingKeeper {
     }
 
     fn moves(&mut self) -> Result<u32, Fault> {
-        note_call(&mut self.calls, "moves", "")?;
+        note_call(&mut self.calls, "moves", "");
         self.keeper.moves()
     }
 
     fn tenures(&mut self, id: VersionId) -> Result<Tenures, Fault> {
-        note_call(&mut self.calls, "tenures", "")?;
+        note_call(&mut self.calls, "tenures", "");
         self.keeper.tenures(id)
     }
 
     fn bucket_held(&mut self, bucket: &BucketName) -> Result<(u64, u64), Fault> {
-        note_call(&mut self.calls, "bucket held ", bucket.as_str())?;
+        note_call(&mut self.calls, "bucket held ", bucket.as_str());
         self.keeper.bucket_held(bucket)
     }
 
     fn totals(&mut self, dept: &DeptName) -> Result<Row, Fault> {
-        note_call(&mut self.calls, "totals ", dept.as_str())?;
+        note_call(&mut self.calls, "totals ", dept.as_str());
         self.keeper.totals(dept)
     }
 
     fn apply(&mut self, at: Moment, change: &Change) -> Result<(), Fault> {
-        note_call(&mut self.calls, kind_of(change), "")?;
+        note_call(&mut self.calls, kind_of(change), "");
+        if self.is_full {
+            return Err(Fault::Memory);
+        }
         self.keeper.apply(at, change)
     }
 }
