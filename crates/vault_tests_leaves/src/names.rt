@@ -8,6 +8,15 @@ use vault_base::name::{
 use vault_base::refusal::{Reason, Refusal, Table};
 use vault_base::right::Right;
 
+/// The name that was read. A proof of a test goes through one way out of it, in place of two of each reading.
+pub fn named<T: Drop>(read: Result<Result<T, NameFault>, AllocError>) -> Result<T, Fail> {
+    match read {
+        Ok(Ok(name)) => Ok(name),
+        Ok(Err(_)) => Err(Fail::new("no such name")),
+        Err(_) => Err(Fail::new("no memory")),
+    }
+}
+
 fn bucket(alloc: Global, text: &str) -> Result<Option<NameFault>, AllocError> {
     Ok(BucketName::read(alloc, text)?.err())
 }
@@ -28,129 +37,110 @@ fn rule(alloc: Global, text: &str) -> Result<Option<NameFault>, AllocError> {
     Ok(RuleId::read(alloc, text)?.err())
 }
 
+/// A kind of names.
+#[derive(Clone, Copy)]
+enum Kind {
+    Bucket,
+    Key,
+    Prefix,
+    Caller,
+    Rule,
+}
+
+/// Why a text is no name of that kind.
+fn fault(alloc: Global, kind: Kind, text: &str) -> Result<Option<NameFault>, AllocError> {
+    match kind {
+        Kind::Bucket => bucket(alloc, text),
+        Kind::Key => key(alloc, text),
+        Kind::Prefix => prefix(alloc, text),
+        Kind::Caller => caller(alloc, text),
+        Kind::Rule => rule(alloc, text),
+    }
+}
+
+/// The same of a text that is given so many times over.
+fn fault_of(
+    alloc: Global,
+    kind: Kind,
+    text: &str,
+    times: usize,
+) -> Result<Option<NameFault>, AllocError> {
+    let repeated = text.repeat(alloc, times)?;
+    fault(alloc, kind, repeated.as_str())
+}
+
+/// A kind, a text, how often it is given, and what comes of it.
+const NAMES: [(Kind, &str, usize, Option<NameFault>); 30] = [
+    (Kind::Bucket, "", 1, Some(NameFault::Empty)),
+    (Kind::Bucket, "ab", 1, Some(NameFault::Form)),
+    (Kind::Bucket, "a-9", 1, None),
+    (Kind::Bucket, "a", 63, None),
+    (Kind::Bucket, "a", 64, Some(NameFault::TooLong)),
+    (Kind::Bucket, "-ab", 1, Some(NameFault::Form)),
+    (Kind::Bucket, "ab-", 1, Some(NameFault::Form)),
+    (Kind::Bucket, "a.b", 1, Some(NameFault::Form)),
+    (Kind::Bucket, "Abc", 1, Some(NameFault::Form)),
+    (Kind::Key, "", 1, Some(NameFault::Empty)),
+    (Kind::Key, " ", 1, None),
+    (Kind::Key, "Akten/Straße 7~", 1, None),
+    (Kind::Key, "k", 1024, None),
+    (Kind::Key, "k", 1025, Some(NameFault::TooLong)),
+    (Kind::Key, "a\u{1f}", 1, Some(NameFault::Form)),
+    (Kind::Key, "\u{7f}", 1, Some(NameFault::Form)),
+    (Kind::Prefix, "", 1, None),
+    (Kind::Prefix, "k", 1024, None),
+    (Kind::Prefix, "k", 1025, Some(NameFault::TooLong)),
+    (Kind::Prefix, "\n", 1, Some(NameFault::Form)),
+    (Kind::Caller, "", 1, Some(NameFault::Empty)),
+    (Kind::Caller, "a.b_c-9", 1, None),
+    (Kind::Caller, "z", 64, None),
+    (Kind::Caller, "z", 65, Some(NameFault::TooLong)),
+    (Kind::Caller, "Ann", 1, Some(NameFault::Form)),
+    (Kind::Rule, "", 1, Some(NameFault::Empty)),
+    (Kind::Rule, "r", 1, None),
+    (Kind::Rule, "é", 255, None),
+    (Kind::Rule, "é", 256, Some(NameFault::TooLong)),
+    (Kind::Rule, "r\t1", 1, Some(NameFault::Form)),
+];
+
 #[test]
-fn buckets(rt: HostRuntime) -> Result<(), Fail> {
-    let alloc = rt.alloc();
-    let longest = "a".repeat(alloc, 63)?;
-    let longer = "a".repeat(alloc, 64)?;
-    let rows = [
-        ("", Some(NameFault::Empty)),
-        ("ab", Some(NameFault::Form)),
-        ("a-9", None),
-        (longest.as_str(), None),
-        (longer.as_str(), Some(NameFault::TooLong)),
-        ("-ab", Some(NameFault::Form)),
-        ("ab-", Some(NameFault::Form)),
-        ("a.b", Some(NameFault::Form)),
-        ("Abc", Some(NameFault::Form)),
-    ];
-    for (text, fault) in &rows {
-        assert_eq!(rt; bucket(alloc, text)?, *fault);
+fn names_are_read(rt: HostRuntime) -> Result<(), Fail> {
+    for (kind, text, times, wanted) in &NAMES {
+        assert_eq!(rt; fault_of(rt.alloc(), *kind, text, *times)?, *wanted);
     }
     Ok(())
 }
 
-#[test]
-fn keys(rt: HostRuntime) -> Result<(), Fail> {
-    let alloc = rt.alloc();
-    let longest = "k".repeat(alloc, 1024)?;
-    let longer = "k".repeat(alloc, 1025)?;
-    let rows = [
-        ("", Some(NameFault::Empty)),
-        (" ", None),
-        ("Akten/Straße 7~", None),
-        (longest.as_str(), None),
-        (longer.as_str(), Some(NameFault::TooLong)),
-        ("a\u{1f}", Some(NameFault::Form)),
-        ("\u{7f}", Some(NameFault::Form)),
-    ];
-    for (text, fault) in &rows {
-        assert_eq!(rt; key(alloc, text)?, *fault);
-    }
-    Ok(())
+/// Whether a name's clone is equal to it, and it comes before the other just where it should.
+fn is_ordered(alloc: Global, one: &str, other: &str, is_before: bool) -> Result<bool, Fail> {
+    let one = named(CallerName::read(alloc, one))?;
+    let other = named(CallerName::read(alloc, other))?;
+    Ok(one.clone()? == one && (one < other) == is_before)
 }
 
-#[test]
-fn prefixes(rt: HostRuntime) -> Result<(), Fail> {
-    let alloc = rt.alloc();
-    let longest = "k".repeat(alloc, 1024)?;
-    let longer = "k".repeat(alloc, 1025)?;
-    let rows = [
-        ("", None),
-        (longest.as_str(), None),
-        (longer.as_str(), Some(NameFault::TooLong)),
-        ("\n", Some(NameFault::Form)),
-    ];
-    for (text, fault) in &rows {
-        assert_eq!(rt; prefix(alloc, text)?, *fault);
-    }
-    Ok(())
-}
-
-#[test]
-fn callers(rt: HostRuntime) -> Result<(), Fail> {
-    let alloc = rt.alloc();
-    let longest = "z".repeat(alloc, 64)?;
-    let longer = "z".repeat(alloc, 65)?;
-    let rows = [
-        ("", Some(NameFault::Empty)),
-        ("a.b_c-9", None),
-        (longest.as_str(), None),
-        (longer.as_str(), Some(NameFault::TooLong)),
-        ("Ann", Some(NameFault::Form)),
-    ];
-    for (text, fault) in &rows {
-        assert_eq!(rt; caller(alloc, text)?, *fault);
-    }
-    Ok(())
-}
-
-/// Whether a name's clone is equal to it, and whether it comes before the other.
-fn is_cloned_and_before(alloc: Global, early: &str, late: &str) -> Result<(bool, bool), Fail> {
-    let early = CallerName::read(alloc, early)?.ok().ok_or("early")?;
-    let late = CallerName::read(alloc, late)?.ok().ok_or("late")?;
-    Ok((early.clone()? == early, early < late))
-}
+const ORDER: [(&str, &str, bool); 2] = [("ann", "gov", true), ("gov", "ann", false)];
 
 #[test]
 fn names_are_ordered(rt: HostRuntime) -> Result<(), Fail> {
-    let told = is_cloned_and_before(rt.alloc(), "ann", "gov")?;
-    assert_eq!(rt; told, (true, true));
-    let told = is_cloned_and_before(rt.alloc(), "gov", "ann")?;
-    assert_eq!(rt; told, (true, false));
+    for (one, other, is_before) in &ORDER {
+        assert!(rt; is_ordered(rt.alloc(), one, other, *is_before)?);
+    }
     Ok(())
 }
 
 fn is_dept_of(alloc: Global, text: &str) -> Result<bool, Fail> {
-    Ok(DeptName::read(alloc, text)?.ok().ok_or("dept")?.as_str() == text)
+    let dept = named(DeptName::read(alloc, text))?;
+    Ok(dept.as_str() == text)
 }
 
 fn is_batch_of(alloc: Global, text: &str) -> Result<bool, Fail> {
-    Ok(BatchName::read(alloc, text)?.ok().ok_or("batch")?.as_str() == text)
+    let batch = named(BatchName::read(alloc, text))?;
+    Ok(batch.as_str() == text)
 }
 
 #[test]
 fn names_give_their_text_back(rt: HostRuntime) -> Result<(), Fail> {
-    assert!(rt; is_dept_of(rt.alloc(), "records")?);
-    assert!(rt; is_batch_of(rt.alloc(), "b1")?);
-    Ok(())
-}
-
-#[test]
-fn rule_ids(rt: HostRuntime) -> Result<(), Fail> {
-    let alloc = rt.alloc();
-    let longest = "é".repeat(alloc, 255)?;
-    let longer = "é".repeat(alloc, 256)?;
-    let rows = [
-        ("", Some(NameFault::Empty)),
-        ("r", None),
-        (longest.as_str(), None),
-        (longer.as_str(), Some(NameFault::TooLong)),
-        ("r\t1", Some(NameFault::Form)),
-    ];
-    for (text, fault) in &rows {
-        assert_eq!(rt; rule(alloc, text)?, *fault);
-    }
+    assert!(rt; is_dept_of(rt.alloc(), "records")? && is_batch_of(rt.alloc(), "b1")?);
     Ok(())
 }
 
@@ -158,24 +148,24 @@ fn id(text: &str) -> Result<u32, NameFault> {
     Ok(VersionId::read(text)?.number())
 }
 
+const IDS: [(&str, Result<u32, NameFault>); 9] = [
+    ("1", Ok(1)),
+    ("1000000000", Ok(1_000_000_000)),
+    ("1000000001", Err(NameFault::Form)),
+    ("9999999999", Err(NameFault::Form)),
+    ("10000000000", Err(NameFault::TooLong)),
+    ("", Err(NameFault::Empty)),
+    ("0", Err(NameFault::Form)),
+    ("01", Err(NameFault::Form)),
+    ("+1", Err(NameFault::Form)),
+];
+
 #[test]
 fn version_ids(rt: HostRuntime) -> Result<(), Fail> {
-    let rows = [
-        ("1", Ok(1)),
-        ("1000000000", Ok(1_000_000_000)),
-        ("1000000001", Err(NameFault::Form)),
-        ("9999999999", Err(NameFault::Form)),
-        ("10000000000", Err(NameFault::TooLong)),
-        ("", Err(NameFault::Empty)),
-        ("0", Err(NameFault::Form)),
-        ("01", Err(NameFault::Form)),
-        ("+1", Err(NameFault::Form)),
-    ];
-    for (text, number) in &rows {
+    for (text, number) in &IDS {
         assert_eq!(rt; id(text), *number);
     }
-    assert!(rt; VersionId::new(0).is_none());
-    assert!(rt; VersionId::new(1_000_000_001).is_none());
+    assert!(rt; VersionId::new(0).is_none() && VersionId::new(1_000_000_001).is_none());
     Ok(())
 }
 
@@ -184,6 +174,9 @@ const ABC: [u8; 32] = [
     0xba, 0x78, 0x16, 0xbf, 0x8f, 0x01, 0xcf, 0xea, 0x41, 0x41, 0x40, 0xde, 0x5d, 0xae, 0x22, 0x23,
     0xb0, 0x03, 0x61, 0xa3, 0x96, 0x17, 0x7a, 0x9c, 0xb4, 0x10, 0xff, 0x61, 0xf2, 0x00, 0x15, 0xad,
 ];
+
+/// The bytes of `abc` and of `abd`, and whether that is their digest.
+const DIGESTED: [([u8; 3], bool); 2] = [([97, 98, 99], true), ([97, 98, 100], false)];
 
 /// How long a content is, and whether its digest, and that of its clone, is the one given.
 fn digested(alloc: Global, bytes: &[u8], digest: &[u8]) -> Result<(usize, bool), AllocError> {
@@ -195,19 +188,25 @@ fn digested(alloc: Global, bytes: &[u8], digest: &[u8]) -> Result<(usize, bool),
 
 #[test]
 fn digests(rt: HostRuntime) -> Result<(), Fail> {
-    assert_eq!(rt; digested(rt.alloc(), b"abc", ABC.as_slice())?, (3, true));
-    assert_eq!(rt; digested(rt.alloc(), b"abd", ABC.as_slice())?, (3, false));
+    for (bytes, is_digest) in &DIGESTED {
+        let told = digested(rt.alloc(), bytes.as_slice(), ABC.as_slice())?;
+        assert_eq!(rt; told, (3, *is_digest));
+    }
     Ok(())
 }
 
 #[test]
 fn refusals(rt: HostRuntime) -> Result<(), Fail> {
-    let denied = Refusal::AccessDenied(Reason::Right(Right::DeleteVersion));
-    assert!(rt; denied.number() == 3 && denied.name() == "AccessDenied");
-    assert!(rt; denied.status() == Some(403));
-    assert!(rt; Reason::Right(Right::DeleteVersion).name() == "right:delete-version");
-    assert!(rt; Refusal::Damaged(Table::Heads).status().is_none());
-    assert!(rt; Right::read("bypass") == Some(Right::Bypass));
-    assert!(rt; Right::read("Bypass").is_none());
+    let right = Reason::Right(Right::DeleteVersion);
+    let denied = Refusal::AccessDenied(right);
+    assert!(rt;
+        denied.number() == 3
+            && denied.name() == "AccessDenied"
+            && right.name() == "right:delete-version"
+    );
+    let told = [denied.status(), Refusal::Damaged(Table::Heads).status()];
+    assert_eq!(rt; told, [Some(403), None]);
+    let read = [Right::read("bypass"), Right::read("Bypass")];
+    assert!(rt; read == [Some(Right::Bypass), None]);
     Ok(())
 }

@@ -2,6 +2,8 @@
 ghost use Rattle.std.specs.Prelude.{◌≡◌, IfOk, IsTrue};
 ghost use Rattle.vault_rules.specs.KeyPlan.{ids_rise};
 
+use crate::moments::moment;
+use crate::names::named;
 use std::alloc::Global;
 use std::test::Fail;
 use vault_base::moment::Moment;
@@ -38,8 +40,8 @@ const PLAIN: Asked<'static> = Asked {
 };
 
 fn rule(alloc: Global, asked: &Asked<'_>) -> Result<Rule, Fail> {
-    let id = RuleId::read(alloc, asked.id)??;
-    let prefix = KeyPrefix::read(alloc, asked.prefix)??;
+    let id = named(RuleId::read(alloc, asked.id))?;
+    let prefix = named(KeyPrefix::read(alloc, asked.prefix))?;
     Ok(Rule {
         id,
         prefix,
@@ -65,80 +67,149 @@ fn rule_set(alloc: Global, asked: &[Asked<'_>]) -> Result<RuleSet, Fail> {
 }
 
 fn key(alloc: Global) -> Result<ObjectKey, Fail> {
-    Ok(ObjectKey::read(alloc, "k")??)
+    named(ObjectKey::read(alloc, "k"))
 }
 
-/// Which of the rules makes content due that is current, where it came then, by a copy of the rules.
-fn current(alloc: Global, asked: &Asked<'_>, came: &str, now: &str) -> Result<Option<usize>, Fail> {
-    let came = Moment::read(came)?;
-    let now = Moment::read(now)?;
+/// The rule by which each of three kinds of entry is due, where each has that many bytes and is one since then:
+/// content that is current, content that isn't, and a delete marker that is its key's only entry.
+fn dues_by(
+    rules: &RuleSet,
+    key: &ObjectKey,
+    size: u64,
+    since: Moment,
+    now: Moment,
+) -> [Option<usize>; 3] {
+    [
+        due_current(rules, key, size, since, now),
+        due_noncurrent(rules, key, size, since, 0, now),
+        due_marker(rules, key, size, since, now),
+    ]
+}
+
+/// The same by rules and by a copy of them, which say the same.
+fn dues_of(
+    alloc: Global,
+    rules: &RuleSet,
+    size: u64,
+    since: Moment,
+    now: Moment,
+) -> Result<[Option<usize>; 3], Fail> {
     let key = key(alloc)?;
-    let rules = rule_set(alloc, &[*asked])?;
-    Ok(due_current(&rules.clone()?, &key, 5, came, now))
+    let copy = rules.clone()?;
+    let dues = dues_by(rules, &key, size, since, now);
+    if dues_by(&copy, &key, size, since, now) == dues {
+        return Ok(dues);
+    }
+    Err(Fail::new("a copy of the rules says something else"))
 }
 
-/// The same of content that isn't current since then.
-fn noncurrent(
+/// The same by one rule.
+fn dues(
     alloc: Global,
     asked: &Asked<'_>,
+    size: u64,
     since: &str,
     now: &str,
-) -> Result<Option<usize>, Fail> {
-    let since = Moment::read(since)?;
-    let now = Moment::read(now)?;
-    let key = key(alloc)?;
+) -> Result<[Option<usize>; 3], Fail> {
+    let since = moment(since)?;
+    let now = moment(now)?;
     let rules = rule_set(alloc, &[*asked])?;
-    Ok(due_noncurrent(&rules, &key, 5, since, 0, now))
+    dues_of(alloc, &rules, size, since, now)
 }
 
-/// The same of a delete marker that is its key's only entry.
-fn marker(alloc: Global, asked: &Asked<'_>, came: &str, now: &str) -> Result<Option<usize>, Fail> {
-    let came = Moment::read(came)?;
-    let now = Moment::read(now)?;
-    let key = key(alloc)?;
-    let rules = rule_set(alloc, &[*asked])?;
-    Ok(due_marker(&rules, &key, 0, came, now))
-}
+/// One day after its successor's admission.
+const ONE_DAY: Option<Noncurrent> = Some(Noncurrent {
+    days: 1,
+    newer: None,
+});
 
-/// The two examples of the Amazon S3 User Guide, "Lifecycle configuration elements": a time is
-/// rounded up to midnight, and a midnight stays.
+/// What Days make due.
+const BY_DAYS: [Option<usize>; 3] = [Some(0), None, Some(0)];
+
+/// What noncurrent days make due.
+const BY_NONCURRENT: [Option<usize>; 3] = [None, Some(0), None];
+
+const THREE_DAYS: Asked<'static> = Asked {
+    days: Some(3),
+    ..PLAIN
+};
+
+const DAY: Asked<'static> = Asked {
+    days: Some(1),
+    ..PLAIN
+};
+
+const LONE: Asked<'static> = Asked {
+    lone_markers: true,
+    ..PLAIN
+};
+
+const NONCURRENT: Asked<'static> = Asked {
+    noncurrent: ONE_DAY,
+    ..PLAIN
+};
+
+const MORNING: &str = "2014-01-15T10:30:00Z";
+
+const MIDNIGHT: &str = "2014-01-15T00:00:00Z";
+
+const MARCH: &str = "2024-03-01T08:00:00Z";
+
+const LATER: &str = "2024-03-05T08:00:00Z";
+
+/// A rule, the size of the entries, since when they are what they are, a moment, and what is due then.
+const MIDNIGHTS: [(Asked<'static>, u64, &str, &str, [Option<usize>; 3]); 9] = [
+    (THREE_DAYS, 5, MORNING, "2014-01-18T23:59:59Z", [None; 3]),
+    (THREE_DAYS, 5, MORNING, "2014-01-19T00:00:00Z", BY_DAYS),
+    (THREE_DAYS, 5, MIDNIGHT, "2014-01-17T23:59:59Z", [None; 3]),
+    (THREE_DAYS, 5, MIDNIGHT, "2014-01-18T00:00:00Z", BY_DAYS),
+    (LONE, 0, MARCH, MARCH, [None, None, Some(0)]),
+    (DAY, 0, MARCH, "2024-03-02T23:59:59Z", [None; 3]),
+    (DAY, 0, MARCH, "2024-03-03T00:00:00Z", BY_DAYS),
+    (NONCURRENT, 5, LATER, "2024-03-06T23:59:59Z", [None; 3]),
+    (NONCURRENT, 5, LATER, "2024-03-07T00:00:00Z", BY_NONCURRENT),
+];
+
+/// A time is rounded up to midnight, and a midnight stays: the first four are the two examples of the Amazon S3
+/// User Guide, "Lifecycle configuration elements". A lone marker goes at once by ExpiredObjectDeleteMarker, and by
+/// Days as content does.
 #[test]
-fn midnights(rt: HostRuntime) -> Result<(), Fail> {
-    let days = Asked {
-        days: Some(3),
-        ..PLAIN
-    };
-    let rows = [
-        ("2014-01-15T10:30:00Z", "2014-01-18T23:59:59Z", None),
-        ("2014-01-15T10:30:00Z", "2014-01-19T00:00:00Z", Some(0)),
-        ("2014-01-15T00:00:00Z", "2014-01-17T23:59:59Z", None),
-        ("2014-01-15T00:00:00Z", "2014-01-18T00:00:00Z", Some(0)),
-    ];
-    for (came, now, found) in &rows {
-        assert_eq!(rt; current(rt.alloc(), &days, came, now)?, *found);
+fn dues_begin_at_midnights(rt: HostRuntime) -> Result<(), Fail> {
+    for (asked, size, since, now, wanted) in &MIDNIGHTS {
+        assert_eq!(rt; dues(rt.alloc(), asked, *size, since, now)?, *wanted);
     }
     Ok(())
 }
 
-/// A lone marker goes at once by ExpiredObjectDeleteMarker, and by Days as content does.
+const EXCLUDED: [(Option<u64>, Option<u64>, u64, bool); 12] = [
+    (None, None, 0, true),
+    (Some(4), None, 4, false),
+    (Some(4), None, 5, true),
+    (None, Some(5), 5, false),
+    (None, Some(5), 4, true),
+    (Some(4), Some(6), 5, true),
+    (Some(4), Some(5), 4, false),
+    (Some(4), Some(5), 5, false),
+    (Some(0), None, 0, false),
+    (None, Some(1), 0, true),
+    (Some(1_048_575), None, 1_048_576, true),
+    (None, Some(1_048_577), 1_048_576, true),
+];
+
+/// A size is above the one bound and below the other: that of a bound isn't.
 #[test]
-fn lone_markers(rt: HostRuntime) -> Result<(), Fail> {
-    let lone = Asked {
-        lone_markers: true,
-        ..PLAIN
-    };
-    let days = Asked {
-        days: Some(1),
-        ..PLAIN
-    };
-    let came = "2024-03-01T08:00:00Z";
-    let rows = [
-        (lone, came, Some(0)),
-        (days, "2024-03-02T23:59:59Z", None),
-        (days, "2024-03-03T00:00:00Z", Some(0)),
-    ];
-    for (asked, now, found) in &rows {
-        assert_eq!(rt; marker(rt.alloc(), asked, came, now)?, *found);
+fn bounds_are_excluded(rt: HostRuntime) -> Result<(), Fail> {
+    let (since, now) = ("2024-03-01T08:00:00Z", "2024-03-05T00:00:00Z");
+    for (larger, smaller, size, due) in &EXCLUDED {
+        let both_actions = Asked {
+            days: Some(1),
+            noncurrent: ONE_DAY,
+            larger: *larger,
+            smaller: *smaller,
+            ..PLAIN
+        };
+        let told = dues(rt.alloc(), &both_actions, *size, since, now)?;
+        assert_eq!(rt; told, [due.then_some(0); 3]);
     }
     Ok(())
 }
@@ -147,11 +218,12 @@ fn lone_markers(rt: HostRuntime) -> Result<(), Fail> {
 fn entry(number: u32, admitted: &str) -> Result<Held, Fail>
     ensures { IfOk result (λ held. held.id ≡ number) }
 {
+    let id = VersionId::new(number).ok_or("no id")?;
     Ok(Held {
-        id: VersionId::new(number).ok_or("no id")?,
+        id,
         marker: false,
         size: 5,
-        admitted: Moment::read(admitted)?,
+        admitted: moment(admitted)?,
         lock: Lock {
             retention: None,
             hold: false,
@@ -169,31 +241,43 @@ fn is_plan(
 ) -> Result<bool, Fail>
     requires { IsTrue (ids_rise held.now) }
 {
-    let now = Moment::read(now)?;
-    let key = key(alloc)?;
+    let now = moment(now)?;
     let rules = rule_set(alloc, asked)?;
-    Ok(plan_key(alloc, &rules, &key, held, now)?.as_slice() == steps)
+    is_plan_by(alloc, &rules, held, now, steps)
+}
+
+fn is_plan_by(
+    alloc: Global,
+    rules: &RuleSet,
+    held: &[Held],
+    now: Moment,
+    steps: &[Step],
+) -> Result<bool, Fail>
+    requires { IsTrue (ids_rise held.now) }
+{
+    let key = key(alloc)?;
+    Ok(plan_key(alloc, rules, &key, held, now)?.as_slice() == steps)
 }
 
 /// Noncurrent days count from the successor's admission, not from the entry's own.
 #[test]
 fn successor(rt: HostRuntime) -> Result<(), Fail> {
-    let alloc = rt.alloc();
-    let asked = Asked {
-        noncurrent: Some(Noncurrent {
-            days: 1,
-            newer: None,
-        }),
+    let asked = [Asked {
+        noncurrent: ONE_DAY,
         ..PLAIN
-    };
-    let (since, before) = ("2024-03-05T08:00:00Z", "2024-03-06T23:59:59Z");
-    let now = "2024-03-07T00:00:00Z";
-    assert_eq!(rt; noncurrent(alloc, &asked, since, before)?, None);
-    assert_eq!(rt; noncurrent(alloc, &asked, since, now)?, Some(0));
-    let held = [entry(1, "2024-03-01T08:00:00Z")?, entry(2, since)?];
+    }];
+    let held = [
+        entry(1, "2024-03-01T08:00:00Z")?,
+        entry(2, "2024-03-05T08:00:00Z")?,
+    ];
     let removed = [Step::Remove(held[0].id, 0)];
-    assert!(rt; is_plan(alloc, &[asked], &held, before, &[])?);
-    assert!(rt; is_plan(alloc, &[asked], &held, now, &removed)?);
+    let rows: [(&str, &[Step]); 2] = [
+        ("2024-03-06T23:59:59Z", &[]),
+        ("2024-03-07T00:00:00Z", &removed),
+    ];
+    for (now, steps) in &rows {
+        assert!(rt; is_plan(rt.alloc(), &asked, &held, now, steps)?);
+    }
     Ok(())
 }
 
@@ -201,11 +285,15 @@ fn successor(rt: HostRuntime) -> Result<(), Fail> {
 /// named.
 #[test]
 fn first_due_rule(rt: HostRuntime) -> Result<(), Fail> {
+    let every = Asked {
+        id: "r3",
+        days: Some(1),
+        ..PLAIN
+    };
     let disabled = Asked {
         id: "r1",
         enabled: false,
-        days: Some(1),
-        ..PLAIN
+        ..every
     };
     let prefixed = Asked {
         id: "r2",
@@ -213,31 +301,27 @@ fn first_due_rule(rt: HostRuntime) -> Result<(), Fail> {
         days: Some(2),
         ..PLAIN
     };
-    let every = Asked {
-        id: "r3",
-        days: Some(1),
-        ..PLAIN
-    };
     let asked = [disabled, prefixed, every];
     let held = [entry(1, "2024-03-01T08:00:00Z")?];
-    assert!(rt; is_plan(rt.alloc(), &asked, &held, "2024-03-02T23:59:59Z", &[])?);
-    let by_every = [Step::Mark(2)];
-    assert!(rt; is_plan(rt.alloc(), &asked, &held, "2024-03-03T00:00:00Z", &by_every)?);
-    let by_prefixed = [Step::Mark(1)];
-    assert!(rt;
-        is_plan(
-            rt.alloc(),
-            &asked,
-            &held,
-            "2024-03-04T00:00:00Z",
-            &by_prefixed
-        )?
-    );
+    let rows: [(&str, &[Step]); 3] = [
+        ("2024-03-02T23:59:59Z", &[]),
+        ("2024-03-03T00:00:00Z", &[Step::Mark(2)]),
+        ("2024-03-04T00:00:00Z", &[Step::Mark(1)]),
+    ];
+    for (now, steps) in &rows {
+        assert!(rt; is_plan(rt.alloc(), &asked, &held, now, steps)?);
+    }
     Ok(())
 }
 
 fn fault(alloc: Global, asked: &[Asked<'_>]) -> Result<Option<RuleFault>, Fail> {
     Ok(RuleSet::read(rules_of(alloc, asked)?).err())
+}
+
+/// The fault of one rule more than a set may have.
+fn fault_of_many(alloc: Global) -> Result<Option<RuleFault>, Fail> {
+    let many = vec![in alloc; PLAIN; 1_001]?;
+    fault(alloc, many.as_slice())
 }
 
 /// Each fault, and which of two comes first.
@@ -255,14 +339,12 @@ fn faults(rt: HostRuntime) -> Result<(), Fail> {
         lone_markers: true,
         ..zero
     };
-    let many = vec![in rt.alloc(); PLAIN; 1_001]?;
     let same_ids = [days, PLAIN];
     let idle = [PLAIN, PLAIN];
     let ambiguous = [both];
     let never = [zero];
-    let rows: [(&[Asked<'_>], RuleFault); 6] = [
+    let rows: [(&[Asked<'_>], RuleFault); 5] = [
         (&[], RuleFault::NoRules),
-        (many.as_slice(), RuleFault::TooMany),
         (&same_ids, RuleFault::SameId),
         (&idle, RuleFault::NoAction),
         (&ambiguous, RuleFault::DaysAndMarkers),
@@ -271,89 +353,38 @@ fn faults(rt: HostRuntime) -> Result<(), Fail> {
     for (asked, wanted) in &rows {
         assert_eq!(rt; fault(rt.alloc(), asked)?, Some(*wanted));
     }
+    assert_eq!(rt; fault_of_many(rt.alloc())?, Some(RuleFault::TooMany));
     Ok(())
 }
 
-/// Which of three kinds of entry is due by a rule, where each has that many bytes: content that is current,
-/// content that isn't, and a lone marker.
-fn dues_of_size(alloc: Global, asked: &Asked<'_>, size: u64) -> Result<[bool; 3], Fail> {
-    let came = Moment::read("2024-03-01T08:00:00Z")?;
-    let now = Moment::read("2024-03-05T00:00:00Z")?;
-    let key = key(alloc)?;
-    let rules = rule_set(alloc, &[*asked])?;
-    Ok([
-        due_current(&rules, &key, size, came, now).is_some(),
-        due_noncurrent(&rules, &key, size, came, 0, now).is_some(),
-        due_marker(&rules, &key, size, came, now).is_some(),
-    ])
-}
+const OUT_OF_RANGE: Option<RuleFault> = Some(RuleFault::OutOfRange);
 
-/// A size is above the one bound and below the other: that of a bound isn't.
-#[test]
-fn bounds_are_excluded(rt: HostRuntime) -> Result<(), Fail> {
-    let both_actions = Asked {
-        days: Some(1),
-        noncurrent: Some(Noncurrent {
-            days: 1,
-            newer: None,
-        }),
-        ..PLAIN
-    };
-    let rows = [
-        (None, None, 0, true),
-        (Some(4), None, 4, false),
-        (Some(4), None, 5, true),
-        (None, Some(5), 5, false),
-        (None, Some(5), 4, true),
-        (Some(4), Some(6), 5, true),
-        (Some(4), Some(5), 4, false),
-        (Some(4), Some(5), 5, false),
-        (Some(0), None, 0, false),
-        (None, Some(1), 0, true),
-        (Some(1_048_575), None, 1_048_576, true),
-        (None, Some(1_048_577), 1_048_576, true),
-    ];
-    for (larger, smaller, size, due) in &rows {
-        let asked = Asked {
-            larger: *larger,
-            smaller: *smaller,
-            ..both_actions
-        };
-        assert_eq!(rt; dues_of_size(rt.alloc(), &asked, *size)?, [*due; 3]);
-    }
-    Ok(())
-}
+const BOUNDS: [(Option<u32>, Option<u64>, Option<u64>, Option<RuleFault>); 12] = [
+    (Some(1), Some(0), None, None),
+    (Some(1), Some(1_048_576), None, None),
+    (Some(1), Some(1_048_577), None, OUT_OF_RANGE),
+    (Some(1), None, Some(0), OUT_OF_RANGE),
+    (Some(1), None, Some(1), None),
+    (Some(1), None, Some(1_048_577), None),
+    (Some(1), None, Some(1_048_578), OUT_OF_RANGE),
+    (Some(1), Some(4), Some(3), OUT_OF_RANGE),
+    (Some(1), Some(4), Some(4), OUT_OF_RANGE),
+    (Some(1), Some(4), Some(5), None),
+    (Some(1), Some(1_048_576), Some(1_048_577), None),
+    (None, Some(1_048_577), None, Some(RuleFault::NoAction)),
+];
 
 /// Each bound at its limits, both beside each other, and bounds of a rule without an action.
 #[test]
 fn bounds_are_read(rt: HostRuntime) -> Result<(), Fail> {
-    let out_of_range = Some(RuleFault::OutOfRange);
-    let rows = [
-        (Some(0), None, None),
-        (Some(1_048_576), None, None),
-        (Some(1_048_577), None, out_of_range),
-        (None, Some(0), out_of_range),
-        (None, Some(1), None),
-        (None, Some(1_048_577), None),
-        (None, Some(1_048_578), out_of_range),
-        (Some(4), Some(3), out_of_range),
-        (Some(4), Some(4), out_of_range),
-        (Some(4), Some(5), None),
-        (Some(1_048_576), Some(1_048_577), None),
-    ];
-    for (larger, smaller, wanted) in &rows {
+    for (days, larger, smaller, wanted) in &BOUNDS {
         let asked = Asked {
-            days: Some(1),
+            days: *days,
             larger: *larger,
             smaller: *smaller,
             ..PLAIN
         };
         assert_eq!(rt; fault(rt.alloc(), &[asked])?, *wanted);
     }
-    let idle = Asked {
-        larger: Some(1_048_577),
-        ..PLAIN
-    };
-    assert_eq!(rt; fault(rt.alloc(), &[idle])?, Some(RuleFault::NoAction));
     Ok(())
 }
