@@ -1,13 +1,12 @@
 //! What a fault of the reader, the writer or the device leaves behind.
 use std::alloc::Global;
-use std::io::{self, BufWriter, ErrorKind, Read};
-use std::process::Abort;
+use std::io::{self, BufWriter, ErrorKind, Read, Write};
 use std::test::Fail;
-use vault_core::fuse_keeper::FuseKeeper;
 use vault_core_list::list_keeper::ListKeeper;
 use vault_core_model::keeper::Keeper;
 use vault_failing::streams::{FailingReader, FailingWriter};
-use vault_transcript::transcript::{opened, play, replies};
+use vault_transcript::transcript::{play, replies};
+use vault_transcript::trial::{Trial, compare, try_on_failing};
 use vaultctl_replay::{ReplayFault, replay};
 
 const SCRIPT: &str = r#"{"at":"2014-01-01T00:00:00Z","as":"registrar","do":"add-dept","dept":"d"}
@@ -27,10 +26,10 @@ const REPLIES: [&str; 6] = [
     "{\"ok\":{\"admitted\":5,\"at\":\"2024-01-16T00:00:00Z\",\"byte_days\":5,\"dept\":\"d\",\"handed\":0,\"held\":5,\"received\":0,\"removed\":0}}\n",
 ];
 
-/// The first replies, so many.
-fn first_replies(alloc: Global, count: usize) -> Result<String, Fail> {
+/// The replies from the one of that number on, which is counted from 0: so many.
+fn replies_from(alloc: Global, number: usize, count: usize) -> Result<String, Fail> {
     let mut text = String::new(alloc);
-    for reply in REPLIES.iter().take(count) {
+    for reply in REPLIES.iter().skip(number).take(count) {
         text.push_str(*reply)?;
     }
     Ok(text)
@@ -46,54 +45,98 @@ fn from_line(alloc: Global, number: usize) -> Result<String, Fail> {
     Ok(rest)
 }
 
-/// Carries the lines from that number on out over the vault, and compares all their replies.
-fn go_on<K: Keeper>(
-    rt: &impl Abort,
+/// Carries a script out. It has no clause, so that no proof of a test carries what `replay` promises.
+fn answer<R: Read, W: Write, K: Keeper>(
+    alloc: Global,
+    reader: &mut R,
+    writer: &mut W,
+    keeper: &mut K,
+) -> Result<(), ReplayFault> {
+    replay(alloc, reader, writer, keeper)
+}
+
+/// Carries a trial out on a vault to which nothing was done.
+fn try_on_empty<T: Trial>(alloc: Global, trial: &T) -> Result<(), Fail> {
+    let mut keeper = ListKeeper::new(alloc)?;
+    let tried = trial.carry_out(alloc, &mut keeper);
+    drop(keeper);
+    tried
+}
+
+/// What is written for the lines from that number on.
+fn rest_of_replies<K: Keeper>(
     alloc: Global,
     keeper: &mut K,
     number: usize,
-) -> Result<(), Fail> {
+) -> Result<String, Fail> {
     let rest = from_line(alloc, number)?;
-    let written = replies(alloc, keeper, rest.as_bytes())?;
-    let mut want = String::new(alloc);
-    for reply in REPLIES.iter().skip(number) {
-        want.push_str(*reply)?;
+    replies(alloc, keeper, rest.as_bytes())
+}
+
+/// Carries the lines from that number on out over the vault, and compares all their replies.
+fn go_on<K: Keeper>(alloc: Global, keeper: &mut K, number: usize) -> Result<(), Fail> {
+    let written = rest_of_replies(alloc, keeper, number)?;
+    compare_replies(alloc, written, number, REPLIES.len())
+}
+
+/// Fails unless these are the replies from that number on, so many.
+fn compare_replies(
+    alloc: Global,
+    written: String,
+    number: usize,
+    count: usize,
+) -> Result<(), Fail> {
+    let wanted = replies_from(alloc, number, count)?;
+    compare("the replies", written.as_str(), wanted.as_str())
+}
+
+fn compare_ends(
+    given: Result<(), ReplayFault>,
+    wanted: Result<(), ReplayFault>,
+) -> Result<(), Fail> {
+    if given == wanted {
+        return Ok(());
     }
-    assert_eq!(rt; written.as_str(), want.as_str());
-    Ok(())
+    Err(Fail::new(format_args!("wanted {wanted:?}, got {given:?}")))
 }
 
-/// Reads so many bytes of the script before the reader fails. Each line that was read whole is carried
-/// out and answered, and no other; then the script goes on from there.
-fn cut_reader(rt: &impl Abort, alloc: Global, bytes: &[u8]) -> Result<(), Fail> {
-    let mut keeper = ListKeeper::new(alloc)?;
-    let judged = cut_reader_over(rt, alloc, &mut keeper, bytes);
-    drop(keeper);
-    judged
-}
-
-fn cut_reader_over<K: Keeper>(
-    rt: &impl Abort,
+/// Fails unless what a reader gives ends so, and has so many of the first replies.
+fn compare_read<R: Read, K: Keeper>(
     alloc: Global,
     keeper: &mut K,
-    bytes: &[u8],
+    reader: &mut R,
+    end: Result<(), ReplayFault>,
+    count: usize,
 ) -> Result<(), Fail> {
-    let mut reader = FailingReader { bytes };
     let mut written = Vec::new(alloc);
-    let fault = replay(alloc, &mut reader, &mut written, keeper);
-    assert!(rt; fault == Err(ReplayFault::Read));
-    let read = bytes.iter().filter(|byte| **byte == b'\n').count();
-    let text = String::from_utf8(written)?;
-    assert_eq!(rt; text.as_str(), first_replies(alloc, read)?.as_str());
-    go_on(rt, alloc, keeper, read)
+    compare_ends(answer(alloc, reader, &mut written, keeper), end)?;
+    compare_replies(alloc, String::from_utf8(written)?, 0, count)
+}
+
+/// The first bytes of the script, behind which the reader fails.
+#[derive(Clone, Copy)]
+struct CutReader<'a> {
+    bytes: &'a [u8],
+}
+
+/// Each line that was read whole is carried out and answered, and no other; then the script goes on from there.
+impl Trial for CutReader<'_> {
+    fn carry_out<K: Keeper>(&self, alloc: Global, keeper: &mut K) -> Result<(), Fail> {
+        let read = self.bytes.iter().filter(|byte| **byte == b'\n').count();
+        let mut reader = FailingReader { bytes: self.bytes };
+        compare_read(alloc, keeper, &mut reader, Err(ReplayFault::Read), read)?;
+        go_on(alloc, keeper, read)
+    }
 }
 
 #[test]
 fn a_reader_that_fails(rt: HostRuntime) -> Result<(), Fail> {
-    let alloc = rt.alloc();
     let bytes = SCRIPT.as_bytes();
     for count in 0..=bytes.len() {
-        cut_reader(&rt, alloc, bytes.split_at(count).0)?;
+        let cut = CutReader {
+            bytes: bytes.split_at(count).0,
+        };
+        try_on_empty(rt.alloc(), &cut)?;
     }
     Ok(())
 }
@@ -116,106 +159,123 @@ impl Read for InterruptedReader<'_> {
     }
 }
 
-/// The script with 1,000 empty lines behind it, in pieces of one byte: a signal is no fault of the reader.
-#[test]
-fn a_reader_that_is_interrupted(rt: HostRuntime) -> Result<(), Fail> {
-    let alloc = rt.alloc();
+/// The script with 1,000 empty lines behind it.
+fn with_empty_lines(alloc: Global) -> Result<String, Fail> {
     let mut input = String::new(alloc);
     input.push_str(SCRIPT)?;
     for _ in 0..1_000 {
         input.push('\n')?;
     }
-    let mut reader = InterruptedReader {
-        bytes: input.as_bytes(),
-        is_interrupted: false,
-    };
-    let mut keeper = ListKeeper::new(alloc)?;
-    let mut written = Vec::new(alloc);
-    let answered = replay(alloc, &mut reader, &mut written, &mut keeper);
-    drop(keeper);
-    assert!(rt; answered == Ok(()));
-    let text = String::from_utf8(written)?;
-    assert_eq!(rt;
-        text.as_str(),
-        first_replies(alloc, REPLIES.len())?.as_str()
-    );
-    Ok(())
+    Ok(input)
 }
 
-/// Takes so many writes, each of one reply, before the writer fails. The line whose reply was refused was
-/// carried out, and no later one.
-fn cut_writer(rt: &impl Abort, alloc: Global, writes: usize) -> Result<(), Fail> {
-    let mut keeper = ListKeeper::new(alloc)?;
-    let judged = cut_writer_over(rt, alloc, &mut keeper, writes);
-    drop(keeper);
-    judged
+struct Interrupted;
+
+impl Trial for Interrupted {
+    fn carry_out<K: Keeper>(&self, alloc: Global, keeper: &mut K) -> Result<(), Fail> {
+        let input = with_empty_lines(alloc)?;
+        let mut reader = InterruptedReader {
+            bytes: input.as_bytes(),
+            is_interrupted: false,
+        };
+        compare_read(alloc, keeper, &mut reader, Ok(()), REPLIES.len())
+    }
 }
 
-fn cut_writer_over<K: Keeper>(
-    rt: &impl Abort,
-    alloc: Global,
-    keeper: &mut K,
+/// The script with 1,000 empty lines behind it, in pieces of one byte: a signal is no fault of the reader.
+#[test]
+fn a_reader_that_is_interrupted(rt: HostRuntime) -> Result<(), Fail> {
+    try_on_empty(rt.alloc(), &Interrupted)
+}
+
+/// So many writes, each of one reply, behind which the writer fails.
+#[derive(Clone, Copy)]
+struct CutWriter {
     writes: usize,
-) -> Result<(), Fail> {
-    let mut reader = SCRIPT.as_bytes();
-    let mut writer = FailingWriter {
-        written: Vec::new(alloc),
-        writes_left: writes as u64,
-    };
-    let fault = replay(alloc, &mut reader, &mut writer, keeper);
-    let text = String::from_utf8(writer.written)?;
-    assert_eq!(rt; text.as_str(), first_replies(alloc, writes)?.as_str());
-    if writes < REPLIES.len() {
-        assert!(rt; fault == Err(ReplayFault::Write));
-        go_on(rt, alloc, keeper, writes.saturating_add(1))
-    } else {
-        assert!(rt; fault == Ok(()));
-        Ok(())
+}
+
+impl CutWriter {
+    /// What comes of the script, and what the writer took.
+    fn answered<K: Keeper>(
+        &self,
+        alloc: Global,
+        keeper: &mut K,
+    ) -> Result<(Result<(), ReplayFault>, String), Fail> {
+        let mut reader = SCRIPT.as_bytes();
+        let mut writer = FailingWriter {
+            written: Vec::new(alloc),
+            writes_left: self.writes as u64,
+        };
+        let end = answer(alloc, &mut reader, &mut writer, keeper);
+        Ok((end, String::from_utf8(writer.written)?))
+    }
+}
+
+/// The line whose reply was refused was carried out, and no later one.
+impl Trial for CutWriter {
+    fn carry_out<K: Keeper>(&self, alloc: Global, keeper: &mut K) -> Result<(), Fail> {
+        let (end, written) = self.answered(alloc, keeper)?;
+        compare_replies(alloc, written, 0, self.writes)?;
+        if self.writes == REPLIES.len() {
+            return compare_ends(end, Ok(()));
+        }
+        compare_ends(end, Err(ReplayFault::Write))?;
+        go_on(alloc, keeper, self.writes.saturating_add(1))
     }
 }
 
 #[test]
 fn a_writer_that_fails(rt: HostRuntime) -> Result<(), Fail> {
-    let alloc = rt.alloc();
     for writes in 0..=REPLIES.len() {
-        cut_writer(&rt, alloc, writes)?;
+        try_on_empty(rt.alloc(), &CutWriter { writes })?;
     }
     Ok(())
 }
 
-/// What a script is told whose replies are held back, up to its end, for a writer that takes none.
-fn replayed_held_back<K: Keeper>(
-    alloc: Global,
-    keeper: &mut K,
-) -> Result<Result<(), ReplayFault>, Fail> {
-    let mut reader = SCRIPT.as_bytes();
-    let full = FailingWriter {
-        written: Vec::new(alloc),
-        writes_left: 0,
-    };
-    let mut writer = BufWriter::with_capacity(alloc, 65_536, full)?;
-    Ok(replay(alloc, &mut reader, &mut writer, keeper))
+struct HeldBack;
+
+impl Trial for HeldBack {
+    fn carry_out<K: Keeper>(&self, alloc: Global, keeper: &mut K) -> Result<(), Fail> {
+        let mut reader = SCRIPT.as_bytes();
+        let full = FailingWriter {
+            written: Vec::new(alloc),
+            writes_left: 0,
+        };
+        let mut writer = BufWriter::with_capacity(alloc, 65_536, full)?;
+        let end = answer(alloc, &mut reader, &mut writer, keeper);
+        compare_ends(end, Err(ReplayFault::Write))
+    }
 }
 
 /// What is held back is handed on before the input counts as answered, and a fault of that is told.
 #[test]
 fn a_writer_that_holds_back(rt: HostRuntime) -> Result<(), Fail> {
-    let mut keeper = ListKeeper::new(rt.alloc())?;
-    let replayed = replayed_held_back(rt.alloc(), &mut keeper);
-    drop(keeper);
-    assert!(rt; replayed? == Err(ReplayFault::Write));
-    Ok(())
+    try_on_empty(rt.alloc(), &HeldBack)
 }
 
-#[test]
-fn a_device_that_fails_once(rt: HostRuntime) -> Result<(), Fail> {
-    let alloc = rt.alloc();
-    let mut keeper = FuseKeeper::new(opened(alloc)?, 0);
-    assert_eq!(rt; keeper.faults(), 0);
-    play(
-        alloc,
-        &mut keeper,
-        r#"
+/// A transcript over a vault whose device fails once meanwhile.
+#[derive(Clone, Copy)]
+struct FailsOnce {
+    transcript: &'static str,
+}
+
+fn compare_faults<K: Keeper>(keeper: &K, wanted: u64) -> Result<(), Fail> {
+    let faults = keeper.faults();
+    if faults == wanted {
+        return Ok(());
+    }
+    Err(Fail::new(format_args!("wanted {wanted} faults, got {faults}")))
+}
+
+impl Trial for FailsOnce {
+    fn carry_out<K: Keeper>(&self, alloc: Global, keeper: &mut K) -> Result<(), Fail> {
+        compare_faults(keeper, 0)?;
+        play(alloc, keeper, self.transcript)?;
+        compare_faults(keeper, 1)
+    }
+}
+
+const PUT: &str = r#"
 {"at":"2024-01-15T10:30:00Z","as":"ann","do":"put","bucket":"docs","key":"a","text":"hello"}
   {"error":{"code":"Device","n":23}}
 {"at":"2014-01-01T00:00:00Z","as":"ann","do":"get","bucket":"docs","key":"a"}
@@ -224,21 +284,10 @@ fn a_device_that_fails_once(rt: HostRuntime) -> Result<(), Fail> {
   {"ok":{"admitted":0,"at":"2014-01-01T00:00:00Z","byte_days":0,"dept":"records","handed":0,"held":0,"received":0,"removed":0}}
 {"at":"2024-01-15T10:30:00Z","as":"ann","do":"put","bucket":"docs","key":"a","text":"hello"}
   {"ok":{"version_id":1}}
-"#,
-    )?;
-    assert_eq!(rt; keeper.faults(), 1);
-    Ok(())
-}
+"#;
 
 /// A removal that the device refused leaves the version held.
-#[test]
-fn a_device_that_fails_at_a_removal(rt: HostRuntime) -> Result<(), Fail> {
-    let alloc = rt.alloc();
-    let mut keeper = FuseKeeper::new(opened(alloc)?, 1);
-    play(
-        alloc,
-        &mut keeper,
-        r#"
+const REMOVAL: &str = r#"
 {"at":"2024-01-15T10:30:00Z","as":"ann","do":"put","bucket":"docs","key":"a","text":"hello"}
   {"ok":{"version_id":1}}
 {"at":"2024-01-16T00:00:00Z","as":"ann","do":"delete-version","bucket":"docs","key":"a","id":1}
@@ -247,32 +296,14 @@ fn a_device_that_fails_at_a_removal(rt: HostRuntime) -> Result<(), Fail> {
   {"ok":{"admitted":5,"at":"2024-01-15T10:30:00Z","byte_days":0,"dept":"records","handed":0,"held":5,"received":0,"removed":0}}
 {"at":"2024-01-16T00:00:00Z","as":"ann","do":"delete-version","bucket":"docs","key":"a","id":1}
   {"ok":{"cause":"request","delete_marker":false,"version_id":1}}
-"#,
-    )?;
-    assert_eq!(rt; keeper.faults(), 1);
-    Ok(())
-}
+"#;
 
 /// A bucket stays whose it was where the device refused its move, and the same line given again moves it.
-#[test]
-fn a_device_that_fails_at_a_move(rt: HostRuntime) -> Result<(), Fail> {
-    let alloc = rt.alloc();
-    let mut below = opened(alloc)?;
-    play(
-        alloc,
-        &mut below,
-        r#"
+const MOVE: &str = r#"
 {"at":"2014-01-01T00:00:00Z","as":"registrar","do":"add-dept","dept":"court"}
   {"ok":{}}
 {"at":"2024-01-15T10:30:00Z","as":"ann","do":"put","bucket":"docs","key":"a","text":"hello"}
   {"ok":{"version_id":1}}
-"#,
-    )?;
-    let mut keeper = FuseKeeper::new(below, 0);
-    play(
-        alloc,
-        &mut keeper,
-        r#"
 {"at":"2024-01-17T00:00:00Z","as":"registrar","do":"move-bucket","bucket":"docs","dept":"court"}
   {"error":{"code":"Device","n":23}}
 {"at":"2024-01-15T10:30:00Z","as":"ann","do":"head","bucket":"docs","key":"a"}
@@ -289,8 +320,24 @@ fn a_device_that_fails_at_a_move(rt: HostRuntime) -> Result<(), Fail> {
   {"ok":{"admitted":5,"at":"2024-01-18T00:00:00Z","byte_days":10,"dept":"records","handed":5,"held":0,"received":0,"removed":0}}
 {"at":"2024-01-18T00:00:00Z","as":"registrar","do":"report","dept":"court"}
   {"ok":{"admitted":0,"at":"2024-01-18T00:00:00Z","byte_days":5,"dept":"court","handed":0,"held":5,"received":5,"removed":0}}
-"#,
-    )?;
-    assert_eq!(rt; keeper.faults(), 1);
+"#;
+
+/// Behind how many changes the device refuses one.
+const DEVICES: [(u64, FailsOnce); 3] = [
+    (0, FailsOnce { transcript: PUT }),
+    (
+        1,
+        FailsOnce {
+            transcript: REMOVAL,
+        },
+    ),
+    (2, FailsOnce { transcript: MOVE }),
+];
+
+#[test]
+fn a_device_that_fails_once(rt: HostRuntime) -> Result<(), Fail> {
+    for (changes, once) in &DEVICES {
+        try_on_failing(rt.alloc(), *changes, once)?;
+    }
     Ok(())
 }

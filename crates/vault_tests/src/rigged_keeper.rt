@@ -4,7 +4,6 @@ use vault_base::moment::Moment;
 use vault_base::name::{
     BatchName, BucketName, CallerName, DeptName, KeyPrefix, ObjectKey, VersionId,
 };
-use vault_core_list::list_keeper::ListKeeper;
 use vault_core_model::change::Change;
 use vault_core_model::halt::Fault;
 use vault_core_model::keeper::{Keeper, Sink};
@@ -13,21 +12,21 @@ use vault_rules::plan::Held;
 use vault_rules::rule_set::RuleSet;
 use vault_tally::row::Row;
 
-/// Answers what a list keeper does, but for the bytes admitted, the next id and the number of moves, and
+/// Answers what the keeper below does, but for the bytes admitted, the next id and the number of moves, and
 /// refuses every change with `Memory`.
 #[derive(Drop)]
-pub struct RiggedKeeper {
-    keeper: ListKeeper,
+pub struct RiggedKeeper<'a, K> {
+    keeper: &'a mut K,
     admitted: u64,
     next_id: u64,
     moves: u32,
     asked: u64,
 }
 
-impl RiggedKeeper {
+impl<'a, K> RiggedKeeper<'a, K> {
     /// A keeper that tells of so many bytes admitted to each department, of this next id, and of so many
     /// moves made.
-    pub fn new(keeper: ListKeeper, admitted: u64, next_id: u64, moves: u32) -> RiggedKeeper {
+    pub fn new(keeper: &'a mut K, admitted: u64, next_id: u64, moves: u32) -> RiggedKeeper<'a, K> {
         RiggedKeeper {
             keeper,
             admitted,
@@ -43,16 +42,16 @@ impl RiggedKeeper {
     }
 }
 
-impl Keeper for RiggedKeeper {
+impl<K: Keeper> Keeper for RiggedKeeper<'_, K> {
     // What it answers holds of no vault.
     ghost is_honest = { λ _. ⊥ };
 
-    ghost vault = { λ k. k.keeper };
+    ghost vault = { λ k. K.vault k.keeper.now };
 
-    ghost count = { λ _. 0 };
+    ghost count = { λ k. K.count k.keeper.now };
 
     fn faults(&self) -> u64 {
-        0
+        self.keeper.faults()
     }
 
     fn last(&mut self) -> Result<Moment, Fault> {
