@@ -1,5 +1,5 @@
 //! Each row's request, cut behind every byte.
-use crate::exchange::{Exchange, answer, answer_whole, compare};
+use crate::exchange::{Exchange, answer, answer_whole};
 use crate::rows::{Deed, rows};
 use crate::vault::{Filled, told};
 use std::alloc::Global;
@@ -17,7 +17,7 @@ fn cut<K: Keeper>(
 ) -> Result<(), Fail> {
     let before = edge(keeper)?;
     let given = answer(alloc, keeper, exchange.front(size)?)?;
-    compare(given.as_str(), exchange.answer_to(size))?;
+    exchange.compare_answer(size, given.as_str())?;
     if edge(keeper)? == before {
         return Ok(());
     }
@@ -66,8 +66,8 @@ fn cut_everywhere<K: Filled>(alloc: Global, exchange: &Exchange) -> Result<(), F
 #[test]
 fn a_request_that_is_cut_makes_no_step(rt: HostRuntime) -> Result<(), Fail> {
     let alloc = rt.alloc();
-    for row in rows(alloc)?.as_slice() {
-        let exchange = Exchange::of(alloc, *row)?;
+    for row in rows() {
+        let exchange = Exchange::of(alloc, row)?;
         cut_everywhere::<ListKeeper>(alloc, &exchange)?;
     }
     Ok(())

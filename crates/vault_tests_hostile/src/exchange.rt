@@ -1,6 +1,6 @@
 //! A row as bytes: its request, and what is answered to each beginning of it.
 use crate::rows::{Deed, Row};
-use std::alloc::Global;
+use std::alloc::{AllocError, Global};
 use std::io::{Read, Write};
 use std::test::Fail;
 use vault_core_model::keeper::Keeper;
@@ -21,21 +21,22 @@ const NO_BODY: &str =
 const GO_ON_NO_BODY: &str =
     "HTTP/1.1 100 Continue\r\n\r\nHTTP/1.1 400 Bad Request\r\ndate: Mon, 15 Jan 2024 10:30:00 GMT\r\nconnection: close\r\ncontent-type: application/json\r\ncontent-length: 31\r\n\r\n{\"code\":\"MalformedBody\",\"n\":12}";
 
-/// Adds a text, with CR LF for each `|` and two headers for each `~`.
-fn push_wire(out: &mut String, text: &str) -> Result<(), Fail> {
-    for c in text.chars() {
-        match c {
-            '|' => out.push_str("\r\n")?,
-            '~' => out.push_str("date: Mon, 15 Jan 2024 10:30:00 GMT\r\nconnection: close")?,
-            _ => out.push(c)?,
-        }
+const DATE: &str = "date: Mon, 15 Jan 2024 10:30:00 GMT\r\nconnection: close";
+
+/// Adds a character, or CR LF for `|` and two headers for `~`.
+fn push_wire(out: &mut String, c: char) -> Result<(), AllocError> {
+    match c {
+        '|' => out.push_str("\r\n"),
+        '~' => out.push_str(DATE),
+        _ => out.push(c),
     }
-    Ok(())
 }
 
-fn wire(alloc: Global, text: &str) -> Result<String, Fail> {
+fn wire(alloc: Global, text: &str) -> Result<String, AllocError> {
     let mut out = String::new(alloc);
-    push_wire(&mut out, text)?;
+    for c in text.chars() {
+        push_wire(&mut out, c)?;
+    }
     Ok(out)
 }
 
@@ -61,7 +62,7 @@ fn head_of(request: &str) -> Result<usize, Fail> {
 }
 
 impl Exchange {
-    pub fn of(alloc: Global, row: Row) -> Result<Exchange, Fail> {
+    pub fn of(alloc: Global, row: &Row) -> Result<Exchange, Fail> {
         let request = wire(alloc, row.request)?;
         let head = head_of(request.as_str())?;
         let whole = wire(alloc, row.answer)?;
@@ -77,27 +78,27 @@ impl Exchange {
         })
     }
 
-    /// What is answered to the first so many bytes.
-    pub fn answer_to(&self, size: usize) -> &str {
+    /// Fails unless this is what is answered to the first so many bytes.
+    pub fn compare_answer(&self, size: usize, given: &str) -> Result<(), Fail> {
         if size == 0 {
-            ""
+            compare(given, "")
         } else if size < self.head {
-            NO_HEAD
+            compare(given, NO_HEAD)
         } else if size >= self.read {
-            self.whole.as_str()
+            compare(given, self.whole.as_str())
         } else if self.waits {
-            GO_ON_NO_BODY
+            compare(given, GO_ON_NO_BODY)
         } else {
-            NO_BODY
+            compare(given, NO_BODY)
         }
     }
 
-    /// What is written before the rest of so many bytes is waited for.
-    pub fn told_at(&self, size: usize) -> &str {
+    /// Fails unless this is what is written before the rest of so many bytes is waited for.
+    pub fn compare_told(&self, size: usize, given: &str) -> Result<(), Fail> {
         if self.waits && size >= self.head {
-            GO_ON
+            compare(given, GO_ON)
         } else {
-            ""
+            compare(given, "")
         }
     }
 

@@ -22,20 +22,30 @@ fn serve_from<K: Keeper>(
     Ok((String::from_utf8(written)?, served))
 }
 
-/// Fails unless this is written and answered where the reader fails behind so many bytes.
-fn serve_failing<K: Keeper>(
-    alloc: Global,
-    keeper: &mut K,
-    front: &[u8],
-    wanted: &str,
-    fault: Result<(), ServeFault>,
-) -> Result<(), Fail> {
-    let (written, served) = serve_from(alloc, keeper, front)?;
-    compare(written.as_str(), wanted)?;
-    if served == fault {
+fn compare_ends(given: Result<(), ServeFault>, wanted: Result<(), ServeFault>) -> Result<(), Fail> {
+    if given == wanted {
         return Ok(());
     }
-    Err(Fail::new(format_args!("wanted {fault:?}, got {served:?}")))
+    Err(Fail::new(format_args!("wanted {wanted:?}, got {given:?}")))
+}
+
+/// Fails unless `Read` is answered where the reader fails behind so many bytes, fewer than are read.
+fn serve_less<K: Keeper>(
+    alloc: Global,
+    keeper: &mut K,
+    exchange: &Exchange,
+    size: usize,
+) -> Result<(), Fail> {
+    let (written, served) = serve_from(alloc, keeper, exchange.front(size)?)?;
+    exchange.compare_told(size, written.as_str())?;
+    compare_ends(served, Err(ServeFault::Read))
+}
+
+/// Fails unless the whole is answered where the reader fails behind the bytes that are read.
+fn serve_read<K: Keeper>(alloc: Global, keeper: &mut K, exchange: &Exchange) -> Result<(), Fail> {
+    let (written, served) = serve_from(alloc, keeper, exchange.front(exchange.read)?)?;
+    compare(written.as_str(), exchange.whole.as_str())?;
+    compare_ends(served, Ok(()))
 }
 
 /// The reader fails behind so many bytes, fewer than are read: the answer is `Read`, and no step is made.
@@ -46,14 +56,7 @@ fn read_less<K: Keeper>(
     size: usize,
 ) -> Result<(), Fail> {
     let before = edge(keeper)?;
-    let front = exchange.front(size)?;
-    serve_failing(
-        alloc,
-        keeper,
-        front,
-        exchange.told_at(size),
-        Err(ServeFault::Read),
-    )?;
+    serve_less(alloc, keeper, exchange, size)?;
     if edge(keeper)? == before {
         return Ok(());
     }
@@ -101,8 +104,7 @@ fn read_in_part<K: Keeper>(
 ) -> Result<(), Fail> {
     read_each_less(alloc, keeper, exchange)?;
     compare_told(alloc, keeper, before)?;
-    let front = exchange.front(exchange.read)?;
-    serve_failing(alloc, keeper, front, exchange.whole.as_str(), Ok(()))?;
+    serve_read(alloc, keeper, exchange)?;
     compare_deed(alloc, keeper, exchange, before)
 }
 
@@ -116,8 +118,8 @@ fn read_of_filled<K: Filled>(alloc: Global, exchange: &Exchange) -> Result<(), F
 #[test]
 fn a_reader_that_fails_makes_no_step(rt: HostRuntime) -> Result<(), Fail> {
     let alloc = rt.alloc();
-    for row in rows(alloc)?.as_slice() {
-        let exchange = Exchange::of(alloc, *row)?;
+    for row in rows() {
+        let exchange = Exchange::of(alloc, row)?;
         read_of_filled::<ListKeeper>(alloc, &exchange)?;
     }
     Ok(())
@@ -148,12 +150,12 @@ fn serve_to<K: Keeper>(
     Ok((String::from_utf8(writer.written)?, served))
 }
 
-/// What the writer takes before it fails.
-fn taken_before<'a>(exchange: &'a Exchange, stop: Stop) -> &'a str {
+/// Fails unless this is what the writer takes before it fails.
+fn compare_taken(exchange: &Exchange, stop: Stop, given: &str) -> Result<(), Fail> {
     if stop.writes_left == 0 {
-        ""
+        compare(given, "")
     } else {
-        exchange.told_at(stop.size)
+        exchange.compare_told(stop.size, given)
     }
 }
 
@@ -166,7 +168,7 @@ fn serve_stopped<K: Keeper>(
 ) -> Result<Result<(), ServeFault>, Fail> {
     let front = exchange.front(stop.size)?;
     let (written, served) = serve_to(alloc, keeper, front, stop.writes_left)?;
-    compare(written.as_str(), taken_before(exchange, stop))?;
+    compare_taken(exchange, stop, written.as_str())?;
     Ok(served)
 }
 
@@ -231,8 +233,8 @@ fn refuse_writes_to_cuts<K: Filled>(alloc: Global, exchange: &Exchange) -> Resul
 #[test]
 fn a_writer_that_fails_undoes_no_step(rt: HostRuntime) -> Result<(), Fail> {
     let alloc = rt.alloc();
-    for row in rows(alloc)?.as_slice() {
-        let exchange = Exchange::of(alloc, *row)?;
+    for row in rows() {
+        let exchange = Exchange::of(alloc, row)?;
         refuse_each_write::<ListKeeper>(alloc, &exchange)?;
         refuse_writes_to_cuts::<ListKeeper>(alloc, &exchange)?;
     }

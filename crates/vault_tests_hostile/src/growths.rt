@@ -27,7 +27,7 @@ struct Case<K> {
 }
 
 impl<K: Filled> Case<K> {
-    fn of(alloc: Global, row: Row) -> Result<Case<K>, Fail> {
+    fn of(alloc: Global, row: &Row) -> Result<Case<K>, Fail> {
         let keeper = K::filled(alloc)?;
         Ok(Case {
             exchange: Exchange::of(alloc, row)?,
@@ -37,7 +37,7 @@ impl<K: Filled> Case<K> {
     }
 }
 
-fn push_case<K: Filled>(alloc: Global, cases: &mut Vec<Case<K>>, row: Row) -> Result<(), Fail> {
+fn push_case<K: Filled>(alloc: Global, cases: &mut Vec<Case<K>>, row: &Row) -> Result<(), Fail> {
     cases.push(Case::of(alloc, row)?)?;
     Ok(())
 }
@@ -45,8 +45,8 @@ fn push_case<K: Filled>(alloc: Global, cases: &mut Vec<Case<K>>, row: Row) -> Re
 /// All that the test itself needs, so that behind it only serving takes memory.
 fn cases<K: Filled>(alloc: Global) -> Result<Vec<Case<K>>, Fail> {
     let mut cases = Vec::new(alloc);
-    for row in rows(alloc)?.as_slice() {
-        push_case(alloc, &mut cases, *row)?;
+    for row in rows() {
+        push_case(alloc, &mut cases, row)?;
     }
     Ok(cases)
 }
