@@ -118,36 +118,16 @@ fn dues(
 }
 
 /// One day after its successor's admission.
-const ONE_DAY: Option<Noncurrent> = Some(Noncurrent {
+const ONE_DAY: Noncurrent = Noncurrent {
     days: 1,
     newer: None,
-});
+};
 
 /// What Days make due.
 const BY_DAYS: [Option<usize>; 3] = [Some(0), None, Some(0)];
 
 /// What noncurrent days make due.
 const BY_NONCURRENT: [Option<usize>; 3] = [None, Some(0), None];
-
-const THREE_DAYS: Asked<'static> = Asked {
-    days: Some(3),
-    ..PLAIN
-};
-
-const DAY: Asked<'static> = Asked {
-    days: Some(1),
-    ..PLAIN
-};
-
-const LONE: Asked<'static> = Asked {
-    lone_markers: true,
-    ..PLAIN
-};
-
-const NONCURRENT: Asked<'static> = Asked {
-    noncurrent: ONE_DAY,
-    ..PLAIN
-};
 
 const MORNING: &str = "2014-01-15T10:30:00Z";
 
@@ -157,8 +137,41 @@ const MARCH: &str = "2024-03-01T08:00:00Z";
 
 const LATER: &str = "2024-03-05T08:00:00Z";
 
-/// A rule, the size of the entries, since when they are what they are, a moment, and what is due then.
-const MIDNIGHTS: [(Asked<'static>, u64, &str, &str, [Option<usize>; 3]); 9] = [
+/// The one action of a rule.
+#[derive(Clone, Copy)]
+enum Action {
+    Days(u32),
+    LoneMarkers,
+    NoncurrentDay,
+}
+
+fn asked_for(action: Action) -> Asked<'static> {
+    match action {
+        Action::Days(days) => Asked {
+            days: Some(days),
+            ..PLAIN
+        },
+        Action::LoneMarkers => Asked {
+            lone_markers: true,
+            ..PLAIN
+        },
+        Action::NoncurrentDay => Asked {
+            noncurrent: Some(ONE_DAY),
+            ..PLAIN
+        },
+    }
+}
+
+const THREE_DAYS: Action = Action::Days(3);
+
+const DAY: Action = Action::Days(1);
+
+const LONE: Action = Action::LoneMarkers;
+
+const NONCURRENT: Action = Action::NoncurrentDay;
+
+/// An action, the size of the entries, since when they are what they are, a moment, and what is due then.
+const MIDNIGHTS: [(Action, u64, &str, &str, [Option<usize>; 3]); 9] = [
     (THREE_DAYS, 5, MORNING, "2014-01-18T23:59:59Z", [None; 3]),
     (THREE_DAYS, 5, MORNING, "2014-01-19T00:00:00Z", BY_DAYS),
     (THREE_DAYS, 5, MIDNIGHT, "2014-01-17T23:59:59Z", [None; 3]),
@@ -175,8 +188,9 @@ const MIDNIGHTS: [(Asked<'static>, u64, &str, &str, [Option<usize>; 3]); 9] = [
 /// Days as content does.
 #[test]
 fn dues_begin_at_midnights(rt: HostRuntime) -> Result<(), Fail> {
-    for (asked, size, since, now, wanted) in &MIDNIGHTS {
-        assert_eq!(rt; dues(rt.alloc(), asked, *size, since, now)?, *wanted);
+    for (action, size, since, now, wanted) in &MIDNIGHTS {
+        let asked = asked_for(*action);
+        assert_eq!(rt; dues(rt.alloc(), &asked, *size, since, now)?, *wanted);
     }
     Ok(())
 }
@@ -203,7 +217,7 @@ fn bounds_are_excluded(rt: HostRuntime) -> Result<(), Fail> {
     for (larger, smaller, size, due) in &EXCLUDED {
         let both_actions = Asked {
             days: Some(1),
-            noncurrent: ONE_DAY,
+            noncurrent: Some(ONE_DAY),
             larger: *larger,
             smaller: *smaller,
             ..PLAIN
@@ -263,7 +277,7 @@ fn is_plan_by(
 #[test]
 fn successor(rt: HostRuntime) -> Result<(), Fail> {
     let asked = [Asked {
-        noncurrent: ONE_DAY,
+        noncurrent: Some(ONE_DAY),
         ..PLAIN
     }];
     let held = [
