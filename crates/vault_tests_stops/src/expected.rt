@@ -69,7 +69,6 @@ fn changes_told(reply: &str) -> usize {
 }
 
 /// The vault after each change of a day.
-#[derive(Drop)]
 pub struct Expected {
     /// What is told of it after none, one, two changes and so on.
     states: Vec<String>,
@@ -77,60 +76,69 @@ pub struct Expected {
     lines: Vec<usize>,
 }
 
+// It is written out, so that what has one does not prove again how each part is let go of.
+impl Drop for Expected {
+    fn drop(self) {
+        let Expected {
+            states: _,
+            lines: _,
+        } = self;
+    }
+}
+
 /// How many changes a day may have.
 const MOST: u64 = 64;
 
-/// How far the lines of a day come over a vault, and what is told of it then.
-fn played<K: Keeper>(
+/// Adds what is told of a vault over which the lines are carried out. Says whether the device failed at one.
+fn add_played<K: Keeper>(
     alloc: Global,
     keeper: &mut K,
     lines: &str,
-) -> Result<(Progress, String), Fail> {
+    all: &mut Expected,
+) -> Result<bool, Fail> {
     let progress = play(alloc, keeper, lines, 0)?;
-    Ok((progress, told(alloc, keeper)?))
+    all.states.push(told(alloc, keeper)?)?;
+    all.lines.push(progress.lines)?;
+    Ok(progress.has_failed)
 }
 
-/// The same, where the vault is one of earlier days whose device fails behind so many changes of this one.
-fn played_behind<K: Keeper + Drop>(
+/// A vault over which lines were carried out.
+fn behind<K: Keeper + Drop>(alloc: Global, keeper: K, lines: &str) -> Result<K, Fail> {
+    let mut keeper = keeper;
+    play(alloc, &mut keeper, lines, 0)?;
+    Ok(keeper)
+}
+
+/// Adds what is told of the vault of earlier days, whose device fails behind so many changes of this one. Says
+/// whether it failed.
+fn add_behind<K: Keeper + Drop>(
     alloc: Global,
     keeper: K,
     day: &Day,
     changes: u64,
-) -> Result<(Progress, String), Fail> {
-    let mut keeper = keeper;
-    if let Err(fail) = play(alloc, &mut keeper, day.before, 0) {
-        drop(keeper);
-        return Err(fail);
-    }
-    let mut keeper = FuseKeeper::new(keeper, changes);
-    let played = played(alloc, &mut keeper, day.lines);
+    all: &mut Expected,
+) -> Result<bool, Fail> {
+    let mut keeper = FuseKeeper::new(behind(alloc, keeper, day.before)?, changes);
+    let added = add_played(alloc, &mut keeper, day.lines, all);
     drop(keeper);
-    played
+    added
 }
 
-/// The vault after each change of a day, kept as a list whose device fails behind that change.
+/// The vault after each change of a day, kept as a list whose device fails behind that change. Fails where a change
+/// isn't told.
 pub fn expect(alloc: Global, day: &Day) -> Result<Expected, Fail> {
     let mut all = Expected {
         states: Vec::new(alloc),
         lines: Vec::new(alloc),
     };
-    let played = play_throughout(alloc, day, &mut all);
-    match played {
-        Ok(()) => Ok(all),
-        Err(fail) => {
-            drop(all);
-            Err(fail)
-        }
-    }
+    add_each(alloc, day, &mut all)?;
+    Ok(all)
 }
 
-fn play_throughout(alloc: Global, day: &Day, all: &mut Expected) -> Result<(), Fail> {
+fn add_each(alloc: Global, day: &Day, all: &mut Expected) -> Result<(), Fail> {
     for changes in 0..MOST {
-        let (progress, state) = played_behind(alloc, ListKeeper::new(alloc)?, day, changes)?;
-        all.states.push(state)?;
-        all.lines.push(progress.lines)?;
-        if !progress.has_failed {
-            return Ok(());
+        if !add_behind(alloc, ListKeeper::new(alloc)?, day, changes, all)? {
+            return all.tells_each_change();
         }
     }
     Err(Fail::new("the day has too many changes"))
@@ -173,11 +181,16 @@ impl Expected {
         self.is_after(self.states.len().saturating_sub(1), text)
     }
 
-    /// Whether something else is told after each change.
-    pub fn tells_each_change(&self) -> bool {
-        self.states
+    /// Fails unless something else is told after each change.
+    fn tells_each_change(&self) -> Result<(), Fail> {
+        let tells = self
+            .states
             .iter()
             .zip(self.states.iter().skip(1))
-            .all(|(before, after)| before.as_str() != after.as_str())
+            .all(|(before, after)| before.as_str() != after.as_str());
+        if tells {
+            return Ok(());
+        }
+        Err(Fail::new("a change is not told"))
     }
 }

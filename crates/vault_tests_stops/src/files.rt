@@ -105,6 +105,12 @@ impl Media {
         })
     }
 
+    /// Files with what a crash leaves of these that loses all that was written since the last sync.
+    pub fn reopened(&self, alloc: Global) -> Result<Media, Fail> {
+        let bytes = self.left_by(Crash::Loses, Crash::Loses)?;
+        Media::new(alloc, &bytes, self.reading)
+    }
+
     /// What these crashes leave of the one and of the other.
     pub fn left_by(&self, log: Crash, database: Crash) -> Result<Bytes, Fail> {
         Ok(Bytes {

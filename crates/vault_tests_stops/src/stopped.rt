@@ -58,6 +58,26 @@ fn behind_lines(progress: Progress) -> Stop {
     Stop { phase, progress }
 }
 
+/// Whether no file failed.
+fn is_over(worked: &Result<Stop, Fail>) -> bool {
+    match worked {
+        Ok(stop) => stop.phase == Phase::Over,
+        Err(_) => false,
+    }
+}
+
+/// Where the visit ended, if closing its files was sound, or else failed.
+fn behind_closing(worked: Result<Stop, Fail>, is_sound: bool) -> Result<Stop, Fail> {
+    let stop = worked?;
+    if is_sound {
+        return Ok(stop);
+    }
+    Ok(Stop {
+        phase: Phase::Closing,
+        progress: stop.progress,
+    })
+}
+
 // What follows is over any store or any disk, as a proof over files would carry their state through each call.
 
 /// Opens the files.
@@ -110,19 +130,28 @@ fn worked_on<S: Alter>(
     }
 }
 
-/// The stop, where the files are closed behind a visit that wasn't stopped before.
-fn closed<D: Disk + Drop>(stop: Stop, conn: Connection<FileStore<D>>) -> Stop {
-    if stop.phase != Phase::Over {
-        drop(conn);
-        return stop;
+fn let_go<D: Disk + Drop>(conn: Connection<FileStore<D>>) {
+    drop(conn);
+}
+
+/// Closes the files behind a visit that wasn't stopped, and lets go of any others. Says whether no file failed then.
+fn close_or_leave<D: Disk + Drop>(conn: Connection<FileStore<D>>, is_over: bool) -> bool {
+    if is_over {
+        return conn.close().is_ok();
     }
-    if conn.close().is_ok() {
-        return stop;
-    }
-    Stop {
-        phase: Phase::Closing,
-        progress: stop.progress,
-    }
+    let_go(conn);
+    true
+}
+
+/// A visit over this connection.
+fn visited<D: Disk + Drop>(
+    alloc: Global,
+    visit: &Visit<'_>,
+    conn: Connection<FileStore<D>>,
+) -> Result<Stop, Fail> {
+    let (worked, conn) = worked_on(alloc, visit, conn);
+    let is_sound = close_or_leave(conn, is_over(&worked));
+    behind_closing(worked, is_sound)
 }
 
 /// A visit to the vault in these files, up to its stop.
@@ -131,15 +160,8 @@ pub fn stopped_in<D: Disk + Drop>(
     visit: &Visit<'_>,
     files: Files<D>,
 ) -> Result<Stop, Fail> {
-    let Some(conn) = connected(alloc, files, visit.day.checkpoint_frames) else {
-        return Ok(before_lines(Phase::Opening));
-    };
-    let (worked, conn) = worked_on(alloc, visit, conn);
-    match worked {
-        Ok(stop) => Ok(closed(stop, conn)),
-        Err(fail) => {
-            drop(conn);
-            Err(fail)
-        }
+    match connected(alloc, files, visit.day.checkpoint_frames) {
+        Some(conn) => visited(alloc, visit, conn),
+        None => Ok(before_lines(Phase::Opening)),
     }
 }

@@ -41,26 +41,37 @@ const QUERIES: &str =
 /// The last moment, the next id and the number of moves, the sums of both departments, the tenures of each version, the
 /// replies to the queries, and the register of removals.
 pub fn told<K: Keeper>(alloc: Global, keeper: &mut K) -> Result<String, Fail> {
-    let mut text = counters(alloc, keeper)?;
-    for dept in ["records", "court"] {
-        text.push_str(sums(alloc, keeper, dept)?.as_str())?;
-    }
-    text.push_str(tenures(alloc, keeper)?.as_str())?;
-    text.push_str(replies(alloc, keeper, QUERIES.as_bytes())?.as_str())?;
-    text.push_str(register(alloc, keeper)?.as_str())?;
+    let mut text = String::new(alloc);
+    push_told(alloc, keeper, &mut text)?;
     Ok(text)
+}
+
+// Each part is pushed by a function of its own, so that no proof lets go of two texts.
+fn push_told<K: Keeper>(alloc: Global, keeper: &mut K, text: &mut String) -> Result<(), Fail> {
+    push_counters(alloc, keeper, text)?;
+    push_sums(alloc, keeper, "records", text)?;
+    push_sums(alloc, keeper, "court", text)?;
+    push_each_tenures(alloc, keeper, text)?;
+    push_replies(alloc, keeper, text)?;
+    push_register(alloc, keeper, text)
 }
 
 fn next_id<K: Keeper>(keeper: &mut K) -> Result<u64, Fail> {
     Ok(keeper.next_id().ok().ok_or("the next id isn't told")?)
 }
 
-fn counters<K: Keeper>(alloc: Global, keeper: &mut K) -> Result<String, Fail> {
+fn push_counters<K: Keeper>(alloc: Global, keeper: &mut K, text: &mut String) -> Result<(), Fail> {
     let last = keeper.last().ok().ok_or("the last moment isn't told")?;
     let next = next_id(keeper)?;
     let moves = keeper.moves().ok().ok_or("the number of moves isn't told")?;
     let seconds = last.secs();
-    Ok(format!(in alloc; "{seconds} {next} {moves}\n")?)
+    push(text, format!(in alloc; "{seconds} {next} {moves}\n")?)
+}
+
+/// Pushes a text, and lets go of it.
+fn push(text: &mut String, more: String) -> Result<(), Fail> {
+    text.push_str(more.as_str())?;
+    Ok(())
 }
 
 fn row_of<K: Keeper>(alloc: Global, keeper: &mut K, dept: &str) -> Result<Row, Fail> {
@@ -69,18 +80,26 @@ fn row_of<K: Keeper>(alloc: Global, keeper: &mut K, dept: &str) -> Result<Row, F
 }
 
 /// The seven sums of a department.
-fn sums<K: Keeper>(alloc: Global, keeper: &mut K, dept: &str) -> Result<String, Fail> {
+fn push_sums<K: Keeper>(
+    alloc: Global,
+    keeper: &mut K,
+    dept: &str,
+    text: &mut String,
+) -> Result<(), Fail> {
     let row = row_of(alloc, keeper, dept)?;
-    Ok(format!(in alloc; "{dept} {row:?}\n")?)
+    push(text, format!(in alloc; "{dept} {row:?}\n")?)
 }
 
 /// A line for each tenure of each version.
-fn tenures<K: Keeper>(alloc: Global, keeper: &mut K) -> Result<String, Fail> {
-    let mut text = String::new(alloc);
+fn push_each_tenures<K: Keeper>(
+    alloc: Global,
+    keeper: &mut K,
+    text: &mut String,
+) -> Result<(), Fail> {
     for number in 1..next_id(keeper)? {
-        push_tenures(alloc, keeper, number, &mut text)?;
+        push_tenures(alloc, keeper, number, text)?;
     }
-    Ok(text)
+    Ok(())
 }
 
 fn push_tenures<K: Keeper>(
@@ -109,16 +128,26 @@ fn push_each(
         let dept = tenure.dept.as_str();
         let seconds = tenure.from.secs();
         let made = tenure.number;
-        let line = format!(in alloc; "{number} {dept} {seconds} {made}\n")?;
-        text.push_str(line.as_str())?;
+        push(
+            text,
+            format!(in alloc; "{number} {dept} {seconds} {made}\n")?,
+        )?;
     }
     Ok(())
+}
+
+fn push_replies<K: Keeper>(alloc: Global, keeper: &mut K, text: &mut String) -> Result<(), Fail> {
+    push(text, replies(alloc, keeper, QUERIES.as_bytes())?)
 }
 
 fn register<K: Keeper>(alloc: Global, keeper: &mut K) -> Result<String, Fail> {
     let mut written = Vec::new(alloc);
     export_register(alloc, keeper, &mut written)?;
     Ok(String::from_utf8(written)?)
+}
+
+fn push_register<K: Keeper>(alloc: Global, keeper: &mut K, text: &mut String) -> Result<(), Fail> {
+    push(text, register(alloc, keeper)?)
 }
 
 /// Fails unless the bytes that each department admitted and received are those it holds, those removed and those handed

@@ -9,12 +9,23 @@ use std::test::Fail;
 use vault_failing::device::Crash;
 
 /// A day, the files that it begins with, and what is to be found.
-#[derive(Drop)]
 pub struct Trial {
     day: Day,
     reading: Reading,
     begins: Bytes,
     expected: Expected,
+}
+
+// It is written out, so that a test does not prove again how each part is let go of.
+impl Drop for Trial {
+    fn drop(self) {
+        let Trial {
+            day: _,
+            reading: _,
+            begins: _,
+            expected: _,
+        } = self;
+    }
 }
 
 /// How often a day was stopped.
@@ -79,29 +90,35 @@ impl Stops {
 
 /// A day with the files that earlier days leave.
 pub fn prepare(alloc: Global, day: Day, reading: Reading) -> Result<Trial, Fail> {
-    let expected = expect(alloc, &day)?;
-    if !expected.tells_each_change() {
-        return Err(Fail::new("a change is not told"));
-    }
+    let begins = files_before(alloc, &day, reading)?;
     Ok(Trial {
         day,
         reading,
-        begins: files_before(alloc, &day, reading)?,
-        expected,
+        begins,
+        expected: expect(alloc, &day)?,
     })
+}
+
+fn no_bytes(alloc: Global) -> Bytes {
+    Bytes {
+        log: Vec::new(alloc),
+        database: Vec::new(alloc),
+    }
 }
 
 /// The files as the day begins.
 fn files_before(alloc: Global, day: &Day, reading: Reading) -> Result<Bytes, Fail> {
-    let none = Bytes {
-        log: Vec::new(alloc),
-        database: Vec::new(alloc),
-    };
-    if !day.is_made {
-        return Ok(none);
+    if day.is_made {
+        return files_behind(alloc, day.earlier(), reading);
     }
-    let (_, bytes) = whole(alloc, &beginning(day.earlier()), &none, reading)?;
-    Ok(bytes)
+    Ok(no_bytes(alloc))
+}
+
+/// The files as the first day ends.
+fn files_behind(alloc: Global, day: Day, reading: Reading) -> Result<Bytes, Fail> {
+    let media = Media::new(alloc, &no_bytes(alloc), reading)?;
+    visit_whole(alloc, &beginning(day), &media)?;
+    media.left_by(Crash::Loses, Crash::Loses)
 }
 
 /// The visit that begins a day.
@@ -167,12 +184,19 @@ fn find_with(
 /// changes, or with that one; the rest of the day leads from there to its end, which is still there once the
 /// files were closed.
 fn find(alloc: Global, trial: &Trial, stop: &Stop, left: &Bytes) -> Result<bool, Fail> {
+    let media = Media::new(alloc, left, trial.reading)?;
     let is_made = trial.day.is_made || stop.phase.is_behind_entering();
     let visit = resumption(trial, is_made, stop.progress);
-    let (progress, closed) = whole(alloc, &visit, left, trial.reading)?;
-    let visit = resumption(trial, true, progress);
-    whole(alloc, &visit, &closed, trial.reading)?;
+    let progress = visit_whole(alloc, &visit, &media)?;
+    find_end(alloc, &resumption(trial, true, progress), &media)?;
     Ok(progress.has_more)
+}
+
+/// Fails unless the day's end is still there in these files, which were closed.
+fn find_end(alloc: Global, visit: &Visit<'_>, media: &Media) -> Result<(), Fail> {
+    let media = media.reopened(alloc)?;
+    visit_whole(alloc, visit, &media)?;
+    Ok(())
 }
 
 /// The visit behind a stop there.
@@ -182,18 +206,6 @@ fn resumption(trial: &Trial, is_made: bool, progress: Progress) -> Visit<'_> {
         day: trial.day.entered(is_made),
         stop: Some(Resumed { expected, progress }),
     }
-}
-
-/// A visit to a vault in these files, of which none fails; and what they hold, once they were closed.
-fn whole(
-    alloc: Global,
-    visit: &Visit<'_>,
-    bytes: &Bytes,
-    reading: Reading,
-) -> Result<(Progress, Bytes), Fail> {
-    let media = Media::new(alloc, bytes, reading)?;
-    let progress = visit_whole(alloc, visit, &media)?;
-    Ok((progress, media.left_by(Crash::Loses, Crash::Loses)?))
 }
 
 /// A visit to the vault in these files, of which none fails.
