@@ -1,12 +1,14 @@
 //! What both keepers tell of buckets that were moved: how often, what each holds, and whose its versions were.
-use crate::over_keepers::try_over_both;
+use crate::over_keepers::{KeeperTrial, failed_so_often, try_over_both};
+use crate::rows_texts::OPENING;
 use std::alloc::Global;
 use std::test::Fail;
 use vault_base::name::{BucketName, VersionId};
+use vault_core::fuse_keeper::FuseKeeper;
 use vault_core_model::keeper::Keeper;
 use vault_core_model::records::Tenure;
 use vault_transcript::transcript::play;
-use vault_transcript::trial::{Trial, compare};
+use vault_transcript::trial::compare;
 
 /// Three versions of `docs`, of which the first is removed and the third lies under a marker; and one of a bucket that is
 /// never moved.
@@ -141,20 +143,31 @@ fn line_of(alloc: Global, number: u32, tenure: &Tenure, from: &str) -> Result<St
     Ok(format!(in alloc; "{number} {dept} {from} {made}\n")?)
 }
 
+fn go<K: Keeper>(alloc: Global, keeper: &mut K) -> Result<(), Fail> {
+    play(alloc, keeper, OPENING)?;
+    for (lines, wanted) in [
+        (BEFORE, TOLD_BEFORE),
+        (THERE, TOLD_THERE),
+        (BACK, TOLD_BACK),
+    ] {
+        play(alloc, keeper, lines)?;
+        compare("the moves", told(alloc, keeper)?.as_str(), wanted)?;
+    }
+    failed_so_often(keeper, 0)
+}
+
 /// A bucket that is moved there and back, with what is told before, between and then.
 struct ThereAndBack;
 
-impl Trial for ThereAndBack {
-    fn carry_out<K: Keeper>(&self, alloc: Global, keeper: &mut K) -> Result<(), Fail> {
-        for (lines, wanted) in [
-            (BEFORE, TOLD_BEFORE),
-            (THERE, TOLD_THERE),
-            (BACK, TOLD_BACK),
-        ] {
-            play(alloc, keeper, lines)?;
-            compare("the moves", told(alloc, keeper)?.as_str(), wanted)?;
-        }
-        Ok(())
+impl KeeperTrial for ThereAndBack {
+    fn carry_out_over<K: Keeper>(
+        &self,
+        alloc: Global,
+        keeper: FuseKeeper<K>,
+    ) -> (Result<(), Fail>, FuseKeeper<K>) {
+        let mut keeper = keeper;
+        let told = go(alloc, &mut keeper);
+        (told, keeper)
     }
 }
 

@@ -1,7 +1,72 @@
 //! Runs that a failing device stops after each change of their plan in turn, and a move that it stops, each given
 //! again, over the list and over tables in memory.
-use crate::over_keepers::{Stopped, stop_over_both};
+use crate::over_keepers::{KeeperTrial, failed_so_often, try_over_both, unfailing};
+use crate::rows_texts::OPENING;
+use std::alloc::Global;
 use std::test::Fail;
+use vault_core::fuse_keeper::FuseKeeper;
+use vault_core_model::keeper::Keeper;
+use vault_transcript::transcript::play;
+
+/// A run over a device that refuses the change behind so many.
+#[derive(Clone, Copy)]
+pub struct Stopped<'a> {
+    /// What is carried out before, behind the opening lines.
+    pub before: &'a str,
+    pub changes: u64,
+    /// The run, and the run given again.
+    pub runs: &'a str,
+    /// What is there then.
+    pub after: &'a str,
+    /// How often the device fails.
+    pub faults: u64,
+}
+
+fn play_before<K: Keeper>(
+    alloc: Global,
+    keeper: &mut K,
+    stopped: &Stopped<'_>,
+) -> Result<(), Fail> {
+    play(alloc, keeper, OPENING)?;
+    play(alloc, keeper, stopped.before)
+}
+
+fn play_runs<K: Keeper>(alloc: Global, keeper: &mut K, stopped: &Stopped<'_>) -> Result<(), Fail> {
+    play(alloc, keeper, stopped.runs)?;
+    failed_so_often(keeper, stopped.faults)
+}
+
+/// Carries it out over a keeper, and hands that one back.
+fn stop<K: Keeper>(
+    alloc: Global,
+    keeper: FuseKeeper<K>,
+    stopped: &Stopped<'_>,
+) -> (Result<(), Fail>, FuseKeeper<K>) {
+    let mut keeper = keeper;
+    match play_before(alloc, &mut keeper, stopped) {
+        Ok(()) => {
+            let mut failing = FuseKeeper::new(keeper.into_keeper(), stopped.changes);
+            let told = play_runs(alloc, &mut failing, stopped);
+            (told, unfailing(failing.into_keeper()))
+        }
+        Err(fail) => (Err(fail), keeper),
+    }
+}
+
+impl KeeperTrial for Stopped<'_> {
+    fn carry_out_over<K: Keeper>(
+        &self,
+        alloc: Global,
+        keeper: FuseKeeper<K>,
+    ) -> (Result<(), Fail>, FuseKeeper<K>) {
+        let (told, keeper) = stop(alloc, keeper, self);
+        let mut keeper = keeper;
+        match told {
+            Ok(()) => (play(alloc, &mut keeper, self.after), keeper),
+            Err(fail) => (Err(fail), keeper),
+        }
+    }
+}
 
 /// A plan of two changes: a marker on top of version 2, then the removal of version 1.
 const ONE_KEY: &str = r#"
@@ -341,27 +406,20 @@ const LONE_STOPS: [Stopped<'static>; 5] = [
     },
 ];
 
-#[test]
-fn a_run_over_one_key_is_stopped(rt: HostRuntime) -> Result<(), Fail> {
-    stop_over_both(rt.alloc(), &ONE_KEY_STOPS)
+/// Carries each out on a new vault in a list, and on one in tables in memory.
+fn stop_over_both(alloc: Global, all: &[Stopped<'_>]) -> Result<(), Fail> {
+    for stopped in all {
+        try_over_both(alloc, stopped)?;
+    }
+    Ok(())
 }
 
 #[test]
-fn a_run_over_two_keys_is_stopped(rt: HostRuntime) -> Result<(), Fail> {
-    stop_over_both(rt.alloc(), &TWO_KEYS_STOPS)
-}
-
-#[test]
-fn a_run_with_a_lone_marker_is_stopped(rt: HostRuntime) -> Result<(), Fail> {
-    stop_over_both(rt.alloc(), &LONE_STOPS)
-}
-
-#[test]
-fn a_run_in_a_moved_bucket_is_stopped(rt: HostRuntime) -> Result<(), Fail> {
-    stop_over_both(rt.alloc(), &MOVED_STOPS)
-}
-
-#[test]
-fn a_move_is_stopped(rt: HostRuntime) -> Result<(), Fail> {
-    stop_over_both(rt.alloc(), &MOVE_STOPS)
+fn what_is_stopped_is_given_again(rt: HostRuntime) -> Result<(), Fail> {
+    let alloc = rt.alloc();
+    stop_over_both(alloc, &ONE_KEY_STOPS)?;
+    stop_over_both(alloc, &TWO_KEYS_STOPS)?;
+    stop_over_both(alloc, &LONE_STOPS)?;
+    stop_over_both(alloc, &MOVED_STOPS)?;
+    stop_over_both(alloc, &MOVE_STOPS)
 }
