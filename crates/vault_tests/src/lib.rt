@@ -1,10 +1,18 @@
-//! Tests that cross crates: what faults of a reader, a writer or a device leave behind, and limits, also those that
-//! no vault can be filled up to.
+//! Tests that cross crates: what faults of a reader, a writer or a device leave behind; limits, also those that no vault
+//! can be filled up to; what a run asks of its keeper, in full vaults too; and what a vault keeps of removed entries.
 #![tactic(auto)]
 
 #[cfg(test)]
 mod faults;
 #[cfg(test)]
+mod full;
+#[cfg(test)]
 mod limits;
 #[cfg(test)]
+mod pages;
+#[cfg(test)]
+mod removed;
+#[cfg(test)]
 mod rigged_keeper;
+#[cfg(test)]
+mod watched_keeper;

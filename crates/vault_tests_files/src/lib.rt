@@ -1,10 +1,20 @@
-//! Tests of intakes: lists over a folder in memory, and all of it where a line is bad, or where a folder, a device,
-//! a writer or memory fails.
+//! Tests of what is read from files and written into them: intakes over a folder in memory, also where a line is bad, or
+//! where a folder, a device, a writer or memory fails; the register of removals; certificates and reports as texts.
 #![tactic(auto)]
 
 #[cfg(test)]
 mod batch;
 #[cfg(test)]
+mod certificates;
+#[cfg(test)]
+mod export;
+#[cfg(test)]
 mod faults;
 #[cfg(test)]
 mod intake;
+#[cfg(test)]
+mod registers;
+#[cfg(test)]
+mod reports;
+#[cfg(test)]
+mod texts;

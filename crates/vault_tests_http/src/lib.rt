@@ -1,8 +1,11 @@
-//! Tests of HTTP exchanges: the bytes of a request, and those of its answer.
+//! Tests of HTTP exchanges: the bytes of a request, and those of its answer; and what is answered where a request breaks
+//! off.
 #![tactic(auto)]
 
 #[cfg(test)]
 mod bodies;
+#[cfg(test)]
+mod broken;
 #[cfg(test)]
 mod entries;
 #[cfg(test)]

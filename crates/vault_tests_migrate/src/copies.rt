@@ -2,7 +2,7 @@
 use crate::copying::Copying;
 use crate::earlier::COPIED;
 use crate::looks::{Look, Way};
-use crate::stores::{Vault, try_in_memory};
+use crate::stores::{Vault, try_in_files};
 use std::test::Fail;
 use vault_audit_model::schema::Edition;
 use vault_base::refusal::{Refusal, Table};
@@ -17,7 +17,7 @@ fn a_vault_of_the_first_edition_is_copied(rt: HostRuntime) -> Result<(), Fail> {
         in_old: &[("SELECT schema FROM meta", 1)],
         in_new: COPIED,
     };
-    try_in_memory(rt.alloc(), &copying)
+    try_in_files(rt.alloc(), &copying)
 }
 
 /// A vault that has a caller alone.
@@ -36,7 +36,7 @@ fn a_new_vault_of_the_first_edition_is_copied(rt: HostRuntime) -> Result<(), Fai
             ("SELECT count(*) FROM callers", 1),
         ],
     };
-    try_in_memory(rt.alloc(), &copying)
+    try_in_files(rt.alloc(), &copying)
 }
 
 #[test]
@@ -51,7 +51,7 @@ fn a_vault_of_the_second_edition_is_copied(rt: HostRuntime) -> Result<(), Fail> 
             in_old: &[("SELECT schema FROM meta", 2)],
             in_new,
         };
-        try_in_memory(rt.alloc(), &copying)?;
+        try_in_files(rt.alloc(), &copying)?;
     }
     Ok(())
 }
@@ -67,7 +67,7 @@ fn a_vault_is_copied_as_its_own_edition_alone(rt: HostRuntime) -> Result<(), Fai
             in_old: &[("SELECT schema FROM meta", 2)],
             in_new: &[("SELECT count(*) FROM sqlite_schema", 0)],
         };
-        try_in_memory(rt.alloc(), &copying)?;
+        try_in_files(rt.alloc(), &copying)?;
     }
     Ok(())
 }
@@ -81,7 +81,7 @@ fn a_vault_of_an_earlier_edition_is_not_opened(rt: HostRuntime) -> Result<(), Fa
             way: Way::Opening,
             refusal: Some(Refusal::Damaged(Table::Meta)),
         };
-        try_in_memory(rt.alloc(), &look)?;
+        try_in_files(rt.alloc(), &look)?;
     }
     Ok(())
 }

@@ -1,5 +1,6 @@
-//! A vault that is copied from one store in memory into another.
+//! A vault that is copied from one store into another.
 use crate::calls::{batches, differing, migrate, open};
+use crate::disks::{let_go, opened_empty};
 use crate::stores::{StoreTrial, Vault, made};
 use sqlite::{Alter, Connection};
 use std::alloc::Global;
@@ -45,8 +46,8 @@ fn try_between<O: Alter>(
     copying: &Copying<'_>,
 ) -> Result<(), Fail> {
     batches(old, &[copying.changes.0])?;
-    let (tried, new) = copied(alloc, old, Connection::open_in_memory(alloc)?, copying);
-    drop(new);
+    let (tried, new) = copied(alloc, old, opened_empty(alloc)?, copying);
+    let_go(new);
     tried
 }
 

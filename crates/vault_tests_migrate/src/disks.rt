@@ -1,11 +1,14 @@
 //! Files in memory that fail from some call on, and what a crash leaves of them.
-use sqlite::Files;
+use sqlite::{Connection, FileStore, Files, Options};
 use sqlite_disk::{Crash, Disk, Fuse, Memory};
 use std::alloc::Global;
 use std::test::Fail;
 
 /// A vault's log and database file, each of which passes so many calls on.
 pub type VaultFiles = Files<Fuse<Memory>>;
+
+/// The tables of all tests here are in such files: a store of another kind would have the whole vault compiled for it too.
+pub type InFiles = FileStore<Fuse<Memory>>;
 
 /// More calls than any copy makes.
 const ALL_CALLS: u64 = u64::MAX;
@@ -35,6 +38,37 @@ pub fn sound(alloc: Global, log: &[u8], database: &[u8]) -> Result<VaultFiles, F
         log: Fuse::new(written(alloc, log)?, ALL_CALLS),
         db: Fuse::new(written(alloc, database)?, ALL_CALLS),
     })
+}
+
+/// Opens the files. They come back where that fails.
+pub fn connected(
+    alloc: Global,
+    files: VaultFiles,
+    options: Options,
+) -> Result<Connection<InFiles>, VaultFiles> {
+    if !files.may_be_used() {
+        return Err(files);
+    }
+    match Connection::open_files(alloc, files, options) {
+        Ok(conn) => Ok(conn),
+        Err((_, left)) => Err(left.into_files()),
+    }
+}
+
+/// A connection to empty files, of which none fails.
+pub fn opened_empty(alloc: Global) -> Result<Connection<InFiles>, Fail> {
+    match connected(alloc, sound(alloc, b"", b"")?, Options::new(1)) {
+        Ok(conn) => Ok(conn),
+        Err(files) => {
+            drop(files);
+            Err(Fail::new("empty files can't be opened"))
+        }
+    }
+}
+
+/// Lets go of the files.
+pub fn let_go(conn: Connection<InFiles>) {
+    drop(conn.into_store().close());
 }
 
 /// A file that has these bytes, also after a crash.

@@ -1,6 +1,6 @@
 //! What a vault is told as.
 use crate::calls::{audit, batches, open};
-use crate::stores::{StoreTrial, Vault, made, try_in_memory};
+use crate::stores::{StoreTrial, Vault, made, try_in_files};
 use sqlite::{Alter, Connection, Error};
 use std::alloc::Global;
 use std::test::Fail;
@@ -86,7 +86,7 @@ pub fn are_audited<'a>(
             way: Way::Audit(Edition::Third),
             refusal,
         };
-        try_in_memory(alloc, &look)?;
+        try_in_files(alloc, &look)?;
     }
     Ok(())
 }

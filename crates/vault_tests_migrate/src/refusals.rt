@@ -1,6 +1,6 @@
 //! What isn't copied, and what is left then.
 use crate::copying::Copying;
-use crate::stores::{Vault, try_in_memory};
+use crate::stores::{Vault, try_in_files};
 use std::alloc::Global;
 use std::test::Fail;
 use vault_audit_model::schema::Edition;
@@ -19,7 +19,7 @@ fn is_told<'a>(alloc: Global, vault: Vault<'a>, change: &'a str, table: Table) -
         in_old: &[("SELECT count(*) > 0 FROM callers", 1)],
         in_new: &[IS_BARE],
     };
-    try_in_memory(alloc, &copying)
+    try_in_files(alloc, &copying)
 }
 
 #[test]
@@ -81,7 +81,7 @@ fn is_taken<'a>(alloc: Global, filled: &'a str, query: &'a str) -> Result<(), Fa
         in_old: &[("SELECT schema FROM meta", 1)],
         in_new: &[(query, 7)],
     };
-    try_in_memory(alloc, &copying)
+    try_in_files(alloc, &copying)
 }
 
 #[test]
@@ -112,7 +112,7 @@ fn damage_is_told_first(rt: HostRuntime) -> Result<(), Fail> {
         in_old: &[("SELECT next FROM meta", 6)],
         in_new: &[("SELECT count(*) FROM shelf", 0)],
     };
-    try_in_memory(rt.alloc(), &copying)
+    try_in_files(rt.alloc(), &copying)
 }
 
 #[test]
@@ -126,7 +126,7 @@ fn a_connection_inside_a_transaction_is_refused(rt: HostRuntime) -> Result<(), F
             in_old: &[("SELECT schema FROM meta", 1)],
             in_new: &[IS_BARE],
         };
-        try_in_memory(rt.alloc(), &copying)?;
+        try_in_files(rt.alloc(), &copying)?;
     }
     Ok(())
 }

@@ -1,16 +1,13 @@
 //! A copy that is stopped at each call of one of the new files: these hold no tables then, or the whole vault.
 use crate::calls::{differing, migrate, open};
-use crate::disks::{Left, VaultFiles, Which, fused, leave, sound};
+use crate::disks::{Left, VaultFiles, Which, connected, fused, leave, let_go, sound};
 use crate::earlier::{COPIED, make_first};
-use crate::stores::{StoreTrial, try_in_memory};
-use sqlite::{Alter, Connection, FileStore, Files, Options};
-use sqlite_disk::{Fuse, Memory};
+use crate::stores::{StoreTrial, try_in_files};
+use sqlite::{Alter, Connection, Files, Options};
 use std::alloc::Global;
 use std::test::Fail;
 use vault_audit_model::schema::Edition;
 use vault_base::refusal::Refusal;
-
-type InFiles = FileStore<Fuse<Memory>>;
 
 /// Few pages in memory, and a short log, so that there are many calls on both files.
 const OPTIONS: Options = Options {
@@ -26,17 +23,6 @@ const NO_TABLES: (&str, i64) = ("SELECT count(*) FROM sqlite_schema", 0);
 /// What the vault that is copied goes on to tell.
 const STAYS: (&str, i64) = ("SELECT schema FROM meta", 1);
 
-/// Opens the files. They come back where that fails.
-fn connected(alloc: Global, files: VaultFiles) -> Result<Connection<InFiles>, VaultFiles> {
-    if !files.may_be_used() {
-        return Err(files);
-    }
-    match Connection::open_files(alloc, files, OPTIONS) {
-        Ok(conn) => Ok(conn),
-        Err((_, left)) => Err(left.into_files()),
-    }
-}
-
 /// How a copy ended.
 #[derive(Clone, Copy)]
 struct Ended {
@@ -51,7 +37,7 @@ fn copy_into<O: Alter>(
     old: &mut Connection<O>,
     files: VaultFiles,
 ) -> (Ended, VaultFiles) {
-    let conn = match connected(alloc, files) {
+    let conn = match connected(alloc, files, OPTIONS) {
         Ok(conn) => conn,
         Err(files) => {
             let ended = Ended {
@@ -76,7 +62,7 @@ fn left_of(alloc: Global, files: VaultFiles) -> Result<(Left, Left), Fail> {
 
 /// Whether the files hold no tables, and whether they hold the whole vault.
 fn found(alloc: Global, log: &[u8], database: &[u8]) -> Result<(bool, bool), Fail> {
-    let conn = match connected(alloc, sound(alloc, log, database)?) {
+    let conn = match connected(alloc, sound(alloc, log, database)?, OPTIONS) {
         Ok(conn) => conn,
         Err(files) => {
             drop(files);
@@ -87,7 +73,7 @@ fn found(alloc: Global, log: &[u8], database: &[u8]) -> Result<(bool, bool), Fai
     let is_bare = differing(&mut conn, &[NO_TABLES]).is_none();
     let is_copied = differing(&mut conn, COPIED).is_none();
     let (refusal, conn) = open(alloc, conn);
-    drop(conn.into_store().close());
+    let_go(conn);
     Ok((is_bare, refusal.is_none() && is_copied))
 }
 
@@ -170,7 +156,7 @@ fn a_stop_of_the_log_leaves_nothing_or_the_whole_vault(rt: HostRuntime) -> Resul
         which: Which::Log,
         least: 2,
     };
-    try_in_memory(rt.alloc(), &stops)
+    try_in_files(rt.alloc(), &stops)
 }
 
 #[test]
@@ -179,5 +165,5 @@ fn a_stop_of_the_database_leaves_nothing_or_the_whole_vault(rt: HostRuntime) -> 
         which: Which::Database,
         least: 1,
     };
-    try_in_memory(rt.alloc(), &stops)
+    try_in_files(rt.alloc(), &stops)
 }

@@ -1,5 +1,6 @@
-//! Vaults that are made in stores in memory, and what is tried over these.
+//! Vaults that are made in stores in files in memory, and what is tried over these.
 use crate::calls::{make_by_statements, play_in};
+use crate::disks::{let_go, opened_empty};
 use sqlite::{Alter, Connection};
 use std::alloc::Global;
 use std::test::Fail;
@@ -30,9 +31,9 @@ pub trait StoreTrial {
 }
 
 /// Carries a trial out over an empty store. This alone owns the store that a test begins with.
-pub fn try_in_memory<T: StoreTrial>(alloc: Global, trial: &T) -> Result<(), Fail> {
-    let (tried, conn) = trial.carry_out_in(alloc, Connection::open_in_memory(alloc)?);
-    drop(conn);
+pub fn try_in_files<T: StoreTrial>(alloc: Global, trial: &T) -> Result<(), Fail> {
+    let (tried, conn) = trial.carry_out_in(alloc, opened_empty(alloc)?);
+    let_go(conn);
     tried
 }
 

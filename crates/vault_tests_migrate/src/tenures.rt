@@ -1,6 +1,6 @@
 //! The audit of a vault of the third edition, whose versions have tenures.
 use crate::looks::{Look, Way, are_audited};
-use crate::stores::{Vault, try_in_memory};
+use crate::stores::{Vault, try_in_files};
 use std::test::Fail;
 use vault_audit_model::schema::Edition;
 use vault_base::refusal::{Refusal, Table};
@@ -24,7 +24,7 @@ fn a_vault_with_moved_buckets_is_opened(rt: HostRuntime) -> Result<(), Fail> {
         way: Way::Opening,
         refusal: None,
     };
-    try_in_memory(rt.alloc(), &look)
+    try_in_files(rt.alloc(), &look)
 }
 
 /// A number more, or less, in each of the seven sums.
@@ -130,7 +130,7 @@ fn a_vault_of_another_edition_is_told(rt: HostRuntime) -> Result<(), Fail> {
             way: Way::Audit(edition),
             refusal,
         };
-        try_in_memory(rt.alloc(), &look)?;
+        try_in_files(rt.alloc(), &look)?;
     }
     Ok(())
 }

@@ -152,10 +152,11 @@ fn keeps(crash: Crash) -> bool {
     matches!(crash, Crash::Keeps)
 }
 
-type InMemory<S> = Modelled<MemoryFile, S>;
+/// A file in memory of which a crash leaves what `S` says.
+pub type InMemory<S> = Modelled<MemoryFile, S>;
 
 /// The files, each of which fails behind so many calls.
-fn fused<S: Start>(files: Files<InMemory<S>>, calls: Calls) -> Files<Fuse<InMemory<S>>> {
+pub fn fused<S: Start>(files: Files<InMemory<S>>, calls: Calls) -> Files<Fuse<InMemory<S>>> {
     let Files { log, db } = files;
     Files {
         log: Fuse::new(log, calls.log),

@@ -1,4 +1,5 @@
-//! Tests of stops: one of a vault's two files fails from some call on, for each call in turn.
+//! Tests over files whose calls are counted: one of a vault's two files fails from some call on, for each call in turn;
+//! and how often the files are read for what a keeper is asked.
 #![tactic(auto)]
 
 #[cfg(test)]
@@ -7,6 +8,8 @@ mod day;
 mod expected;
 #[cfg(test)]
 mod files;
+#[cfg(test)]
+mod reads;
 #[cfg(test)]
 mod stopped;
 #[cfg(test)]

@@ -1,10 +1,11 @@
-//! Actions that are taken over the files of a vault in memory.
+//! The files of a vault in memory, and actions that are taken over them.
 use crate::actions::{Action, take_all};
 use sqlite::{Connection, Error, FileStore, Files, Options};
 use sqlite_disk::Memory;
 use std::alloc::Global;
 use std::test::Fail;
 
+/// The tables of all tests here are in such files: a store of another kind would have the whole vault compiled for it too.
 type InFiles = FileStore<Memory>;
 
 fn empty_files(alloc: Global) -> Files<Memory> {
@@ -35,6 +36,17 @@ fn closed(conn: Connection<InFiles>) -> Result<Files<Memory>, Error> {
             Err(error)
         }
     }
+}
+
+/// A connection to empty files.
+pub fn opened_empty(alloc: Global) -> Result<Connection<InFiles>, Fail> {
+    connected(alloc, empty_files(alloc))
+}
+
+/// Closes the files, and lets go of them.
+pub fn let_go(conn: Connection<InFiles>) -> Result<(), Fail> {
+    drop(closed(conn)?);
+    Ok(())
 }
 
 /// Takes actions over these files, and closes them.

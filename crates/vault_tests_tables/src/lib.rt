@@ -1,5 +1,5 @@
-//! Tests of tables: which stores are made and opened as a vault, commands over tables, contents, an intake and requests over
-//! tables in memory, and how much is read of them.
+//! Tests of tables: which stores are made and opened as a vault, commands over tables, contents, an intake and requests
+//! over them, and that what is read of one key doesn't grow.
 #![tactic(auto)]
 
 #[cfg(test)]
@@ -18,7 +18,5 @@ mod intake;
 mod lookups;
 #[cfg(test)]
 mod opens;
-#[cfg(test)]
-mod reads;
 #[cfg(test)]
 mod trials;

@@ -1,6 +1,7 @@
-//! Trials on a new vault in tables in memory, whose device doesn't fail: contents, an intake and requests.
+//! Trials on a new vault in files in memory, which don't fail: contents, an intake and requests.
 use crate::actions::{Action, take_all};
 use crate::exchange::answer;
+use crate::files::{let_go, opened_empty};
 use crate::intake::take_in_twice;
 use sqlite::{Alter, Connection};
 use std::alloc::Global;
@@ -63,11 +64,10 @@ fn carry_out_and_take<S: Alter, T: Trial>(
     }
 }
 
-/// Carries a trial out on a new vault in tables in memory, and takes actions over these.
-fn try_in_memory<T: Trial>(alloc: Global, trial: &T, actions: &[Action<'_>]) -> Result<(), Fail> {
-    let conn = Connection::open_in_memory(alloc)?;
-    let (tried, conn) = carry_out_and_take(alloc, conn, trial, actions);
-    drop(conn);
+/// Carries a trial out on a new vault in empty files, and takes actions over these.
+fn try_in_files<T: Trial>(alloc: Global, trial: &T, actions: &[Action<'_>]) -> Result<(), Fail> {
+    let (tried, conn) = carry_out_and_take(alloc, opened_empty(alloc)?, trial, actions);
+    let_go(conn)?;
     tried
 }
 
@@ -83,7 +83,7 @@ impl Trial for NoInput {
 
 #[test]
 fn no_input_gets_no_output(rt: HostRuntime) -> Result<(), Fail> {
-    try_in_memory(rt.alloc(), &NoInput, &[])
+    try_in_files(rt.alloc(), &NoInput, &[])
 }
 
 /// Ann puts so many bytes, and the reply.
@@ -113,7 +113,7 @@ impl Trial for Contents {
 
 #[test]
 fn a_version_has_up_to_1048576_bytes(rt: HostRuntime) -> Result<(), Fail> {
-    try_in_memory(rt.alloc(), &Contents, &[])
+    try_in_files(rt.alloc(), &Contents, &[])
 }
 
 /// A list that is taken in behind two versions, again, and again with other bytes in its first file.
@@ -128,7 +128,7 @@ impl Trial for Intake {
 
 #[test]
 fn a_list_is_taken_in_once(rt: HostRuntime) -> Result<(), Fail> {
-    try_in_memory(rt.alloc(), &Intake, &[])
+    try_in_files(rt.alloc(), &Intake, &[])
 }
 
 /// Requests and their answers; `|` stands for CR LF.
@@ -173,5 +173,5 @@ const REOPENED: [Action<'static>; 3] = [
 
 #[test]
 fn requests_are_answered(rt: HostRuntime) -> Result<(), Fail> {
-    try_in_memory(rt.alloc(), &Requests, &REOPENED)
+    try_in_files(rt.alloc(), &Requests, &REOPENED)
 }

@@ -42,7 +42,9 @@ impl<'a, C: Clock, P: Peer> TimedRequest<'a, C, P> {
 impl<C: Clock, P: Peer> Read for TimedRequest<'_, C, P> {
     fn read(&mut self, buf: &mut [u8]) -> io::Result<usize> {
         let count = self.peer.read_within(buf, self.left()?)?;
-        self.scan = self.scan.after(&buf[..count]);
+        if !self.scan.is_behind() {
+            self.scan = self.scan.after(&buf[..count]);
+        }
         Ok(count)
     }
 }

@@ -1,5 +1,6 @@
 //! How often a vault's files are read for what a keeper is asked, where one page of them has room in memory: as often
 //! with many entries as with few, and for the first removed entry less often than for all.
+use crate::files::{ALL_CALLS, fused};
 use sqlite::{Connection, FileStore, Files, Options, Unknown};
 use sqlite_disk::Disk;
 use std::alloc::Global;
@@ -293,6 +294,7 @@ fn sums_and_keys_are_read_without_entries_and_removals_one_by_one(
 ) -> Result<(), Fail> {
     let media = Media::new(rt.alloc())?;
     let names = read_names(rt.alloc())?;
-    let files = opened::<Unknown>(&media.log, &media.database)?;
+    // They are of the kind that the stops have, so that the whole vault isn't compiled for another one.
+    let files = fused(opened::<Unknown>(&media.log, &media.database)?, ALL_CALLS);
     judge_in(rt.alloc(), files, &media, &names)
 }
