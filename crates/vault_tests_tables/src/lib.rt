@@ -1,5 +1,5 @@
-//! Tests of tables: which stores are made and opened as a vault, commands over tables, contents, an intake and requests
-//! over them, and that what is read of one key doesn't grow.
+//! Tests of vaults in tables: which stores are made and opened as a vault, commands, contents, an intake and requests
+//! over tables, that what is read of one key doesn't grow, and vaults of all editions, copied and audited.
 #![tactic(auto)]
 
 #[cfg(test)]
@@ -8,6 +8,10 @@ mod actions;
 mod commands;
 #[cfg(test)]
 mod create;
+#[cfg(test)]
+mod disks;
+#[cfg(test)]
+mod editions;
 #[cfg(test)]
 mod exchange;
 #[cfg(test)]

@@ -1,6 +1,6 @@
 //! What a report reads, and what is read of one key, takes as many steps in a large vault as in a small one, and of a key with
 //! many removed versions as of a fresh one.
-use crate::files::{let_go, opened_empty};
+use crate::disks::{let_go, opened_empty};
 use sqlite::{Alter, Connection, Error, params};
 use std::alloc::Global;
 use std::process::Abort;
@@ -167,7 +167,7 @@ fn enough_for_each<S: Alter>(conn: &mut Connection<S>, alloc: Global, names: &Na
 fn what_a_command_reads_does_not_grow_with_the_vault(rt: HostRuntime) -> Result<(), Fail> {
     let mut conn = opened_empty(rt.alloc())?;
     let judged = read_in_small_and_large(&rt, rt.alloc(), &mut conn);
-    let_go(conn)?;
+    let_go(conn);
     judged
 }
 

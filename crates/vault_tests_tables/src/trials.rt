@@ -1,7 +1,7 @@
 //! Trials on a new vault in files in memory, which don't fail: contents, an intake and requests.
 use crate::actions::{Action, take_all};
+use crate::disks::{let_go, opened_empty};
 use crate::exchange::answer;
-use crate::files::{let_go, opened_empty};
 use crate::intake::take_in_twice;
 use sqlite::{Alter, Connection};
 use std::alloc::Global;
@@ -67,7 +67,7 @@ fn carry_out_and_take<S: Alter, T: Trial>(
 /// Carries a trial out on a new vault in empty files, and takes actions over these.
 fn try_in_files<T: Trial>(alloc: Global, trial: &T, actions: &[Action<'_>]) -> Result<(), Fail> {
     let (tried, conn) = carry_out_and_take(alloc, opened_empty(alloc)?, trial, actions);
-    let_go(conn)?;
+    let_go(conn);
     tried
 }
 

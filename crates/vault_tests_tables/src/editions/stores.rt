@@ -1,5 +1,5 @@
 //! Vaults that are made in stores in files in memory, and what is tried over these.
-use crate::calls::{make_by_statements, play_in};
+use crate::editions::calls::{make_by_statements, play_in};
 use crate::disks::{let_go, opened_empty};
 use sqlite::{Alter, Connection};
 use std::alloc::Global;

@@ -1,4 +1,4 @@
-//! Files in memory that fail from some call on, and what a crash leaves of them.
+//! A vault's files in memory, which may fail from some call on, and what a crash leaves of them.
 use sqlite::{Connection, FileStore, Files, Options};
 use sqlite_disk::{Crash, Disk, Fuse, Memory};
 use std::alloc::Global;
@@ -55,15 +55,20 @@ pub fn connected(
     }
 }
 
-/// A connection to empty files, of which none fails.
-pub fn opened_empty(alloc: Global) -> Result<Connection<InFiles>, Fail> {
-    match connected(alloc, sound(alloc, b"", b"")?, Options::new(1)) {
+/// A connection to files of which none fails.
+pub fn opened(alloc: Global, files: VaultFiles) -> Result<Connection<InFiles>, Fail> {
+    match connected(alloc, files, Options::new(1)) {
         Ok(conn) => Ok(conn),
         Err(files) => {
             drop(files);
-            Err(Fail::new("empty files can't be opened"))
+            Err(Fail::new("the files can't be opened"))
         }
     }
+}
+
+/// The same to empty files.
+pub fn opened_empty(alloc: Global) -> Result<Connection<InFiles>, Fail> {
+    opened(alloc, sound(alloc, b"", b"")?)
 }
 
 /// Lets go of the files.
