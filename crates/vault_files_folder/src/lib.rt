@@ -6,5 +6,3 @@ pub mod list_file;
 mod opening;
 pub mod progress;
 mod reading;
-#[cfg(test)]
-mod tests;

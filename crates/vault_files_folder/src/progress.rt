@@ -1,4 +1,4 @@
-//! How far an intake has come, told on a terminal while it goes on.
+//! How far a long job has come, told on a terminal while it goes on.
 ghost use Rattle.std.specs.Prelude.{◌≡◌};
 
 use std::io::{Stderr, Write};
@@ -6,8 +6,8 @@ use vault_core_model::halt::Fault;
 use vault_files_intake::file_name::FileName;
 use vault_files_intake::folder::Folder;
 
-/// After how many files a line is written.
-const FILES_A_LINE: u64 = 1_000;
+/// After how many things a line is written.
+const THINGS_A_LINE: u64 = 1_000;
 
 /// A folder of which a line is written after each thousand files that were asked for, as `1000 files`.
 ///
@@ -37,10 +37,12 @@ impl<F: Drop> ToldFolder<F> {
     }
 }
 
-/// Writes how many files were asked for, after each thousand of them.
-pub(crate) fn tell<W: Write>(writer: &mut W, asked: u64) {
-    if asked % FILES_A_LINE == 0 {
-        let _ = writeln!(writer, "{asked} files");
+/// Writes how many things there were, after each thousand of them, as `1000 files`.
+///
+/// That a line can't be written is told to nobody.
+pub fn tell<W: Write>(writer: &mut W, count: u64, things: &str) {
+    if count != 0 && count % THINGS_A_LINE == 0 {
+        let _ = writeln!(writer, "{count} {things}");
     }
 }
 
@@ -56,7 +58,7 @@ impl<F: Folder + Drop> Folder for ToldFolder<F> {
     fn read(&mut self, name: &FileName) -> Result<Option<Vec<u8>>, Fault> {
         self.asked = self.asked.saturating_add(1);
         if let Some(terminal) = &mut self.terminal {
-            tell(terminal, self.asked);
+            tell(terminal, self.asked, "files");
         }
         self.folder.read(name)
     }

@@ -1,5 +1,6 @@
 //! Tests of what is read from files and written into them: intakes over a folder in memory, also where a line is bad, or
-//! where a folder, a device, a writer or memory fails; the register of removals; certificates and reports as texts.
+//! where a folder, a device, a writer or memory fails; folders on a disk, and what a terminal is told of a long job; the
+//! register of removals; certificates and reports as texts.
 #![tactic(auto)]
 
 #[cfg(test)]
@@ -7,11 +8,15 @@ mod batch;
 #[cfg(test)]
 mod certificates;
 #[cfg(test)]
+mod disk_folder;
+#[cfg(test)]
 mod export;
 #[cfg(test)]
 mod faults;
 #[cfg(test)]
 mod intake;
+#[cfg(test)]
+mod progress;
 #[cfg(test)]
 mod registers;
 #[cfg(test)]

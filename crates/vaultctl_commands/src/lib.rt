@@ -7,9 +7,6 @@ pub mod fault;
 pub mod intake;
 pub mod outcome;
 pub mod printing;
-mod progress;
-#[cfg(test)]
-mod tests;
 pub mod text;
 pub mod told_keeper;
 pub mod told_writer;

@@ -1,5 +1,4 @@
 //! How far a run has come, told on a terminal while it goes on.
-use crate::progress::tell;
 use std::io::Stderr;
 use vault_base::content::Content;
 use vault_base::moment::Moment;
@@ -10,6 +9,7 @@ use vault_core_model::change::Change;
 use vault_core_model::halt::Fault;
 use vault_core_model::keeper::{Keeper, Sink};
 use vault_core_model::records::{BucketConfig, Caller, Entry, Head, LastSetting, Note, Tenures};
+use vault_files::progress::tell;
 use vault_rules::plan::Held;
 use vault_rules::rule_set::RuleSet;
 use vault_tally::row::Row;

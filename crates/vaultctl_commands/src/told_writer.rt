@@ -1,6 +1,6 @@
 //! How many rows of a register were written, told on a terminal while it goes on.
-use crate::progress::tell;
 use std::io::{self, Stderr, Write};
+use vault_files::progress::tell;
 
 /// A writer of rows below a line of their columns' names: a terminal is told after each thousand rows, as `1000 rows`.
 ///
@@ -31,8 +31,9 @@ impl<W: Drop> ToldWriter<W> {
     }
 }
 
-/// Counts the lines that end in these bytes behind those before, and tells how many rows there were. The first line isn't one.
-pub(crate) fn count_lines<T: Write>(terminal: &mut T, before: u64, bytes: &[u8]) -> u64 {
+/// Counts the lines that end in these bytes behind those before, and tells how many rows there were. The first line isn't
+/// one.
+pub fn count_lines<T: Write>(terminal: &mut T, before: u64, bytes: &[u8]) -> u64 {
     let mut lines = before;
     for byte in bytes {
         if *byte == b'\n' {

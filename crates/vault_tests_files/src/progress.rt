@@ -1,7 +1,7 @@
 //! What a terminal is told of a long job.
-use crate::progress::tell;
-use crate::told_writer::count_lines;
 use std::test::Fail;
+use vault_files::progress::tell;
+use vaultctl_commands::told_writer::count_lines;
 
 #[test]
 fn a_line_is_told_after_each_thousand(rt: HostRuntime) -> Result<(), Fail> {

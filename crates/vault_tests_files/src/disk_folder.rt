@@ -1,14 +1,14 @@
-//! A folder that is made for the test.
-use crate::disk_folder::DiskFolder;
-use crate::list_file::read_list;
-use crate::progress::{ToldFolder, tell};
+//! A folder and a list on a disk, which are made for the test.
 use std::alloc::{AllocError, Global};
 use std::rt::Files;
 use std::test::Fail;
 use std::{fs, io};
 use vault_core_model::halt::Fault;
-use vault_files_intake::file_name::FileName;
-use vault_files_intake::folder::Folder;
+use vault_files::disk_folder::DiskFolder;
+use vault_files::file_name::FileName;
+use vault_files::folder::Folder;
+use vault_files::list_file::read_list;
+use vault_files::progress::ToldFolder;
 
 const FOLDER: &str = "intake_of_a_test";
 
@@ -109,16 +109,6 @@ fn a_long_list_is_read_up_to_the_limit(rt: HostRuntime) -> Result<(), Fail> {
     );
     fs::remove_file(&rt, "long_list_of_a_test")?;
     compare(read?.as_str(), "16777217 of 97")
-}
-
-#[test]
-fn a_line_is_told_after_each_thousand_files(rt: HostRuntime) -> Result<(), Fail> {
-    let mut told = Vec::new(rt.alloc());
-    for asked in 0..2_000 {
-        tell(&mut told, asked + 1);
-    }
-    assert_eq!(rt; told.as_slice(), b"1000 files\n2000 files\n".as_slice());
-    Ok(())
 }
 
 #[test]
