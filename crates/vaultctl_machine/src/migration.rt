@@ -62,41 +62,43 @@ fn copy<O: Alter, S: Alter>(
     Copied { source, outcome }
 }
 
+/// The same of tables of one of the two earlier editions, which their columns tell.
+fn copy_earlier<O: Alter, S: Alter>(
+    alloc: Global,
+    source: Connection<O>,
+    new: Connection<S>,
+) -> Copied<O, S>
+    ensures clean { HasCleanDisk (state O.Store result.source) → HasCleanDisk (state O.Store source) }
+    ensures found { IfOk result.outcome (λ k. HasCleanDisk (state O.Store result.source) → HasCleanDisk (state S.Store k.conn)
+        → AreSoundEarlier (state O.Store source).now (kept_vault S.Store k.opening.at.items k.opening.known k.made.items)) }
+    ensures sound { IfOk result.outcome (λ k. HasCleanDisk (state S.Store k.conn) → AreSound (state S.Store k.conn).now (kept_vault S.Store k.opening.at.items k.opening.known k.made.items)) }
+    // Tables that are sound as those of one of the two are never told as damaged.
+    ensures undamaged { (v : Vault) → AreSoundEarlier (state O.Store source).now v
+        → IfErr result.outcome (λ e. HasCleanDisk (state O.Store result.source) → (t : Table) → e.0 ≢ Refusal.Damaged t) }
+{
+    let edition = edition_of(source.schema());
+    copy(alloc, source, edition, new)
+}
+
 /// The same into a file. Each function names one store of files alone: to name both at once takes more steps than the
 /// prover has for a function.
 fn copy_to_file<O: Alter, B: Start>(
     alloc: Global,
     source: Connection<O>,
-    edition: Edition,
     new: Connection<VaultStore<B>>,
 ) -> Copied<O, VaultStore<B>>
     ensures clean { HasCleanDisk (state O.Store result.source) → HasCleanDisk (state O.Store source) }
     ensures found { IfOk result.outcome (λ k. HasCleanDisk (state O.Store result.source) → HasCleanDisk (file_state k.conn)
-        → AreSoundAs edition (state O.Store source).now (kept_vault over_files k.opening.at.items k.opening.known k.made.items)) }
+        → AreSoundEarlier (state O.Store source).now (kept_vault over_files k.opening.at.items k.opening.known k.made.items)) }
     ensures sound { IfOk result.outcome (λ k. HasCleanDisk (file_state k.conn) → AreSound (file_state k.conn).now (kept_vault over_files k.opening.at.items k.opening.known k.made.items)) }
-    ensures damaged { IfErr result.outcome (λ e. HasCleanDisk (state O.Store result.source) → (t : Table) → e.0 ≡ Refusal.Damaged t → (v : Vault) → ¬ AreSoundAs edition (state O.Store source).now v) }
+    ensures undamaged { (v : Vault) → AreSoundEarlier (state O.Store source).now v
+        → IfErr result.outcome (λ e. HasCleanDisk (state O.Store result.source) → (t : Table) → e.0 ≢ Refusal.Damaged t) }
 {
-    copy(alloc, source, edition, new)
+    copy_earlier(alloc, source, new)
 }
 
 /// The same from a file.
 fn copy_file<A: Start, B: Start>(
-    alloc: Global,
-    source: Connection<VaultStore<A>>,
-    edition: Edition,
-    new: Connection<VaultStore<B>>,
-) -> Copied<VaultStore<A>, VaultStore<B>>
-    ensures clean { HasCleanDisk (file_state result.source) → HasCleanDisk (file_state source) }
-    ensures found { IfOk result.outcome (λ k. HasCleanDisk (file_state result.source) → HasCleanDisk (file_state k.conn)
-        → AreSoundAs edition (file_state source).now (kept_vault over_files k.opening.at.items k.opening.known k.made.items)) }
-    ensures sound { IfOk result.outcome (λ k. HasCleanDisk (file_state k.conn) → AreSound (file_state k.conn).now (kept_vault over_files k.opening.at.items k.opening.known k.made.items)) }
-    ensures damaged { IfErr result.outcome (λ e. HasCleanDisk (file_state result.source) → (t : Table) → e.0 ≡ Refusal.Damaged t → (v : Vault) → ¬ AreSoundAs edition (file_state source).now v) }
-{
-    copy_to_file(alloc, source, edition, new)
-}
-
-/// The same of tables of one of the two earlier editions, which their columns tell.
-fn copy_earlier<A: Start, B: Start>(
     alloc: Global,
     source: Connection<VaultStore<A>>,
     new: Connection<VaultStore<B>>,
@@ -105,12 +107,10 @@ fn copy_earlier<A: Start, B: Start>(
     ensures found { IfOk result.outcome (λ k. HasCleanDisk (file_state result.source) → HasCleanDisk (file_state k.conn)
         → AreSoundEarlier (file_state source).now (kept_vault over_files k.opening.at.items k.opening.known k.made.items)) }
     ensures sound { IfOk result.outcome (λ k. HasCleanDisk (file_state k.conn) → AreSound (file_state k.conn).now (kept_vault over_files k.opening.at.items k.opening.known k.made.items)) }
-    // Tables that are sound as those of one of the two are never told as damaged.
     ensures undamaged { (v : Vault) → AreSoundEarlier (file_state source).now v
         → IfErr result.outcome (λ e. HasCleanDisk (file_state result.source) → (t : Table) → e.0 ≢ Refusal.Damaged t) }
 {
-    let edition = edition_of(source.schema());
-    copy_file(alloc, source, edition, new)
+    copy_to_file(alloc, source, new)
 }
 
 /// The file that gets a copy.
@@ -218,7 +218,7 @@ fn copy_into<A: Start, B: Start>(
     ensures held { (n : Edition) (v : Vault) → IsHeldAs n (image_at A.Start) v → IfOk result (λ m. HasCleanDisk (file_state m.source) → HasCleanDisk (file_state m.vault.conn)
         → kept_vault over_files m.vault.opening.at.items m.vault.opening.known m.vault.made.items ≡ v) }
 {
-    let Copied { source, outcome } = copy_earlier(rt.alloc(), source, new);
+    let Copied { source, outcome } = copy_file(rt.alloc(), source, new);
     match outcome {
         Ok(vault) => Ok(Migrated { source, vault }),
         Err((refusal, new)) => {
@@ -292,8 +292,8 @@ impl<'a> Machine<'a> {
             → kept_vault over_files m.vault.opening.at.items m.vault.opening.known m.vault.made.items ≡ v) }
     {
         let rt = self.look();
-        let migrated = copy_at(rt, old, new, starts)?;
-        self.count_given();
-        Ok(migrated)
+        let migrated = copy_at(rt, old, new, starts);
+        self.count(&migrated);
+        migrated
     }
 }

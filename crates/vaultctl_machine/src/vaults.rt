@@ -75,6 +75,24 @@ pub(crate) fn unseen(error: io::Error) -> Unopened {
     Unopened::Refused(Refusal::Device)
 }
 
+/// That tables may be in the files at a path, or why not.
+fn may_hold_tables(rt: &HostRuntime, path: &str) -> Result<(), Unopened> {
+    match place_at(rt, path) {
+        Ok(place) if place.may_hold_tables() => Ok(()),
+        Ok(_) => Err(Unopened::Refused(without_tables())),
+        Err(error) => Err(unseen(error)),
+    }
+}
+
+/// That a vault may be made in the files at a path, or why not.
+fn may_be_made(rt: &HostRuntime, path: &str) -> Result<(), Unopened> {
+    match place_at(rt, path) {
+        Ok(place) if place.may_be_made() => Ok(()),
+        Ok(_) => Err(Unopened::Refused(Refusal::NameTaken)),
+        Err(error) => Err(unseen(error)),
+    }
+}
+
 /// Opens the files at a path, or makes those that are missing.
 fn connect<S: Start>(
     rt: &HostRuntime,
@@ -107,11 +125,7 @@ pub(crate) fn connect_there<S: Start>(
     ensures opened { IfOk result (λ conn. HasCleanDisk (file_state conn) → IsOpened conn) }
     ensures found { IfOk result (λ conn. HasCleanDisk (file_state conn) → FindsIn (image_at S.Start) (file_state conn)) }
 {
-    match place_at(rt, path) {
-        Ok(place) if place.may_hold_tables() => {}
-        Ok(_) => return Err(Unopened::Refused(without_tables())),
-        Err(error) => return Err(unseen(error)),
-    }
+    may_hold_tables(rt, path)?;
     match connect(rt, path, start) {
         Ok(conn) => Ok(conn),
         Err(error) => Err(cause(error, unopened(error))),
@@ -188,11 +202,7 @@ fn made_at<S: Start>(rt: &HostRuntime, path: &str, start: S) -> Result<FileVault
     ensures opening { IfOk result (λ vault. HasCleanDisk (file_state vault.conn) → kept_vault over_files vault.opening.at.items vault.opening.known vault.made.items ≡ opening) }
     ensures sound { IfOk result (λ vault. HasCleanDisk (file_state vault.conn) → AreSound (file_state vault.conn).now opening) }
 {
-    match place_at(rt, path) {
-        Ok(place) if place.may_be_made() => {}
-        Ok(_) => return Err(Unopened::Refused(Refusal::NameTaken)),
-        Err(error) => return Err(unseen(error)),
-    }
+    may_be_made(rt, path)?;
     match connect(rt, path, start) {
         Ok(conn) => made_in(rt.alloc(), conn),
         Err(error) => Err(cause(error, unmade(error))),
@@ -226,12 +236,15 @@ impl<'a> Machine<'a> {
         self.rt
     }
 
-    /// Counts that a vault is given out.
-    pub(crate) fn count_given(&mut self)
-        ensures given { self.new.given ≡ with_one_given self.old.given }
+    /// Counts a vault that is given out, if there is one.
+    pub(crate) fn count<V>(&mut self, found: &Result<V, Unopened>)
+        ensures given { OnOk found.now (self.new.given ≡ with_one_given self.old.given) }
+        ensures none { OnErr found.now (self.new.given ≡ self.old.given) }
         ensures looked { self.new.looked ≡ self.old.looked }
     {
-        self.given = self.given.saturating_add(1);
+        if found.is_ok() {
+            self.given = self.given.saturating_add(1);
+        }
     }
 
     /// Opens the vault in a file: its tables have to be sound. `start` stands for what the file and its log hold.
@@ -252,9 +265,9 @@ impl<'a> Machine<'a> {
         ensures held { (v : Vault) → IsHeldIn (image_at S.Start) v → IfOk result (λ vault. HasCleanDisk (file_state vault.conn) → kept_vault over_files vault.opening.at.items vault.opening.known vault.made.items ≡ v) }
     {
         let rt = self.look();
-        let vault = opened_at(rt, path, start)?;
-        self.count_given();
-        Ok(vault)
+        let opened = opened_at(rt, path, start);
+        self.count(&opened);
+        opened
     }
 
     /// Makes a new vault in a file that isn't there or is empty. `start` stands for what the file and its log hold.
@@ -271,8 +284,8 @@ impl<'a> Machine<'a> {
         ensures sound { IfOk result (λ vault. HasCleanDisk (file_state vault.conn) → AreSound (file_state vault.conn).now opening) }
     {
         let rt = self.look();
-        let vault = made_at(rt, path, start)?;
-        self.count_given();
-        Ok(vault)
+        let made = made_at(rt, path, start);
+        self.count(&made);
+        made
     }
 }

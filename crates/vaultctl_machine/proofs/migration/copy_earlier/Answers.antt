@@ -3,9 +3,9 @@ use Rattle.vaultctl_machine.proofs.MigrationLemmas.{kept_is_earlier, never_damag
 use Rattle.vaultctl_machine.proofs.migration.copy_earlier.Goals as goal
 
 pub returns-clause-found : goal.returns-clause-found
-returns-clause-found g c = kept_is_earlier _ _ _ _ _ c.copy_file.result.outcome c.edition_of-edition.ensures.earlier c.copy_file.ensures.found
+returns-clause-found g c = kept_is_earlier _ _ _ _ _ c.copy.result.outcome c.edition_of-edition.ensures.earlier c.copy.ensures.found
 
 pub returns-clause-undamaged : goal.returns-clause-undamaged
 returns-clause-undamaged g c v sound =
     let told = sound_as_told _ _ v (λ is. c.edition_of-edition.ensures.first (c.schema.ensures.value ∙ is)) (λ is. c.edition_of-edition.ensures.second (c.schema.ensures.value ∙ is)) sound in
-    never_damaged _ _ _ v c.copy_file.result.outcome told c.copy_file.ensures.damaged
+    never_damaged _ _ _ v c.copy.result.outcome told c.copy.ensures.damaged
