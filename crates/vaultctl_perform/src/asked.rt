@@ -7,11 +7,13 @@ ghost use Rattle.vault_values.specs.Fault.{Gives};
 ghost use Rattle.vaultctl_commands.specs.Printed.{TellsReply};
 ghost use Rattle.vaultctl_perform.specs.Asked as spec;
 ghost use Rattle.vaultctl_commands.specs.declared.asked.Asked.{Asked as AskedOf};
+ghost use Rattle.vaultctl_commands.specs.declared.outcome.Outcome.TheVariants.{Done};
 
-use crate::telling::{status, tell_cause, tell_fault, tell_value};
+use crate::telling::{tell_fault, tell_value};
+use crate::work::{Work, in_vault};
 use sqlite::Start;
 use std::alloc::Global;
-use std::io::Write;
+use std::io::{self, Read, Stderr, Write};
 use std::time::Clock;
 use vault_base::moment::Moment;
 use vault_base::refusal::Refusal;
@@ -21,9 +23,8 @@ use vaultctl_commands::asked::Asked;
 use vaultctl_commands::carrying::{carry_out, tell_refusal};
 use vaultctl_commands::fault::JobFault;
 use vaultctl_commands::outcome::Outcome;
-use vaultctl_commands::told_keeper::ToldKeeper;
 use vaultctl_machine::terminal::terminal;
-use vaultctl_machine::vaults::{FileVault, Machine, close_vault};
+use vaultctl_machine::vaults::Machine;
 use vaultctl_serve::clock::now;
 
 /// The reading that is given, or else the machine's clock.
@@ -63,55 +64,23 @@ fn carry_out_asked<C: Clock, K: Keeper, W: Write>(
     carry_out(alloc, keeper, at, &asked.who, &asked.command, out)
 }
 
-/// Asks it of any keeper. No clause speaks of the keeper here: one would have a call's proof carry all that the
-/// keeper of a file holds.
-fn ask_keeper<K: Keeper, W: Write>(
-    rt: &HostRuntime,
-    keeper: &mut K,
-    asked: &Asked,
-    out: &mut W,
-) -> Result<Outcome, JobFault>
-    ensures told { IfOk result (λ told. TellsReply told (W.contents out.old) (W.contents out.new)) }
-    ensures reader { result ≢ Err JobFault.Read }
-    ensures device { result ≢ Err JobFault.Device }
-{
-    carry_out_asked(rt.alloc(), rt, keeper, asked, out)
-}
+impl Work for Asked {
+    ghost tells = { TellsReply Done };
 
-/// Asks it of a vault, and closes the vault; on a terminal a run tells how far it has come.
-fn ask_vault<S: Start, W: Write>(
-    rt: &HostRuntime,
-    vault: FileVault<S>,
-    asked: &Asked,
-    out: &mut W,
-) -> Result<Outcome, JobFault>
-    ensures told { IfOk result (λ told. TellsReply told (W.contents out.old) (W.contents out.new)) }
-    ensures reader { result ≢ Err JobFault.Read }
-    ensures device { result ≢ Err JobFault.Device }
-{
-    let mut told = ToldKeeper::new(vault, terminal(rt));
-    let outcome = ask_keeper(rt, &mut told, asked, out);
-    close_vault(told.into_keeper());
-    outcome
-}
+    /// On a terminal a run tells how far it has come.
+    fn terminal(&self, rt: &HostRuntime) -> Option<Stderr> {
+        terminal(rt)
+    }
 
-/// Asks it of the vault in a file.
-fn ask_in_file<S: Start, W: Write, E: Write>(
-    machine: &mut Machine<'_>,
-    subcommand: &str,
-    file: &str,
-    start: S,
-    asked: &Asked,
-    out: &mut W,
-    err: &mut E,
-) -> u8
-    ensures told { result ≡ 0 → TellsReply Outcome.Done (W.contents out.old) (W.contents out.new) }
-    ensures status { result ≢ 2 }
-{
-    let rt = machine.runtime();
-    match machine.open(file, start) {
-        Ok(vault) => status(err, subcommand, ask_vault(rt, vault, asked, out)),
-        Err(cause) => tell_cause(err, "open", cause),
+    fn carry_out<K: Keeper, R: Read, W: Write, E: Write>(
+        &self,
+        rt: &HostRuntime,
+        keeper: &mut K,
+        _reader: &mut R,
+        out: &mut W,
+        _err: &mut E,
+    ) -> Result<Outcome, JobFault> {
+        carry_out_asked(rt.alloc(), rt, keeper, self, out)
     }
 }
 
@@ -131,7 +100,16 @@ fn ask_read<S: Start, W: Write, E: Write>(
 {
     let alloc = machine.runtime().alloc();
     match asked {
-        Ok(asked) => ask_in_file(machine, subcommand, file, start, asked, out, err),
+        Ok(asked) => in_vault(
+            machine,
+            subcommand,
+            file,
+            start,
+            asked,
+            &mut io::empty(),
+            out,
+            err,
+        ),
         Err(LineFault::Memory) => tell_fault(err, subcommand, JobFault::Memory),
         Err(LineFault::Refused(refusal)) => tell_value(alloc, subcommand, *refusal, out, err),
     }

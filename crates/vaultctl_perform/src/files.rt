@@ -1,25 +1,23 @@
 //! Jobs on a vault's file as a whole: a new one, its register, a script, and requests.
-//!
-//! What they do over any keeper has no clause of its own: one would have a call's proof carry all that the keeper
-//! of a file holds.
-ghost use Rattle.std.specs.Prelude.{◌≡◌, ◌≢◌, OnOk};
+ghost use Rattle.std.specs.Prelude.{◌≡◌, ◌≢◌, OnOk, ⊤};
 ghost use Rattle.vaultctl_machine.specs.Places.{with_one_given};
 ghost use Rattle.vaultctl_perform.specs.Status as spec;
 
 use crate::replay::fault_of;
-use crate::telling::{status, tell_cause};
+use crate::telling::tell_cause;
+use crate::work::Work;
 use sqlite::Start;
-use std::alloc::Global;
-use std::io::{Read, Write};
+use std::io::{Read, Stderr, Write};
 use vault_core_model::keeper::Keeper;
 use vault_files::ExportFault;
 use vault_files::register::export_register;
 use vaultctl_commands::fault::JobFault;
 use vaultctl_commands::outcome::Outcome;
 use vaultctl_commands::told_writer::ToldWriter;
+use vaultctl_job::job::{RegisterJob, ReplayJob, ServeJob};
 use vaultctl_machine::terminal::terminal_beside;
 use vaultctl_machine::unopened::Unopened;
-use vaultctl_machine::vaults::{FileVault, Machine, close_vault};
+use vaultctl_machine::vaults::{Machine, close_vault};
 use vaultctl_replay::{ReplayFault, replay};
 use vaultctl_serve::{PortFault, serve};
 
@@ -62,42 +60,25 @@ fn done_or_fault(written: Result<(), ExportFault>) -> Result<Outcome, JobFault>
     }
 }
 
-/// Writes the register of any keeper; on a terminal it tells how far it has come, unless that is shown there.
-fn export<K: Keeper, W: Write>(
-    rt: &HostRuntime,
-    keeper: &mut K,
-    out: &mut W,
-) -> Result<Outcome, JobFault> {
-    let mut told = ToldWriter::new(out, terminal_beside(rt));
-    done_or_fault(export_register(rt.alloc(), keeper, &mut told))
-}
+/// The register of a vault's removals.
+impl Work for RegisterJob {
+    ghost tells = { λ before after. ⊤ };
 
-/// Writes a vault's register, and closes the vault.
-fn write_register<S: Start, W: Write>(
-    rt: &HostRuntime,
-    vault: FileVault<S>,
-    out: &mut W,
-) -> Result<Outcome, JobFault> {
-    let mut vault = vault;
-    let outcome = export(rt, &mut vault, out);
-    close_vault(vault);
-    outcome
-}
+    fn terminal(&self, _rt: &HostRuntime) -> Option<Stderr> {
+        None
+    }
 
-/// Prints the register of a vault's removals.
-pub fn register<S: Start, W: Write, E: Write>(
-    machine: &mut Machine<'_>,
-    file: &str,
-    start: S,
-    out: &mut W,
-    err: &mut E,
-) -> u8
-    ensures status { result ≢ 2 }
-{
-    let rt = machine.runtime();
-    match machine.open(file, start) {
-        Ok(vault) => status(err, "register", write_register(rt, vault, out)),
-        Err(cause) => tell_cause(err, "open", cause),
+    /// On a terminal it tells how many rows it has written, unless these are shown there.
+    fn carry_out<K: Keeper, R: Read, W: Write, E: Write>(
+        &self,
+        rt: &HostRuntime,
+        keeper: &mut K,
+        _reader: &mut R,
+        out: &mut W,
+        _err: &mut E,
+    ) -> Result<Outcome, JobFault> {
+        let mut told = ToldWriter::new(out, terminal_beside(rt));
+        done_or_fault(export_register(rt.alloc(), keeper, &mut told))
     }
 }
 
@@ -110,44 +91,23 @@ fn replayed(answered: Result<(), ReplayFault>) -> Result<Outcome, JobFault>
     }
 }
 
-/// Answers a script over any keeper.
-fn answer_over<K: Keeper, R: Read, W: Write>(
-    alloc: Global,
-    keeper: &mut K,
-    reader: &mut R,
-    out: &mut W,
-) -> Result<Outcome, JobFault> {
-    replayed(replay(alloc, reader, out, keeper))
-}
+/// The replies to a script.
+impl Work for ReplayJob {
+    ghost tells = { λ before after. ⊤ };
 
-/// Answers a script over a vault, and closes the vault.
-fn answer_script<S: Start, R: Read, W: Write>(
-    alloc: Global,
-    vault: FileVault<S>,
-    reader: &mut R,
-    out: &mut W,
-) -> Result<Outcome, JobFault> {
-    let mut vault = vault;
-    let outcome = answer_over(alloc, &mut vault, reader, out);
-    close_vault(vault);
-    outcome
-}
+    fn terminal(&self, _rt: &HostRuntime) -> Option<Stderr> {
+        None
+    }
 
-/// Answers the script that the reader gives over the vault in a file.
-pub fn replay_file<S: Start, R: Read, W: Write, E: Write>(
-    machine: &mut Machine<'_>,
-    file: &str,
-    start: S,
-    reader: &mut R,
-    out: &mut W,
-    err: &mut E,
-) -> u8
-    ensures status { result ≢ 2 }
-{
-    let alloc = machine.runtime().alloc();
-    match machine.open(file, start) {
-        Ok(vault) => status(err, "replay", answer_script(alloc, vault, reader, out)),
-        Err(cause) => tell_cause(err, "open", cause),
+    fn carry_out<K: Keeper, R: Read, W: Write, E: Write>(
+        &self,
+        rt: &HostRuntime,
+        keeper: &mut K,
+        reader: &mut R,
+        out: &mut W,
+        _err: &mut E,
+    ) -> Result<Outcome, JobFault> {
+        replayed(replay(rt.alloc(), reader, out, keeper))
     }
 }
 
@@ -160,50 +120,31 @@ fn served(ended: Result<(), PortFault>) -> Result<Outcome, JobFault>
     }
 }
 
-/// Serves requests over any keeper, and tells once it listens.
-fn serve_over<K: Keeper, E: Write>(
-    rt: &HostRuntime,
-    keeper: &mut K,
-    file: &str,
-    port: u16,
-    count: u32,
-    err: &mut E,
-) -> Result<Outcome, JobFault> {
-    served(serve(rt, rt.alloc(), keeper, file, port, count, err))
-}
+/// The answers to requests, at a port of 127.0.0.1.
+impl Work for ServeJob {
+    ghost tells = { λ before after. ⊤ };
 
-/// Serves requests over a vault, and closes the vault.
-fn serve_vault<S: Start, E: Write>(
-    rt: &HostRuntime,
-    vault: FileVault<S>,
-    file: &str,
-    port: u16,
-    count: u32,
-    err: &mut E,
-) -> Result<Outcome, JobFault> {
-    let mut vault = vault;
-    let outcome = serve_over(rt, &mut vault, file, port, count, err);
-    close_vault(vault);
-    outcome
-}
+    fn terminal(&self, _rt: &HostRuntime) -> Option<Stderr> {
+        None
+    }
 
-/// Serves requests over the vault in a file, at a port of 127.0.0.1.
-pub fn serve_file<S: Start, E: Write>(
-    machine: &mut Machine<'_>,
-    file: &str,
-    start: S,
-    port: u16,
-    count: u32,
-    err: &mut E,
-) -> u8
-    ensures status { result ≢ 2 }
-{
-    let rt = machine.runtime();
-    match machine.open(file, start) {
-        Ok(vault) => {
-            let outcome = serve_vault(rt, vault, file, port, count, err);
-            status(err, "serve", outcome)
-        }
-        Err(cause) => tell_cause(err, "open", cause),
+    /// It is told once it listens.
+    fn carry_out<K: Keeper, R: Read, W: Write, E: Write>(
+        &self,
+        rt: &HostRuntime,
+        keeper: &mut K,
+        _reader: &mut R,
+        _out: &mut W,
+        err: &mut E,
+    ) -> Result<Outcome, JobFault> {
+        served(serve(
+            rt,
+            rt.alloc(),
+            keeper,
+            self.file.as_str(),
+            self.port,
+            self.count,
+            err,
+        ))
     }
 }

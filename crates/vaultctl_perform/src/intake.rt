@@ -5,11 +5,13 @@ ghost use Rattle.vault_core_model.specs.Step.{Reached};
 ghost use Rattle.vault_values.specs.Fault.{Gives};
 ghost use Rattle.vaultctl_commands.specs.Told.{IsIntakeSteady, TellsIntake};
 ghost use Rattle.vaultctl_commands.specs.declared.asked.AskedIntake.{AskedIntake as AskedOf};
+ghost use Rattle.vaultctl_commands.specs.declared.outcome.Outcome.TheVariants.{Done};
 
 use crate::asked::reading;
-use crate::telling::{status, tell_cause, tell_fault, tell_value};
+use crate::telling::{tell_fault, tell_value};
+use crate::work::{Work, in_vault};
 use sqlite::Start;
-use std::io::Write;
+use std::io::{self, Read, Stderr, Write};
 use vault_base::refusal::Refusal;
 use vault_core_model::halt::Fault;
 use vault_core_model::keeper::Keeper;
@@ -24,7 +26,7 @@ use vaultctl_commands::intake::{take_in_and_tell, tell_unread_list};
 use vaultctl_commands::outcome::Outcome;
 use vaultctl_job::job::IntakeJob;
 use vaultctl_machine::terminal::terminal;
-use vaultctl_machine::vaults::{FileVault, Machine, close_vault};
+use vaultctl_machine::vaults::Machine;
 
 /// Takes in a list whose bytes were read, at the reading that is given or else at the clock's; on a terminal
 /// it tells how far it has come.
@@ -85,55 +87,29 @@ fn take_in_list<K: Keeper, W: Write>(
     }
 }
 
-/// Takes in the list to any keeper. No clause speaks of the keeper here: one would have a call's proof carry all
-/// that the keeper of a file holds.
-fn take_in_keeper<K: Keeper, W: Write>(
-    rt: &HostRuntime,
-    keeper: &mut K,
-    asked: &AskedIntake,
-    job: &IntakeJob,
-    out: &mut W,
-) -> Result<Outcome, JobFault>
-    ensures told { IfOk result (λ told. told ≡ Outcome.Done → TellsIntake Outcome.Done (W.contents out.old) (W.contents out.new)) }
-    ensures reader { result ≢ Err JobFault.Read }
-    ensures device { result ≢ Err JobFault.Device }
-{
-    take_in_list(rt, keeper, asked, job, out)
+/// The intake of a list, by the values of its words.
+#[derive(Clone, Copy)]
+struct Intake<'a> {
+    asked: &'a AskedIntake,
+    job: &'a IntakeJob,
 }
 
-/// Takes in the list, and closes the vault.
-fn take_in_vault<S: Start, W: Write>(
-    rt: &HostRuntime,
-    vault: FileVault<S>,
-    asked: &AskedIntake,
-    job: &IntakeJob,
-    out: &mut W,
-) -> Result<Outcome, JobFault>
-    ensures told { IfOk result (λ told. told ≡ Outcome.Done → TellsIntake Outcome.Done (W.contents out.old) (W.contents out.new)) }
-    ensures reader { result ≢ Err JobFault.Read }
-    ensures device { result ≢ Err JobFault.Device }
-{
-    let mut vault = vault;
-    let outcome = take_in_keeper(rt, &mut vault, asked, job, out);
-    close_vault(vault);
-    outcome
-}
+impl Work for Intake<'_> {
+    ghost tells = { TellsIntake Done };
 
-fn take_in_file<S: Start, W: Write, E: Write>(
-    machine: &mut Machine<'_>,
-    start: S,
-    asked: &AskedIntake,
-    job: &IntakeJob,
-    out: &mut W,
-    err: &mut E,
-) -> u8
-    ensures told { result ≡ 0 → TellsIntake Outcome.Done (W.contents out.old) (W.contents out.new) }
-    ensures status { result ≢ 2 }
-{
-    let rt = machine.runtime();
-    match machine.open(job.file.as_str(), start) {
-        Ok(vault) => status(err, "intake", take_in_vault(rt, vault, asked, job, out)),
-        Err(cause) => tell_cause(err, "open", cause),
+    fn terminal(&self, _rt: &HostRuntime) -> Option<Stderr> {
+        None
+    }
+
+    fn carry_out<K: Keeper, R: Read, W: Write, E: Write>(
+        &self,
+        rt: &HostRuntime,
+        keeper: &mut K,
+        _reader: &mut R,
+        out: &mut W,
+        _err: &mut E,
+    ) -> Result<Outcome, JobFault> {
+        take_in_list(rt, keeper, self.asked, self.job, out)
     }
 }
 
@@ -152,7 +128,16 @@ fn take_in_asked<S: Start, W: Write, E: Write>(
 {
     let alloc = machine.runtime().alloc();
     match asked {
-        Ok(asked) => take_in_file(machine, start, asked, job, out, err),
+        Ok(asked) => in_vault(
+            machine,
+            "intake",
+            job.file.as_str(),
+            start,
+            &Intake { asked, job },
+            &mut io::empty(),
+            out,
+            err,
+        ),
         Err(LineFault::Memory) => tell_fault(err, "intake", JobFault::Memory),
         Err(LineFault::Refused(refusal)) => tell_value(alloc, "intake", *refusal, out, err),
     }

@@ -17,8 +17,10 @@ mod migrate;
 mod replay;
 mod telling;
 mod verify;
+mod work;
 
 use crate::telling::tell_fault;
+use crate::work::in_vault;
 use sqlite::Start;
 use std::io::{Read, Write};
 use vaultctl_commands::asked as values;
@@ -41,7 +43,16 @@ fn replay_script<S: Start, R: Read, W: Write, E: Write>(
     ensures status { result ≢ 2 }
 {
     match &job.file {
-        Some(file) => files::replay_file(machine, file.as_str(), start, reader, out, err),
+        Some(file) => in_vault(
+            machine,
+            "replay",
+            file.as_str(),
+            start,
+            job,
+            reader,
+            out,
+            err,
+        ),
         None => replay::from_new(machine.runtime().alloc(), reader, out, err),
     }
 }
@@ -112,12 +123,28 @@ fn carry_out<A: Start, B: Start, R: Read, W: Write, E: Write>(
                 err,
             )
         }
-        Job::Register(job) => files::register(machine, job.file.as_str(), start, out, err),
+        Job::Register(job) => in_vault(
+            machine,
+            "register",
+            job.file.as_str(),
+            start,
+            job,
+            reader,
+            out,
+            err,
+        ),
         Job::Verify(job) => verify::verify(machine, job.file.as_str(), start, out, err),
         Job::Replay(job) => replay_script(machine, start, job, reader, out, err),
-        Job::Serve(job) => {
-            files::serve_file(machine, job.file.as_str(), start, job.port, job.count, err)
-        }
+        Job::Serve(job) => in_vault(
+            machine,
+            "serve",
+            job.file.as_str(),
+            start,
+            job,
+            reader,
+            out,
+            err,
+        ),
         Job::Migrate(job) => {
             let starts = Starts {
                 first: start,

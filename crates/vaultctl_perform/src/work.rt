@@ -1,0 +1,74 @@
+//! What is done with the vault in a file: it is opened, handed over, and closed.
+ghost use Rattle.std.specs.Prelude.{◌≡◌, ◌≢◌, ℕ, List, Option};
+ghost use Rattle.vaultctl_perform.specs.Status.{status_of};
+
+use crate::telling::{status, tell_cause};
+use sqlite::Start;
+use std::io::{Read, Stderr, Write};
+use vault_core_model::keeper::Keeper;
+use vaultctl_commands::fault::JobFault;
+use vaultctl_commands::outcome::Outcome;
+use vaultctl_commands::told_keeper::ToldKeeper;
+use vaultctl_machine::vaults::{FileVault, Machine, close_vault};
+
+/// What a job does with a vault.
+pub trait Work {
+    /// What it has told, where it is done.
+    ghost tells: { Option (List ℕ) → Option (List ℕ) → Type 0 };
+
+    /// The terminal that is told for how many keys it has asked; none where nothing is told.
+    fn terminal(&self, rt: &HostRuntime) -> Option<Stderr>;
+
+    /// Does it with any keeper. No clause speaks of the keeper here: one would have a call's proof carry all that the
+    /// keeper of a file holds.
+    fn carry_out<K: Keeper, R: Read, W: Write, E: Write>(
+        &self,
+        rt: &HostRuntime,
+        keeper: &mut K,
+        reader: &mut R,
+        out: &mut W,
+        err: &mut E,
+    ) -> Result<Outcome, JobFault>
+        ensures { status_of result ≡ 0 → tells (W.contents out.old) (W.contents out.new) };
+}
+
+/// Does it with a vault, and closes the vault.
+fn with_vault<S: Start, T: Work, R: Read, W: Write, E: Write>(
+    rt: &HostRuntime,
+    vault: FileVault<S>,
+    work: &T,
+    reader: &mut R,
+    out: &mut W,
+    err: &mut E,
+) -> Result<Outcome, JobFault>
+    ensures told { status_of result ≡ 0 → T.tells (W.contents out.old) (W.contents out.new) }
+{
+    let mut told = ToldKeeper::new(vault, work.terminal(rt));
+    let outcome = work.carry_out(rt, &mut told, reader, out, err);
+    close_vault(told.into_keeper());
+    outcome
+}
+
+/// Does it with the vault in a file, and answers the exit status.
+pub fn in_vault<S: Start, T: Work, R: Read, W: Write, E: Write>(
+    machine: &mut Machine<'_>,
+    subcommand: &str,
+    file: &str,
+    start: S,
+    work: &T,
+    reader: &mut R,
+    out: &mut W,
+    err: &mut E,
+) -> u8
+    ensures told { result ≡ 0 → T.tells (W.contents out.old) (W.contents out.new) }
+    ensures status { result ≢ 2 }
+{
+    let rt = machine.runtime();
+    match machine.open(file, start) {
+        Ok(vault) => {
+            let outcome = with_vault(rt, vault, work, reader, out, err);
+            status(err, subcommand, outcome)
+        }
+        Err(cause) => tell_cause(err, "open", cause),
+    }
+}
