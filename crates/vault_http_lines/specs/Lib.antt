@@ -8,3 +8,4 @@ pub mod LockLines
 pub mod ListLine
 pub mod ReplyLine
 pub mod Putting
+pub mod Object

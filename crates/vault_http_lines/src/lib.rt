@@ -8,6 +8,7 @@ mod entry_lines;
 pub mod laws;
 mod list_line;
 mod lock_lines;
+mod object;
 pub mod read_line;
 mod record_lines;
 pub mod reply_line;

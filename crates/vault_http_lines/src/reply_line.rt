@@ -1,12 +1,14 @@
 //! Replies to lines.
-ghost use Rattle.std.specs.Prelude.{◌≡◌, IfOk, map, option_map, string_bytes};
-ghost use Rattle.serde_json.specs.View.{view};
+ghost use Rattle.std.specs.Prelude.{◌≡◌, IfOk, OnOk, codes, map, option_map, string_bytes};
+ghost use Rattle.serde_json.specs.Data.{put as with_member};
+ghost use Rattle.serde_json.specs.View.{view, members_view};
 ghost use Rattle.vault_base.specs.declared.refusal.Refusal.TheVariants.{AccessDenied, NoSuchKey};
 ghost use Rattle.vault_core_model.specs.declared.reply.Answer.TheVariants as answer;
 ghost use Rattle.vault_http_lines.specs.ReplyLine as spec;
 
+use crate::object::{Plain, object_of, plain_object, put_plain};
 use crate::rule_value::rules_value;
-use serde_json::{Map, Value, json};
+use serde_json::{Map, Value, json, put};
 use std::alloc::{AllocError, Global};
 use vault_base::content::{Content, Digest};
 use vault_base::name::VersionId;
@@ -43,7 +45,13 @@ fn retention_value(alloc: Global, retention: Option<Retention>) -> Result<Value,
 fn retention_members(alloc: Global, mode: Mode, until: &str) -> Result<Value, AllocError>
     ensures { IfOk result (λ value. view value ≡ spec.retention_members mode until.now) }
 {
-    json!(in alloc; {"mode": mode_name(mode), "until": until})
+    plain_object(
+        alloc,
+        &[
+            ("mode", Plain::Text(mode_name(mode))),
+            ("until", Plain::Text(until)),
+        ],
+    )
 }
 
 fn digest_value(alloc: Global, digest: Option<&Digest>) -> Result<Value, AllocError>
@@ -56,76 +64,91 @@ fn digest_value(alloc: Global, digest: Option<&Digest>) -> Result<Value, AllocEr
     json!(in alloc; digits.as_str())
 }
 
+/// Puts in the retention and the digest of a version.
+fn put_lock_and_digest(
+    members: &mut Map<String, Value>,
+    alloc: Global,
+    version: &Version,
+) -> Result<(), AllocError>
+    ensures { OnOk result (members_view members.new.entries ≡ with_member (codes "sha256") (spec.digest_value version.now.entry.digest) (with_member (codes "retention") (spec.retention_value version.now.lock.retention) (members_view members.old.entries))) }
+{
+    let retention = retention_value(alloc, version.lock.retention)?;
+    put(members, alloc, "retention", retention)?;
+    let sha256 = digest_value(alloc, version.entry.digest.as_ref())?;
+    put(members, alloc, "sha256", sha256)
+}
+
 fn version_value(alloc: Global, version: &Version, content: &Content) -> Result<Value, AllocError>
     ensures { IfOk result (λ value. view value ≡ spec.version_value version.now content.now) }
 {
-    let entry = &version.entry;
-    let admitted = entry.admitted.text(alloc)?;
+    let admitted = version.entry.admitted.text(alloc)?;
     let digits = hex::encode(alloc, content.as_slice())?;
-    let retention = retention_value(alloc, version.lock.retention)?;
-    let sha256 = digest_value(alloc, entry.digest.as_ref())?;
-    version_members(
-        alloc,
-        version,
-        admitted.as_str(),
-        digits.as_str(),
-        retention,
-        sha256,
-    )
+    version_members(alloc, version, admitted.as_str(), digits.as_str())
 }
 
-/// The members of a version whose texts and values are made.
-fn version_members(
+/// The members of a version whose texts are made.
+fn version_members<'a>(
     alloc: Global,
     version: &Version,
-    admitted: &str,
-    digits: &str,
-    retention: Value,
-    sha256: Value,
+    admitted: &'a str,
+    digits: &'a str,
 ) -> Result<Value, AllocError>
-    ensures { IfOk result (λ value. view value ≡ spec.version_members version.now admitted.now digits.now (view retention) (view sha256)) }
+    ensures { IfOk result (λ value. view value ≡ spec.version_members version.now admitted.now digits.now (spec.retention_value version.now.lock.retention) (spec.digest_value version.now.entry.digest)) }
 {
     let entry = &version.entry;
-    json!(in alloc; {
-        "retention": retention,
-        "sha256": sha256,
-        "admitted": admitted,
-        "hex": digits,
-        "hold": hold_name(version.lock.hold),
-        "size": entry.size,
-        "version_id": entry.id.number()
-    })
+    let mut members = Map::new(alloc);
+    put_plain(
+        &mut members,
+        alloc,
+        &[
+            ("admitted", Plain::Text(admitted)),
+            ("hex", Plain::Text(digits)),
+            ("hold", Plain::Text(hold_name(version.lock.hold))),
+            ("size", Plain::Whole(entry.size)),
+            ("version_id", Plain::Whole(u64::from(entry.id.number()))),
+        ],
+    )?;
+    put_lock_and_digest(&mut members, alloc, version)?;
+    Ok(Value::Object(members))
 }
 
 fn head_value(alloc: Global, version: &Version) -> Result<Value, AllocError>
     ensures { IfOk result (λ value. view value ≡ spec.head_value version.now) }
 {
-    let entry = &version.entry;
-    let admitted = entry.admitted.text(alloc)?;
-    let retention = retention_value(alloc, version.lock.retention)?;
-    let sha256 = digest_value(alloc, entry.digest.as_ref())?;
-    head_members(alloc, version, admitted.as_str(), retention, sha256)
+    let admitted = version.entry.admitted.text(alloc)?;
+    head_members(alloc, version, admitted.as_str())
 }
 
-/// The members of a head whose text and values are made.
-fn head_members(
-    alloc: Global,
-    version: &Version,
-    admitted: &str,
-    retention: Value,
-    sha256: Value,
-) -> Result<Value, AllocError>
-    ensures { IfOk result (λ value. view value ≡ spec.head_members version.now admitted.now (view retention) (view sha256)) }
+/// The members of a head whose text is made.
+fn head_members(alloc: Global, version: &Version, admitted: &str) -> Result<Value, AllocError>
+    ensures { IfOk result (λ value. view value ≡ spec.head_members version.now admitted.now (spec.retention_value version.now.lock.retention) (spec.digest_value version.now.entry.digest)) }
 {
     let entry = &version.entry;
-    json!(in alloc; {
-        "retention": retention,
-        "sha256": sha256,
-        "admitted": admitted,
-        "hold": hold_name(version.lock.hold),
-        "size": entry.size,
-        "version_id": entry.id.number()
-    })
+    let mut members = Map::new(alloc);
+    put_plain(
+        &mut members,
+        alloc,
+        &[
+            ("admitted", Plain::Text(admitted)),
+            ("hold", Plain::Text(hold_name(version.lock.hold))),
+            ("size", Plain::Whole(entry.size)),
+            ("version_id", Plain::Whole(u64::from(entry.id.number()))),
+        ],
+    )?;
+    put_lock_and_digest(&mut members, alloc, version)?;
+    Ok(Value::Object(members))
+}
+
+fn period_value(alloc: Global, mode: Mode, period: Period) -> Result<Value, AllocError>
+    ensures { IfOk result (λ value. view value ≡ spec.period_value mode period) }
+{
+    let mode = ("mode", Plain::Text(mode_name(mode)));
+    match period {
+        Period::Days(days) => plain_object(alloc, &[mode, ("days", Plain::Whole(u64::from(days)))]),
+        Period::Years(years) => {
+            plain_object(alloc, &[mode, ("years", Plain::Whole(u64::from(years)))])
+        }
+    }
 }
 
 fn default_value(alloc: Global, default: Option<Default>) -> Result<Value, AllocError>
@@ -134,21 +157,20 @@ fn default_value(alloc: Global, default: Option<Default>) -> Result<Value, Alloc
     let Some(default) = default else {
         return Ok(Value::Null);
     };
-    let mode = mode_name(default.mode);
-    match default.period {
-        Period::Days(days) => json!(in alloc; {"days": days, "mode": mode}),
-        Period::Years(years) => json!(in alloc; {"mode": mode, "years": years}),
-    }
+    period_value(alloc, default.mode, default.period)
 }
 
 fn removed_value(alloc: Global, removed: Removed) -> Result<Value, AllocError>
     ensures { IfOk result (λ value. view value ≡ spec.removed_value removed) }
 {
-    json!(in alloc; {
-        "cause": cause_name(removed.permit),
-        "delete_marker": removed.marker,
-        "version_id": removed.id.number()
-    })
+    plain_object(
+        alloc,
+        &[
+            ("cause", Plain::Text(cause_name(removed.permit))),
+            ("delete_marker", Plain::Flag(removed.marker)),
+            ("version_id", Plain::Whole(u64::from(removed.id.number()))),
+        ],
+    )
 }
 
 fn report_value(alloc: Global, report: &Report) -> Result<Value, AllocError>
@@ -159,19 +181,22 @@ fn report_value(alloc: Global, report: &Report) -> Result<Value, AllocError>
 }
 
 /// The members of a report whose text is made.
-fn report_members(alloc: Global, report: &Report, at: &str) -> Result<Value, AllocError>
+fn report_members<'a>(alloc: Global, report: &'a Report, at: &'a str) -> Result<Value, AllocError>
     ensures { IfOk result (λ value. view value ≡ spec.report_members report.now at.now) }
 {
-    json!(in alloc; {
-        "admitted": report.admitted,
-        "at": at,
-        "byte_days": report.byte_days,
-        "dept": report.dept.as_str(),
-        "handed": report.handed,
-        "held": report.held,
-        "received": report.received,
-        "removed": report.removed
-    })
+    plain_object(
+        alloc,
+        &[
+            ("admitted", Plain::Whole(report.admitted)),
+            ("at", Plain::Text(at)),
+            ("byte_days", Plain::Whole(report.byte_days)),
+            ("dept", Plain::Text(report.dept.as_str())),
+            ("handed", Plain::Whole(report.handed)),
+            ("held", Plain::Whole(report.held)),
+            ("received", Plain::Whole(report.received)),
+            ("removed", Plain::Whole(report.removed)),
+        ],
+    )
 }
 
 fn listed_value(alloc: Global, listed: &Listed) -> Result<Value, AllocError>
@@ -182,18 +207,25 @@ fn listed_value(alloc: Global, listed: &Listed) -> Result<Value, AllocError>
 }
 
 /// The members of a listed entry whose text is made.
-fn listed_members(alloc: Global, listed: &Listed, admitted: &str) -> Result<Value, AllocError>
+fn listed_members<'a>(
+    alloc: Global,
+    listed: &'a Listed,
+    admitted: &'a str,
+) -> Result<Value, AllocError>
     ensures { IfOk result (λ value. view value ≡ spec.listed_members listed.now admitted.now) }
 {
     let entry = &listed.entry;
-    json!(in alloc; {
-        "admitted": admitted,
-        "current": listed.current,
-        "delete_marker": entry.marker,
-        "key": entry.key.as_str(),
-        "size": entry.size,
-        "version_id": entry.id.number()
-    })
+    plain_object(
+        alloc,
+        &[
+            ("admitted", Plain::Text(admitted)),
+            ("current", Plain::Flag(listed.current)),
+            ("delete_marker", Plain::Flag(entry.marker)),
+            ("key", Plain::Text(entry.key.as_str())),
+            ("size", Plain::Whole(entry.size)),
+            ("version_id", Plain::Whole(u64::from(entry.id.number()))),
+        ],
+    )
 }
 
 fn listed_values(alloc: Global, entries: &[Listed]) -> Result<Vec<Value>, AllocError>
@@ -210,24 +242,36 @@ fn page_value(alloc: Global, page: &Page) -> Result<Value, AllocError>
     ensures { IfOk result (λ value. view value ≡ spec.page_value page.now) }
 {
     let list = Value::Array(listed_values(alloc, page.entries.as_slice())?);
-    json!(in alloc; {"entries": list, "more": page.more})
+    let mut members = Map::new(alloc);
+    put(&mut members, alloc, "entries", list)?;
+    put_plain(&mut members, alloc, &[("more", Plain::Flag(page.more))])?;
+    Ok(Value::Object(members))
 }
 
 fn counts_value(alloc: Global, counts: Counts) -> Result<Value, AllocError>
     ensures { IfOk result (λ value. view value ≡ spec.counts_value counts) }
 {
-    json!(in alloc; {
-        "changes": counts.changes,
-        "lone": counts.lone,
-        "marked": counts.marked,
-        "removed": counts.removed
-    })
+    plain_object(
+        alloc,
+        &[
+            ("changes", Plain::Whole(counts.changes)),
+            ("lone", Plain::Whole(counts.lone)),
+            ("marked", Plain::Whole(counts.marked)),
+            ("removed", Plain::Whole(counts.removed)),
+        ],
+    )
 }
 
 fn taken_in_value(alloc: Global, taken: TakenIn) -> Result<Value, AllocError>
     ensures { IfOk result (λ value. view value ≡ spec.taken_in_value taken) }
 {
-    json!(in alloc; {"again": taken.again, "version_id": taken.id.number()})
+    plain_object(
+        alloc,
+        &[
+            ("again", Plain::Flag(taken.again)),
+            ("version_id", Plain::Whole(u64::from(taken.id.number()))),
+        ],
+    )
 }
 
 fn certificate_value(alloc: Global, entry: &Entry, tenures: &[Tenure]) -> Result<Value, AllocError>
@@ -240,45 +284,54 @@ fn certificate_value(alloc: Global, entry: &Entry, tenures: &[Tenure]) -> Result
 fn text_member(alloc: Global, text: &str) -> Result<Value, AllocError>
     ensures { IfOk result (λ value. view value ≡ spec.text_member text.now) }
 {
-    json!(in alloc; {"text": text})
+    plain_object(alloc, &[("text", Plain::Text(text))])
 }
 
 fn moved_value(alloc: Global, bytes: u64) -> Result<Value, AllocError>
     ensures { IfOk result (λ value. view value ≡ spec.moved_value bytes) }
 {
-    json!(in alloc; {"bytes": bytes})
+    plain_object(alloc, &[("bytes", Plain::Whole(bytes))])
 }
 
 fn default_answer(alloc: Global, default: Option<Default>) -> Result<Value, AllocError>
     ensures { IfOk result (λ value. view value ≡ spec.answer_value (answer.Default default)) }
 {
     let default = default_value(alloc, default)?;
-    json!(in alloc; {"default": default})
+    object_of(alloc, "default", default)
 }
 
 fn admitted_value(alloc: Global, id: VersionId) -> Result<Value, AllocError>
     ensures { IfOk result (λ value. view value ≡ spec.answer_value (answer.Admitted id)) }
 {
-    json!(in alloc; {"version_id": id.number()})
+    plain_object(
+        alloc,
+        &[("version_id", Plain::Whole(u64::from(id.number())))],
+    )
 }
 
 fn marked_value(alloc: Global, id: VersionId) -> Result<Value, AllocError>
     ensures { IfOk result (λ value. view value ≡ spec.answer_value (answer.Marked id)) }
 {
-    json!(in alloc; {"delete_marker": true, "version_id": id.number()})
+    plain_object(
+        alloc,
+        &[
+            ("delete_marker", Plain::Flag(true)),
+            ("version_id", Plain::Whole(u64::from(id.number()))),
+        ],
+    )
 }
 
 fn retention_answer(alloc: Global, retention: Option<Retention>) -> Result<Value, AllocError>
     ensures { IfOk result (λ value. view value ≡ spec.answer_value (answer.Retention retention)) }
 {
     let retention = retention_value(alloc, retention)?;
-    json!(in alloc; {"retention": retention})
+    object_of(alloc, "retention", retention)
 }
 
 fn hold_value(alloc: Global, hold: bool) -> Result<Value, AllocError>
     ensures { IfOk result (λ value. view value ≡ spec.answer_value (answer.Hold hold)) }
 {
-    json!(in alloc; {"hold": hold_name(hold)})
+    plain_object(alloc, &[("hold", Plain::Text(hold_name(hold)))])
 }
 
 fn answer_value(alloc: Global, answer: &Answer) -> Result<Value, AllocError>
@@ -308,20 +361,40 @@ fn denied_value(alloc: Global, reason: Reason) -> Result<Value, AllocError>
     ensures { IfOk result (λ value. view value ≡ spec.refusal_value (AccessDenied reason)) }
 {
     let refusal = Refusal::AccessDenied(reason);
-    json!(in alloc; {"code": refusal.name(), "n": refusal.number(), "reason": reason.name()})
+    plain_object(
+        alloc,
+        &[
+            ("code", Plain::Text(refusal.name())),
+            ("n", Plain::Whole(u64::from(refusal.number()))),
+            ("reason", Plain::Text(reason.name())),
+        ],
+    )
 }
 
 fn no_key_value(alloc: Global, marker: bool) -> Result<Value, AllocError>
     ensures { IfOk result (λ value. view value ≡ spec.refusal_value (NoSuchKey marker)) }
 {
     let refusal = Refusal::NoSuchKey(marker);
-    json!(in alloc; {"code": refusal.name(), "marker": marker, "n": refusal.number()})
+    plain_object(
+        alloc,
+        &[
+            ("code", Plain::Text(refusal.name())),
+            ("marker", Plain::Flag(marker)),
+            ("n", Plain::Whole(u64::from(refusal.number()))),
+        ],
+    )
 }
 
 fn numbered_value(alloc: Global, refusal: Refusal) -> Result<Value, AllocError>
     ensures { IfOk result (λ value. view value ≡ spec.numbered_value refusal) }
 {
-    json!(in alloc; {"code": refusal.name(), "n": refusal.number()})
+    plain_object(
+        alloc,
+        &[
+            ("code", Plain::Text(refusal.name())),
+            ("n", Plain::Whole(u64::from(refusal.number()))),
+        ],
+    )
 }
 
 fn refusal_value(alloc: Global, refusal: Refusal) -> Result<Value, AllocError>
@@ -347,7 +420,13 @@ fn stop_name(stop: Stop) -> &'static str
 fn stopped_value(alloc: Global, changes: u64, stop: Stop) -> Result<Value, AllocError>
     ensures { IfOk result (λ value. view value ≡ spec.stopped_value changes stop) }
 {
-    json!(in alloc; {"changes": changes, "fault": stop_name(stop)})
+    plain_object(
+        alloc,
+        &[
+            ("changes", Plain::Whole(changes)),
+            ("fault", Plain::Text(stop_name(stop))),
+        ],
+    )
 }
 
 fn reply_value(alloc: Global, reply: &Reply) -> Result<Value, AllocError>
@@ -356,15 +435,15 @@ fn reply_value(alloc: Global, reply: &Reply) -> Result<Value, AllocError>
     match reply {
         Reply::Done(answer) => {
             let answer = answer_value(alloc, answer)?;
-            json!(in alloc; {"ok": answer})
+            object_of(alloc, "ok", answer)
         }
         Reply::Refused(refusal) => {
             let error = refusal_value(alloc, *refusal)?;
-            json!(in alloc; {"error": error})
+            object_of(alloc, "error", error)
         }
         Reply::Stopped(changes, stop) => {
             let stopped = stopped_value(alloc, *changes, *stop)?;
-            json!(in alloc; {"stopped": stopped})
+            object_of(alloc, "stopped", stopped)
         }
     }
 }

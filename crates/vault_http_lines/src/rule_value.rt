@@ -1,10 +1,11 @@
 //! Lifecycle rules as S3's JSON has them (API Reference, "GetBucketLifecycleConfiguration").
-ghost use Rattle.std.specs.Prelude.{◌≡◌, IfOk, OnOk, None, Some, false, map, option_map, true};
+ghost use Rattle.std.specs.Prelude.{◌≡◌, IfOk, OnOk, codes, map, option_map};
 ghost use Rattle.serde_json.specs.View.{view, members_view};
 ghost use Rattle.vault_http_lines.specs.Putting.{put_if};
 ghost use Rattle.vault_http_lines.specs.ReplyLine as spec;
 
-use serde_json::{Map, Value, json, put};
+use crate::object::{Plain, object_of, plain_object, put_plain};
+use serde_json::{Map, Value, put};
 use std::alloc::{AllocError, Global};
 use vault_rules::rule::{Noncurrent, Rule};
 use vault_rules::rule_set::RuleSet;
@@ -15,7 +16,7 @@ pub(crate) fn rules_value(alloc: Global, rules: &RuleSet) -> Result<Value, Alloc
     ensures { IfOk result (λ value. view value ≡ spec.rules_value rules.now) }
 {
     let list = Value::Array(rule_values(alloc, rules.as_slice())?);
-    json!(in alloc; {"rules": list})
+    object_of(alloc, "rules", list)
 }
 
 fn rule_values(alloc: Global, rules: &[Rule]) -> Result<Vec<Value>, AllocError>
@@ -35,40 +36,35 @@ fn rule_value(alloc: Global, rule: &Rule) -> Result<Value, AllocError>
     Ok(Value::Object(rule_members(alloc, rule)?))
 }
 
-/// Puts in a member, where there is a value for it.
-fn put_if(
-    members: &mut Map<String, Value>,
-    alloc: Global,
-    name: &str,
-    value: Option<Value>,
-) -> Result<(), AllocError>
-    ensures { OnOk result (members_view members.new.entries ≡ put_if name.now (option_map view value) (members_view members.old.entries)) }
-{
-    match value {
-        Some(value) => put(members, alloc, name, value),
-        None => Ok(()),
-    }
-}
-
 /// The members of a rule that are always there, but for its id.
 fn named_members(alloc: Global, rule: &Rule) -> Result<Map<String, Value>, AllocError>
     ensures { IfOk result (λ members. members_view members.entries ≡ spec.named_members rule.now) }
 {
-    let prefix = json!(in alloc; rule.prefix.as_str())?;
-    let status = json!(in alloc; status_name(rule.enabled))?;
     let mut members = Map::new(alloc);
-    put(&mut members, alloc, "Status", status)?;
-    put(&mut members, alloc, "Prefix", prefix)?;
+    put_plain(
+        &mut members,
+        alloc,
+        &[
+            ("Prefix", Plain::Text(rule.prefix.as_str())),
+            ("Status", Plain::Text(status_name(rule.enabled))),
+        ],
+    )?;
     Ok(members)
 }
 
-fn size_value(alloc: Global, size: Option<u64>) -> Result<Option<Value>, AllocError>
-    ensures { IfOk result (λ value. option_map view value ≡ option_map spec.whole size) }
+/// Puts in a bound of sizes, where there is one.
+fn put_size(
+    members: &mut Map<String, Value>,
+    alloc: Global,
+    name: &str,
+    size: Option<u64>,
+) -> Result<(), AllocError>
+    ensures { OnOk result (members_view members.new.entries ≡ put_if name.now (option_map spec.whole size) (members_view members.old.entries)) }
 {
-    match size {
-        Some(size) => Ok(Some(json!(in alloc; size)?)),
-        None => Ok(None),
-    }
+    let Some(size) = size else {
+        return Ok(());
+    };
+    put_plain(members, alloc, &[(name, Plain::Whole(size))])
 }
 
 /// Those, with the bounds of sizes.
@@ -76,11 +72,9 @@ fn size_value(alloc: Global, size: Option<u64>) -> Result<Option<Value>, AllocEr
 fn bounded_members(alloc: Global, rule: &Rule) -> Result<Map<String, Value>, AllocError>
     ensures { IfOk result (λ members. members_view members.entries ≡ spec.bounded_members rule.now) }
 {
-    let smaller = size_value(alloc, rule.smaller)?;
-    let larger = size_value(alloc, rule.larger)?;
     let mut members = named_members(alloc, rule)?;
-    put_if(&mut members, alloc, "ObjectSizeLessThan", smaller)?;
-    put_if(&mut members, alloc, "ObjectSizeGreaterThan", larger)?;
+    put_size(&mut members, alloc, "ObjectSizeLessThan", rule.smaller)?;
+    put_size(&mut members, alloc, "ObjectSizeGreaterThan", rule.larger)?;
     Ok(members)
 }
 
@@ -89,19 +83,30 @@ fn bounded_members(alloc: Global, rule: &Rule) -> Result<Map<String, Value>, All
 fn rule_members(alloc: Global, rule: &Rule) -> Result<Map<String, Value>, AllocError>
     ensures { IfOk result (λ members. members_view members.entries ≡ spec.rule_members rule.now) }
 {
-    let noncurrent = noncurrent_of(alloc, rule.noncurrent)?;
-    let id = json!(in alloc; rule.id.as_str())?;
-    let expiration = expiration_of(alloc, rule.days, rule.lone_markers)?;
     let mut members = bounded_members(alloc, rule)?;
-    put_if(
+    put_noncurrent(&mut members, alloc, rule.noncurrent)?;
+    put_plain(
         &mut members,
         alloc,
-        "NoncurrentVersionExpiration",
-        noncurrent,
+        &[("ID", Plain::Text(rule.id.as_str()))],
     )?;
-    put(&mut members, alloc, "ID", id)?;
-    put_if(&mut members, alloc, "Expiration", expiration)?;
+    put_expiration(&mut members, alloc, rule.days, rule.lone_markers)?;
     Ok(members)
+}
+
+/// Puts in when an entry is removed, where that is said.
+fn put_expiration(
+    members: &mut Map<String, Value>,
+    alloc: Global,
+    days: Option<u32>,
+    lone_markers: bool,
+) -> Result<(), AllocError>
+    ensures { OnOk result (members_view members.new.entries ≡ put_if (codes "Expiration") (spec.expiration_of days lone_markers) (members_view members.old.entries)) }
+{
+    match expiration_of(alloc, days, lone_markers)? {
+        Some(value) => put(members, alloc, "Expiration", value),
+        None => Ok(()),
+    }
 }
 
 fn expiration_of(
@@ -111,42 +116,38 @@ fn expiration_of(
 ) -> Result<Option<Value>, AllocError>
     ensures { IfOk result (λ value. option_map view value ≡ spec.expiration_of days lone_markers) }
 {
-    match days {
-        Some(days) => Ok(Some(days_value(alloc, days)?)),
-        None if lone_markers => Ok(Some(lone_markers_value(alloc)?)),
-        None => Ok(None),
-    }
+    let member = match days {
+        Some(days) => ("Days", Plain::Whole(u64::from(days))),
+        None if lone_markers => ("ExpiredObjectDeleteMarker", Plain::Flag(true)),
+        None => return Ok(None),
+    };
+    Ok(Some(plain_object(alloc, &[member])?))
 }
 
-fn days_value(alloc: Global, days: u32) -> Result<Value, AllocError>
-    ensures { IfOk result (λ value. Some (view value) ≡ spec.expiration_of (Some days) false) }
+/// Puts in when an entry that isn't current is removed, where that is said.
+fn put_noncurrent(
+    members: &mut Map<String, Value>,
+    alloc: Global,
+    noncurrent: Option<Noncurrent>,
+) -> Result<(), AllocError>
+    ensures { OnOk result (members_view members.new.entries ≡ put_if (codes "NoncurrentVersionExpiration") (option_map spec.noncurrent_value noncurrent) (members_view members.old.entries)) }
 {
-    json!(in alloc; {"Days": days})
-}
-
-fn lone_markers_value(alloc: Global) -> Result<Value, AllocError>
-    ensures { IfOk result (λ value. Some (view value) ≡ spec.expiration_of None true) }
-{
-    json!(in alloc; {"ExpiredObjectDeleteMarker": true})
-}
-
-fn noncurrent_of(alloc: Global, noncurrent: Option<Noncurrent>) -> Result<Option<Value>, AllocError>
-    ensures { IfOk result (λ value. option_map view value ≡ option_map spec.noncurrent_value noncurrent) }
-{
-    match noncurrent {
-        Some(noncurrent) => Ok(Some(noncurrent_value(alloc, noncurrent)?)),
-        None => Ok(None),
-    }
+    let Some(noncurrent) = noncurrent else {
+        return Ok(());
+    };
+    let value = noncurrent_value(alloc, noncurrent)?;
+    put(members, alloc, "NoncurrentVersionExpiration", value)
 }
 
 fn noncurrent_value(alloc: Global, noncurrent: Noncurrent) -> Result<Value, AllocError>
     ensures { IfOk result (λ value. view value ≡ spec.noncurrent_value noncurrent) }
 {
-    let days = noncurrent.days;
+    let days = ("NoncurrentDays", Plain::Whole(u64::from(noncurrent.days)));
     match noncurrent.newer {
         Some(newer) => {
-            json!(in alloc; {"NewerNoncurrentVersions": newer, "NoncurrentDays": days})
+            let newer = ("NewerNoncurrentVersions", Plain::Whole(u64::from(newer)));
+            plain_object(alloc, &[newer, days])
         }
-        None => json!(in alloc; {"NoncurrentDays": days}),
+        None => plain_object(alloc, &[days]),
     }
 }
