@@ -1,5 +1,7 @@
 //! The lines that there are: the `do` of each, and its members.
 ghost use Rattle.std.specs.Prelude.{◌≡◌, map};
+ghost use Rattle.std.specs.List.{find};
+ghost use Rattle.std.specs.Str.{bytes_eq};
 ghost use Rattle.serde_json.specs.View.{view};
 ghost use Rattle.vault_http_values.specs.Shape.{has_members as are_members};
 ghost use Rattle.vault_http_lines.specs.Verb as spec;
@@ -35,6 +37,33 @@ pub enum Verb {
     Certificate,
     Intake,
 }
+
+const VERBS: [Verb; 24] = [
+    Verb::AddDept,
+    Verb::AddCaller,
+    Verb::CloseCaller,
+    Verb::AddBucket,
+    Verb::MoveBucket,
+    Verb::SetDefault,
+    Verb::GetDefault,
+    Verb::SetRules,
+    Verb::GetRules,
+    Verb::DropRules,
+    Verb::Put,
+    Verb::Get,
+    Verb::Head,
+    Verb::ListVersions,
+    Verb::Delete,
+    Verb::DeleteVersion,
+    Verb::SetRetention,
+    Verb::GetRetention,
+    Verb::SetHold,
+    Verb::GetHold,
+    Verb::Run,
+    Verb::Report,
+    Verb::Certificate,
+    Verb::Intake,
+];
 
 const AT: (&str, Kind) = ("at", Kind::Text);
 
@@ -174,37 +203,55 @@ const INTAKE: [(&str, Kind); 12] = [
     ("hold", Kind::OptionalText),
 ];
 
+/// The first of these verbs that has that name.
+fn named(verbs: &[Verb], name: &str) -> Option<Verb>
+    ensures { result ≡ find (λ verb. bytes_eq name.now (spec.verb_name verb)) verbs.now }
+{
+    for verb in verbs {
+        if name == verb.name() {
+            return Some(*verb);
+        }
+    }
+    None
+}
+
 impl Verb {
     /// The verb of that name, as `delete-version`.
     pub fn read(text: &str) -> Option<Verb>
         ensures { result ≡ spec.verb_named text.now }
     {
-        match text {
-            "add-dept" => Some(Verb::AddDept),
-            "add-caller" => Some(Verb::AddCaller),
-            "close-caller" => Some(Verb::CloseCaller),
-            "add-bucket" => Some(Verb::AddBucket),
-            "move-bucket" => Some(Verb::MoveBucket),
-            "set-default" => Some(Verb::SetDefault),
-            "get-default" => Some(Verb::GetDefault),
-            "set-rules" => Some(Verb::SetRules),
-            "get-rules" => Some(Verb::GetRules),
-            "drop-rules" => Some(Verb::DropRules),
-            "put" => Some(Verb::Put),
-            "get" => Some(Verb::Get),
-            "head" => Some(Verb::Head),
-            "list-versions" => Some(Verb::ListVersions),
-            "delete" => Some(Verb::Delete),
-            "delete-version" => Some(Verb::DeleteVersion),
-            "set-retention" => Some(Verb::SetRetention),
-            "get-retention" => Some(Verb::GetRetention),
-            "set-hold" => Some(Verb::SetHold),
-            "get-hold" => Some(Verb::GetHold),
-            "run" => Some(Verb::Run),
-            "report" => Some(Verb::Report),
-            "certificate" => Some(Verb::Certificate),
-            "intake" => Some(Verb::Intake),
-            _ => None,
+        named(&VERBS, text)
+    }
+
+    /// The name that a line's `do` calls this verb by.
+    fn name(self) -> &'static str
+        ensures { result.now ≡ spec.verb_name self }
+    {
+        match self {
+            Verb::AddDept => "add-dept",
+            Verb::AddCaller => "add-caller",
+            Verb::CloseCaller => "close-caller",
+            Verb::AddBucket => "add-bucket",
+            Verb::MoveBucket => "move-bucket",
+            Verb::SetDefault => "set-default",
+            Verb::GetDefault => "get-default",
+            Verb::SetRules => "set-rules",
+            Verb::GetRules => "get-rules",
+            Verb::DropRules => "drop-rules",
+            Verb::Put => "put",
+            Verb::Get => "get",
+            Verb::Head => "head",
+            Verb::ListVersions => "list-versions",
+            Verb::Delete => "delete",
+            Verb::DeleteVersion => "delete-version",
+            Verb::SetRetention => "set-retention",
+            Verb::GetRetention => "get-retention",
+            Verb::SetHold => "set-hold",
+            Verb::GetHold => "get-hold",
+            Verb::Run => "run",
+            Verb::Report => "report",
+            Verb::Certificate => "certificate",
+            Verb::Intake => "intake",
         }
     }
 
