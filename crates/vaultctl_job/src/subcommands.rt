@@ -41,30 +41,6 @@ pub(crate) struct Subcommand {
     arguments: &'static [Argument],
 }
 
-static SUBCOMMANDS: [Subcommand; 14] = [
-    records::INIT,
-    records::DEPT,
-    records::CALLER,
-    records::BUCKET,
-    records::MOVE,
-    work::INTAKE,
-    work::RUN,
-    work::REPORT,
-    work::CERTIFICATE,
-    files::REGISTER,
-    files::VERIFY,
-    files::REPLAY,
-    files::SERVE,
-    files::MIGRATE,
-];
-
-/// All subcommands, in the order in which help shows them.
-pub(crate) fn subcommands() -> &'static [Subcommand]
-    ensures { map shape_for result.now ≡ spec.subcommands }
-{
-    &SUBCOMMANDS
-}
-
 /// A command of that name, with what it does and what stands below its words in help, and as yet no words.
 pub(crate) fn named<'a>(alloc: Global, name: &'a str, about: &'a str, below: &'a str) -> Command<'a>
     ensures app { app_of result ≡ new_app name.entry.now }
@@ -114,7 +90,7 @@ fn with_subcommand<'a>(
 }
 
 /// The command with these subcommands behind those that it has, in their order.
-pub(crate) fn with_subcommands<'a>(
+fn with_subcommands<'a>(
     alloc: Global,
     mut command: Command<'a>,
     subcommands: &[Subcommand],
@@ -125,4 +101,13 @@ pub(crate) fn with_subcommands<'a>(
         command = with_subcommand(alloc, command, *subcommand)?;
     }
     Ok(command)
+}
+
+/// The command with all subcommands behind those that it has, in the order in which help shows them.
+pub(crate) fn with_all<'a>(alloc: Global, command: Command<'a>) -> Result<Command<'a>, AllocError>
+    ensures { IfOk result (λ c. app_of c ≡ fold with_subcommand (app_of command.entry) spec.subcommands) }
+{
+    let command = with_subcommands(alloc, command, records::all())?;
+    let command = with_subcommands(alloc, command, work::all())?;
+    with_subcommands(alloc, command, files::all())
 }

@@ -6,7 +6,7 @@ ghost use Rattle.vaultctl_job.specs.Words.{vaultctl, job_for, job_in, needing_su
 use crate::fault::WordsFault;
 use crate::job::Job;
 use crate::reading::job_named;
-use crate::subcommands::{named, subcommands, with_subcommands};
+use crate::subcommands::{named, with_all};
 use clap::error::ErrorKind;
 use clap::{ArgMatches, Command, Error};
 use std::alloc::{AllocError, Global};
@@ -28,7 +28,7 @@ fn command<'a>(alloc: Global) -> Result<Command<'a>, AllocError>
         "A records vault: what is put in stays until its retention ends",
         "'vaultctl COMMAND --help' tells the words of a command, and how it refuses.\n\nExample:\n  vaultctl init records.vault\n  vaultctl dept records.vault records --as registrar\n  vaultctl verify records.vault\n\nStatus: 0 done; 1 refused, stopped, or a fault; 2 the words aren't understood,\nor ask for help.\n\nMore: man vaultctl, and the manual: docs/MANUAL.md, in the package\nhtml/MANUAL.html.",
     );
-    with_subcommands(alloc, needs_subcommand(top), subcommands())
+    with_all(alloc, needs_subcommand(top))
 }
 
 /// The job of the subcommand that was met.

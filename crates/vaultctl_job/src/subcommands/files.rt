@@ -1,8 +1,21 @@
 //! Subcommands on a vault's file as a whole.
+ghost use Rattle.std.specs.Prelude.{◌≡◌, ◌∷◌, [], map};
+ghost use Rattle.vaultctl_job.specs.Forms.{shape_for};
+ghost use Rattle.vaultctl_job.specs.Words as spec;
+
 use super::Subcommand;
 use crate::arguments::{Argument, FILE};
 
-pub(super) const REGISTER: Subcommand = Subcommand {
+static ALL: [Subcommand; 5] = [REGISTER, VERIFY, REPLAY, SERVE, MIGRATE];
+
+/// All of them, in the order in which help shows them.
+pub(super) fn all() -> &'static [Subcommand]
+    ensures { map shape_for result.now ≡ spec.register_app.top ∷ spec.verify_app.top ∷ spec.replay_app.top ∷ spec.serve_app.top ∷ spec.migrate_app.top ∷ [] }
+{
+    &ALL
+}
+
+const REGISTER: Subcommand = Subcommand {
     name: "register",
     about: "Prints the register of all removals as CSV",
     below: below!(
@@ -14,7 +27,7 @@ pub(super) const REGISTER: Subcommand = Subcommand {
     arguments: &[FILE],
 };
 
-pub(super) const VERIFY: Subcommand = Subcommand {
+const VERIFY: Subcommand = Subcommand {
     name: "verify",
     about: "Audits a vault's file",
     below: below!(
@@ -26,7 +39,7 @@ pub(super) const VERIFY: Subcommand = Subcommand {
     arguments: &[FILE],
 };
 
-pub(super) const REPLAY: Subcommand = Subcommand {
+const REPLAY: Subcommand = Subcommand {
     name: "replay",
     about: "Answers a script of commands on standard input",
     below: below!(
@@ -41,7 +54,7 @@ pub(super) const REPLAY: Subcommand = Subcommand {
     }],
 };
 
-pub(super) const SERVE: Subcommand = Subcommand {
+const SERVE: Subcommand = Subcommand {
     name: "serve",
     about: "Serves HTTP requests on 127.0.0.1",
     below: below!(
@@ -53,7 +66,7 @@ pub(super) const SERVE: Subcommand = Subcommand {
     arguments: &[FILE, Argument::Port, Argument::Count],
 };
 
-pub(super) const MIGRATE: Subcommand = Subcommand {
+const MIGRATE: Subcommand = Subcommand {
     name: "migrate",
     about: "Copies the vault of an earlier version into a new file",
     below: below!(

@@ -1,8 +1,21 @@
 //! Subcommands that make a vault and its records, and change who has them.
+ghost use Rattle.std.specs.Prelude.{◌≡◌, ◌∷◌, [], map};
+ghost use Rattle.vaultctl_job.specs.Forms.{shape_for};
+ghost use Rattle.vaultctl_job.specs.Words as spec;
+
 use super::Subcommand;
 use crate::arguments::{Argument, FILE};
 
-pub(super) const INIT: Subcommand = Subcommand {
+static ALL: [Subcommand; 5] = [INIT, DEPT, CALLER, BUCKET, MOVE];
+
+/// All of them, in the order in which help shows them.
+pub(super) fn all() -> &'static [Subcommand]
+    ensures { map shape_for result.now ≡ spec.init_app.top ∷ spec.dept_app.top ∷ spec.caller_app.top ∷ spec.bucket_app.top ∷ spec.move_app.top ∷ [] }
+{
+    &ALL
+}
+
+const INIT: Subcommand = Subcommand {
     name: "init",
     about: "Makes a new vault in a file",
     below: below!(
@@ -17,7 +30,7 @@ pub(super) const INIT: Subcommand = Subcommand {
     }],
 };
 
-pub(super) const DEPT: Subcommand = Subcommand {
+const DEPT: Subcommand = Subcommand {
     name: "dept",
     about: "Adds a department",
     below: below!(
@@ -37,7 +50,7 @@ pub(super) const DEPT: Subcommand = Subcommand {
     ],
 };
 
-pub(super) const CALLER: Subcommand = Subcommand {
+const CALLER: Subcommand = Subcommand {
     name: "caller",
     about: "Adds a caller with rights, or closes one for good",
     below: below!(
@@ -60,7 +73,7 @@ pub(super) const CALLER: Subcommand = Subcommand {
     ],
 };
 
-pub(super) const BUCKET: Subcommand = Subcommand {
+const BUCKET: Subcommand = Subcommand {
     name: "bucket",
     about: "Adds a bucket to a department",
     below: below!(
@@ -84,7 +97,7 @@ pub(super) const BUCKET: Subcommand = Subcommand {
     ],
 };
 
-pub(super) const MOVE: Subcommand = Subcommand {
+const MOVE: Subcommand = Subcommand {
     name: "move",
     about: "Moves a bucket with what it holds to another department",
     below: below!(

@@ -1,8 +1,21 @@
 //! Subcommands for a day's work with buckets and departments.
+ghost use Rattle.std.specs.Prelude.{◌≡◌, ◌∷◌, [], map};
+ghost use Rattle.vaultctl_job.specs.Forms.{shape_for};
+ghost use Rattle.vaultctl_job.specs.Words as spec;
+
 use super::Subcommand;
 use crate::arguments::{Argument, FILE};
 
-pub(super) const INTAKE: Subcommand = Subcommand {
+static ALL: [Subcommand; 4] = [INTAKE, RUN, REPORT, CERTIFICATE];
+
+/// All of them, in the order in which help shows them.
+pub(super) fn all() -> &'static [Subcommand]
+    ensures { map shape_for result.now ≡ spec.intake_app.top ∷ spec.run_app.top ∷ spec.report_app.top ∷ spec.certificate_app.top ∷ [] }
+{
+    &ALL
+}
+
+const INTAKE: Subcommand = Subcommand {
     name: "intake",
     about: "Takes in files of a folder by a list",
     below: below!(
@@ -36,7 +49,7 @@ pub(super) const INTAKE: Subcommand = Subcommand {
     ],
 };
 
-pub(super) const RUN: Subcommand = Subcommand {
+const RUN: Subcommand = Subcommand {
     name: "run",
     about: "Carries out the lifecycle rules of a bucket",
     below: below!(
@@ -56,7 +69,7 @@ pub(super) const RUN: Subcommand = Subcommand {
     ],
 };
 
-pub(super) const REPORT: Subcommand = Subcommand {
+const REPORT: Subcommand = Subcommand {
     name: "report",
     about: "Prints the sums of a department",
     below: below!(
@@ -76,7 +89,7 @@ pub(super) const REPORT: Subcommand = Subcommand {
     ],
 };
 
-pub(super) const CERTIFICATE: Subcommand = Subcommand {
+const CERTIFICATE: Subcommand = Subcommand {
     name: "certificate",
     about: "Prints the certificate of destruction of a removed version",
     below: below!(
