@@ -1,8 +1,9 @@
 //! Vaults in files.
 ghost use Rattle.std.specs.Prelude.{◌≡◌, IfOk, OnOk, OnErr};
 ghost use Rattle.sqlite.specs.Files.{file_state, over_files, IsOpened};
+ghost use Rattle.sqlite.specs.Held.{state};
 ghost use Rattle.sqlite.specs.Start.{FindsIn};
-ghost use Rattle.sqlite.specs.State.{HasCleanDisk};
+ghost use Rattle.sqlite.specs.State.{HasCleanDisk, IsUnchanged, Survives};
 ghost use Rattle.sqlite_wal.specs.Files.{image_at};
 ghost use Rattle.vault_audit_model.specs.Spells.{AreSound};
 ghost use Rattle.vault_core_model.specs.Vault.{Vault, opening};
@@ -13,7 +14,7 @@ ghost use Rattle.vaultctl_machine.specs.Places.{after_a_look, with_one_given};
 
 use crate::places::place_at;
 use crate::unopened::Unopened;
-use sqlite::{Connection, Error, ErrorCode, FileFrom, FileStore, Start};
+use sqlite::{Alter, Connection, Error, ErrorCode, FileFrom, FileStore, Start};
 use std::alloc::Global;
 use std::io::{self, ErrorKind};
 use vault_base::refusal::Refusal;
@@ -144,6 +145,18 @@ pub fn close_vault<S: Start>(vault: FileVault<S>) {
     close(vault.into_connection());
 }
 
+/// The vault in the tables of a connection, over any store. It says no more than what one in files has to say.
+fn open_in<S: Alter>(
+    alloc: Global,
+    conn: Connection<S>,
+) -> Result<SqlKeeper<S>, (Refusal, Connection<S>)>
+    ensures sound { IfOk result (λ k. HasCleanDisk (state S.Store k.conn) → AreSound (state S.Store k.conn).now (kept_vault S.Store k.opening.at.items k.opening.known k.made.items)) }
+    ensures same { IfOk result (λ k. HasCleanDisk (state S.Store k.conn) → IsUnchanged (state S.Store conn) (state S.Store k.conn)) }
+    ensures crash { IfOk result (λ k. Survives (state S.Store conn) (state S.Store k.conn) (λ _. ⊥)) }
+{
+    SqlKeeper::open(alloc, conn)
+}
+
 /// The vault in the tables of a connection that was opened just now. One whose tables aren't sound is closed.
 fn found_in<S: Start>(
     alloc: Global,
@@ -155,13 +168,24 @@ fn found_in<S: Start>(
     ensures found { IfOk result (λ vault. HasCleanDisk (file_state vault.conn) → IsFoundIn (image_at S.Start) (kept_vault over_files vault.opening.at.items vault.opening.known vault.made.items)) }
     ensures held { (v : Vault) → IsHeldIn (image_at S.Start) v → IfOk result (λ vault. HasCleanDisk (file_state vault.conn) → kept_vault over_files vault.opening.at.items vault.opening.known vault.made.items ≡ v) }
 {
-    match SqlKeeper::open(alloc, conn) {
+    match open_in(alloc, conn) {
         Ok(vault) => Ok(vault),
         Err((refusal, conn)) => {
             close(conn);
             Err(Unopened::Refused(refusal))
         }
     }
+}
+
+/// A new vault in the empty store of a connection, of any kind. It says no more than what one in files has to say.
+fn create_in<S: Alter>(
+    alloc: Global,
+    conn: Connection<S>,
+) -> Result<SqlKeeper<S>, (Refusal, Connection<S>)>
+    ensures opening { IfOk result (λ k. HasCleanDisk (state S.Store k.conn) → kept_vault S.Store k.opening.at.items k.opening.known k.made.items ≡ opening) }
+    ensures sound { IfOk result (λ k. HasCleanDisk (state S.Store k.conn) → AreSound (state S.Store k.conn).now opening) }
+{
+    SqlKeeper::create(alloc, conn)
 }
 
 /// A new vault in the empty store of a connection. One in which a vault can't be made is closed.
@@ -172,7 +196,7 @@ fn made_in<S: Start>(
     ensures opening { IfOk result (λ vault. HasCleanDisk (file_state vault.conn) → kept_vault over_files vault.opening.at.items vault.opening.known vault.made.items ≡ opening) }
     ensures sound { IfOk result (λ vault. HasCleanDisk (file_state vault.conn) → AreSound (file_state vault.conn).now opening) }
 {
-    match SqlKeeper::create(alloc, conn) {
+    match create_in(alloc, conn) {
         Ok(vault) => Ok(vault),
         Err((refusal, conn)) => {
             close(conn);
