@@ -71,7 +71,30 @@ const WHO: (&str, Kind) = ("as", Kind::Text);
 
 const VERB: (&str, Kind) = ("do", Kind::Text);
 
-const OF_DEPT: [(&str, Kind); 4] = [AT, WHO, VERB, ("dept", Kind::Text)];
+const DEPT: (&str, Kind) = ("dept", Kind::Text);
+
+const BUCKET: (&str, Kind) = ("bucket", Kind::Text);
+
+const KEY: (&str, Kind) = ("key", Kind::Text);
+
+const ID: (&str, Kind) = ("id", Kind::Number);
+
+/// Without it the current entry is meant.
+const ID_OR_NONE: (&str, Kind) = ("id", Kind::OptionalNumber);
+
+const TEXT: (&str, Kind) = ("text", Kind::OptionalText);
+
+const HEX: (&str, Kind) = ("hex", Kind::OptionalText);
+
+const MODE: (&str, Kind) = ("mode", Kind::OptionalText);
+
+const UNTIL: (&str, Kind) = ("until", Kind::OptionalText);
+
+const HOLD: (&str, Kind) = ("hold", Kind::OptionalText);
+
+const BYPASS: (&str, Kind) = ("bypass", Kind::OptionalFlag);
+
+const OF_DEPT: [(&str, Kind); 4] = [AT, WHO, VERB, DEPT];
 
 const OF_CALLER: [(&str, Kind); 4] = [AT, WHO, VERB, ("caller", Kind::Text)];
 
@@ -84,123 +107,70 @@ const ADD_CALLER: [(&str, Kind); 6] = [
     ("rights", Kind::Texts),
 ];
 
-const OF_BUCKET: [(&str, Kind); 4] = [AT, WHO, VERB, ("bucket", Kind::Text)];
+const OF_BUCKET: [(&str, Kind); 4] = [AT, WHO, VERB, BUCKET];
 
-const OF_BUCKET_AND_DEPT: [(&str, Kind); 5] = [
-    AT,
-    WHO,
-    VERB,
-    ("bucket", Kind::Text),
-    ("dept", Kind::Text),
-];
+const OF_BUCKET_AND_DEPT: [(&str, Kind); 5] = [AT, WHO, VERB, BUCKET, DEPT];
 
 const SET_DEFAULT: [(&str, Kind); 7] = [
     AT,
     WHO,
     VERB,
-    ("bucket", Kind::Text),
-    ("mode", Kind::OptionalText),
+    BUCKET,
+    MODE,
     ("days", Kind::OptionalNumber),
     ("years", Kind::OptionalNumber),
 ];
 
-const SET_RULES: [(&str, Kind); 5] = [
-    AT,
-    WHO,
-    VERB,
-    ("bucket", Kind::Text),
-    ("rules", Kind::Rules),
-];
+const SET_RULES: [(&str, Kind); 5] = [AT, WHO, VERB, BUCKET, ("rules", Kind::Rules)];
 
-/// Without an id the current entry is meant.
-const OF_ENTRY: [(&str, Kind); 6] = [
-    AT,
-    WHO,
-    VERB,
-    ("bucket", Kind::Text),
-    ("key", Kind::Text),
-    ("id", Kind::OptionalNumber),
-];
+const OF_ENTRY: [(&str, Kind); 6] = [AT, WHO, VERB, BUCKET, KEY, ID_OR_NONE];
 
-const PUT: [(&str, Kind); 10] = [
-    AT,
-    WHO,
-    VERB,
-    ("bucket", Kind::Text),
-    ("key", Kind::Text),
-    ("text", Kind::OptionalText),
-    ("hex", Kind::OptionalText),
-    ("mode", Kind::OptionalText),
-    ("until", Kind::OptionalText),
-    ("hold", Kind::OptionalText),
-];
+const PUT: [(&str, Kind); 10] = [AT, WHO, VERB, BUCKET, KEY, TEXT, HEX, MODE, UNTIL, HOLD];
 
 const LIST_VERSIONS: [(&str, Kind); 8] = [
     AT,
     WHO,
     VERB,
-    ("bucket", Kind::Text),
+    BUCKET,
     ("prefix", Kind::OptionalText),
     ("after_key", Kind::OptionalText),
     ("after_id", Kind::OptionalNumber),
     ("most", Kind::OptionalNumber),
 ];
 
-const DELETE: [(&str, Kind); 5] = [AT, WHO, VERB, ("bucket", Kind::Text), ("key", Kind::Text)];
+const DELETE: [(&str, Kind); 5] = [AT, WHO, VERB, BUCKET, KEY];
 
-const DELETE_VERSION: [(&str, Kind); 7] = [
-    AT,
-    WHO,
-    VERB,
-    ("bucket", Kind::Text),
-    ("key", Kind::Text),
-    ("id", Kind::Number),
-    ("bypass", Kind::OptionalFlag),
-];
+const DELETE_VERSION: [(&str, Kind); 7] = [AT, WHO, VERB, BUCKET, KEY, ID, BYPASS];
 
 const SET_RETENTION: [(&str, Kind); 9] = [
     AT,
     WHO,
     VERB,
-    ("bucket", Kind::Text),
-    ("key", Kind::Text),
-    ("id", Kind::OptionalNumber),
+    BUCKET,
+    KEY,
+    ID_OR_NONE,
     ("mode", Kind::Text),
     ("until", Kind::Text),
-    ("bypass", Kind::OptionalFlag),
+    BYPASS,
 ];
 
-const SET_HOLD: [(&str, Kind); 7] = [
-    AT,
-    WHO,
-    VERB,
-    ("bucket", Kind::Text),
-    ("key", Kind::Text),
-    ("id", Kind::OptionalNumber),
-    ("hold", Kind::Text),
-];
+const SET_HOLD: [(&str, Kind); 7] = [AT, WHO, VERB, BUCKET, KEY, ID_OR_NONE, ("hold", Kind::Text)];
 
-const CERTIFICATE: [(&str, Kind); 5] = [
-    AT,
-    WHO,
-    VERB,
-    ("bucket", Kind::Text),
-    ("id", Kind::Number),
-];
+const CERTIFICATE: [(&str, Kind); 5] = [AT, WHO, VERB, BUCKET, ID];
 
 const INTAKE: [(&str, Kind); 12] = [
     AT,
     WHO,
     VERB,
-    ("bucket", Kind::Text),
+    BUCKET,
     ("batch", Kind::Text),
     ("line", Kind::Number),
-    ("key", Kind::Text),
-    ("text", Kind::OptionalText),
-    ("hex", Kind::OptionalText),
-    ("mode", Kind::OptionalText),
-    ("until", Kind::OptionalText),
-    ("hold", Kind::OptionalText),
+    KEY,
+    TEXT,
+    HEX,
+    MODE,
+    UNTIL,
+    HOLD,
 ];
 
 /// The first of these verbs that has that name.
