@@ -13,6 +13,12 @@ done_at_zero P (Ok Done) p z = p
 done_at_zero P (Ok Refused) p z = absurd (cc)
 done_at_zero P (Err fault) p z = absurd (cc)
 
+-- status 0 is that of a job that was done, so what holds of its outcome holds of that
+pub holds_at_zero : (P : Result Outcome JobFault → Type 0) (outcome : Result Outcome JobFault) → P outcome → status_of outcome ≡ 0 → P (Ok Done)
+holds_at_zero P (Ok Done) p z = p
+holds_at_zero P (Ok Refused) p z = absurd (cc)
+holds_at_zero P (Err fault) p z = absurd (cc)
+
 -- status 0 is that of a vault that was made, of which holds what holds where it was
 pub made_at_zero : (P : Type 0) (made : Result (Unit {0}) Unopened) → made_status made ≡ 0 → OnOk made P → P
 made_at_zero P (Ok done) z is = is

@@ -7,7 +7,7 @@ ghost use Rattle.vault_values.specs.Fault.{Gives};
 ghost use Rattle.vaultctl_commands.specs.Printed.{TellsReply};
 ghost use Rattle.vaultctl_perform.specs.Asked as spec;
 ghost use Rattle.vaultctl_commands.specs.declared.asked.Asked.{Asked as AskedOf};
-ghost use Rattle.vaultctl_commands.specs.declared.outcome.Outcome.TheVariants.{Done};
+ghost use Rattle.vaultctl_perform.specs.Told.{TellsAsked};
 
 use crate::telling::{tell_fault, tell_value};
 use crate::work::{Work, in_vault};
@@ -65,7 +65,7 @@ fn carry_out_asked<C: Clock, K: Keeper, W: Write>(
 }
 
 impl Work for Asked {
-    ghost tells = { TellsReply Done };
+    ghost tells = { TellsAsked };
 
     /// On a terminal a run tells how far it has come.
     fn terminal(&self, rt: &HostRuntime) -> Option<Stderr> {

@@ -62,7 +62,7 @@ fn done_or_fault(written: Result<(), ExportFault>) -> Result<Outcome, JobFault>
 
 /// The register of a vault's removals.
 impl Work for RegisterJob {
-    ghost tells = { λ before after. ⊤ };
+    ghost tells = { λ outcome before after. ⊤ };
 
     fn terminal(&self, _rt: &HostRuntime) -> Option<Stderr> {
         None
@@ -93,7 +93,7 @@ fn replayed(answered: Result<(), ReplayFault>) -> Result<Outcome, JobFault>
 
 /// The replies to a script.
 impl Work for ReplayJob {
-    ghost tells = { λ before after. ⊤ };
+    ghost tells = { λ outcome before after. ⊤ };
 
     fn terminal(&self, _rt: &HostRuntime) -> Option<Stderr> {
         None
@@ -122,7 +122,7 @@ fn served(ended: Result<(), PortFault>) -> Result<Outcome, JobFault>
 
 /// The answers to requests, at a port of 127.0.0.1.
 impl Work for ServeJob {
-    ghost tells = { λ before after. ⊤ };
+    ghost tells = { λ outcome before after. ⊤ };
 
     fn terminal(&self, _rt: &HostRuntime) -> Option<Stderr> {
         None

@@ -5,7 +5,7 @@ ghost use Rattle.vault_core_model.specs.Step.{Reached};
 ghost use Rattle.vault_values.specs.Fault.{Gives};
 ghost use Rattle.vaultctl_commands.specs.Told.{IsIntakeSteady, TellsIntake};
 ghost use Rattle.vaultctl_commands.specs.declared.asked.AskedIntake.{AskedIntake as AskedOf};
-ghost use Rattle.vaultctl_commands.specs.declared.outcome.Outcome.TheVariants.{Done};
+ghost use Rattle.vaultctl_perform.specs.Told.{TellsTakenIn};
 
 use crate::asked::reading;
 use crate::telling::{tell_fault, tell_value};
@@ -95,7 +95,7 @@ struct Intake<'a> {
 }
 
 impl Work for Intake<'_> {
-    ghost tells = { TellsIntake Done };
+    ghost tells = { TellsTakenIn };
 
     fn terminal(&self, _rt: &HostRuntime) -> Option<Stderr> {
         None

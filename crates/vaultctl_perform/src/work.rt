@@ -1,6 +1,7 @@
 //! What is done with the vault in a file: it is opened, handed over, and closed.
-ghost use Rattle.std.specs.Prelude.{◌≡◌, ◌≢◌, ℕ, List, Option};
-ghost use Rattle.vaultctl_perform.specs.Status.{status_of};
+ghost use Rattle.std.specs.Prelude.{◌≡◌, ◌≢◌, ℕ, List, Option, Ok, Result as AnyResult};
+ghost use Rattle.vaultctl_commands.specs.declared.fault.JobFault.{JobFault as AnyFault};
+ghost use Rattle.vaultctl_commands.specs.declared.outcome.Outcome.{Outcome as AnyOutcome};
 
 use crate::telling::{status, tell_cause};
 use sqlite::Start;
@@ -13,8 +14,8 @@ use vaultctl_machine::vaults::{FileVault, Machine, close_vault};
 
 /// What a job does with a vault.
 pub trait Work {
-    /// What it has told, where it is done.
-    ghost tells: { Option (List ℕ) → Option (List ℕ) → Type 0 };
+    /// What it has told of what came of it.
+    ghost tells: { AnyResult AnyOutcome AnyFault → Option (List ℕ) → Option (List ℕ) → Type 0 };
 
     /// The terminal that is told for how many keys it has asked; none where nothing is told.
     fn terminal(&self, rt: &HostRuntime) -> Option<Stderr>;
@@ -29,7 +30,7 @@ pub trait Work {
         out: &mut W,
         err: &mut E,
     ) -> Result<Outcome, JobFault>
-        ensures { status_of result ≡ 0 → tells (W.contents out.old) (W.contents out.new) };
+        ensures { tells result (W.contents out.old) (W.contents out.new) };
 }
 
 /// Does it with a vault, and closes the vault.
@@ -41,7 +42,7 @@ fn with_vault<S: Start, T: Work, R: Read, W: Write, E: Write>(
     out: &mut W,
     err: &mut E,
 ) -> Result<Outcome, JobFault>
-    ensures told { status_of result ≡ 0 → T.tells (W.contents out.old) (W.contents out.new) }
+    ensures told { T.tells result (W.contents out.old) (W.contents out.new) }
 {
     let mut told = ToldKeeper::new(vault, work.terminal(rt));
     let outcome = work.carry_out(rt, &mut told, reader, out, err);
@@ -60,7 +61,7 @@ pub fn in_vault<S: Start, T: Work, R: Read, W: Write, E: Write>(
     out: &mut W,
     err: &mut E,
 ) -> u8
-    ensures told { result ≡ 0 → T.tells (W.contents out.old) (W.contents out.new) }
+    ensures told { result ≡ 0 → T.tells (Ok Outcome.Done) (W.contents out.old) (W.contents out.new) }
     ensures status { result ≢ 2 }
 {
     let rt = machine.runtime();

@@ -1,4 +1,4 @@
-use Rattle.std.proofs.Common.{◌≡◌, sym, ◌∙◌}
+use Rattle.std.proofs.Common.{sym, ◌∙◌}
 use Rattle.vaultctl_perform.proofs.StatusLemmas.{made_at_zero}
 use Rattle.vaultctl_perform.proofs.files.init.Goals as goal
 
