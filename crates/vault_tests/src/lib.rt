@@ -1,5 +1,5 @@
 //! Tests that cross crates: what faults of a reader, a writer or a device leave behind; limits, also those that no vault
-//! can be filled up to; what a run asks of its keeper, in full vaults too; and what a vault keeps of removed entries.
+//! can be filled up to; and what a run asks of its keeper, in full vaults too.
 #![tactic(auto)]
 
 #[cfg(test)]
@@ -10,8 +10,6 @@ mod full;
 mod limits;
 #[cfg(test)]
 mod pages;
-#[cfg(test)]
-mod removed;
 #[cfg(test)]
 mod rigged_keeper;
 #[cfg(test)]

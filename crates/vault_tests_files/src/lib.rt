@@ -1,6 +1,6 @@
-//! Tests of what is read from files and written into them: intakes over a folder in memory, also where a line is bad, or
-//! where a folder, a device, a writer or memory fails; folders on a disk, and what a terminal is told of a long job; the
-//! register of removals; certificates and reports as texts.
+//! Tests of what is read from files and written into them: lines that are no command; intakes over a folder in memory,
+//! also where that folder, a device, a writer or memory fails; folders on a disk, and what a terminal is told of a long
+//! job; the register of removals; certificates and reports as texts.
 #![tactic(auto)]
 
 #[cfg(test)]
@@ -13,8 +13,6 @@ mod disk_folder;
 mod export;
 #[cfg(test)]
 mod faults;
-#[cfg(test)]
-mod intake;
 #[cfg(test)]
 mod progress;
 #[cfg(test)]

@@ -1,11 +1,8 @@
-//! Tests of HTTP exchanges: the bytes of a request, and those of its answer; and what is answered where a request breaks
-//! off.
+//! Tests of HTTP exchanges: the bytes of a request, and those of its answer.
 #![tactic(auto)]
 
 #[cfg(test)]
 mod bodies;
-#[cfg(test)]
-mod broken;
 #[cfg(test)]
 mod entries;
 #[cfg(test)]

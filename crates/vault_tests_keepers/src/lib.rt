@@ -1,11 +1,13 @@
 //! Tests over both kinds of keeper, the list and tables in memory: rows, runs that a device stops, and what is told of
-//! buckets that were moved.
+//! buckets that were moved and of removed entries.
 #![tactic(auto)]
 
 #[cfg(test)]
 mod moves;
 #[cfg(test)]
 mod over_keepers;
+#[cfg(test)]
+mod removed;
 #[cfg(test)]
 mod rows;
 #[cfg(test)]

@@ -7,8 +7,6 @@ mod day;
 #[cfg(test)]
 mod expected;
 #[cfg(test)]
-mod files;
-#[cfg(test)]
 mod reads;
 #[cfg(test)]
 mod stopped;

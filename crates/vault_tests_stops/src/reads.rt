@@ -1,6 +1,5 @@
 //! How often a vault's files are read for what a keeper is asked, where one page of them has room in memory: as often
 //! with many entries as with few, and for the first removed entry less often than for all.
-use crate::files::{ALL_CALLS, fused};
 use sqlite::{Connection, FileStore, Files, Options, Unknown};
 use sqlite_disk::Disk;
 use std::alloc::Global;
@@ -8,40 +7,9 @@ use std::test::Fail;
 use vault_base::name::{BucketName, DeptName, KeyPrefix};
 use vault_core_model::keeper::{Keeper, Sink};
 use vault_core_model::records::Entry;
-use vault_failing::device::{Medium, opened};
+use vault_failing::device::{ALL_CALLS, Bytes, Media, Reading};
 use vault_store::sql_keeper::SqlKeeper;
 use vault_transcript::transcript::{play, replies};
-
-/// A vault's two files, which are there also when nobody has them open.
-struct Media {
-    log: Medium,
-    database: Medium,
-}
-
-// It is written out, so that a test does not prove again how each part is let go of.
-impl Drop for Media {
-    fn drop(self) {
-        let Media {
-            log: _,
-            database: _,
-        } = self;
-    }
-}
-
-impl Media {
-    /// Empty files.
-    fn new(alloc: Global) -> Result<Media, Fail> {
-        Ok(Media {
-            log: Medium::new(alloc, b"")?,
-            database: Medium::new(alloc, b"")?,
-        })
-    }
-
-    /// How often they were read.
-    fn reads(&self) -> u64 {
-        self.log.reads().saturating_add(self.database.reads())
-    }
-}
 
 /// The lines that open a vault.
 const OPENING: &str = r#"
@@ -292,9 +260,9 @@ fn judge_in<D: Disk + Drop>(
 fn sums_and_keys_are_read_without_entries_and_removals_one_by_one(
     rt: HostRuntime,
 ) -> Result<(), Fail> {
-    let media = Media::new(rt.alloc())?;
-    let names = read_names(rt.alloc())?;
+    let alloc = rt.alloc();
+    let media = Media::new(alloc, &Bytes::none(alloc), Reading::Mixing)?;
+    let names = read_names(alloc)?;
     // They are of the kind that the stops have, so that the whole vault isn't compiled for another one.
-    let files = fused(opened::<Unknown>(&media.log, &media.database)?, ALL_CALLS);
-    judge_in(rt.alloc(), files, &media, &names)
+    judge_in(alloc, media.opened::<Unknown>(ALL_CALLS)?, &media, &names)
 }

@@ -1,11 +1,12 @@
 //! A visit to a vault in files, up to where one of them fails.
 use crate::expected::Progress;
 use crate::visit::{Visit, work};
-use sqlite::{Alter, Connection, FileStore, Files, Options};
-use sqlite_disk::Disk;
+use sqlite::{Alter, Connection, FileStore, Files, Options, Unknown};
+use sqlite_disk::{Disk, Start, Wary};
 use std::alloc::Global;
 use std::test::Fail;
 use vault_base::refusal::Refusal;
+use vault_failing::device::{Calls, Media, Reading};
 use vault_store::sql_keeper::SqlKeeper;
 
 /// What was under way as a file failed.
@@ -155,7 +156,7 @@ fn visited<D: Disk + Drop>(
 }
 
 /// A visit to the vault in these files, up to its stop.
-pub fn stopped_in<D: Disk + Drop>(
+fn stopped_in<D: Disk + Drop>(
     alloc: Global,
     visit: &Visit<'_>,
     files: Files<D>,
@@ -163,5 +164,27 @@ pub fn stopped_in<D: Disk + Drop>(
     match connected(alloc, files, visit.day.checkpoint_frames) {
         Some(conn) => visited(alloc, visit, conn),
         None => Ok(before_lines(Phase::Opening)),
+    }
+}
+
+fn visited_from<S: Start>(
+    alloc: Global,
+    media: &Media,
+    visit: &Visit<'_>,
+    calls: Calls,
+) -> Result<Stop, Fail> {
+    stopped_in(alloc, visit, media.opened::<S>(calls)?)
+}
+
+/// A visit to the vault in these files, each of which fails behind so many calls, up to its stop.
+pub fn visited_in(
+    alloc: Global,
+    media: &Media,
+    visit: &Visit<'_>,
+    calls: Calls,
+) -> Result<Stop, Fail> {
+    match media.reading() {
+        Reading::Mixing => visited_from::<Unknown>(alloc, media, visit, calls),
+        Reading::Tearing => visited_from::<Wary>(alloc, media, visit, calls),
     }
 }

@@ -1,12 +1,11 @@
 //! A day that is stopped at each call of one of its files.
 use crate::day::Day;
 use crate::expected::{Expected, Progress, expect};
-use crate::files::{ALL_CALLS, Bytes, Calls, Media, Reading, Which};
-use crate::stopped::{Phase, Stop};
+use crate::stopped::{Phase, Stop, visited_in};
 use crate::visit::{Resumed, Visit};
 use std::alloc::Global;
 use std::test::Fail;
-use vault_failing::device::Crash;
+use vault_failing::device::{ALL_CALLS, Bytes, Calls, Crash, Media, Reading, Which};
 
 /// A day, the files that it begins with, and what is to be found.
 pub struct Trial {
@@ -99,26 +98,19 @@ pub fn prepare(alloc: Global, day: Day, reading: Reading) -> Result<Trial, Fail>
     })
 }
 
-fn no_bytes(alloc: Global) -> Bytes {
-    Bytes {
-        log: Vec::new(alloc),
-        database: Vec::new(alloc),
-    }
-}
-
 /// The files as the day begins.
 fn files_before(alloc: Global, day: &Day, reading: Reading) -> Result<Bytes, Fail> {
     if day.is_made {
         return files_behind(alloc, day.earlier(), reading);
     }
-    Ok(no_bytes(alloc))
+    Ok(Bytes::none(alloc))
 }
 
 /// The files as the first day ends.
 fn files_behind(alloc: Global, day: Day, reading: Reading) -> Result<Bytes, Fail> {
-    let media = Media::new(alloc, &no_bytes(alloc), reading)?;
+    let media = Media::new(alloc, &Bytes::none(alloc), reading)?;
     visit_whole(alloc, &beginning(day), &media)?;
-    media.left_by(Crash::Loses, Crash::Loses)
+    Ok(media.left_by(Crash::Loses, Crash::Loses)?)
 }
 
 /// The visit that begins a day.
@@ -154,7 +146,7 @@ pub fn stop_behind_each(
 /// The day, where a file fails behind so many calls; and what becomes of all that may be left then.
 fn stop_behind(alloc: Global, trial: &Trial, calls: Calls, stops: &mut Stops) -> Result<(), Fail> {
     let media = Media::new(alloc, &trial.begins, trial.reading)?;
-    let stop = media.visited(alloc, &beginning(trial.day), calls)?;
+    let stop = visited_in(alloc, &media, &beginning(trial.day), calls)?;
     stops.count(stop.phase);
     for log in trial.reading.crashes() {
         find_with(alloc, trial, &stop, &media, log, stops)?;
@@ -210,7 +202,7 @@ fn resumption(trial: &Trial, is_made: bool, progress: Progress) -> Visit<'_> {
 
 /// A visit to the vault in these files, of which none fails.
 fn visit_whole(alloc: Global, visit: &Visit<'_>, media: &Media) -> Result<Progress, Fail> {
-    let stop = media.visited(alloc, visit, ALL_CALLS)?;
+    let stop = visited_in(alloc, media, visit, ALL_CALLS)?;
     if stop.phase != Phase::Over {
         return Err(Fail::new("a sound file failed"));
     }

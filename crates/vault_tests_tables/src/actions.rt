@@ -45,6 +45,13 @@ pub fn take_all<S: Alter>(
     (Ok(()), conn)
 }
 
+/// Takes actions over a new store in memory.
+pub fn take_in_new(alloc: Global, actions: &[Action<'_>]) -> Result<(), Fail> {
+    let (taken, conn) = take_all(alloc, Connection::open_in_memory(alloc)?, actions);
+    drop(conn);
+    taken
+}
+
 /// Whether the action goes as it is to go.
 fn take<S: Alter>(
     alloc: Global,

@@ -1,6 +1,5 @@
 //! What a new vault's tables hold, and which stores are left as they are.
-use crate::actions::Action;
-use crate::files::{take_in_closed_files, take_in_files};
+use crate::actions::{Action, take_in_new};
 use std::test::Fail;
 use vault_base::refusal::Refusal;
 
@@ -30,7 +29,7 @@ fn a_new_vault_has_two_rows(rt: HostRuntime) -> Result<(), Fail> {
             Some(0),
         ),
     ];
-    take_in_files(rt.alloc(), actions)
+    take_in_new(rt.alloc(), actions)
 }
 
 #[test]
@@ -41,7 +40,7 @@ fn a_vault_is_not_made_twice(rt: HostRuntime) -> Result<(), Fail> {
         HAS_FIRST_ROWS,
         HAS_TWO_ROWS,
     ];
-    take_in_files(rt.alloc(), actions)
+    take_in_new(rt.alloc(), actions)
 }
 
 #[test]
@@ -54,7 +53,7 @@ fn a_store_with_another_table_is_left_as_it_was(rt: HostRuntime) -> Result<(), F
         Action::Number("SELECT id FROM shelf", Some(7)),
         Action::Number("SELECT count(*) FROM meta", None),
     ];
-    take_in_files(rt.alloc(), actions)
+    take_in_new(rt.alloc(), actions)
 }
 
 #[test]
@@ -65,16 +64,5 @@ fn a_begun_transaction_is_left_as_it_was(rt: HostRuntime) -> Result<(), Fail> {
         Action::Change("COMMIT"),
         Action::Fill(None),
     ];
-    take_in_files(rt.alloc(), actions)
-}
-
-#[test]
-fn a_new_vault_stands_in_its_file(rt: HostRuntime) -> Result<(), Fail> {
-    let made = &[Action::Fill(None)];
-    let found = &[
-        HAS_FIRST_ROWS,
-        HAS_TWO_ROWS,
-        Action::Fill(Some(Refusal::NameTaken)),
-    ];
-    take_in_closed_files(rt.alloc(), made, found)
+    take_in_new(rt.alloc(), actions)
 }

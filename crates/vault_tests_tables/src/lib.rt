@@ -1,5 +1,5 @@
-//! Tests of vaults in tables: which stores are made and opened as a vault, commands, contents, an intake and requests
-//! over tables, that what is read of one key doesn't grow, and vaults of all editions, copied and audited.
+//! Tests of vaults in tables: which stores are made and opened as a vault, commands, an intake and requests over tables,
+//! and that what is read of one key doesn't grow.
 #![tactic(auto)]
 
 #[cfg(test)]
@@ -9,13 +9,7 @@ mod commands;
 #[cfg(test)]
 mod create;
 #[cfg(test)]
-mod disks;
-#[cfg(test)]
-mod editions;
-#[cfg(test)]
 mod exchange;
-#[cfg(test)]
-mod files;
 #[cfg(test)]
 mod intake;
 #[cfg(test)]

@@ -1,6 +1,5 @@
 //! Which stores are opened as a vault, what comes back with a refusal, and commands over those stores.
-use crate::actions::Action;
-use crate::files::take_in_files;
+use crate::actions::{Action, take_in_new};
 use std::test::Fail;
 use vault_base::refusal::{Refusal, Table};
 
@@ -15,7 +14,7 @@ fn a_vault_that_was_made_is_opened_again(rt: HostRuntime) -> Result<(), Fail> {
             Some(1),
         ),
     ];
-    take_in_files(rt.alloc(), actions)
+    take_in_new(rt.alloc(), actions)
 }
 
 #[test]
@@ -24,7 +23,7 @@ fn a_store_without_tables_is_no_vault(rt: HostRuntime) -> Result<(), Fail> {
         Action::Open(Some(Refusal::Damaged(Table::Meta))),
         Action::Number("SELECT count(*) FROM meta", None),
     ];
-    take_in_files(rt.alloc(), actions)
+    take_in_new(rt.alloc(), actions)
 }
 
 #[test]
@@ -34,7 +33,7 @@ fn a_vault_is_not_made_over_another(rt: HostRuntime) -> Result<(), Fail> {
         Action::Make(Some(Refusal::NameTaken)),
         Action::Open(None),
     ];
-    take_in_files(rt.alloc(), actions)
+    take_in_new(rt.alloc(), actions)
 }
 
 #[test]
@@ -45,7 +44,7 @@ fn a_vault_with_a_wrong_next_id_is_damaged(rt: HostRuntime) -> Result<(), Fail> 
         Action::Open(Some(Refusal::Damaged(Table::Meta))),
         Action::Number("SELECT next FROM meta", Some(2)),
     ];
-    take_in_files(rt.alloc(), actions)
+    take_in_new(rt.alloc(), actions)
 }
 
 #[test]
@@ -56,7 +55,7 @@ fn a_vault_is_not_opened_inside_a_transaction(rt: HostRuntime) -> Result<(), Fai
         Action::Open(Some(Refusal::Device)),
         Action::StandsInside,
     ];
-    take_in_files(rt.alloc(), actions)
+    take_in_new(rt.alloc(), actions)
 }
 
 #[test]
@@ -69,7 +68,7 @@ fn a_vault_with_another_table_is_damaged(rt: HostRuntime) -> Result<(), Fail> {
         Action::Open(Some(Refusal::Damaged(Table::Meta))),
         Action::Number("SELECT id FROM shelf", Some(7)),
     ];
-    take_in_files(rt.alloc(), actions)
+    take_in_new(rt.alloc(), actions)
 }
 
 #[test]
@@ -83,7 +82,7 @@ fn commands_are_carried_out_one_after_another(rt: HostRuntime) -> Result<(), Fai
         ),
         Action::Number("SELECT last FROM meta", Some(1_705_309_200)),
     ];
-    take_in_files(rt.alloc(), actions)
+    take_in_new(rt.alloc(), actions)
 }
 
 #[test]
@@ -94,5 +93,5 @@ fn no_command_is_carried_out_over_damaged_tables(rt: HostRuntime) -> Result<(), 
         Action::Commands("Damaged"),
         Action::Number("SELECT count(*) FROM departments", Some(0)),
     ];
-    take_in_files(rt.alloc(), actions)
+    take_in_new(rt.alloc(), actions)
 }

@@ -1,6 +1,5 @@
-//! Trials on a new vault in files in memory, which don't fail: contents, an intake and requests.
+//! Trials on a new vault in tables in memory, whose device doesn't fail: an intake and requests.
 use crate::actions::{Action, take_all};
-use crate::disks::{let_go, opened_empty};
 use crate::exchange::answer;
 use crate::intake::take_in_twice;
 use sqlite::{Alter, Connection};
@@ -9,8 +8,8 @@ use std::test::Fail;
 use vault_base::refusal::{Refusal, Table};
 use vault_core_model::keeper::Keeper;
 use vault_store::sql_keeper::SqlKeeper;
-use vault_transcript::transcript::{play, replies};
-use vault_transcript::trial::{Trial, compare};
+use vault_transcript::transcript::play;
+use vault_transcript::trial::Trial;
 
 /// The lines that open a vault.
 const OPENING: &str = r#"
@@ -64,56 +63,12 @@ fn carry_out_and_take<S: Alter, T: Trial>(
     }
 }
 
-/// Carries a trial out on a new vault in empty files, and takes actions over these.
-fn try_in_files<T: Trial>(alloc: Global, trial: &T, actions: &[Action<'_>]) -> Result<(), Fail> {
-    let (tried, conn) = carry_out_and_take(alloc, opened_empty(alloc)?, trial, actions);
-    let_go(conn);
+/// Carries a trial out on a new vault in a new store, and takes actions over that.
+fn try_in_new<T: Trial>(alloc: Global, trial: &T, actions: &[Action<'_>]) -> Result<(), Fail> {
+    let conn = Connection::open_in_memory(alloc)?;
+    let (tried, conn) = carry_out_and_take(alloc, conn, trial, actions);
+    drop(conn);
     tried
-}
-
-/// An empty script, over a vault without the opening lines.
-struct NoInput;
-
-impl Trial for NoInput {
-    fn carry_out<K: Keeper>(&self, alloc: Global, keeper: &mut K) -> Result<(), Fail> {
-        let written = replies(alloc, keeper, b"")?;
-        compare("no input", written.as_str(), "")
-    }
-}
-
-#[test]
-fn no_input_gets_no_output(rt: HostRuntime) -> Result<(), Fail> {
-    try_in_files(rt.alloc(), &NoInput, &[])
-}
-
-/// Ann puts so many bytes, and the reply.
-fn put(alloc: Global, size: usize, reply: &str) -> Result<String, Fail> {
-    let text = "a".repeat(alloc, size)?;
-    Ok(format!(in alloc;
-        "{{\"at\":\"2024-01-15T10:30:00Z\",\"as\":\"ann\",\"do\":\"put\",\"bucket\":\"docs\",\"key\":\"a\",\"text\":\"{text}\"}}\n  {reply}\n"
-    )?)
-}
-
-/// Contents of the greatest size, of one byte more, and of one byte.
-struct Contents;
-
-impl Trial for Contents {
-    fn carry_out<K: Keeper>(&self, alloc: Global, keeper: &mut K) -> Result<(), Fail> {
-        play(alloc, keeper, OPENING)?;
-        for (size, reply) in [
-            (1_048_576, r#"{"ok":{"version_id":1}}"#),
-            (1_048_577, r#"{"error":{"code":"EntityTooLarge","n":13}}"#),
-            (1, r#"{"ok":{"version_id":2}}"#),
-        ] {
-            play(alloc, keeper, put(alloc, size, reply)?.as_str())?;
-        }
-        Ok(())
-    }
-}
-
-#[test]
-fn a_version_has_up_to_1048576_bytes(rt: HostRuntime) -> Result<(), Fail> {
-    try_in_files(rt.alloc(), &Contents, &[])
 }
 
 /// A list that is taken in behind two versions, again, and again with other bytes in its first file.
@@ -128,7 +83,7 @@ impl Trial for Intake {
 
 #[test]
 fn a_list_is_taken_in_once(rt: HostRuntime) -> Result<(), Fail> {
-    try_in_files(rt.alloc(), &Intake, &[])
+    try_in_new(rt.alloc(), &Intake, &[])
 }
 
 /// Requests and their answers; `|` stands for CR LF.
@@ -173,5 +128,5 @@ const REOPENED: [Action<'static>; 3] = [
 
 #[test]
 fn requests_are_answered(rt: HostRuntime) -> Result<(), Fail> {
-    try_in_files(rt.alloc(), &Requests, &REOPENED)
+    try_in_new(rt.alloc(), &Requests, &REOPENED)
 }

@@ -3,7 +3,7 @@ use std::alloc::Global;
 use std::test::Fail;
 use vault_core_model::keeper::Keeper;
 use vault_transcript::telling::{edge, tells_still, told};
-use vault_transcript::transcript::{play, replies};
+use vault_transcript::transcript::replies;
 use vault_transcript::trial::{Trial, compare, try_on_new};
 
 /// A line that is answered in any case.
@@ -164,52 +164,6 @@ fn lines_up_to_the_limits_are_answered(rt: HostRuntime) -> Result<(), Fail> {
                     "{\"ok\":{\"version_id\":2}}\n",
                 ),
             ],
-        },
-    )
-}
-
-/// A transcript that changes nothing.
-#[derive(Clone, Copy)]
-struct Unchanged<'a> {
-    transcript: &'a str,
-}
-
-impl Trial for Unchanged<'_> {
-    fn carry_out<K: Keeper>(&self, alloc: Global, keeper: &mut K) -> Result<(), Fail> {
-        let before = told(alloc, keeper)?;
-        play(alloc, keeper, self.transcript)?;
-        tells_still(alloc, keeper, before.as_str())
-    }
-}
-
-/// Wherever a whole number is asked for.
-#[test]
-fn a_number_and_a_half_is_malformed(rt: HostRuntime) -> Result<(), Fail> {
-    try_on_new(
-        rt.alloc(),
-        &Unchanged {
-            transcript: r#"
-{"at":"2024-01-15T10:30:00Z","as":"ann","do":"get","bucket":"docs","key":"a","id":1.5}
-  {"error":{"code":"MalformedBody","n":12}}
-{"at":"2024-01-15T10:30:00Z","as":"ann","do":"delete-version","bucket":"docs","key":"a","id":1.5}
-  {"error":{"code":"MalformedBody","n":12}}
-{"at":"2024-01-15T10:30:00Z","as":"ann","do":"set-hold","bucket":"docs","key":"a","id":1.5,"hold":"ON"}
-  {"error":{"code":"MalformedBody","n":12}}
-{"at":"2024-01-15T10:30:00Z","as":"ann","do":"list-versions","bucket":"docs","most":1.5}
-  {"error":{"code":"MalformedBody","n":12}}
-{"at":"2024-01-15T10:30:00Z","as":"ann","do":"intake","bucket":"docs","batch":"b1","line":1.5,"key":"a","text":"x"}
-  {"error":{"code":"MalformedBody","n":12}}
-{"at":"2024-01-15T10:30:00Z","as":"ann","do":"set-default","bucket":"docs","mode":"GOVERNANCE","days":1.5}
-  {"error":{"code":"MalformedBody","n":12}}
-{"at":"2024-01-15T10:30:00Z","as":"ann","do":"set-default","bucket":"docs","mode":"GOVERNANCE","years":1.5}
-  {"error":{"code":"MalformedBody","n":12}}
-{"at":"2024-01-15T10:30:00Z","as":"ann","do":"set-rules","bucket":"docs","rules":[{"ID":"r1","Status":"Enabled","Expiration":{"Days":1.5}}]}
-  {"error":{"code":"MalformedBody","n":12}}
-{"at":"2024-01-15T10:30:00Z","as":"ann","do":"set-rules","bucket":"docs","rules":[{"ID":"r1","Status":"Enabled","NoncurrentVersionExpiration":{"NoncurrentDays":1.5}}]}
-  {"error":{"code":"MalformedBody","n":12}}
-{"at":"2024-01-15T10:30:00Z","as":"ann","do":"set-rules","bucket":"docs","rules":[{"ID":"r1","Status":"Enabled","NoncurrentVersionExpiration":{"NoncurrentDays":1,"NewerNoncurrentVersions":1.5}}]}
-  {"error":{"code":"MalformedBody","n":12}}
-"#,
         },
     )
 }

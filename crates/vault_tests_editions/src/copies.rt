@@ -1,8 +1,8 @@
 //! What a copy has of the vault.
-use crate::editions::copying::Copying;
-use crate::editions::earlier::COPIED;
-use crate::editions::looks::{Look, Way};
-use crate::editions::stores::{Vault, try_in_files};
+use crate::copying::Copying;
+use crate::earlier::COPIED;
+use crate::looks::{Look, Way};
+use crate::stores::{Vault, try_in_files};
 use std::test::Fail;
 use vault_audit_model::schema::Edition;
 use vault_base::refusal::{Refusal, Table};

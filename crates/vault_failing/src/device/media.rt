@@ -1,11 +1,10 @@
-//! A vault's two files in memory, of which one may fail, and what a crash leaves of them.
-use crate::stopped::{Stop, stopped_in};
-use crate::visit::Visit;
-use sqlite::{Files, Unknown};
-use sqlite_disk::{Fuse, Modelled, Start, Wary};
-use std::alloc::Global;
-use std::test::Fail;
-use vault_failing::device::{Crash, Medium, MemoryFile, opened};
+//! A vault's two files, of which one may fail, and what a crash leaves of them.
+use crate::device::contents::Crash;
+use crate::device::medium::{Medium, opened};
+use crate::device::memory_file::MemoryFile;
+use sqlite_disk::{Files, Fuse, Modelled, Start};
+use std::alloc::{AllocError, Global};
+use std::io;
 
 /// How a crash is read.
 #[derive(Clone, Copy)]
@@ -39,6 +38,16 @@ impl Drop for Bytes {
             log: _,
             database: _,
         } = self;
+    }
+}
+
+impl Bytes {
+    /// Those of empty files.
+    pub fn none(alloc: Global) -> Bytes {
+        Bytes {
+            log: Vec::new(alloc),
+            database: Vec::new(alloc),
+        }
     }
 }
 
@@ -96,8 +105,8 @@ impl Drop for Media {
 }
 
 impl Media {
-    /// Files with these bytes.
-    pub fn new(alloc: Global, bytes: &Bytes, reading: Reading) -> Result<Media, Fail> {
+    /// Files with these bytes. The error is want of memory.
+    pub fn new(alloc: Global, bytes: &Bytes, reading: Reading) -> Result<Media, AllocError> {
         Ok(Media {
             log: Medium::new(alloc, &bytes.log)?,
             database: Medium::new(alloc, &bytes.database)?,
@@ -105,14 +114,15 @@ impl Media {
         })
     }
 
-    /// Files with what a crash leaves of these that loses all that was written since the last sync.
-    pub fn reopened(&self, alloc: Global) -> Result<Media, Fail> {
+    /// Files with what a crash leaves of these that loses all that was written since the last sync. Fails for want of
+    /// memory.
+    pub fn reopened(&self, alloc: Global) -> io::Result<Media> {
         let bytes = self.left_by(Crash::Loses, Crash::Loses)?;
-        Media::new(alloc, &bytes, self.reading)
+        Ok(Media::new(alloc, &bytes, self.reading)?)
     }
 
-    /// What these crashes leave of the one and of the other.
-    pub fn left_by(&self, log: Crash, database: Crash) -> Result<Bytes, Fail> {
+    /// What these crashes leave of the one and of the other. Fails for want of memory.
+    pub fn left_by(&self, log: Crash, database: Crash) -> io::Result<Bytes> {
         Ok(Bytes {
             log: self.log.left_by(log)?,
             database: self.database.left_by(database)?,
@@ -129,22 +139,23 @@ impl Media {
         self.log.syncs()
     }
 
-    /// A visit to the vault in these files.
-    pub fn visited(&self, alloc: Global, visit: &Visit<'_>, calls: Calls) -> Result<Stop, Fail> {
-        match self.reading {
-            Reading::Mixing => self.visited_from::<Unknown>(alloc, visit, calls),
-            Reading::Tearing => self.visited_from::<Wary>(alloc, visit, calls),
-        }
+    /// How often they were read.
+    pub fn reads(&self) -> u64 {
+        self.log.reads().saturating_add(self.database.reads())
     }
 
-    fn visited_from<S: Start>(
-        &self,
-        alloc: Global,
-        visit: &Visit<'_>,
-        calls: Calls,
-    ) -> Result<Stop, Fail> {
-        let files = opened::<S>(&self.log, &self.database)?;
-        stopped_in(alloc, visit, fused(files, calls))
+    /// How a crash of them is read.
+    pub fn reading(&self) -> Reading {
+        self.reading
+    }
+
+    /// Opens them; each fails behind so many calls. The error is want of memory.
+    pub fn opened<S: Start>(&self, calls: Calls) -> Result<Files<Fuse<InMemory<S>>>, AllocError> {
+        let Files { log, db } = opened::<S>(&self.log, &self.database)?;
+        Ok(Files {
+            log: Fuse::new(log, calls.log),
+            db: Fuse::new(db, calls.database),
+        })
     }
 }
 
@@ -154,12 +165,3 @@ fn keeps(crash: Crash) -> bool {
 
 /// A file in memory of which a crash leaves what `S` says.
 pub type InMemory<S> = Modelled<MemoryFile, S>;
-
-/// The files, each of which fails behind so many calls.
-pub fn fused<S: Start>(files: Files<InMemory<S>>, calls: Calls) -> Files<Fuse<InMemory<S>>> {
-    let Files { log, db } = files;
-    Files {
-        log: Fuse::new(log, calls.log),
-        db: Fuse::new(db, calls.database),
-    }
-}

@@ -1,6 +1,6 @@
 //! What a vault is told as.
-use crate::editions::calls::{audit, batches, open};
-use crate::editions::stores::{StoreTrial, Vault, made, try_in_files};
+use crate::calls::{audit, batches, open};
+use crate::stores::{StoreTrial, Vault, made, try_in_files};
 use sqlite::{Alter, Connection, Error};
 use std::alloc::Global;
 use std::test::Fail;

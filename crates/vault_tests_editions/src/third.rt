@@ -1,5 +1,5 @@
 //! A vault of the third edition, by statements of the tests' own: buckets were moved in it.
-use crate::editions::calls::batches;
+use crate::calls::batches;
 use sqlite::{Alter, Connection, Error};
 
 /// Its tables but for the last.

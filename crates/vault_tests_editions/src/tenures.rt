@@ -1,6 +1,6 @@
 //! The audit of a vault of the third edition, whose versions have tenures.
-use crate::editions::looks::{Look, Way, are_audited};
-use crate::editions::stores::{Vault, try_in_files};
+use crate::looks::{Look, Way, are_audited};
+use crate::stores::{Vault, try_in_files};
 use std::test::Fail;
 use vault_audit_model::schema::Edition;
 use vault_base::refusal::{Refusal, Table};

@@ -1,7 +1,7 @@
 //! Readers that fail behind each byte of each row's request, and writers that fail at each of its writes.
-use crate::broken::exchange::{Exchange, compare, serve};
-use crate::broken::rows::{Deed, rows};
-use crate::broken::vault::{Filled, told};
+use crate::exchange::{Exchange, compare, serve};
+use crate::rows::{Deed, rows};
+use crate::vault::{Filled, told};
 use std::alloc::Global;
 use std::test::Fail;
 use vault_core_list::list_keeper::ListKeeper;

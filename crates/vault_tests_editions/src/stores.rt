@@ -1,6 +1,6 @@
 //! Vaults that are made in stores in files in memory, and what is tried over these.
+use crate::calls::{make_by_statements, play_in};
 use crate::disks::{let_go, opened_empty};
-use crate::editions::calls::{make_by_statements, play_in};
 use sqlite::{Alter, Connection};
 use std::alloc::Global;
 use std::test::Fail;

@@ -1,7 +1,7 @@
 //! Each row with ample memory, and with a growth refused.
-use crate::broken::exchange::{Exchange, GO_ON, answer_whole, serve};
-use crate::broken::rows::{Deed, Row, rows};
-use crate::broken::vault::{Filled, told};
+use crate::exchange::{Exchange, GO_ON, answer_whole, serve};
+use crate::rows::{Deed, Row, rows};
+use crate::vault::{Filled, told};
 use std::alloc::Global;
 use std::test::Fail;
 use vault_core_list::list_keeper::ListKeeper;

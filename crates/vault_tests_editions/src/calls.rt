@@ -1,8 +1,8 @@
 //! What the tests call. None of these has a clause, so that the proof of a test does not carry the state of each
 //! call.
-use crate::editions::earlier::{make_first, make_second};
-use crate::editions::stores::Vault;
-use crate::editions::third::{make_third, make_untenured};
+use crate::earlier::{make_first, make_second};
+use crate::stores::Vault;
+use crate::third::{make_third, make_untenured};
 use sqlite::{Alter, Connection, Error};
 use std::alloc::Global;
 use std::test::Fail;

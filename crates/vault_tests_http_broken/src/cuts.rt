@@ -1,7 +1,7 @@
 //! Each row's request, cut behind every byte.
-use crate::broken::exchange::{Exchange, answer, answer_whole};
-use crate::broken::rows::{Deed, rows};
-use crate::broken::vault::{Filled, told};
+use crate::exchange::{Exchange, answer, answer_whole};
+use crate::rows::{Deed, rows};
+use crate::vault::{Filled, told};
 use std::alloc::Global;
 use std::test::Fail;
 use vault_core_list::list_keeper::ListKeeper;

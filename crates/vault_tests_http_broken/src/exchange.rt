@@ -1,5 +1,5 @@
 //! A row as bytes: its request, and what is answered to each beginning of it.
-use crate::broken::rows::{Deed, Row};
+use crate::rows::{Deed, Row};
 use std::alloc::{AllocError, Global};
 use std::io::{Read, Write};
 use std::test::Fail;

@@ -1,7 +1,7 @@
 //! A vault that is copied from one store into another.
+use crate::calls::{batches, differing, migrate, open};
 use crate::disks::{let_go, opened_empty};
-use crate::editions::calls::{batches, differing, migrate, open};
-use crate::editions::stores::{StoreTrial, Vault, made};
+use crate::stores::{StoreTrial, Vault, made};
 use sqlite::{Alter, Connection};
 use std::alloc::Global;
 use std::test::Fail;

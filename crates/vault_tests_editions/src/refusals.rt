@@ -1,6 +1,6 @@
 //! What isn't copied, and what is left then.
-use crate::editions::copying::Copying;
-use crate::editions::stores::{Vault, try_in_files};
+use crate::copying::Copying;
+use crate::stores::{Vault, try_in_files};
 use std::alloc::Global;
 use std::test::Fail;
 use vault_audit_model::schema::Edition;

@@ -1,11 +1,25 @@
-//! What a vault keeps of removed entries, and which rule it names.
+//! What both keepers tell of removed entries, and which rule they name.
+use crate::over_keepers::{KeeperTrial, try_over_both};
+use crate::rows_texts::OPENING;
 use std::alloc::{AllocError, Global};
 use std::test::Fail;
 use vault_base::name::VersionId;
+use vault_core::fuse_keeper::FuseKeeper;
 use vault_core_model::halt::Fault;
 use vault_core_model::keeper::{Keeper, Sink};
 use vault_core_model::records::{Author, Cause, Entry};
-use vault_transcript::trial::{Trial, compare, try_behind, try_on_new};
+use vault_transcript::transcript::play;
+use vault_transcript::trial::compare;
+
+/// What is told behind a transcript.
+#[derive(Clone, Copy)]
+struct Removed<'a> {
+    transcript: &'a str,
+    /// Walks over the removed entries, one behind the other: the room, whether all are taken, and their lines.
+    walks: &'a [(u32, bool, &'a str)],
+    /// Who or which rule admitted the entry of an id.
+    authors: &'a [(u32, &'a str)],
+}
 
 /// Takes a line of each removed entry while it has room for one.
 #[derive(Drop)]
@@ -99,43 +113,28 @@ fn compare_walk<K: Keeper>(
     compare("the removed entries", register.lines.as_str(), wanted)
 }
 
-/// Walks over the removed entries, one behind the other: the room, whether all are taken, and their lines.
-#[derive(Clone, Copy)]
-struct Walks<'a> {
-    walks: &'a [(u32, bool, &'a str)],
-}
-
-impl Trial for Walks<'_> {
-    fn carry_out<K: Keeper>(&self, alloc: Global, keeper: &mut K) -> Result<(), Fail> {
-        for walk in self.walks {
-            compare_walk(alloc, keeper, *walk)?;
-        }
-        Ok(())
-    }
-}
-
 const ALL: &str = "1 b rule r1\n2 a bypass gov\n4 a request ann\n";
-
-const WALKS: [(u32, bool, &str); 5] = [
-    (9, true, ALL),
-    (0, false, ""),
-    (1, false, "1 b rule r1\n"),
-    (2, false, "1 b rule r1\n2 a bypass gov\n"),
-    (3, true, ALL),
-];
 
 /// By rising id. A sink that refuses is handed none behind the one that it refused. With room for just all of them it
 /// refuses none.
-#[test]
-fn removed_entries_are_handed_on(rt: HostRuntime) -> Result<(), Fail> {
-    try_behind(rt.alloc(), THREE_REMOVALS, &Walks { walks: &WALKS })
-}
+const OF_THREE_REMOVALS: Removed<'static> = Removed {
+    transcript: THREE_REMOVALS,
+    walks: &[
+        (9, true, ALL),
+        (0, false, ""),
+        (1, false, "1 b rule r1\n"),
+        (2, false, "1 b rule r1\n2 a bypass gov\n"),
+        (3, true, ALL),
+    ],
+    authors: &[],
+};
 
-#[test]
-fn where_nothing_was_removed_nothing_is_handed_on(rt: HostRuntime) -> Result<(), Fail> {
-    let walks = [(0, true, "")];
-    try_on_new(rt.alloc(), &Walks { walks: &walks })
-}
+/// Where nothing was removed nothing is handed on.
+const OF_NOTHING: Removed<'static> = Removed {
+    transcript: "",
+    walks: &[(0, true, "")],
+    authors: &[],
+};
 
 /// Of the rules, one is disabled and one is for other keys. Of the other two, `first` stands before
 /// `second` and makes due a day later.
@@ -172,29 +171,62 @@ fn compare_author<K: Keeper>(keeper: &mut K, number: u32, name: &str) -> Result<
     compare_name(&entry.by, name)
 }
 
-const IN_ORDER: (u32, bool, &str) = (
-    9,
-    true,
-    "1 b rule first\n3 c rule first\n4 a rule second\n6 d rule second\n",
-);
+/// At the run both rules make due what came in February, and `second` alone what came in March.
+const OF_RULES_IN_ORDER: Removed<'static> = Removed {
+    transcript: RULES_IN_ORDER,
+    walks: &[(
+        9,
+        true,
+        "1 b rule first\n3 c rule first\n4 a rule second\n6 d rule second\n",
+    )],
+    authors: &[(5, "ann"), (7, "second"), (8, "first")],
+};
 
-const AUTHORS: [(u32, &str); 3] = [(5, "ann"), (7, "second"), (8, "first")];
+fn compare_walks<K: Keeper>(
+    alloc: Global,
+    keeper: &mut K,
+    removed: &Removed<'_>,
+) -> Result<(), Fail> {
+    for walk in removed.walks {
+        compare_walk(alloc, keeper, *walk)?;
+    }
+    Ok(())
+}
 
-/// The removed entries, and who admitted others.
-struct RulesInOrder;
+fn compare_authors<K: Keeper>(keeper: &mut K, removed: &Removed<'_>) -> Result<(), Fail> {
+    for (number, name) in removed.authors {
+        compare_author(keeper, *number, name)?;
+    }
+    Ok(())
+}
 
-impl Trial for RulesInOrder {
-    fn carry_out<K: Keeper>(&self, alloc: Global, keeper: &mut K) -> Result<(), Fail> {
-        compare_walk(alloc, keeper, IN_ORDER)?;
-        for (number, name) in &AUTHORS {
-            compare_author(keeper, *number, name)?;
-        }
-        Ok(())
+fn tell_removed<K: Keeper>(
+    alloc: Global,
+    keeper: &mut K,
+    removed: &Removed<'_>,
+) -> Result<(), Fail> {
+    play(alloc, keeper, OPENING)?;
+    play(alloc, keeper, removed.transcript)?;
+    compare_walks(alloc, keeper, removed)?;
+    compare_authors(keeper, removed)
+}
+
+impl KeeperTrial for Removed<'_> {
+    fn carry_out_over<K: Keeper>(
+        &self,
+        alloc: Global,
+        keeper: FuseKeeper<K>,
+    ) -> (Result<(), Fail>, FuseKeeper<K>) {
+        let mut keeper = keeper;
+        let told = tell_removed(alloc, &mut keeper, self);
+        (told, keeper)
     }
 }
 
-/// At the run both rules make due what came in February, and `second` alone what came in March.
 #[test]
-fn the_first_rule_that_makes_due_is_the_cause(rt: HostRuntime) -> Result<(), Fail> {
-    try_behind(rt.alloc(), RULES_IN_ORDER, &RulesInOrder)
+fn removed_entries_are_told(rt: HostRuntime) -> Result<(), Fail> {
+    for removed in [OF_THREE_REMOVALS, OF_NOTHING, OF_RULES_IN_ORDER] {
+        try_over_both(rt.alloc(), &removed)?;
+    }
+    Ok(())
 }

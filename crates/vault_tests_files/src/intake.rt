@@ -1,5 +1,0 @@
-//! Lists over a folder in memory, and the lines that are printed of them.
-mod again;
-mod lists;
-mod names;
-mod taking;
