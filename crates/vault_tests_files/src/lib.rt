@@ -1,23 +1,15 @@
 //! Tests of what is read from files and written into them: lines that are no command; intakes over a folder in memory,
 //! also where that folder, a device, a writer or memory fails; folders on a disk, and what a terminal is told of a long
-//! job; the register of removals; certificates and reports as texts.
+//! job; registers of removals whose writer fails.
 #![tactic(auto)]
 
 #[cfg(test)]
 mod batch;
 #[cfg(test)]
-mod certificates;
-#[cfg(test)]
 mod disk_folder;
-#[cfg(test)]
-mod export;
 #[cfg(test)]
 mod faults;
 #[cfg(test)]
 mod progress;
 #[cfg(test)]
 mod registers;
-#[cfg(test)]
-mod reports;
-#[cfg(test)]
-mod texts;
