@@ -33,8 +33,8 @@ def opening():
         yield line(OPENING_AT, "registrar", do, **members), DONE
 
 
-def ran(lone, marked):
-    return {"ok": {"changes": lone + marked, "lone": lone, "marked": marked, "removed": 0}}
+def ran(lone, marked, removed=0):
+    return {"ok": {"changes": lone + marked + removed, "lone": lone, "marked": marked, "removed": removed}}
 
 
 def entry(at, is_current, is_marker, key, size, number):
@@ -103,6 +103,31 @@ def content():
     yield line(at, "ann", "report", dept="records"), {"ok": sums}
 
 
+def bounds():
+    """Of the greatest size, content is above a bound of a byte less and below a bound of a byte more: what is current
+    gets a marker, and what is below that goes."""
+    put_at, run_at = "2024-03-01T08:00:00Z", "2024-03-03T00:00:00Z"
+    actions = {"Status": "Enabled", "Expiration": {"Days": 1}, "NoncurrentVersionExpiration": {"NoncurrentDays": 1}}
+    rules = [
+        {"ID": "r1", "Prefix": "a", **actions, "ObjectSizeGreaterThan": MOST_CONTENT - 1},
+        {"ID": "r2", "Prefix": "b", **actions, "ObjectSizeLessThan": MOST_CONTENT + 1},
+    ]
+    yield from opening()
+    yield line(OPENING_AT, "ann", "set-rules", bucket="docs", rules=rules), DONE
+    for number, key in enumerate("aabb", 1):
+        put = line(put_at, "ann", "put", bucket="docs", key=key, text="a" * MOST_CONTENT)
+        yield put, {"ok": {"version_id": number}}
+    yield line(run_at, "ann", "run", bucket="docs"), ran(0, 2, removed=2)
+    yield line(run_at, "ann", "run", bucket="docs"), ran(0, 0)
+    left = [
+        entry(run_at, True, True, "a", 0, 5),
+        entry(put_at, False, False, "a", MOST_CONTENT, 2),
+        entry(run_at, True, True, "b", 0, 6),
+        entry(put_at, False, False, "b", MOST_CONTENT, 4),
+    ]
+    yield from pages(run_at, left)
+
+
 def long_line(length, replies):
     """A line of that many bytes, blanks behind its object, and one that is answered in any case."""
     add = text_of(line(OPENING_AT, "registrar", "add-dept", dept="d"))
@@ -117,7 +142,7 @@ def long_rows():
         "lines-longest": long_line(MOST_LINE, [DONE, taken]),
         "lines-too-long": long_line(MOST_LINE + 1, [malformed, DONE]),
     }
-    of_pairs = {"content-longest": content()}
+    of_pairs = {"content-longest": content(), "run-by-bounds-of-longest": bounds()}
     for count, (name, made) in itertools.product((3, 256, 257, 600), (("marked", marked), ("removed", removed))):
         of_pairs[f"run-{count}-keys-{name}"] = made(count)
     for name, pairs in of_pairs.items():

@@ -1,11 +1,10 @@
-//! Tests of the crates that know no vault: names and digests, moments, locks, lifecycle rules, a department's sums,
-//! the messages of errors, and the reader and the writer that fail.
+//! Tests of the crates that know no vault, where no script of lines can show it: which fault a name or a list of rules
+//! has, ids as texts, moments and numbers that no line reaches, copies, digests, the messages of errors, and the reader
+//! and the writer that fail.
 #![tactic(auto)]
 
 #[cfg(test)]
 mod failing;
-#[cfg(test)]
-mod locks;
 #[cfg(test)]
 mod messages;
 #[cfg(test)]
