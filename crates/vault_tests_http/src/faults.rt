@@ -1,5 +1,5 @@
 //! What is left where the device fails, or a writer behind one that holds back; and how many writes a PUT takes.
-use crate::exchange::{READING, answer, serve, walk};
+use crate::exchange::{READING, answer, exchange, serve};
 use std::alloc::Global;
 use std::io::BufWriter;
 use std::test::Fail;
@@ -87,19 +87,19 @@ impl Trial for HeldBack {
     }
 }
 
-/// A change that the device refuses is answered, and not made.
-const REFUSED: &str = r#"PUT /docs/a HTTP/1.1|x-vault-caller: ann|content-length: 5||hello
-  HTTP/1.1 500 Internal Server Error|date: Mon, 15 Jan 2024 10:30:00 GMT|connection: close|content-type: application/json|content-length: 24||{"code":"Device","n":23}
+const REFUSED: &str =
+    "HTTP/1.1 500 Internal Server Error|date: Mon, 15 Jan 2024 10:30:00 GMT|connection: close|content-type: application/json|content-length: 24||{\"code\":\"Device\",\"n\":23}";
 
-PUT /docs/a HTTP/1.1|x-vault-caller: ann|content-length: 5||hello
-  HTTP/1.1 200 OK .. x-amz-version-id: 1||"#;
+const STORED: &str = "HTTP/1.1 200 OK .. x-amz-version-id: 1||";
 
 /// A device that fails once.
 struct FailingDevice;
 
 impl Trial for FailingDevice {
+    /// A change that it refuses is answered, and not made.
     fn carry_out<K: Keeper>(&self, alloc: Global, keeper: &mut K) -> Result<(), Fail> {
-        walk(alloc, keeper, REFUSED)?;
+        exchange(alloc, keeper, READING, PUT_AT_ONCE, REFUSED)?;
+        exchange(alloc, keeper, READING, PUT_AT_ONCE, STORED)?;
         let faults = keeper.faults();
         if faults == 1 {
             return Ok(());

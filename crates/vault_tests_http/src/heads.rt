@@ -1,21 +1,9 @@
-//! Heads: how they may be written, and how far they are read.
-use crate::exchange::{READING, all_hold, exchange, serve};
+//! Heads: how far they are read.
+use crate::exchange::{READING, exchange, serve};
 use std::alloc::Global;
 use std::test::Fail;
 use vault_core_model::keeper::Keeper;
 use vault_transcript::trial::{Trial, try_on_new};
-
-/// Cut, of another protocol, or without one.
-const NO_HEADS: &str = r#"|
-HEAD /docs/a HTTP/1.1|x-vault
-GET /docs/a HTTP/2.0|x-vault-caller: ann||
-GET /docs/a|
-  HTTP/1.1 400 Bad Request|date: Mon, 15 Jan 2024 10:30:00 GMT|connection: close|content-type: application/json|content-length: 33||{"code":"InvalidArgument","n":10}"#;
-
-#[test]
-fn no_heads(rt: HostRuntime) -> Result<(), Fail> {
-    all_hold(rt.alloc(), &[NO_HEADS])
-}
 
 /// A request with a part so many times where `#` stands.
 fn exchange_long<K: Keeper>(
@@ -121,45 +109,4 @@ impl Trial for BehindExchanges {
 #[test]
 fn what_comes_behind_is_left(rt: HostRuntime) -> Result<(), Fail> {
     try_on_new(rt.alloc(), &BehindExchanges)
-}
-
-/// Names in any letter case, blanks round values, bare line feeds, a blank line in front.
-const OTHER_FORM: &str =
-    "|PUT /docs/%61?x-id=PutObject&x-id=2 HTTP/1.1\nX-Vault-Caller: \t ann \nCONTENT-length:1\n\nx";
-
-/// Heads that stand in no line: of another form, and nothing at all, which isn't answered. And where the reading is no
-/// moment either, there is no date.
-const UNUSUAL: [(i64, &str, &str); 4] = [
-    (
-        READING,
-        OTHER_FORM,
-        "HTTP/1.1 200 OK|date: Mon, 15 Jan 2024 10:30:00 GMT|connection: close|content-length: 0|x-amz-version-id: 1||",
-    ),
-    (
-        READING,
-        "GET /docs/a HTTP/1.0|x-vault-caller:ann||",
-        "HTTP/1.1 200 OK .. ||x",
-    ),
-    (READING, "", ""),
-    (
-        -1,
-        "GET|",
-        "HTTP/1.1 400 Bad Request|connection: close|content-type: application/json|content-length: 33||{\"code\":\"InvalidArgument\",\"n\":10}",
-    ),
-];
-
-struct OtherHeads;
-
-impl Trial for OtherHeads {
-    fn carry_out<K: Keeper>(&self, alloc: Global, keeper: &mut K) -> Result<(), Fail> {
-        for (reading, request, wanted) in UNUSUAL {
-            exchange(alloc, keeper, reading, request, wanted)?;
-        }
-        Ok(())
-    }
-}
-
-#[test]
-fn unusual_heads(rt: HostRuntime) -> Result<(), Fail> {
-    try_on_new(rt.alloc(), &OtherHeads)
 }

@@ -1,10 +1,9 @@
-//! Tests of HTTP exchanges: the bytes of a request, and those of its answer.
+//! Tests of HTTP exchanges that need a reading, a reader, a writer or a device of their own; heads of each limit, and
+//! the status of each refusal.
 #![tactic(auto)]
 
 #[cfg(test)]
 mod bodies;
-#[cfg(test)]
-mod entries;
 #[cfg(test)]
 mod exchange;
 #[cfg(test)]
@@ -12,8 +11,6 @@ mod faults;
 #[cfg(test)]
 mod heads;
 #[cfg(test)]
-mod refusals;
+mod readings;
 #[cfg(test)]
-mod rows;
-#[cfg(test)]
-mod settings;
+mod statuses;
