@@ -1,5 +1,6 @@
 //! What is done to a store, action by action, with what is to come of each.
 use crate::commands::are_answered;
+use crate::disks::{let_go, opened_empty};
 use sqlite::{Alter, Connection, Error};
 use std::alloc::Global;
 use std::test::Fail;
@@ -45,10 +46,10 @@ pub fn take_all<S: Alter>(
     (Ok(()), conn)
 }
 
-/// Takes actions over a new store in memory.
+/// Takes actions over a new store.
 pub fn take_in_new(alloc: Global, actions: &[Action<'_>]) -> Result<(), Fail> {
-    let (taken, conn) = take_all(alloc, Connection::open_in_memory(alloc)?, actions);
-    drop(conn);
+    let (taken, conn) = take_all(alloc, opened_empty(alloc)?, actions);
+    let_go(conn);
     taken
 }
 

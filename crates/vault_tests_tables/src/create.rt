@@ -33,17 +33,6 @@ fn a_new_vault_has_two_rows(rt: HostRuntime) -> Result<(), Fail> {
 }
 
 #[test]
-fn a_vault_is_not_made_twice(rt: HostRuntime) -> Result<(), Fail> {
-    let actions = &[
-        Action::Fill(None),
-        Action::Fill(Some(Refusal::NameTaken)),
-        HAS_FIRST_ROWS,
-        HAS_TWO_ROWS,
-    ];
-    take_in_new(rt.alloc(), actions)
-}
-
-#[test]
 fn a_store_with_another_table_is_left_as_it_was(rt: HostRuntime) -> Result<(), Fail> {
     let actions = &[
         Action::Change(

@@ -1,5 +1,5 @@
 //! Tests of vaults in tables: which stores are made and opened as a vault, commands, an intake and requests over tables,
-//! and that what is read of one key doesn't grow.
+//! that what is read of one key doesn't grow, and copies of vaults of earlier editions.
 #![tactic(auto)]
 
 #[cfg(test)]
@@ -8,6 +8,10 @@ mod actions;
 mod commands;
 #[cfg(test)]
 mod create;
+#[cfg(test)]
+mod disks;
+#[cfg(test)]
+mod editions;
 #[cfg(test)]
 mod exchange;
 #[cfg(test)]

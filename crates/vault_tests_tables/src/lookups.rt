@@ -1,5 +1,6 @@
 //! What a report reads, and what is read of one key, takes as many steps in a large vault as in a small one, and of a key with
 //! many removed versions as of a fresh one.
+use crate::disks::{let_go, opened_empty};
 use sqlite::{Alter, Connection, Error, params};
 use std::alloc::Global;
 use std::process::Abort;
@@ -164,9 +165,9 @@ fn enough_for_each<S: Alter>(conn: &mut Connection<S>, alloc: Global, names: &Na
 
 #[test]
 fn what_a_command_reads_does_not_grow_with_the_vault(rt: HostRuntime) -> Result<(), Fail> {
-    let mut conn = Connection::open_in_memory(rt.alloc())?;
+    let mut conn = opened_empty(rt.alloc())?;
     let judged = read_in_small_and_large(&rt, rt.alloc(), &mut conn);
-    drop(conn);
+    let_go(conn);
     judged
 }
 

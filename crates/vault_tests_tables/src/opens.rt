@@ -1,7 +1,7 @@
 //! Which stores are opened as a vault, what comes back with a refusal, and commands over those stores.
 use crate::actions::{Action, take_in_new};
 use std::test::Fail;
-use vault_base::refusal::{Refusal, Table};
+use vault_base::refusal::Refusal;
 
 #[test]
 fn a_vault_that_was_made_is_opened_again(rt: HostRuntime) -> Result<(), Fail> {
@@ -18,55 +18,12 @@ fn a_vault_that_was_made_is_opened_again(rt: HostRuntime) -> Result<(), Fail> {
 }
 
 #[test]
-fn a_store_without_tables_is_no_vault(rt: HostRuntime) -> Result<(), Fail> {
-    let actions = &[
-        Action::Open(Some(Refusal::Damaged(Table::Meta))),
-        Action::Number("SELECT count(*) FROM meta", None),
-    ];
-    take_in_new(rt.alloc(), actions)
-}
-
-#[test]
-fn a_vault_is_not_made_over_another(rt: HostRuntime) -> Result<(), Fail> {
-    let actions = &[
-        Action::Make(None),
-        Action::Make(Some(Refusal::NameTaken)),
-        Action::Open(None),
-    ];
-    take_in_new(rt.alloc(), actions)
-}
-
-#[test]
-fn a_vault_with_a_wrong_next_id_is_damaged(rt: HostRuntime) -> Result<(), Fail> {
-    let actions = &[
-        Action::Make(None),
-        Action::Change("UPDATE meta SET next = 2"),
-        Action::Open(Some(Refusal::Damaged(Table::Meta))),
-        Action::Number("SELECT next FROM meta", Some(2)),
-    ];
-    take_in_new(rt.alloc(), actions)
-}
-
-#[test]
 fn a_vault_is_not_opened_inside_a_transaction(rt: HostRuntime) -> Result<(), Fail> {
     let actions = &[
         Action::Make(None),
         Action::Change("BEGIN"),
         Action::Open(Some(Refusal::Device)),
         Action::StandsInside,
-    ];
-    take_in_new(rt.alloc(), actions)
-}
-
-#[test]
-fn a_vault_with_another_table_is_damaged(rt: HostRuntime) -> Result<(), Fail> {
-    let actions = &[
-        Action::Make(None),
-        Action::Change(
-            "CREATE TABLE shelf (id INTEGER PRIMARY KEY) STRICT; INSERT INTO shelf VALUES (7)",
-        ),
-        Action::Open(Some(Refusal::Damaged(Table::Meta))),
-        Action::Number("SELECT id FROM shelf", Some(7)),
     ];
     take_in_new(rt.alloc(), actions)
 }

@@ -1,5 +1,6 @@
-//! Trials on a new vault in tables in memory, whose device doesn't fail: an intake and requests.
+//! Trials on a new vault in files in memory, which don't fail: an intake and requests.
 use crate::actions::{Action, take_all};
+use crate::disks::{let_go, opened_empty};
 use crate::exchange::answer;
 use crate::intake::take_in_twice;
 use sqlite::{Alter, Connection};
@@ -65,9 +66,8 @@ fn carry_out_and_take<S: Alter, T: Trial>(
 
 /// Carries a trial out on a new vault in a new store, and takes actions over that.
 fn try_in_new<T: Trial>(alloc: Global, trial: &T, actions: &[Action<'_>]) -> Result<(), Fail> {
-    let conn = Connection::open_in_memory(alloc)?;
-    let (tried, conn) = carry_out_and_take(alloc, conn, trial, actions);
-    drop(conn);
+    let (tried, conn) = carry_out_and_take(alloc, opened_empty(alloc)?, trial, actions);
+    let_go(conn);
     tried
 }
 

@@ -1,7 +1,7 @@
 //! A vault that is copied from one store into another.
-use crate::calls::{batches, differing, migrate, open};
 use crate::disks::{let_go, opened_empty};
-use crate::stores::{StoreTrial, Vault, made};
+use crate::editions::calls::{batches, differing, migrate, open};
+use crate::editions::stores::{StoreTrial, Vault, make};
 use sqlite::{Alter, Connection};
 use std::alloc::Global;
 use std::test::Fail;
@@ -11,7 +11,7 @@ use vault_base::refusal::Refusal;
 /// A copy of a vault, and what is to come of it.
 #[derive(Clone, Copy)]
 pub struct Copying<'a> {
-    pub vault: Vault<'a>,
+    pub vault: Vault,
     /// How the vault is changed before, and what the new store has in it.
     pub changes: (&'a str, &'a str),
     /// The edition that the vault is taken for.
@@ -30,11 +30,10 @@ impl StoreTrial for Copying<'_> {
         alloc: Global,
         conn: Connection<S>,
     ) -> (Result<(), Fail>, Connection<S>) {
-        let (made, conn) = made(alloc, conn, self.vault);
         let mut conn = conn;
-        match made {
+        match make(&mut conn, self.vault) {
             Ok(()) => (try_between(alloc, &mut conn, self), conn),
-            Err(fail) => (Err(fail), conn),
+            Err(error) => (Err(Fail::from(error)), conn),
         }
     }
 }

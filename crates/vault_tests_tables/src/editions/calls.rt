@@ -1,16 +1,10 @@
 //! What the tests call. None of these has a clause, so that the proof of a test does not carry the state of each
 //! call.
-use crate::earlier::{make_first, make_second};
-use crate::stores::Vault;
-use crate::third::{make_third, make_untenured};
 use sqlite::{Alter, Connection, Error};
 use std::alloc::Global;
-use std::test::Fail;
-use vault_audit::audit as audit_of;
 use vault_audit_model::schema::Edition;
 use vault_base::refusal::Refusal;
 use vault_store::sql_keeper::SqlKeeper;
-use vault_transcript::transcript::play;
 
 fn batch<S: Alter>(conn: &mut Connection<S>, sql: &str) -> Result<(), Error> {
     conn.execute_batch(sql)
@@ -41,36 +35,6 @@ pub fn differing<'a, S: Alter>(
     None
 }
 
-/// Makes a vault that statements make.
-pub fn make_by_statements<S: Alter>(
-    conn: &mut Connection<S>,
-    vault: Vault<'_>,
-) -> Result<(), Error> {
-    match vault {
-        Vault::First => make_first(conn),
-        Vault::Second => make_second(conn),
-        Vault::Third => make_third(conn),
-        Vault::Untenured => make_untenured(conn),
-        Vault::Played(_) => Ok(()),
-    }
-}
-
-/// Makes a vault by a keeper, and carries a transcript out in it.
-pub fn play_in<S: Alter>(
-    alloc: Global,
-    conn: Connection<S>,
-    transcript: &str,
-) -> (Result<(), Fail>, Connection<S>) {
-    match SqlKeeper::create(alloc, conn) {
-        Ok(keeper) => {
-            let mut keeper = keeper;
-            let played = play(alloc, &mut keeper, transcript);
-            (played, keeper.into_connection())
-        }
-        Err((refusal, conn)) => (Err(Fail::new(refusal.name())), conn),
-    }
-}
-
 /// Copies the vault of a store, as one of that edition, into another: why not, where it is refused, and the connection
 /// to the other.
 pub fn migrate<O: Alter, S: Alter>(
@@ -91,13 +55,4 @@ pub fn open<S: Alter>(alloc: Global, conn: Connection<S>) -> (Option<Refusal>, C
         Ok(keeper) => (None, keeper.into_connection()),
         Err((refusal, conn)) => (Some(refusal), conn),
     }
-}
-
-/// Looks at the vault of a store as one of that edition: as what it is damaged, where it is.
-pub fn audit<S: Alter>(
-    alloc: Global,
-    conn: &mut Connection<S>,
-    edition: Edition,
-) -> Option<Refusal> {
-    audit_of(alloc, conn, edition).err()
 }

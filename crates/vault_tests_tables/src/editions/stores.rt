@@ -1,23 +1,15 @@
 //! Vaults that are made in stores in files in memory, and what is tried over these.
-use crate::calls::{make_by_statements, play_in};
 use crate::disks::{let_go, opened_empty};
-use sqlite::{Alter, Connection};
+use crate::editions::earlier::{make_first, make_second};
+use sqlite::{Alter, Connection, Error};
 use std::alloc::Global;
 use std::test::Fail;
 
-/// How a vault is made in an empty store.
+/// A vault of an earlier edition.
 #[derive(Clone, Copy)]
-pub enum Vault<'a> {
-    /// By statements: of the first edition.
+pub enum Vault {
     First,
-    /// Of the second.
     Second,
-    /// Of the third, with buckets that were moved.
-    Third,
-    /// The same without the table of tenures.
-    Untenured,
-    /// By a keeper: a new one, in which this transcript is carried out.
-    Played(&'a str),
 }
 
 /// What is tried over a store, which it hands back. It is over any store, as a proof over one would go through all
@@ -38,17 +30,9 @@ pub fn try_in_files<T: StoreTrial>(alloc: Global, trial: &T) -> Result<(), Fail>
 }
 
 /// Makes that vault in an empty store.
-pub fn made<S: Alter>(
-    alloc: Global,
-    conn: Connection<S>,
-    vault: Vault<'_>,
-) -> (Result<(), Fail>, Connection<S>) {
+pub fn make<S: Alter>(conn: &mut Connection<S>, vault: Vault) -> Result<(), Error> {
     match vault {
-        Vault::Played(transcript) => play_in(alloc, conn, transcript),
-        _ => {
-            let mut conn = conn;
-            let made = make_by_statements(&mut conn, vault);
-            (made.map_err(Fail::from), conn)
-        }
+        Vault::First => make_first(conn),
+        Vault::Second => make_second(conn),
     }
 }

@@ -1,8 +1,8 @@
 //! A copy that is stopped at each call of one of the new files: these hold no tables then, or the whole vault.
-use crate::calls::{differing, migrate, open};
 use crate::disks::{Left, VaultFiles, Which, connected, fused, leave, let_go, sound};
-use crate::earlier::{COPIED, make_first};
-use crate::stores::{StoreTrial, try_in_files};
+use crate::editions::calls::{differing, migrate, open};
+use crate::editions::earlier::{COPIED, make_first};
+use crate::editions::stores::{StoreTrial, try_in_files};
 use sqlite::{Alter, Connection, Files, Options};
 use std::alloc::Global;
 use std::test::Fail;
