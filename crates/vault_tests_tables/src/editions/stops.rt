@@ -1,5 +1,5 @@
 //! A copy that is stopped at each call of one of the new files: these hold no tables then, or the whole vault.
-use crate::disks::{Left, VaultFiles, Which, connected, fused, leave, let_go, sound};
+use crate::disks::{InFiles, Left, VaultFiles, Which, connected, fused, leave, let_go, sound};
 use crate::editions::calls::{differing, migrate, open};
 use crate::editions::earlier::{COPIED, make_first};
 use crate::editions::stores::{StoreTrial, try_in_files};
@@ -23,36 +23,43 @@ const NO_TABLES: (&str, i64) = ("SELECT count(*) FROM sqlite_schema", 0);
 /// What the vault that is copied goes on to tell.
 const STAYS: (&str, i64) = ("SELECT schema FROM meta", 1);
 
-/// How a copy ended.
-#[derive(Clone, Copy)]
-struct Ended {
-    /// Whether it was refused by a failing file, or not at all.
-    is_as_told: bool,
-    is_done: bool,
+/// Whether a store holds no tables, and whether it holds the whole vault.
+fn held_in<S: Alter>(alloc: Global, conn: Connection<S>) -> ((bool, bool), Connection<S>) {
+    let mut conn = conn;
+    let is_bare = differing(&mut conn, &[NO_TABLES]).is_none();
+    let is_copied = differing(&mut conn, COPIED).is_none();
+    let (refusal, conn) = open(alloc, conn);
+    ((is_bare, refusal.is_none() && is_copied), conn)
 }
 
-/// Copies the vault into these files, and how they are left.
+// Each of these hands a connection over files on once, and closes it: a proof over files carries their state through each
+// call.
+
+fn copy_and_close<O: Alter>(
+    alloc: Global,
+    old: &mut Connection<O>,
+    conn: Connection<InFiles>,
+) -> (Option<Refusal>, VaultFiles) {
+    let (refusal, conn) = migrate(alloc, old, Edition::First, conn);
+    (refusal, conn.into_store().close())
+}
+
+fn look_and_close(alloc: Global, conn: Connection<InFiles>) -> (bool, bool) {
+    let (held, conn) = held_in(alloc, conn);
+    let_go(conn);
+    held
+}
+
+/// Copies the vault into these files: why not, where that is refused, and how they are left.
 fn copy_into<O: Alter>(
     alloc: Global,
     old: &mut Connection<O>,
     files: VaultFiles,
-) -> (Ended, VaultFiles) {
-    let conn = match connected(alloc, files, OPTIONS) {
-        Ok(conn) => conn,
-        Err(files) => {
-            let ended = Ended {
-                is_as_told: true,
-                is_done: false,
-            };
-            return (ended, files);
-        }
-    };
-    let (refusal, conn) = migrate(alloc, old, Edition::First, conn);
-    let ended = Ended {
-        is_as_told: refusal.is_none() || refusal == Some(Refusal::Device),
-        is_done: refusal.is_none(),
-    };
-    (ended, conn.into_store().close())
+) -> (Option<Refusal>, VaultFiles) {
+    match connected(alloc, files, OPTIONS) {
+        Ok(conn) => copy_and_close(alloc, old, conn),
+        Err(files) => (Some(Refusal::Device), files),
+    }
 }
 
 fn left_of(alloc: Global, files: VaultFiles) -> Result<(Left, Left), Fail> {
@@ -62,19 +69,13 @@ fn left_of(alloc: Global, files: VaultFiles) -> Result<(Left, Left), Fail> {
 
 /// Whether the files hold no tables, and whether they hold the whole vault.
 fn found(alloc: Global, log: &[u8], database: &[u8]) -> Result<(bool, bool), Fail> {
-    let conn = match connected(alloc, sound(alloc, log, database)?, OPTIONS) {
-        Ok(conn) => conn,
+    match connected(alloc, sound(alloc, log, database)?, OPTIONS) {
+        Ok(conn) => Ok(look_and_close(alloc, conn)),
         Err(files) => {
             drop(files);
-            return Err(Fail::new("what was left can't be opened"));
+            Err(Fail::new("what was left can't be opened"))
         }
-    };
-    let mut conn = conn;
-    let is_bare = differing(&mut conn, &[NO_TABLES]).is_none();
-    let is_copied = differing(&mut conn, COPIED).is_none();
-    let (refusal, conn) = open(alloc, conn);
-    let_go(conn);
-    Ok((is_bare, refusal.is_none() && is_copied))
+    }
 }
 
 /// Fails where what may be left is neither nothing nor the whole vault, or was acknowledged and isn't there.
@@ -102,13 +103,15 @@ fn stop_behind<O: Alter>(
     which: Which,
     calls: u64,
 ) -> Result<bool, Fail> {
-    let (ended, files) = copy_into(alloc, old, fused(alloc, which, calls));
+    let (refusal, files) = copy_into(alloc, old, fused(alloc, which, calls));
     let (log, database) = left_of(alloc, files)?;
-    if !ended.is_as_told || differing(old, &[STAYS]).is_some() {
+    let is_done = refusal.is_none();
+    let is_as_told = is_done || refusal == Some(Refusal::Device);
+    if !is_as_told || differing(old, &[STAYS]).is_some() {
         return Err(Fail::new("a copy ends otherwise"));
     }
-    look_at_left(alloc, ended.is_done, &log, &database)?;
-    Ok(ended.is_done)
+    look_at_left(alloc, is_done, &log, &database)?;
+    Ok(is_done)
 }
 
 /// Stops the copy behind each number of calls of a file, up to the first that isn't stopped.
