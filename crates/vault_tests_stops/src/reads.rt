@@ -1,6 +1,6 @@
 //! How often a vault's files are read for what a keeper is asked, where one page of them has room in memory: as often
 //! with many entries as with few, and for the first removed entry less often than for all.
-use sqlite::{Connection, FileStore, Files, Options, Unknown};
+use sqlite::{Alter, Connection, FileStore, Files, Options, Unknown};
 use sqlite_disk::Disk;
 use std::alloc::Global;
 use std::test::Fail;
@@ -234,6 +234,23 @@ fn connected<D: Disk + Drop>(
     Ok(opened.ok().ok_or("the files can't be opened")?)
 }
 
+/// Judges a new vault in a store. It is over any store, as a proof over files would carry their state through each call.
+fn judge_over<S: Alter>(
+    alloc: Global,
+    conn: Connection<S>,
+    media: &Media,
+    names: &Names,
+) -> (Result<(), Fail>, Connection<S>) {
+    match SqlKeeper::create(alloc, conn) {
+        Ok(keeper) => {
+            let mut keeper = keeper;
+            let judged = judge(alloc, &mut keeper, media, names);
+            (judged, keeper.into_connection())
+        }
+        Err((_, conn)) => (Err(Fail::new("a vault can't be made")), conn),
+    }
+}
+
 /// Judges a new vault in these files.
 fn judge_in<D: Disk + Drop>(
     alloc: Global,
@@ -241,19 +258,9 @@ fn judge_in<D: Disk + Drop>(
     media: &Media,
     names: &Names,
 ) -> Result<(), Fail> {
-    let conn = connected(alloc, files)?;
-    match SqlKeeper::create(alloc, conn) {
-        Ok(keeper) => {
-            let mut keeper = keeper;
-            let judged = judge(alloc, &mut keeper, media, names);
-            drop(keeper.into_connection());
-            judged
-        }
-        Err((_, conn)) => {
-            drop(conn);
-            Err(Fail::new("a vault can't be made"))
-        }
-    }
+    let (judged, conn) = judge_over(alloc, connected(alloc, files)?, media, names);
+    drop(conn);
+    judged
 }
 
 #[test]
