@@ -7,6 +7,6 @@ mod memory_file;
 mod record;
 
 pub use crate::device::contents::Crash;
-pub use crate::device::media::{ALL_CALLS, Bytes, Calls, InMemory, Media, Reading, Which};
+pub use crate::device::media::{ALL_CALLS, Bytes, Calls, InMemory, Media, TornWrites, Which};
 pub use crate::device::medium::{Medium, opened};
 pub use crate::device::memory_file::MemoryFile;

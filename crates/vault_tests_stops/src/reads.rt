@@ -7,7 +7,7 @@ use std::test::Fail;
 use vault_base::name::{BucketName, DeptName, KeyPrefix};
 use vault_core_model::keeper::{Keeper, Sink};
 use vault_core_model::records::Entry;
-use vault_failing::device::{ALL_CALLS, Bytes, Media, Reading};
+use vault_failing::device::{ALL_CALLS, Bytes, Media, TornWrites};
 use vault_store::sql_keeper::SqlKeeper;
 use vault_transcript::transcript::{play, replies};
 
@@ -268,7 +268,7 @@ fn sums_and_keys_are_read_without_entries_and_removals_one_by_one(
     rt: HostRuntime,
 ) -> Result<(), Fail> {
     let alloc = rt.alloc();
-    let media = Media::new(alloc, &Bytes::none(alloc), Reading::Mixing)?;
+    let media = Media::new(alloc, &Bytes::none(alloc), TornWrites::Mixing)?;
     let names = read_names(alloc)?;
     // They are of the kind that the stops have, so that the whole vault isn't compiled for another one.
     judge_in(alloc, media.opened::<Unknown>(ALL_CALLS)?, &media, &names)

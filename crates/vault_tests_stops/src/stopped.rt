@@ -6,7 +6,7 @@ use sqlite_disk::{Disk, Start, Wary};
 use std::alloc::Global;
 use std::test::Fail;
 use vault_base::refusal::Refusal;
-use vault_failing::device::{Calls, Media, Reading};
+use vault_failing::device::{Calls, Media, TornWrites};
 use vault_store::sql_keeper::SqlKeeper;
 
 /// What was under way as a file failed.
@@ -183,8 +183,8 @@ pub fn visited_in(
     visit: &Visit<'_>,
     calls: Calls,
 ) -> Result<Stop, Fail> {
-    match media.reading() {
-        Reading::Mixing => visited_from::<Unknown>(alloc, media, visit, calls),
-        Reading::Tearing => visited_from::<Wary>(alloc, media, visit, calls),
+    match media.torn() {
+        TornWrites::Mixing => visited_from::<Unknown>(alloc, media, visit, calls),
+        TornWrites::Tearing => visited_from::<Wary>(alloc, media, visit, calls),
     }
 }

@@ -3,7 +3,7 @@ use crate::day::{Day, day_of_one_put_more, day_of_puts, first_day, later_day};
 use crate::trial::{Stops, prepare, stop_behind_each, syncs_on};
 use std::alloc::Global;
 use std::test::Fail;
-use vault_failing::device::{Reading, Which};
+use vault_failing::device::{TornWrites, Which};
 
 /// More calls than a day makes of a file.
 const MOST_CALLS: u64 = 10_000;
@@ -17,12 +17,12 @@ const HALF_OF_A_LATER_DAY: u64 = 170;
 fn stopped_behind(
     rt: &HostRuntime,
     day: Day,
-    reading: Reading,
+    torn: TornWrites,
     which: Which,
     from: u64,
     to: u64,
 ) -> Result<Stops, Fail> {
-    let trial = prepare(rt.alloc(), day, reading)?;
+    let trial = prepare(rt.alloc(), day, torn)?;
     let stops = stop_behind_each(rt.alloc(), &trial, which, from, to)?;
     println!(rt; "{stops:?}")?;
     Ok(stops)
@@ -30,8 +30,8 @@ fn stopped_behind(
 
 /// Stops the day behind each number of calls of that file, from none on until it isn't stopped. Fails where it has no
 /// stop in one of its phases.
-fn stopped(rt: &HostRuntime, day: Day, reading: Reading, which: Which) -> Result<Stops, Fail> {
-    let stops = stopped_behind(rt, day, reading, which, 0, MOST_CALLS)?;
+fn stopped(rt: &HostRuntime, day: Day, torn: TornWrites, which: Which) -> Result<Stops, Fail> {
+    let stops = stopped_behind(rt, day, torn, which, 0, MOST_CALLS)?;
     if !stops.are_complete() {
         return Err(Fail::new("a day has a phase in which it isn't stopped"));
     }
@@ -39,8 +39,8 @@ fn stopped(rt: &HostRuntime, day: Day, reading: Reading, which: Which) -> Result
 }
 
 /// Stops a later day behind each number of calls of its log up to half of them. Fails where it isn't stopped behind each.
-fn stopped_in_first_half(rt: &HostRuntime, reading: Reading) -> Result<Stops, Fail> {
-    let stops = stopped_behind(rt, later_day(), reading, Which::Log, 0, HALF_OF_A_LATER_DAY)?;
+fn stopped_in_first_half(rt: &HostRuntime, torn: TornWrites) -> Result<Stops, Fail> {
+    let stops = stopped_behind(rt, later_day(), torn, Which::Log, 0, HALF_OF_A_LATER_DAY)?;
     if stops.is_over || stops.all() != HALF_OF_A_LATER_DAY {
         return Err(Fail::new("a later day has fewer stops than half of them"));
     }
@@ -52,11 +52,11 @@ fn stopped_in_first_half(rt: &HostRuntime, reading: Reading) -> Result<Stops, Fa
 
 /// Stops a later day behind each number of calls of its log from half of them on, until it isn't stopped. Fails where
 /// that is never reached.
-fn stopped_in_second_half(rt: &HostRuntime, reading: Reading) -> Result<Stops, Fail> {
+fn stopped_in_second_half(rt: &HostRuntime, torn: TornWrites) -> Result<Stops, Fail> {
     let stops = stopped_behind(
         rt,
         later_day(),
-        reading,
+        torn,
         Which::Log,
         HALF_OF_A_LATER_DAY,
         MOST_CALLS,
@@ -69,33 +69,33 @@ fn stopped_in_second_half(rt: &HostRuntime, reading: Reading) -> Result<Stops, F
 
 #[test]
 fn a_first_day_is_stopped_in_its_log(rt: HostRuntime) -> Result<(), Fail> {
-    let stops = stopped(&rt, first_day(), Reading::Mixing, Which::Log)?;
+    let stops = stopped(&rt, first_day(), TornWrites::Mixing, Which::Log)?;
     assert!(rt; stops.entering != 0 && stops.one_more != 0);
     Ok(())
 }
 
 #[test]
 fn a_first_day_is_stopped_in_a_log_that_tears(rt: HostRuntime) -> Result<(), Fail> {
-    let stops = stopped(&rt, first_day(), Reading::Tearing, Which::Log)?;
+    let stops = stopped(&rt, first_day(), TornWrites::Tearing, Which::Log)?;
     assert!(rt; stops.entering != 0 && stops.one_more != 0);
     Ok(())
 }
 
 #[test]
 fn a_first_day_is_stopped_in_its_database_file(rt: HostRuntime) -> Result<(), Fail> {
-    stopped(&rt, first_day(), Reading::Mixing, Which::Database)?;
+    stopped(&rt, first_day(), TornWrites::Mixing, Which::Database)?;
     Ok(())
 }
 
 #[test]
 fn a_first_day_is_stopped_in_a_database_file_that_tears(rt: HostRuntime) -> Result<(), Fail> {
-    stopped(&rt, first_day(), Reading::Tearing, Which::Database)?;
+    stopped(&rt, first_day(), TornWrites::Tearing, Which::Database)?;
     Ok(())
 }
 
 #[test]
 fn a_later_day_is_stopped_behind_few_calls_of_its_log(rt: HostRuntime) -> Result<(), Fail> {
-    let stops = stopped_in_first_half(&rt, Reading::Mixing)?;
+    let stops = stopped_in_first_half(&rt, TornWrites::Mixing)?;
     assert!(rt; stops.one_more != 0);
     Ok(())
 }
@@ -104,14 +104,14 @@ fn a_later_day_is_stopped_behind_few_calls_of_its_log(rt: HostRuntime) -> Result
 fn a_later_day_is_stopped_behind_few_calls_of_a_log_that_tears(
     rt: HostRuntime,
 ) -> Result<(), Fail> {
-    let stops = stopped_in_first_half(&rt, Reading::Tearing)?;
+    let stops = stopped_in_first_half(&rt, TornWrites::Tearing)?;
     assert!(rt; stops.one_more != 0);
     Ok(())
 }
 
 #[test]
 fn a_later_day_is_stopped_behind_many_calls_of_its_log(rt: HostRuntime) -> Result<(), Fail> {
-    let stops = stopped_in_second_half(&rt, Reading::Mixing)?;
+    let stops = stopped_in_second_half(&rt, TornWrites::Mixing)?;
     assert!(rt; stops.one_more != 0);
     Ok(())
 }
@@ -120,36 +120,36 @@ fn a_later_day_is_stopped_behind_many_calls_of_its_log(rt: HostRuntime) -> Resul
 fn a_later_day_is_stopped_behind_many_calls_of_a_log_that_tears(
     rt: HostRuntime,
 ) -> Result<(), Fail> {
-    let stops = stopped_in_second_half(&rt, Reading::Tearing)?;
+    let stops = stopped_in_second_half(&rt, TornWrites::Tearing)?;
     assert!(rt; stops.one_more != 0);
     Ok(())
 }
 
 #[test]
 fn a_later_day_is_stopped_in_its_database_file(rt: HostRuntime) -> Result<(), Fail> {
-    let stops = stopped(&rt, later_day(), Reading::Mixing, Which::Database)?;
+    let stops = stopped(&rt, later_day(), TornWrites::Mixing, Which::Database)?;
     assert!(rt; stops.entering != 0);
     Ok(())
 }
 
 #[test]
 fn a_later_day_is_stopped_in_a_database_file_that_tears(rt: HostRuntime) -> Result<(), Fail> {
-    let stops = stopped(&rt, later_day(), Reading::Tearing, Which::Database)?;
+    let stops = stopped(&rt, later_day(), TornWrites::Tearing, Which::Database)?;
     assert!(rt; stops.entering != 0);
     Ok(())
 }
 
 /// How often the log is synced for one put.
-fn syncs_of_a_put(alloc: Global, reading: Reading) -> Result<u64, Fail> {
-    let without = syncs_on(alloc, day_of_puts(), reading)?;
-    let with = syncs_on(alloc, day_of_one_put_more(), reading)?;
+fn syncs_of_a_put(alloc: Global, torn: TornWrites) -> Result<u64, Fail> {
+    let without = syncs_on(alloc, day_of_puts(), torn)?;
+    let with = syncs_on(alloc, day_of_one_put_more(), torn)?;
     Ok(with.saturating_sub(without))
 }
 
 #[test]
 fn a_put_syncs_the_log_once_or_twice(rt: HostRuntime) -> Result<(), Fail> {
-    for (reading, syncs) in [(Reading::Mixing, 1u64), (Reading::Tearing, 2)] {
-        assert_eq!(rt; syncs_of_a_put(rt.alloc(), reading)?, syncs);
+    for (torn, syncs) in [(TornWrites::Mixing, 1u64), (TornWrites::Tearing, 2)] {
+        assert_eq!(rt; syncs_of_a_put(rt.alloc(), torn)?, syncs);
     }
     Ok(())
 }

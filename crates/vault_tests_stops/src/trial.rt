@@ -5,12 +5,12 @@ use crate::stopped::{Phase, Stop, visited_in};
 use crate::visit::{Resumed, Visit};
 use std::alloc::Global;
 use std::test::Fail;
-use vault_failing::device::{ALL_CALLS, Bytes, Calls, Crash, Media, Reading, Which};
+use vault_failing::device::{ALL_CALLS, Bytes, Calls, Crash, Media, TornWrites, Which};
 
 /// A day, the files that it begins with, and what is to be found.
 pub struct Trial {
     day: Day,
-    reading: Reading,
+    torn: TornWrites,
     begins: Bytes,
     expected: Expected,
 }
@@ -20,7 +20,7 @@ impl Drop for Trial {
     fn drop(self) {
         let Trial {
             day: _,
-            reading: _,
+            torn: _,
             begins: _,
             expected: _,
         } = self;
@@ -88,27 +88,27 @@ impl Stops {
 }
 
 /// A day with the files that earlier days leave.
-pub fn prepare(alloc: Global, day: Day, reading: Reading) -> Result<Trial, Fail> {
-    let begins = files_before(alloc, &day, reading)?;
+pub fn prepare(alloc: Global, day: Day, torn: TornWrites) -> Result<Trial, Fail> {
+    let begins = files_before(alloc, &day, torn)?;
     Ok(Trial {
         day,
-        reading,
+        torn,
         begins,
         expected: expect(alloc, &day)?,
     })
 }
 
 /// The files as the day begins.
-fn files_before(alloc: Global, day: &Day, reading: Reading) -> Result<Bytes, Fail> {
+fn files_before(alloc: Global, day: &Day, torn: TornWrites) -> Result<Bytes, Fail> {
     if day.is_made {
-        return files_behind(alloc, day.earlier(), reading);
+        return files_behind(alloc, day.earlier(), torn);
     }
     Ok(Bytes::none(alloc))
 }
 
 /// The files as the first day ends.
-fn files_behind(alloc: Global, day: Day, reading: Reading) -> Result<Bytes, Fail> {
-    let media = Media::new(alloc, &Bytes::none(alloc), reading)?;
+fn files_behind(alloc: Global, day: Day, torn: TornWrites) -> Result<Bytes, Fail> {
+    let media = Media::new(alloc, &Bytes::none(alloc), torn)?;
     visit_whole(alloc, &beginning(day), &media)?;
     Ok(media.left_by(Crash::Loses, Crash::Loses)?)
 }
@@ -119,8 +119,8 @@ fn beginning(day: Day) -> Visit<'static> {
 }
 
 /// How often the log is synced on a day that isn't stopped.
-pub fn syncs_on(alloc: Global, day: Day, reading: Reading) -> Result<u64, Fail> {
-    let media = Media::new(alloc, &files_before(alloc, &day, reading)?, reading)?;
+pub fn syncs_on(alloc: Global, day: Day, torn: TornWrites) -> Result<u64, Fail> {
+    let media = Media::new(alloc, &files_before(alloc, &day, torn)?, torn)?;
     visit_whole(alloc, &beginning(day), &media)?;
     Ok(media.log_syncs())
 }
@@ -145,10 +145,10 @@ pub fn stop_behind_each(
 
 /// The day, where a file fails behind so many calls; and what becomes of all that may be left then.
 fn stop_behind(alloc: Global, trial: &Trial, calls: Calls, stops: &mut Stops) -> Result<(), Fail> {
-    let media = Media::new(alloc, &trial.begins, trial.reading)?;
+    let media = Media::new(alloc, &trial.begins, trial.torn)?;
     let stop = visited_in(alloc, &media, &beginning(trial.day), calls)?;
     stops.count(stop.phase);
-    for log in trial.reading.crashes() {
+    for log in trial.torn.crashes() {
         find_with(alloc, trial, &stop, &media, log, stops)?;
     }
     Ok(())
@@ -163,7 +163,7 @@ fn find_with(
     log: Crash,
     stops: &mut Stops,
 ) -> Result<(), Fail> {
-    for database in trial.reading.crashes() {
+    for database in trial.torn.crashes() {
         if media.may_be_left_by(log, database) {
             let left = media.left_by(log, database)?;
             stops.count_outcome(find(alloc, trial, stop, &left)?);
@@ -176,7 +176,7 @@ fn find_with(
 /// changes, or with that one; the rest of the day leads from there to its end, which is still there once the
 /// files were closed.
 fn find(alloc: Global, trial: &Trial, stop: &Stop, left: &Bytes) -> Result<bool, Fail> {
-    let media = Media::new(alloc, left, trial.reading)?;
+    let media = Media::new(alloc, left, trial.torn)?;
     let is_made = trial.day.is_made || stop.phase.is_behind_entering();
     let visit = resumption(trial, is_made, stop.progress);
     let progress = visit_whole(alloc, &visit, &media)?;

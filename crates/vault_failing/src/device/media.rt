@@ -6,21 +6,21 @@ use sqlite_disk::{Files, Fuse, Modelled, Start};
 use std::alloc::{AllocError, Global};
 use std::io;
 
-/// How a crash is read.
+/// What a crash may leave of a write that it cuts.
 #[derive(Clone, Copy)]
-pub enum Reading {
+pub enum TornWrites {
     /// Of a write that is cut each byte is the old or the new one, so that most changes sync once.
     Mixing,
     /// Such a byte may be any, so that each change syncs twice.
     Tearing,
 }
 
-impl Reading {
+impl TornWrites {
     /// The crashes of a file that are tried.
     pub fn crashes(self) -> [Crash; 4] {
         match self {
-            Reading::Mixing => [Crash::Keeps, Crash::Loses, Crash::Mixes(1), Crash::Mixes(2)],
-            Reading::Tearing => [Crash::Keeps, Crash::Loses, Crash::Tears(1), Crash::Tears(2)],
+            TornWrites::Mixing => [Crash::Keeps, Crash::Loses, Crash::Mixes(1), Crash::Mixes(2)],
+            TornWrites::Tearing => [Crash::Keeps, Crash::Loses, Crash::Tears(1), Crash::Tears(2)],
         }
     }
 }
@@ -91,7 +91,7 @@ pub const ALL_CALLS: Calls = Calls {
 pub struct Media {
     log: Medium,
     database: Medium,
-    reading: Reading,
+    torn: TornWrites,
 }
 
 impl Drop for Media {
@@ -99,18 +99,18 @@ impl Drop for Media {
         let Media {
             log: _,
             database: _,
-            reading: _,
+            torn: _,
         } = self;
     }
 }
 
 impl Media {
     /// Files with these bytes. The error is want of memory.
-    pub fn new(alloc: Global, bytes: &Bytes, reading: Reading) -> Result<Media, AllocError> {
+    pub fn new(alloc: Global, bytes: &Bytes, torn: TornWrites) -> Result<Media, AllocError> {
         Ok(Media {
             log: Medium::new(alloc, &bytes.log)?,
             database: Medium::new(alloc, &bytes.database)?,
-            reading,
+            torn,
         })
     }
 
@@ -118,7 +118,7 @@ impl Media {
     /// memory.
     pub fn reopened(&self, alloc: Global) -> io::Result<Media> {
         let bytes = self.left_by(Crash::Loses, Crash::Loses)?;
-        Ok(Media::new(alloc, &bytes, self.reading)?)
+        Ok(Media::new(alloc, &bytes, self.torn)?)
     }
 
     /// What these crashes leave of the one and of the other. Fails for want of memory.
@@ -144,9 +144,9 @@ impl Media {
         self.log.reads().saturating_add(self.database.reads())
     }
 
-    /// How a crash of them is read.
-    pub fn reading(&self) -> Reading {
-        self.reading
+    /// What a crash may leave of a write to them that it cuts.
+    pub fn torn(&self) -> TornWrites {
+        self.torn
     }
 
     /// Opens them; each fails behind so many calls. The error is want of memory.
