@@ -1,7 +1,7 @@
 -- The heads of a vault: one for each key, each naming a held entry.
 use Rattle.std.specs.Cmp.Lexicographic.{on_texts}
 use Rattle.std.specs.Str.{bytes_eq}
-use Rattle.std.proofs.Common.{◌≡◌, ◌<◌, ◌≤◌, ℕ, ◌+◌, ◌==◌, List, [], ◌∷◌, length, map, filter, find, cond, Bool, true, false, Some, Equal, is_eq, refl, sym, ap, subst, ◌∙◌, arith}
+use Rattle.std.proofs.Common.{◌≡◌, ◌<◌, ◌≤◌, ℕ, ◌+◌, ◌==◌, List, [], ◌∷◌, length, map, filter, find, cond, Bool, true, false, Some, None, Equal, is_eq, refl, sym, ap, subst, ◌∙◌, arith}
 use Rattle.std.specs.Prelude.{is_none, if◌then◌else◌, nat_lt}
 use Rattle.std.specs.List.{AllByRecursion}
 use Rattle.std.specs.Cmp.{IsTotalOrder}
@@ -153,5 +153,5 @@ sound_heads n db v it =
       all_in_order head_cmp (NamesHeld (entries_in v.histories)) hs (heads_name v ids),
     )
 
-pub unsound : (n : Edition) → (db : Database) → ((es : List Entry) → AreEntries db es → TellHeadsByKey db es false) → (v : Vault) → ¬ AreSoundAs n db v
+pub unsound : (n : Edition) → (db : Database) → ((es : List Entry) → AreEntries db es → TellHeadsByKey db es None) → (v : Vault) → ¬ AreSoundAs n db v
 unsound n db told v it = told (entries_in v.histories) (sound_entries n db v it) (in_order head_cmp (heads_in v)) ((sound_heads n) db v it)

@@ -1,7 +1,8 @@
--- The look at each head beside the held entries of its key.
+-- The look at each head beside the held entries of its key, up to the one that it names.
+use Rattle.std.specs.Ordering.{int_cmp, nat_cmp, is_gt, is_le}
 use Rattle.std.specs.Str.{bytes_eq}
 use Rattle.std.specs.Prelude.{if◌then◌else◌, min, is_none}
-use Rattle.std.proofs.Common.{◌≡◌, ◌≤◌, ℕ, ◌+◌, ◌&&◌, pos, negsuc, codes, List, [], ◌∷◌, ◌++◌, length, map, filter, flat_map, Bool, true, false, Some, None, Option, IsTrue, IsPermutation, refl, sym, ap, subst, ◌∙◌, arith}
+use Rattle.std.proofs.Common.{◌≡◌, ◌≤◌, ℕ, ◌+◌, ◌&&◌, pos, negsuc, codes, List, [], ◌∷◌, ◌++◌, length, map, filter, flat_map, Bool, true, false, Some, None, Option, Ordering, Less, Equal, Greater, IsTrue, IsPermutation, refl, sym, ap, subst, ◌∙◌, arith}
 use Rattle.std.proofs.lemmas.Bool.Decides.{nat_tests}
 use Rattle.std.proofs.lemmas.List.{length-map}
 use Rattle.std.proofs.lemmas.List.Sorted.{IsPermutation-map, IsPermutation-sym, length_permutation}
@@ -10,13 +11,15 @@ use Rattle.std.proofs.lemmas.List.Concat.{flat_map_single}
 use Rattle.sqlite_tied.specs.Compute.{everything}
 use Rattle.sqlite_trees.specs.Tree.{Trees}
 use Rattle.sqlite_trees.proofs.ListLemmas.{map-map, filter-map, IsPermutation-filter, all-permutation, all-map, all_from_map}
-use Rattle.sqlite_value.specs.declared.value.Value.TheVariants.{Null, Int}
+use Rattle.sqlite_value.specs.declared.value.Value.TheVariants.{Null, Int, Text}
 use Rattle.sqlite_value.specs.declared.keys.Collation.TheVariants.{Binary}
 use Rattle.sqlite_value.specs.Order.{Row, column, value_cmp}
+use Rattle.sqlite_value.proofs.OrderLemmas.{value_cmp-Int}
 use Rattle.sqlite_sql.specs.declared.ops.BinaryOp.TheVariants.{Compare, Is}
-use Rattle.sqlite_sql.specs.declared.ops.CompareOp.TheVariants.{Eq}
-use Rattle.sqlite_sql.specs.Ops.{binary, is_true}
-use Rattle.sqlite_sql.specs.Term.{Term, Env, lit, col, op2, eval_all}
+use Rattle.sqlite_sql.specs.declared.ops.CompareOp.TheVariants.{Eq, Gt}
+use Rattle.sqlite_sql.specs.declared.ops.UnaryOp.TheVariants.{Not}
+use Rattle.sqlite_sql.specs.Ops.{unary, binary, truth, not3, is_true, from_truth}
+use Rattle.sqlite_sql.specs.Term.{Term, Env, lit, col, op1, op2, eval_all}
 use Rattle.sqlite_sql.specs.Query.{Query, inner, counted, end, IsAnswer, Output, output}
 use Rattle.sqlite_sql.specs.Program.{overlay}
 use Rattle.sqlite.specs.Command.TheVariants.{Select}
@@ -27,7 +30,6 @@ use Rattle.sqlite.proofs.Callers.{IsPlain, command_of, reads_as}
 use Rattle.vault_core_model.specs.declared.records.Entry.{Entry}
 use Rattle.vault_core_model.specs.declared.records.Removal.{Removal}
 use Rattle.vault_base.specs.Name.{is_version_id}
-use Rattle.vault_core_model.specs.Places.{is_held_at}
 use Rattle.vault_audit_model.specs.declared.rows.HeadRow.{HeadRow}
 use Rattle.vault_audit_model.specs.Relations.{AreEntries, AreNumbered}
 use Rattle.vault_audit_model.specs.Rows.{entry_row, entry_columns, head_row, head_columns, removal_at}
@@ -38,18 +40,19 @@ use Rattle.vault_audit_walk.specs.Health.{Asks}
 use Rattle.vault_audit_walk.specs.Records.{Checked}
 use Rattle.vault_audit_walk.proofs.ScanLemmas.{goes_on_to}
 use Rattle.vault_audit_walk.proofs.RecordLemmas.{between, front}
-use Rattle.vault_audit_model.proofs.ValueLemmas.{agrees, three}
+use Rattle.vault_audit_model.proofs.ValueLemmas.{agrees}
 use Rattle.vault_audit_walk.proofs.BesideLemmas.{agree_texts, of_records, of_stored, each, passes}
-use Rattle.vault_audit_entries.specs.HeadCounts.{IsCounted, TellCounts, ShowsCount}
+use Rattle.vault_audit_entries.specs.HeadCounts.{is_under, IsCounted, TellCounts, ShowsCount}
 use Rattle.vault_audit_model.specs.declared.schema.Edition.{Edition}
 
 -- ---- the statement
 
 abbrev pub counts_text : List ℕ
-counts_text = codes "SELECT h.count, (SELECT count(*) FROM entries AS e WHERE e.bucket = h.bucket AND e.key = h.key AND e.removed IS NULL) AS held FROM heads AS h"
+counts_text = codes "SELECT h.count, (SELECT count(*) FROM entries AS e WHERE e.bucket = h.bucket AND e.key = h.key AND e.removed IS NULL AND NOT (e.id > h.newest)) AS held FROM heads AS h"
 
 abbrev tests : List Term
-tests = op2 (Compare Eq Binary) (col 2 2) (col 1 1) ∷ op2 (Compare Eq Binary) (col 2 3) (col 1 2) ∷ op2 (Is Binary) (col 2 10) (lit Null) ∷ []
+tests = op2 (Compare Eq Binary) (col 2 2) (col 1 1) ∷ op2 (Compare Eq Binary) (col 2 3) (col 1 2) ∷ op2 (Is Binary) (col 2 10) (lit Null)
+    ∷ op1 Not (op2 (Compare Gt Binary) (col 2 0) (col 1 3)) ∷ []
 
 -- no count is greater
 abbrev most : ℕ
@@ -121,7 +124,9 @@ as_many p f (x ∷ xs) =
 
 -- what a row of heads and a row of entries tell, as their columns
 abbrev tells : Row → Row → Bool
-tells x y = agrees (column y 1) (column x 0) && (agrees (column y 2) (column x 1) && (is_true (binary (Is Binary) (column y 9) Null) && true))
+tells x y =
+    agrees (column y 1) (column x 0) && (agrees (column y 2) (column x 1)
+    && (is_true (binary (Is Binary) (column y 9) Null) && (is_true (unary Not (binary (Compare Gt Binary) (column y 0) (column x 2))) && true)))
 
 abbrev how_many : List Row → Row → ℕ
 how_many entries x = length (filter (λ s. tells x (entry_columns s)) entries)
@@ -145,10 +150,33 @@ unfolding binary value_cmp lib.Ieee.is_nan lib.Ieee.lt
 unremoved None = refl
 unremoved (Some r) = refl
 
-tells_held : (h : HeadRow) (e : Entry) → tells (head_row h) (entry_row e) ≡ is_held_at h.bucket h.key e
-tells_held h e =
-    three _ _ _ (bytes_eq e.bucket h.bucket) (bytes_eq e.key h.key) (is_none e.removal)
-    (agree_texts e.bucket h.bucket ∙ is_eq-slice_cmp e.bucket h.bucket) (agree_texts e.key h.key ∙ is_eq-slice_cmp e.key h.key) (unremoved e.removal)
+pub ints : (a b : ℕ) → int_cmp (pos a) (pos b) ≡ nat_cmp a b
+ints a b = grind arith
+
+no_more_than : (o : Ordering) → is_true (from_truth (not3 (truth (from_truth (Some (is_gt o)))))) ≡ is_le o
+no_more_than Less = refl
+no_more_than Equal = refl
+no_more_than Greater = refl
+
+no_newer : (a b : ℕ) → is_true (unary Not (binary (Compare Gt Binary) (number a) (number b))) ≡ is_le (nat_cmp a b)
+unfolding unary binary
+no_newer a b = ap (λ o. is_true (from_truth (not3 (truth (from_truth (Some (is_gt o))))))) (value_cmp-Int (pos a) (pos b) ∙ ints a b) ∙ no_more_than (nat_cmp a b)
+
+regrouped : (a b c d : Bool) → (a && (b && (c && (d && true)))) ≡ ((a && (b && c)) && d)
+regrouped true true true true = refl
+regrouped true true true false = refl
+regrouped true true false d = refl
+regrouped true false c d = refl
+regrouped false b c d = refl
+
+each_as : (a b c d e f g h : Bool) → a ≡ e → b ≡ f → c ≡ g → d ≡ h → ((a && (b && c)) && d) ≡ ((e && (f && g)) && h)
+each_as a b c d e f g h p q r s = rw (p, q, r, s) refl
+
+tells_under : (h : HeadRow) (e : Entry) → tells (head_row h) (entry_row e) ≡ is_under h e
+tells_under h e =
+    regrouped (agrees (Text e.bucket) (Text h.bucket)) (agrees (Text e.key) (Text h.key)) (is_true (binary (Is Binary) (removal_at e.removal) Null)) (is_true (unary Not (binary (Compare Gt Binary) (number e.id) (number h.head.newest))))
+    ∙ each_as _ _ _ _ (bytes_eq e.bucket h.bucket) (bytes_eq e.key h.key) (is_none e.removal) (is_le (nat_cmp e.id h.head.newest))
+    (agree_texts e.bucket h.bucket ∙ is_eq-slice_cmp e.bucket h.bucket) (agree_texts e.key h.key ∙ is_eq-slice_cmp e.key h.key) (unremoved e.removal) (no_newer e.id h.head.newest)
 
 filter_alike : {A : Type 0} (p q : A → Bool) → ((x : A) → p x ≡ q x) → (xs : List A) → length (filter p xs) ≡ length (filter q xs)
 filter_alike p q same [] = refl
@@ -166,7 +194,7 @@ mapped_many p f xs =
     let one : length (map f (filter (λ x. p (f x)) xs)) ≡ length (filter (λ x. p (f x)) xs) = simp length-map in
     ap length (filter-map p f xs) ∙ one
 
-no_more : {A : Type 0} (p : A → Bool) (xs : List A) → length (filter p xs) ≤ length xs
+pub no_more : {A : Type 0} (p : A → Bool) (xs : List A) → length (filter p xs) ≤ length xs
 no_more p [] = omega arith
 no_more p (x ∷ xs) =
     let more = no_more p xs in
@@ -178,7 +206,7 @@ no_more p (x ∷ xs) =
 id_bound : (n : ℕ) → IsTrue (is_version_id n) → n ≤ 1000000000
 id_bound n is = grind (arith, nat_tests, is)
 
-few_entries : (next low : ℕ) (es : List Entry) → next ≤ 1000000001 → AreNumbered next low es → next + length es ≤ 1000000001
+pub few_entries : (next low : ℕ) (es : List Entry) → next ≤ 1000000001 → AreNumbered next low es → next + length es ≤ 1000000001
 few_entries next low [] some are = omega (arith, some)
 few_entries next low (e ∷ es) some are =
     let id = are.0.1.0 in
@@ -190,17 +218,17 @@ below_most : (n : ℕ) → n ≤ 1000000001 → min most n ≡ n
 below_most n low = grind (arith, low)
 
 module _ (entries : List Row) (es : List Entry) (are : IsPermutation (map entry_row es) (map entry_columns entries)) (numbered : AreNumbered 1 0 es) where
-  found : (h : HeadRow) → how_many entries (head_row h) ≡ length (filter (is_held_at h.bucket h.key) es)
+  found : (h : HeadRow) → how_many entries (head_row h) ≡ length (filter (is_under h) es)
   found h =
       let p = tells (head_row h) in
       sym (mapped_many p entry_columns entries) ∙ length_permutation _ _ (IsPermutation-filter p _ _ are)
-      ∙ mapped_many p entry_row es ∙ filter_alike (λ e. p (entry_row e)) (is_held_at h.bucket h.key) (tells_held h) es
+      ∙ mapped_many p entry_row es ∙ filter_alike (λ e. p (entry_row e)) (is_under h) (tells_under h) es
 
-  whole : (h : HeadRow) → min most (how_many entries (head_row h)) ≡ length (filter (is_held_at h.bucket h.key) es)
+  whole : (h : HeadRow) → min most (how_many entries (head_row h)) ≡ length (filter (is_under h) es)
   whole h =
       let n = found h in
       let few = few_entries 1 0 es (omega arith) numbered in
-      let some = no_more (is_held_at h.bucket h.key) es in
+      let some = no_more (is_under h) es in
       ap (min most) n ∙ below_most _ (omega (arith, few, some))
 
   counted_if : (h : HeadRow) → Counts entries (head_row h) → IsCounted es h

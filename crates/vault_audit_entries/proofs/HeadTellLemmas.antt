@@ -1,5 +1,6 @@
 -- The walk over heads beside the entries.
-use Rattle.std.proofs.Common.{◌≡◌, ℕ, List, [], ◌∷◌, ◌==◌, map, filter, find, Bool, true, false, Some, None, Option, IsPermutation, IsSorted, refl, sym, ap, subst, ◌∙◌}
+use Rattle.std.specs.Prelude.{min}
+use Rattle.std.proofs.Common.{◌≡◌, ◌≤◌, ℕ, ◌+◌, List, [], ◌∷◌, ◌==◌, map, filter, find, true, false, Some, None, Option, IsPermutation, IsSorted, refl, sym, ap, subst, ◌∙◌, arith}
 use Rattle.std.specs.List.{AllByRecursion}
 use Rattle.std.proofs.lemmas.List.Elements.{All-from_recursion, recursion_from_All}
 use Rattle.std.proofs.lemmas.List.Sorted.{IsPermutation-map, IsPermutation-sym, All-permutation}
@@ -19,7 +20,7 @@ use Rattle.vault_audit_model.specs.Relations.{AreEntries}
 use Rattle.vault_audit_model.specs.Rows.{head_row, head_columns, entry_columns, removal_at}
 use Rattle.vault_audit_model.specs.Tables.{schema_of, heads_tree, entries_tree}
 use Rattle.vault_audit_model.proofs.SameRows.{text_same, cell}
-use Rattle.vault_audit_walk.specs.Pass.{Takes, Refuses}
+use Rattle.vault_audit_walk.specs.Pass.{Takes, Refuses, after}
 use Rattle.vault_audit_walk.specs.Walk.{Walked}
 use Rattle.vault_audit_walk.proofs.PassLemmas.{pass_yes, pass_no}
 use Rattle.vault_audit_entries.proofs.BesideLemmas.{is_of, row_beside, beside, beside_is, beside_number}
@@ -27,7 +28,7 @@ use Rattle.vault_audit_entries.proofs.ContentLemmas.{one_each, unremoved}
 use Rattle.vault_audit_walk.proofs.JoinLemmas.{IsOrderOf}
 use Rattle.vault_audit_entries.proofs.JoinLemmas.{beside_of, shown_beside, join_rows, joined}
 use Rattle.vault_audit_entries.specs.declared.heads.by_key.HeadPass.{HeadPass}
-use Rattle.vault_audit_entries.specs.Heads.{headed_row, head_cmp, IsHeldFor, NamesHeld, AreHeadsByKey, TellHeadsByKey}
+use Rattle.vault_audit_entries.specs.Heads.{headed_row, head_cmp, IsHeldFor, NamesHeld, AreHeadsByKey, TellHeadsByKey, sum_of_counts, up_to_most}
 use Rattle.vault_audit_entries.specs.HeadPasses.{ComesAfter, with_head}
 use Rattle.vault_audit_entries.proofs.HeadRowLemmas.{same_head}
 use Rattle.vault_audit_entries.proofs.HeadRiseLemmas.{row_order, row_order_total, ascending_heads, limits, fitting, no_last, rows_rise}
@@ -139,19 +140,33 @@ shown_headed db es hs are same all =
     subst (IsPermutation (map headed_row hs)) (sym (source_is db es are)) (subst (λ xs. IsPermutation xs (map (extended es) (map head_columns (db.trees heads_tree)))) (all_extend es hs all) (IsPermutation-map (extended es) _ _ same))
 
 abbrev pub start : HeadPass
-start = record { last = None }
+start = record { last = None; total = 0 }
+
+-- ---- the sum
+
+summed_up : (most a b c : ℕ) → min (min (a + b) most + c) most ≡ min (a + (b + c)) most
+summed_up most a b c = grind arith
+
+no_less : (most a : ℕ) → a ≤ most → a ≡ min (a + 0) most
+no_less most a low = grind (arith, low)
+
+below_most : (n : ℕ) → up_to_most n ≤ 18446744073709551615
+below_most n = grind arith
+
+total_after : (p : HeadPass) (hs : List HeadRow) → p.total ≤ 18446744073709551615 → (after headed_row ComesAfter with_head p hs).total ≡ up_to_most (p.total + sum_of_counts hs)
+total_after p [] low = no_less 18446744073709551615 p.total low
+total_after p (h ∷ hs) low =
+    total_after (with_head p h) hs (below_most (p.total + h.head.count)) ∙ summed_up 18446744073709551615 p.total h.head.count (sum_of_counts hs)
 
 module _ (n : Edition) (old new : State) (has : old.now.schema ≡ schema_of n) (same : IsUnchanged old new) (r : HeadPass) (es : List Entry) (are : AreEntries new.now es) where
-  heads_yes : Walked (Takes headed_row ComesAfter with_head) (Refuses headed_row ComesAfter with_head) heads_walk old new start r true → TellHeadsByKey new.now es true
+  pub heads_yes : Walked (Takes headed_row ComesAfter with_head) (Refuses headed_row ComesAfter with_head) heads_walk old new start r true → TellHeadsByKey new.now es (Some r.total)
   heads_yes h =
       let it = pass_yes headed_row ComesAfter with_head same_head row_order row_order_total (schema_of n) heads_walk _ _ (heads_walk_is n).0 source (answers n) old new has same start r h in
-      (it.0, are_heads new.now es it.0 are it.1 (ascending_heads start it.0 it.2) (limits start it.0 it.2))
+      let none : 0 + sum_of_counts it.0 ≡ sum_of_counts it.0 = omega arith in
+      let total : r.total ≡ up_to_most (sum_of_counts it.0) = ap (λ (p : HeadPass). p.total) it.3 ∙ total_after start it.0 (omega arith) ∙ ap up_to_most none in
+      (it.0, are_heads new.now es it.0 are it.1 (ascending_heads start it.0 it.2) (limits start it.0 it.2), total)
 
-  heads_no : Walked (Takes headed_row ComesAfter with_head) (Refuses headed_row ComesAfter with_head) heads_walk old new start r false → TellHeadsByKey new.now es false
+  pub heads_no : Walked (Takes headed_row ComesAfter with_head) (Refuses headed_row ComesAfter with_head) heads_walk old new start r false → TellHeadsByKey new.now es None
   heads_no h hs it =
       let fit = fitting start hs (no_last hs) it.1 it.2 in
       pass_no headed_row ComesAfter with_head same_head row_order row_order_total (schema_of n) heads_walk _ _ (heads_walk_is n).0 source (answers n) old new has same start r (λ xs fits. rows_rise xs (ascending_heads start xs fits)) h hs (shown_headed new.now es hs are it.0 it.3) fit
-
-  pub heads_told : (found : Bool) → Walked (Takes headed_row ComesAfter with_head) (Refuses headed_row ComesAfter with_head) heads_walk old new start r found → TellHeadsByKey new.now es found
-  heads_told true = heads_yes
-  heads_told false = heads_no

@@ -1,19 +1,15 @@
--- Rows of heads by key, one over each held entry, each with its count, are the heads of the vault.
-use Rattle.std.specs.Ordering.{ordering_then, nat_cmp, is_ge}
-use Rattle.std.specs.Prelude.{is_none, nat_lt}
-use Rattle.std.specs.Str.{bytes_eq}
+-- Rows of heads by key, each with the count of what is under it, are the heads of the vault where they count all held entries.
+use Rattle.std.specs.Prelude.{is_none, min, nat_lt}
 use Rattle.std.specs.List.{AllByRecursion}
 use Rattle.std.proofs.Common.{◌≡◌, ◌≤◌, ◌<◌, inl, inr, ℕ, zero, suc, ◌+◌, ◌==◌, ◌&&◌, List, [], ◌∷◌, length, map, filter, find, cond, Bool, true, false, Some, None, Option, Equal, IsPermutation, refl, sym, ap, ap₂, subst, ◌∙◌, arith}
 use Rattle.std.proofs.lemmas.Bool.Decides.{nat_tests}
-use Rattle.std.proofs.lemmas.List.Sorted.{IsPermutation-map, IsPermutation-sym, IsPermutation-trans}
-use Rattle.std.proofs.lemmas.Slice.Eq.{bytes_eq-Decides}
+use Rattle.std.proofs.lemmas.List.Sorted.{IsPermutation-map, IsPermutation-sym, IsPermutation-trans, list_any-IsPermutation}
 use Rattle.std.proofs.lemmas.Bool.{and_parts}
 use Rattle.sqlite_trees.proofs.ListLemmas.{all-permutation}
 use Rattle.sqlite.specs.Effect.{Database}
 use Rattle.vault_core_model.specs.declared.records.Entry.{Entry}
 use Rattle.vault_core_model.specs.declared.records.History.{History}
-use Rattle.vault_core_model.specs.declared.records.Removal.{Removal}
-use Rattle.vault_core_model.specs.Order.{IsAscending, name_cmp}
+use Rattle.vault_core_model.specs.Order.{IsAscending}
 use Rattle.vault_core_model.specs.Places.{held_at, is_held_at, is_current, newer}
 use Rattle.vault_core_model.specs.Sound.{AreIdsFrom}
 use Rattle.vault_core_model.specs.Vault.{Vault}
@@ -24,25 +20,22 @@ use Rattle.vault_audit_model.specs.Rows.{head_row, head_columns}
 use Rattle.vault_audit_model.specs.Spells.{AreSoundAs, head_in, heads_in}
 use Rattle.vault_audit_model.specs.Tables.{heads_tree}
 use Rattle.vault_audit_entries.proofs.ContentSoundLemmas.{sound_entries}
-use Rattle.vault_audit_entries.specs.Heads.{head_cmp, IsHeldFor, NamesHeld, AreHeadsByKey, TellHeadsByKey}
-use Rattle.vault_audit_entries.specs.Newest.{is_head_over, IsHeaded, TellHeaded}
+use Rattle.vault_audit_entries.specs.Heads.{head_cmp, IsHeldFor, NamesHeld, AreHeadsByKey, TellHeadsByKey, sum_of_counts, up_to_most}
 use Rattle.vault_audit_entries.proofs.SortLemmas.{in_order, same_in_order, all_in_order, ascending_in_order}
 use Rattle.vault_audit_entries.proofs.CurrentLemmas.{head_cmp_total, heads_apart, heads_name}
 use Rattle.vault_audit_entries.proofs.HeadRowLemmas.{alike}
-use Rattle.vault_audit_entries.specs.HeadCounts.{IsCounted, TellCounts}
-use Rattle.vault_audit_entries.proofs.HeadCountLemmas.{mapped_many}
+use Rattle.vault_audit_entries.specs.HeadCounts.{is_under, IsCounted, TellCounts, is_held_entry, held_entry_count}
+use Rattle.vault_audit_entries.proofs.HeadCountLemmas.{mapped_many, few_entries, no_more}
+use Rattle.vault_audit_entries.proofs.HeadSumLemmas.{alike_among, none_removed, held_parts, parts_held, under_parts, parts_under, under_all, tie_of, is_covered, counted_once, all_covered, whole_counts, same_sum}
 use Rattle.vault_core_laws.proofs.Tests.{none_is}
 use Rattle.vault_audit_entries.specs.Keys.{entries_of}
-use Rattle.vault_audit_entries.proofs.MemberLemmas.{In, at_in, all_of, none_in, no_length, one_in, filter_in, in_filter, any_in, in_any, map_in, in_map, tied, one_of, same_rising}
+use Rattle.vault_audit_entries.proofs.MemberLemmas.{In, at_in, all_of, none_in, no_length, one_in, filter_in, in_filter, any_in, in_any, map_in, in_map, one_of, same_rising}
 use Rattle.vault_audit_model.specs.declared.schema.Edition.{Edition}
 
 -- ---- tests
 
 both_true : (a b : Bool) → a ≡ true → b ≡ true → (a && b) ≡ true
 both_true a b p q = rw (p, q) refl
-
-none_removed : (r : Option Removal) → r ≡ None → is_none r ≡ true
-none_removed r e = ap is_none e
 
 is_zero : (n : ℕ) → (n == 0) ≡ true → n ≡ 0
 is_zero n is = grind (arith, nat_tests, is)
@@ -59,20 +52,8 @@ below_if a b is = grind (arith, nat_tests, is)
 if_below : (a b : ℕ) → a < b → nat_lt a b ≡ true
 if_below a b less = grind (arith, nat_tests, less)
 
-least_if : (a b : ℕ) → is_ge (nat_cmp a b) ≡ true → b ≤ a
-least_if a b is = grind (arith, nat_tests, is)
-
-if_least : (a b : ℕ) → b ≤ a → is_ge (nat_cmp a b) ≡ true
-if_least a b low = grind (arith, nat_tests, low)
-
 same_id : (a b : ℕ) → (a == b) ≡ true → a ≡ b
 same_id a b is = grind (arith, nat_tests, is)
-
-same_text : (a b : List ℕ) → bytes_eq a b ≡ true → a ≡ b
-same_text a b is = (bytes_eq-Decides a b).0 is
-
-text_same : (a b : List ℕ) → a ≡ b → bytes_eq a b ≡ true
-text_same a b e = (bytes_eq-Decides a b).1 e
 
 -- the entry that a head names
 named_in : (h : HeadRow) (es : List Entry) → NamesHeld es h → (e : Entry) × In e es × (e.id ≡ h.head.newest) × (e.bucket ≡ h.bucket) × (e.key ≡ h.key) × (e.removal ≡ None)
@@ -83,21 +64,15 @@ named_in h (x ∷ es) it =
       | false ↦ λ is told. let more = named_in h es told in (more.0, inr more.1, more.2, more.3, more.4, more.5)
     ] refl it
 
-held_parts : (bucket key : List ℕ) (e : Entry) → is_held_at bucket key e ≡ true → (e.bucket ≡ bucket) × (e.key ≡ key) × (e.removal ≡ None)
-held_parts bucket key e is =
-    let rest = (and_parts (bytes_eq e.bucket bucket) _ is).1 in
-    (same_text e.bucket bucket (and_parts (bytes_eq e.bucket bucket) _ is).0, same_text e.key key (and_parts (bytes_eq e.key key) _ rest).0, none_is e.removal (and_parts (bytes_eq e.key key) _ rest).1)
-
-parts_held : (bucket key : List ℕ) (e : Entry) → e.bucket ≡ bucket → e.key ≡ key → e.removal ≡ None → is_held_at bucket key e ≡ true
-parts_held bucket key e p q r = both_true _ _ (text_same e.bucket bucket p) (both_true _ _ (text_same e.key key q) (none_removed e.removal r))
-
-over_parts : (e : Entry) (h : HeadRow) → is_head_over e h ≡ true → (h.bucket ≡ e.bucket) × (h.key ≡ e.key) × (e.id ≤ h.head.newest)
-over_parts e h is =
-    let rest = (and_parts (bytes_eq h.bucket e.bucket) _ is).1 in
-    (same_text h.bucket e.bucket (and_parts (bytes_eq h.bucket e.bucket) _ is).0, same_text h.key e.key (and_parts (bytes_eq h.key e.key) _ rest).0, least_if h.head.newest e.id (and_parts (bytes_eq h.key e.key) _ rest).1)
-
-parts_over : (e : Entry) (h : HeadRow) → h.bucket ≡ e.bucket → h.key ≡ e.key → e.id ≤ h.head.newest → is_head_over e h ≡ true
-parts_over e h p q low = both_true _ _ (text_same h.bucket e.bucket p) (both_true _ _ (text_same h.key e.key q) (if_least h.head.newest e.id low))
+not_above : (a b c : ℕ) → c ≡ b → (a < b → ⊥) → c ≤ a
+not_above a b c same never =
+    elim (nat_lt a b) as (λ x. nat_lt a b ≡ x → c ≤ a) [
+      | true ↦ λ is. absurd (never (below_if a b is))
+      | false ↦ λ is. least a b c same is
+    ] refl
+  where
+    least : (a b c : ℕ) → c ≡ b → nat_lt a b ≡ false → c ≤ a
+    least a b c same is = grind (arith, nat_tests, is, same)
 
 no_less : (a b : ℕ) → a ≤ b → (a < b → ⊥) → b ≡ a
 no_less a b low never =
@@ -109,8 +84,20 @@ no_less a b low never =
     not_below : (a b : ℕ) → a ≤ b → nat_lt a b ≡ false → b ≡ a
     not_below a b low is = grind (arith, nat_tests, is, low)
 
-tie_of : (g h : HeadRow) → g.bucket ≡ h.bucket → g.key ≡ h.key → head_cmp g h ≡ Equal
-tie_of g h p q = ap₂ (λ b k. ordering_then (name_cmp g.bucket b) (name_cmp g.key k)) (sym p) (sym q) ∙ tied head_cmp head_cmp_total g
+-- a sum that is small isn't cut off
+all_of_it : (n sum : ℕ) → n ≡ min sum 18446744073709551615 → n ≤ 1000000001 → sum ≡ n
+all_of_it n sum is low = grind (arith, is, low)
+
+uncut : (sum : ℕ) → sum ≤ 1000000001 → min sum 18446744073709551615 ≡ sum
+uncut sum low = grind (arith, low)
+
+not_one : (a b : ℕ) → (a == b) ≡ false → a ≡ b → ⊥
+not_one a b other same = grind (arith, nat_tests, other, same)
+
+same_test : (a b : Bool) → (a ≡ true → b ≡ true) → (b ≡ true → a ≡ true) → a ≡ b
+same_test true b so back = sym (so refl)
+same_test false true so back = back refl
+same_test false false so back = refl
 
 -- ---- numbered entries
 
@@ -186,28 +173,55 @@ module _ (v : Vault) (numbered : AreNumbered 1 0 (entries_of v)) where
             let low = it.5 in (it.0, it.1, it.2, it.3 ∙ its.1, it.4 ∙ its.2, omega (arith, less, low))
       ] refl
 
-  each_headed : AllByRecursion (IsHeaded (heads_in v)) es
-  each_headed = all_of (IsHeaded (heads_in v)) es (λ e i held.
+  each_covered : AllByRecursion (λ e. is_held_entry e ≡ true → is_covered (heads_in v) e ≡ true) es
+  each_covered = all_of (λ e. is_held_entry e ≡ true → is_covered (heads_in v) e ≡ true) es (λ e i held.
       let g = in_map (λ (h : History). h.entry) v.histories e i in
       let same : e ≡ g.0.entry = g.2 in
-      let k = newest (1 + length v.histories) g.0 g.1 (ap (λ (x : Entry). x.removal) (sym same) ∙ held) (omega arith) in
+      let none = none_is e.removal held in
+      let k = newest (1 + length v.histories) g.0 g.1 (ap (λ (x : Entry). x.removal) (sym same) ∙ none) (omega arith) in
       let low = k.5 in
       let id = ap (λ (x : Entry). x.id) same in
-      in_any (is_head_over e) (heads_in v) (head_in v k.0) (head_there k.0 k.1 k.2)
-      (parts_over e (head_in v k.0) (k.3 ∙ ap (λ (x : Entry). x.bucket) (sym same)) (k.4 ∙ ap (λ (x : Entry). x.key) (sym same)) (omega (arith, id, low))))
+      in_any (λ h. is_under h e) (heads_in v) (head_in v k.0) (head_there k.0 k.1 k.2)
+      (parts_under (head_in v k.0) e (ap (λ (x : Entry). x.bucket) same ∙ sym k.3) (ap (λ (x : Entry). x.key) same ∙ sym k.4) none (omega (arith, id, low))))
 
+  -- all held entries of the key of a head are no newer than the one that is current
   each_counted : AllByRecursion (IsCounted es) (heads_in v)
   each_counted = all_of (IsCounted es) (heads_in v) (λ x i.
       let g = heads_of x i in
-      let one : IsCounted es (head_in v g.0) = sym (count_of g.0.entry.bucket g.0.entry.key) in subst (IsCounted es) (sym g.3) one)
+      let h = g.0 in
+      let none = is_zero _ (and_parts (is_none h.entry.removal) _ g.2).1 in
+      let all = alike_among (is_under (head_in v h)) (is_held_at h.entry.bucket h.entry.key) es (all_of (λ e. is_under (head_in v h) e ≡ is_held_at h.entry.bucket h.entry.key e) es (λ e j.
+      under_all (head_in v h) e (λ held.
+      let k = in_map (λ (y : History). y.entry) v.histories e j in
+      let its : is_held_at h.entry.bucket h.entry.key k.0.entry ≡ true = ap (is_held_at h.entry.bucket h.entry.key) (sym k.2) ∙ held in
+      let id = ap (λ (y : Entry). y.id) k.2 in
+      not_above h.entry.id k.0.entry.id e.id id (λ less. none_in (newer v h) none k.0 (in_newer h k.0 k.1 its less))))) in
+      let one : IsCounted es (head_in v h) = sym (all ∙ count_of h.entry.bucket h.entry.key) in subst (IsCounted es) (sym g.3) one)
+
+  abbrev ordered : List HeadRow
+  ordered = in_order head_cmp (heads_in v)
+
+  ordered_up : IsAscending head_cmp ordered
+  ordered_up = ascending_in_order head_cmp head_cmp_total (heads_in v) (heads_apart v ids)
+
+  -- its heads count all held entries
+  held_sum : sum_of_counts (heads_in v) ≡ held_entry_count es
+  held_sum =
+      let counts = all_in_order head_cmp (IsCounted es) (heads_in v) each_counted in
+      let same = same_in_order head_cmp (heads_in v) in
+      let covered = all_of (λ e. is_covered ordered e ≡ is_held_entry e) es (λ e i.
+      same_test (is_covered ordered e) (is_held_entry e)
+      (λ is. let it = any_in (λ h. is_under h e) ordered is in none_removed e.removal (under_parts it.0 e it.2).2)
+      (λ is. list_any-IsPermutation (λ h. is_under h e) ordered (heads_in v) same ∙ at_in (λ x. is_held_entry x ≡ true → is_covered (heads_in v) x ≡ true) es each_covered e i is)) in
+      same_sum (heads_in v) ordered (IsPermutation-map head_row _ _ (IsPermutation-sym _ _ same)) ∙ counted_once es ordered ordered_up counts ∙ alike_among (is_covered ordered) is_held_entry es covered
 
   -- ---- heads that were found
 
-  module _ (hs : List HeadRow) (up : IsAscending head_cmp hs) (named : AllByRecursion (NamesHeld es) hs) (headed : AllByRecursion (IsHeaded hs) es) (counts : AllByRecursion (IsCounted es) hs) where
+  module _ (hs : List HeadRow) (up : IsAscending head_cmp hs) (named : AllByRecursion (NamesHeld es) hs) (covered : AllByRecursion (λ e. is_held_entry e ≡ true → is_covered hs e ≡ true) es) (counts : AllByRecursion (λ h. h.head.count ≡ length (filter (is_held_at h.bucket h.key) es)) hs) where
     over : (g : History) → In g v.histories → g.entry.removal ≡ None → (h : HeadRow) × In h hs × (h.bucket ≡ g.entry.bucket) × (h.key ≡ g.entry.key) × (g.entry.id ≤ h.head.newest)
     over g i held =
-        let it = any_in (is_head_over g.entry) hs (at_in (IsHeaded hs) es headed g.entry (entry_there g i) held) in
-        let its = over_parts g.entry it.0 it.2 in (it.0, it.1, its.0, its.1, its.2)
+        let it = any_in (λ h. is_under h g.entry) hs (at_in (λ e. is_held_entry e ≡ true → is_covered hs e ≡ true) es covered g.entry (entry_there g i) (none_removed g.entry.removal held)) in
+        let its = under_parts it.0 g.entry it.2 in (it.0, it.1, sym its.0, sym its.1, its.3)
 
     named_of : (h : HeadRow) → In h hs → (g : History) × In g v.histories × (g.entry.id ≡ h.head.newest) × (g.entry.bucket ≡ h.bucket) × (g.entry.key ≡ h.key) × (g.entry.removal ≡ None)
     named_of h i =
@@ -218,7 +232,7 @@ module _ (v : Vault) (numbered : AreNumbered 1 0 (entries_of v)) where
 
     is_head : (g : History) (h : HeadRow) → In h hs → g.entry.id ≡ h.head.newest → g.entry.bucket ≡ h.bucket → g.entry.key ≡ h.key → h ≡ head_in v g
     is_head g h i id bucket key =
-        let count = at_in (IsCounted es) hs counts h i ∙ ap₂ (λ b k. length (filter (is_held_at b k) es)) (sym bucket) (sym key) ∙ count_of g.entry.bucket g.entry.key in
+        let count = at_in (λ x. x.head.count ≡ length (filter (is_held_at x.bucket x.key) es)) hs counts h i ∙ ap₂ (λ b k. length (filter (is_held_at b k) es)) (sym bucket) (sym key) ∙ count_of g.entry.bucket g.entry.key in
         alike h.bucket g.entry.bucket h.key g.entry.key h.head.newest g.entry.id h.head.count (length (held_at v g.entry.bucket g.entry.key)) (sym bucket) (sym key) (sym id) count
 
     current_found : (g : History) → In g v.histories → is_current v g ≡ true → In (head_in v g) hs
@@ -250,22 +264,28 @@ module _ (v : Vault) (numbered : AreNumbered 1 0 (entries_of v)) where
     are_these : in_order head_cmp (heads_in v) ≡ hs
     are_these =
         let xs = heads_in v in
-        let ordered = in_order head_cmp xs in
         let here = all_in_order head_cmp (λ x. In x hs) xs (all_of (λ x. In x hs) xs (λ x i. let g = heads_of x i in subst (λ y. In y hs) (sym g.3) (current_found g.0 g.1 g.2))) in
         let there = all-permutation (λ x. In x ordered) ordered xs (same_in_order head_cmp xs) (all_of (λ x. In x ordered) ordered (λ x i. i)) in
-        same_rising head_cmp head_cmp_total ordered hs (ascending_in_order head_cmp head_cmp_total xs (heads_apart v ids)) up
+        same_rising head_cmp head_cmp_total ordered hs ordered_up up
         (λ x i. at_in (λ y. In y hs) ordered here x i) (λ x i. at_in (λ y. In y ordered) xs there x (found_current x i))
 
 -- ---- what the looks tell
 
 module _ (db : Database) (v : Vault) (are : AreEntries db (entries_of v)) where
-  pub heads_yes : (hs : List HeadRow) → AreHeadsByKey db (entries_of v) hs → TellHeaded (entries_of v) hs true → TellCounts (entries_of v) hs true → AreHeads db v
-  heads_yes hs by_key headed counts =
+  abbrev pub IsWhole : List HeadRow → Type 0
+  IsWhole hs = AreHeadsByKey db (entries_of v) hs × TellCounts (entries_of v) hs true
+
+  heads_yes : (hs : List HeadRow) → IsWhole hs → sum_of_counts hs ≡ held_entry_count (entries_of v) → AreHeads db v
+  heads_yes hs (by_key, counts) sum =
       let order = IsPermutation-map head_row _ _ (IsPermutation-sym _ _ (same_in_order head_cmp (heads_in v))) in
-      let same = are_these v are.1 hs by_key.1 by_key.3 headed counts in
+      let covered = all_covered (entries_of v) hs by_key.1 counts sum in
+      let same = are_these v are.1 hs by_key.1 by_key.3 covered (whole_counts (entries_of v) hs by_key.1 counts covered) in
       IsPermutation-trans _ _ _ order (subst (λ xs. IsPermutation (map head_row xs) (map head_columns (db.trees heads_tree))) (sym same) by_key.0)
 
-  pub no_by_key : TellHeadsByKey db (entries_of v) false → ¬ AreHeads db v
+  heads_no : (hs : List HeadRow) → AreHeadsByKey db (entries_of v) hs → AreHeads db v → sum_of_counts hs ≡ held_entry_count (entries_of v)
+  heads_no hs by_key heads = same_sum hs (heads_in v) (IsPermutation-trans _ _ _ by_key.0 (IsPermutation-sym _ _ heads)) ∙ held_sum v are.1
+
+  pub no_by_key : TellHeadsByKey db (entries_of v) None → ¬ AreHeads db v
   no_by_key told heads =
       let xs = heads_in v in
       let numbers = ids v are.1 in
@@ -276,16 +296,29 @@ module _ (db : Database) (v : Vault) (are : AreEntries db (entries_of v)) where
         all_in_order head_cmp (NamesHeld (entries_of v)) xs (heads_name v numbers),
       )
 
-  pub no_headed : ((hs : List HeadRow) → IsPermutation (map head_row hs) (map head_columns (db.trees heads_tree)) → TellHeaded (entries_of v) hs false) → ¬ AreHeads db v
-  no_headed told heads = told (heads_in v) heads (each_headed v are.1)
-
   pub no_counts : ((hs : List HeadRow) → IsPermutation (map head_row hs) (map head_columns (db.trees heads_tree)) → TellCounts (entries_of v) hs false) → ¬ AreHeads db v
   no_counts told heads = told (heads_in v) heads (each_counted v are.1)
 
-  pub heads_told : (b : Bool) → (hs : List HeadRow) → AreHeadsByKey db (entries_of v) hs → TellHeaded (entries_of v) hs true
-      → ((xs : List HeadRow) → IsPermutation (map head_row xs) (map head_columns (db.trees heads_tree)) → TellCounts (entries_of v) xs b) → TellHeads db v b
-  heads_told true hs by_key headed counts = heads_yes hs by_key headed (counts hs by_key.0)
-  heads_told false hs by_key headed counts = no_counts counts
+  few : held_entry_count (entries_of v) ≤ 1000000001
+  few =
+      let all = few_entries 1 0 (entries_of v) (omega arith) are.1 in
+      let some = no_more is_held_entry (entries_of v) in omega (arith, all, some)
+
+  -- the sum of the counts is the number of held entries, or it isn't
+  module _ (held total : ℕ) (all : held ≡ held_entry_count (entries_of v)) (hs : List HeadRow) (is : IsWhole hs) (sum : total ≡ up_to_most (sum_of_counts hs)) where
+    decided_as : (b : Bool) → (held == total) ≡ b → TellHeads db v b
+    decided_as true same =
+        let n : held ≡ total = same_id held total same in
+        let low = few in
+        heads_yes hs is (all_of_it held (sum_of_counts hs) (n ∙ sum) (omega (arith, all, low)) ∙ all)
+    decided_as false other = λ heads.
+        let same = heads_no hs is.0 heads in
+        let low = few in
+        let whole : up_to_most (sum_of_counts hs) ≡ sum_of_counts hs = uncut (sum_of_counts hs) (omega (arith, same, low)) in
+        not_one held total other (all ∙ sym same ∙ sym whole ∙ sym sum)
+
+    pub decided : TellHeads db v (held == total)
+    decided = decided_as (held == total) refl
 
 -- heads that are none of any vault are those of no sound vault
 pub unsound : (n : Edition) → (db : Database) → ((v : Vault) → AreEntries db (entries_of v) → TellHeads db v false) → (v : Vault) → ¬ AreSoundAs n db v

@@ -6,9 +6,9 @@ pub mod ContentSoundLemmas
 pub mod ContentTextLemmas
 pub mod CurrentLemmas
 pub mod HeadCountLemmas
-pub mod HeadNewestLemmas
 pub mod HeadRiseLemmas
 pub mod HeadRowLemmas
+pub mod HeadSumLemmas
 pub mod HeadTellLemmas
 pub mod HeadTextLemmas
 pub mod HeadsOfKeysLemmas
@@ -20,6 +20,7 @@ pub mod NoteRowLemmas
 pub mod NoteTextLemmas
 pub mod NumberLemmas
 pub mod SettingHistoryLemmas
+pub mod SettingOwnerLemmas
 pub mod SettingPlaceLemmas
 pub mod SettingPresenceLemmas
 pub mod SettingRowLemmas

@@ -45,7 +45,7 @@ use Rattle.vault_audit_entries.specs.Notes.{noted_row, IsAfter}
 use Rattle.vault_audit_entries.specs.NotePasses.{ComesAfter, with_note}
 use Rattle.vault_audit_entries.proofs.NoteRowLemmas.{first_ten, same_row}
 use Rattle.vault_audit_entries.proofs.NoteTextLemmas.{notes_walk, notes_shown, notes_order, notes_walk_is, notes_walk_plain}
-use Rattle.vault_audit_entries.proofs.HeadNewestLemmas.{ints}
+use Rattle.vault_audit_entries.proofs.HeadCountLemmas.{ints}
 use Rattle.vault_audit_model.specs.declared.schema.Edition.{Edition}
 
 abbrev Fit : NotePass → List Note → Type 0

@@ -97,28 +97,6 @@ all_set n low (e ∷ es) (h ∷ hs) are same all =
     let apart = not_theirs h.entry.id 1 h.settings es (subst (λ i. AllByRecursion (λ x. i + 1 ≤ x.id) es) (sym (ap (λ (x : Entry). x.id) first ∙ id)) others) in
     (has_append e.id run (flat_map settings_in hs) ∙ or_with _ _ _ mine none, set_more run (flat_map settings_in hs) es apart (all_set (n + 1) e.admitted es hs are.1 rest all.1))
 
--- each setting is of the entry of its history
-of_more : (e : Entry) (es : List Entry) (xs : List SettingRow) → AllByRecursion (IsOfOne es) xs → AllByRecursion (IsOfOne (e ∷ es)) xs
-of_more e es [] all = tt
-of_more e es (x ∷ xs) all = (either (e.id == x.id) all.0, of_more e es xs all.1)
-  where
-    either : (b : Bool) → list_any (λ y. y.id == x.id) es ≡ true → (b || list_any (λ y. y.id == x.id) es) ≡ true
-    either true h = refl
-    either false h = h
-
-of_first : (e : Entry) (es : List Entry) (id place : ℕ) (ss : List Setting) (rest : List SettingRow) → e.id ≡ id → AllByRecursion (IsOfOne (e ∷ es)) rest → AllByRecursion (IsOfOne (e ∷ es)) (settings_from id place ss ++ rest)
-of_first e es id place [] rest same all = all
-of_first e es id place (s ∷ ss) rest same all =
-    (let yes : (e.id == id) ≡ true = grind (arith, nat_tests) in rw yes refl, of_first e es id (place + 1) ss rest same all)
-
-pub all_owned : (es : List Entry) (hs : List History) → entries_of hs ≡ es → AllByRecursion (IsOfOne es) (flat_map settings_in hs)
-all_owned es [] same = tt
-all_owned [] (h ∷ hs) same = absurd cc
-all_owned (e ∷ es) (h ∷ hs) same =
-    let first : h.entry ≡ e = cc in
-    let rest : entries_of hs ≡ es = cc in
-    of_first e es h.entry.id 1 h.settings (flat_map settings_in hs) (sym (ap (λ (x : Entry). x.id) first)) (of_more e es (flat_map settings_in hs) (all_owned es hs rest))
-
 -- ---- to histories
 
 settled : (marker : Bool) (e : Entry) (ss : List Setting) → is_some_of ss ≡ not marker → length ss ≤ most_settings → HasSettingsAs marker (record { entry = e; content = None; settings = ss; tenures = [] })

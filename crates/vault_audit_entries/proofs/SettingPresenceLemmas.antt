@@ -1,9 +1,8 @@
 -- Whether the versions are the entries with settings, told by the rows that stand beside each other.
-use Rattle.std.proofs.Common.{◌≡◌, ◌==◌, ℕ, pos, List, Bool, true, false, refl, sym, ◌∙◌}
+use Rattle.std.proofs.Common.{◌≡◌, ◌==◌, ℕ, List, Bool, true, false, refl, sym, ◌∙◌}
 use Rattle.std.specs.List.{AllByRecursion, list_any}
-use Rattle.sqlite_value.specs.declared.value.Value.TheVariants.{Int}
 use Rattle.sqlite_value.specs.Order.{Row, column}
-use Rattle.sqlite_sql.specs.Term.{col, lit}
+use Rattle.sqlite_sql.specs.Term.{col}
 use Rattle.sqlite.specs.Effect.{Database}
 use Rattle.sqlite.specs.State.{State, IsUnchanged}
 use Rattle.vault_core_model.specs.declared.records.Entry.{Entry}
@@ -16,8 +15,8 @@ use Rattle.vault_audit_walk.specs.Records.{Checked}
 use Rattle.vault_audit_walk.specs.Beside.{TellsAbsence}
 use Rattle.vault_audit_model.proofs.ValueLemmas.{agrees}
 use Rattle.vault_audit_walk.proofs.BesideLemmas.{agree_numbers, beside_row, beside_yes, beside_no, met_yes, met_no, met_as, of_records, of_stored, each}
-use Rattle.vault_audit_entries.specs.SettingPlaces.{AreRowsOf, IsSetAs, IsOfOne, TellPresence, TellOwners}
-use Rattle.vault_audit_entries.proofs.SettingTextLemmas.{settings_beside, settings_beside_is, entries_beside, entries_beside_is}
+use Rattle.vault_audit_entries.specs.SettingPlaces.{AreRowsOf, IsSetAs, TellPresence}
+use Rattle.vault_audit_entries.proofs.SettingTextLemmas.{settings_beside, settings_beside_is}
 use Rattle.vault_audit_model.specs.declared.schema.Edition.{Edition}
 
 -- ---- each entry beside its settings
@@ -41,30 +40,7 @@ module _ (db : Database) (es : List Entry) (are : AreEntries db es) (xs : List S
   set_no all =
       of_stored entry_row entry_columns Besides es (db.trees entries_tree) are.0 (each (λ e told. met_no (col 1 3) 1 0 (entry_row e) e.marker (λ s. refl) Settings (has e.id ∙ told)) es all)
 
-  -- ---- each setting beside its entry
-
-  abbrev Entries : List Row
-  Entries = db.trees entries_tree
-
-  abbrev Owners : Row → Type 0
-  Owners row = AllByRecursion TellsAbsence (beside_row (lit (Int (pos 0))) 0 0 Entries row)
-
-  owns : (i : ℕ) → list_any (λ s. agrees (column s 0) (number i)) Entries ≡ list_any (λ e. e.id == i) es
-  owns i = met_as entry_row entry_columns (number i) (λ e. e.id == i) (λ e. agree_numbers e.id i) es Entries are.0
-
-  owned_yes : AllByRecursion (λ r. AllByRecursion TellsAbsence (beside_row (lit (Int (pos 0))) 0 1 Entries r)) (db.trees settings_tree) → AllByRecursion (IsOfOne es) xs
-  owned_yes all =
-      each (λ x told. sym (owns x.id) ∙ met_yes (lit (Int (pos 0))) 0 0 (setting_row x) false (λ s. refl) Entries told) xs (of_records setting_row setting_columns Owners xs (db.trees settings_tree) rows all)
-
-  owned_no : AllByRecursion (IsOfOne es) xs → AllByRecursion (λ r. AllByRecursion TellsAbsence (beside_row (lit (Int (pos 0))) 0 1 Entries r)) (db.trees settings_tree)
-  owned_no all =
-      of_stored setting_row setting_columns Owners xs (db.trees settings_tree) rows (each (λ x told. met_no (lit (Int (pos 0))) 0 0 (setting_row x) false (λ s. refl) Entries (owns x.id ∙ told)) xs all)
-
 module _ (n : Edition) (old new : State) (has : old.now.schema ≡ schema_of n) (same : IsUnchanged old new) where
   pub presence : (b : Bool) → Checked TellsAbsence settings_beside old new b → TellPresence new.now b
   presence true h es are xs rows = set_yes new.now es are xs rows (beside_yes (settings_beside_is n) (λ trees. (refl, refl)) TellsAbsence old new has same h)
   presence false h es are xs rows = λ all. beside_no (settings_beside_is n) (λ trees. (refl, refl)) TellsAbsence old new has same h (set_no new.now es are xs rows all)
-
-  pub owners : (b : Bool) → Checked TellsAbsence entries_beside old new b → TellOwners new.now b
-  owners true h es are xs rows = owned_yes new.now es are xs rows (beside_yes (entries_beside_is n) (λ trees. (refl, refl)) TellsAbsence old new has same h)
-  owners false h es are xs rows = λ all. beside_no (entries_beside_is n) (λ trees. (refl, refl)) TellsAbsence old new has same h (owned_no new.now es are xs rows all)

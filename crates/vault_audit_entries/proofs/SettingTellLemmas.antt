@@ -1,4 +1,4 @@
--- What the three looks at settings tell together.
+-- What the looks at settings tell together.
 use Rattle.std.proofs.Common.{◌≡◌, ℕ, List, [], ◌∷◌, map, flat_map, Bool, true, false, IsPermutation, IsSorted, Result, Ok, Err, OnOk, IfOk, refl, sym, subst, ◌∙◌, ◌+◌, arith}
 use Rattle.std.specs.List.{AllByRecursion}
 use Rattle.sqlite_trees.proofs.ListLemmas.{map-map}
@@ -22,12 +22,12 @@ use Rattle.vault_audit_walk.specs.Walk.{Walked}
 use Rattle.vault_audit_walk.proofs.PairLemmas.{pair_walked, pair_cmp, pair_cmp_total}
 use Rattle.vault_audit_walk.proofs.PassLemmas.{pass_yes, pass_no}
 use Rattle.vault_audit_entries.specs.declared.settings.placed.SettingPass.{SettingPass}
-use Rattle.vault_audit_entries.specs.SettingPlaces.{ComesNext, with_setting, no_setting, TellPlaces, TellPresence, TellOwners}
+use Rattle.vault_audit_entries.specs.SettingPlaces.{ComesNext, with_setting, no_setting, TellPlaces, TellPresence, HaveOwners}
 use Rattle.vault_audit_model.proofs.SameRows.{same_setting}
 use Rattle.vault_audit_entries.proofs.SettingRowLemmas.{rise}
-use Rattle.vault_audit_entries.proofs.SettingHistoryLemmas.{placed, all_set, all_owned, bounded, make}
-use Rattle.vault_audit_entries.proofs.SettingTextLemmas.{placed_walk, placed_walk_is, placed_walk_plain, settings_beside, entries_beside}
-use Rattle.vault_audit_entries.proofs.SettingPresenceLemmas.{presence, owners}
+use Rattle.vault_audit_entries.proofs.SettingHistoryLemmas.{placed, all_set, bounded, make}
+use Rattle.vault_audit_entries.proofs.SettingTextLemmas.{placed_walk, placed_walk_is, placed_walk_plain, settings_beside}
+use Rattle.vault_audit_entries.proofs.SettingPresenceLemmas.{presence}
 use Rattle.vault_audit_walk.specs.Records.{Checked}
 use Rattle.vault_audit_walk.specs.Beside.{TellsAbsence}
 use Rattle.vault_audit_model.specs.declared.schema.Edition.{Edition}
@@ -50,7 +50,7 @@ module _ (n : Edition) (old new : State) (has : old.now.schema ≡ schema_of n) 
 -- ---- together
 
 module _ (db : Database) (es : List Entry) (are : AreEntries db es) where
-  pub all_hold : TellPlaces db true → TellPresence db true → TellOwners db true → TellSettings db es true
+  all_hold : TellPlaces db true → TellPresence db true → HaveOwners db → TellSettings db es true
   all_hold (xs, rows, fit) present owned =
       let it = make 0 0 es xs are.1 fit (present es are xs rows) (bounded 1 0 es xs are.1 (owned es are xs rows)) in
       (it.histories, (it.entries, subst (λ (ys : List SettingRow). IsPermutation (map setting_row ys) (map setting_columns (db.trees settings_tree))) (sym it.rows) rows, it.have))
@@ -60,9 +60,6 @@ module _ (db : Database) (es : List Entry) (are : AreEntries db es) where
 
   pub not_present : TellPresence db false → TellSettings db es false
   not_present none hs (same, rows, all) = none es are (flat_map settings_in hs) rows (all_set 1 0 es hs are.1 same all)
-
-  pub not_owned : TellOwners db false → TellSettings db es false
-  not_owned none hs (same, rows, all) = none es are (flat_map settings_in hs) rows (all_owned es hs same)
 
 -- ---- the vault of sound tables
 
@@ -104,22 +101,5 @@ module _ (n : Edition) (old new : State) (has : old.now.schema ≡ schema_of n) 
   presence_if_ok (Ok b) same h = (presence n) old new has same b h
   presence_if_ok (Err e) same h = tt
 
-  pub owners_if_ok : (answer : Result Bool Error) → OnOk answer (IsUnchanged old new) → IfOk answer (Checked TellsAbsence entries_beside old new) → IfOk answer (TellOwners new.now)
-  owners_if_ok (Ok b) same h = (owners n) old new has same b h
-  owners_if_ok (Err e) same h = tt
-
-abbrev pub IsTold : Database → Bool → Type 0
-IsTold db found = (es : List Entry) → AreEntries db es → TellSettings db es found
-
-pub last_told : (a b s : State) → IsUnchanged a b → TellPlaces a.now true → TellPresence b.now true → (answer : Result Bool Error) → OnOk answer (IsUnchanged b s) → IfOk answer (TellOwners s.now) → IfOk answer (IsTold s.now)
-last_told a b s same places present (Err e) last owned = tt
-last_told a b s same places present (Ok true) last owned =
-    let second : b.now ≡ s.now = sym last.0.now_is in
-    let first : a.now ≡ s.now = sym same.0.now_is ∙ second in
-    λ es are. all_hold s.now es are (subst (λ (d : Database). TellPlaces d true) first places) (subst (λ (d : Database). TellPresence d true) second present) owned
-last_told a b s same places present (Ok false) last owned = λ es are. not_owned s.now es are owned
-
-pub damaged_if_ok : (n : Edition) → (db : Database) (answer : Result Bool Error) → IfOk answer (IsTold db) → IfOk answer (λ found. found ≡ false → (v : Vault) → ¬ AreSoundAs n db v)
-damaged_if_ok n db (Err e) h = tt
-damaged_if_ok n db (Ok true) h = λ no. absurd cc
-damaged_if_ok n db (Ok false) h = λ _ v. (unsound n) db h v
+pub told : (a b : State) → IsUnchanged a b → TellPlaces a.now true → TellPresence b.now true → HaveOwners b.now → (es : List Entry) → AreEntries b.now es → TellSettings b.now es true
+told a b same places present owned es are = all_hold b.now es are (subst (λ (d : Database). TellPlaces d true) (sym same.0.now_is) places) present owned

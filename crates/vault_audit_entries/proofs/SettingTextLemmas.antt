@@ -1,11 +1,10 @@
 -- What the second look at settings reads.
-use Rattle.std.proofs.Common.{◌≡◌, List, ℕ, [], ◌∷◌, codes, pos, false, refl, arith}
+use Rattle.std.proofs.Common.{◌≡◌, List, ℕ, [], ◌∷◌, codes, false, refl, arith}
 use Rattle.sqlite_tied.specs.Compute.{everything}
 use Rattle.sqlite.specs.Command.TheVariants.{Select}
 use Rattle.sqlite.specs.Listing.{understood, reads_listing}
 use Rattle.sqlite.proofs.Callers.{IsPlain, command_of}
-use Rattle.sqlite_sql.specs.Term.{col, lit}
-use Rattle.sqlite_value.specs.declared.value.Value.TheVariants.{Int}
+use Rattle.sqlite_sql.specs.Term.{col}
 use Rattle.vault_audit_model.specs.Tables.{schema_of, settings_tree}
 use Rattle.vault_audit_walk.proofs.PairLemmas.{pair_walk_of}
 use Rattle.vault_audit_walk.proofs.BesideLemmas.{LooksBeside}
@@ -38,14 +37,3 @@ settings_beside_is n = record { command = refl; unlisted = refl; plain = (refl, 
 pub settings_beside_asks : (n : Edition) → Asks (schema_of n) settings_beside
 unfolding understood everything
 settings_beside_asks n = record { is = (omega (arith), refl, (refl, refl, refl, refl)); unlisted = refl }
-
-abbrev pub entries_beside : List ℕ
-entries_beside = codes "SELECT 0, e.id FROM settings AS s LEFT JOIN entries AS e ON e.id = s.id"
-
-pub entries_beside_is : (n : Edition) → LooksBeside (schema_of n) entries_beside settings_tree 9 (lit (Int (pos 0))) 0 1 (codes "0" ∷ codes "id" ∷ [])
-unfolding understood everything
-entries_beside_is n = record { command = refl; unlisted = refl; plain = (refl, refl) }
-
-pub entries_beside_asks : (n : Edition) → Asks (schema_of n) entries_beside
-unfolding understood everything
-entries_beside_asks n = record { is = (omega (arith), refl, (refl, refl, refl, refl)); unlisted = refl }

@@ -1,15 +1,20 @@
 -- Heads and the held entries of their keys.
-use Rattle.std.specs.Prelude.{◌≡◌, ℕ, Bool, true, false, List, length, filter}
+use Rattle.std.specs.Prelude.{◌≡◌, ℕ, ◌&&◌, Bool, true, false, List, length, filter, is_none}
 use Rattle.std.specs.List.{AllByRecursion}
+use Rattle.std.specs.Ordering.{nat_cmp, is_le}
 use Rattle.sqlite_value.specs.Order.{Row, column}
 use Rattle.vault_core_model.specs.declared.records.Entry.{Entry}
 use Rattle.vault_core_model.specs.Places.{is_held_at}
 use Rattle.vault_audit_model.specs.declared.rows.HeadRow.{HeadRow}
 use Rattle.vault_audit_model.specs.Values.{number}
 
--- the head has the number of held entries of its bucket and key
+-- a held entry of the head's bucket and key, no newer than the one that the head names
+abbrev pub is_under : HeadRow → Entry → Bool
+is_under h e = is_held_at h.bucket h.key e && is_le (nat_cmp e.id h.head.newest)
+
+-- the head has the number of these
 abbrev pub IsCounted : List Entry → HeadRow → Type 0
-IsCounted es h = h.head.count ≡ length (filter (is_held_at h.bucket h.key) es)
+IsCounted es h = h.head.count ≡ length (filter (is_under h) es)
 
 -- whether each head has
 abbrev pub TellCounts : List Entry → List HeadRow → Bool → Type 0
@@ -19,3 +24,11 @@ TellCounts es hs false = ¬ AllByRecursion (IsCounted es) hs
 -- the row shows one number twice
 abbrev pub ShowsCount : Row → Type 0
 ShowsCount row = (n : ℕ) × (column row 0 ≡ number n) × (column row 1 ≡ number n)
+
+-- an entry that is held: a version or a marker
+abbrev pub is_held_entry : Entry → Bool
+is_held_entry e = is_none e.removal
+
+-- how many are
+abbrev pub held_entry_count : List Entry → ℕ
+held_entry_count es = length (filter is_held_entry es)

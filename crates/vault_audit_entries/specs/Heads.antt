@@ -1,5 +1,5 @@
 -- Heads by rising bucket and key, beside the entries that are their newest.
-use Rattle.std.specs.Prelude.{◌≡◌, ◌==◌, Bool, true, false, List, [], ◌∷◌, map, find, Option, None, Some, IsPermutation}
+use Rattle.std.specs.Prelude.{◌≡◌, ◌==◌, ℕ, ◌+◌, ◌-◌, ◌^◌, min, List, [], ◌∷◌, map, find, Option, None, Some, IsPermutation}
 use Rattle.std.specs.List.{AllByRecursion}
 use Rattle.std.specs.Ordering.{ordering_then}
 use Rattle.std.specs.declared.cmp.Ordering.{Ordering}
@@ -44,6 +44,16 @@ AreHeadsByKey db es hs =
     IsPermutation (map head_row hs) (map head_columns (db.trees heads_tree)) × IsAscending head_cmp hs × AllByRecursion IsHeadRow hs
     × AllByRecursion (NamesHeld es) hs
 
-abbrev pub TellHeadsByKey : Database → List Entry → Bool → Type 0
-TellHeadsByKey db es true = (hs : List HeadRow) × AreHeadsByKey db es hs
-TellHeadsByKey db es false = (hs : List HeadRow) → ¬ AreHeadsByKey db es hs
+-- how many entries the heads count together
+abbrev pub sum_of_counts : List HeadRow → ℕ
+sum_of_counts [] = 0
+sum_of_counts (h ∷ hs) = h.head.count + sum_of_counts hs
+
+-- a sum, which stops at 2^64 - 1
+abbrev pub up_to_most : ℕ → ℕ
+up_to_most n = min n (2 ^ 64 - 1)
+
+-- the sum of their counts; or the rows aren't such heads
+abbrev pub TellHeadsByKey : Database → List Entry → Option ℕ → Type 0
+TellHeadsByKey db es (Some total) = (hs : List HeadRow) × AreHeadsByKey db es hs × (total ≡ up_to_most (sum_of_counts hs))
+TellHeadsByKey db es None = (hs : List HeadRow) → ¬ AreHeadsByKey db es hs

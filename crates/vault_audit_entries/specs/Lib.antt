@@ -5,6 +5,6 @@ pub mod Notes
 pub mod NotePasses
 pub mod Heads
 pub mod HeadPasses
-pub mod Newest
 pub mod HeadCounts
+pub mod HeldPasses
 pub mod Keys

@@ -47,6 +47,6 @@ IsOfOne es x = list_any (λ e. e.id == x.id) es ≡ true
 abbrev pub TellPresence : Database → Bool → Type 0
 TellPresence db b = (es : List Entry) → AreEntries db es → (xs : List SettingRow) → AreRowsOf db xs → Tell b (AllByRecursion (IsSetAs xs) es)
 
--- whether each setting has an entry
-abbrev pub TellOwners : Database → Bool → Type 0
-TellOwners db b = (es : List Entry) → AreEntries db es → (xs : List SettingRow) → AreRowsOf db xs → Tell b (AllByRecursion (IsOfOne es) xs)
+-- each setting has an entry
+abbrev pub HaveOwners : Database → Type 0
+HaveOwners db = (es : List Entry) → AreEntries db es → (xs : List SettingRow) → AreRowsOf db xs → AllByRecursion (IsOfOne es) xs

@@ -1,5 +1,4 @@
 //! The bytes of the held versions, beside their entries.
 
 pub mod beside;
-pub mod held;
 pub mod second_look;

@@ -3,5 +3,4 @@
 
 pub mod by_key;
 pub mod counts;
-pub mod newest;
 pub mod second_look;

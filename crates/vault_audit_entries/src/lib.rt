@@ -5,5 +5,6 @@
 
 pub mod contents;
 pub mod heads;
+pub mod held;
 pub mod intake;
 pub mod settings;

@@ -9,7 +9,7 @@ ghost use Rattle.vault_audit_model.specs.Spells.{AreSoundAs};
 ghost use Rattle.vault_audit_walk.specs.Health.{IsHealthy, IsMemory, IsOfEdition, OnlyLooks};
 
 use crate::contents::beside::check_bytes;
-use crate::contents::held::count_held;
+use crate::held::count_held;
 use sqlite::{Alter, Connection, Error};
 use vault_audit_model::schema::Edition;
 
@@ -29,5 +29,5 @@ pub fn check_held_contents<S: Alter>(
         return Ok(false);
     };
     let held = count_held(conn, edition)?;
-    Ok(held == count)
+    Ok(held.versions == count)
 }

@@ -1,5 +1,5 @@
 //! Whether the rows of `heads` are heads by rising bucket and key, each of a held entry of its key.
-ghost use Rattle.std.specs.Prelude.{◌≡◌, ◌≢◌, ◌↔◌, false, List, IsTrue, IfOk, IfErr};
+ghost use Rattle.std.specs.Prelude.{◌≡◌, ◌≢◌, ◌↔◌, None, List, IsTrue, IfOk, IfErr};
 ghost use Rattle.sqlite_value.specs.declared.value.Value.TheVariants.{Text};
 ghost use Rattle.sqlite_value.specs.Order.{column};
 ghost use Rattle.sqlite.specs.State.{HasCleanDisk};
@@ -14,11 +14,10 @@ ghost use Rattle.vault_audit_model.specs.Values.{number as value};
 ghost use Rattle.vault_audit_entries.specs.Heads.{headed_row, head_cmp, IsAfter, TellHeadsByKey};
 ghost use Rattle.vault_audit_walk.specs.Health.{IsHealthy, IsMemory, IsOfEdition, OnlyLooks};
 
-use sqlite::{Alter, Connection, Error, Row};
+use sqlite::{Alter, Connection, Error, ErrorCode, Row};
 use std::cmp::Ordering;
 use vault_audit_model::rows::HeadRow;
 use vault_audit_model::schema::Edition;
-use vault_audit_records::row_check::refused;
 use vault_audit_rows::cell::{is_null, number, text, version_id};
 use vault_audit_rows::misread::Misread;
 use vault_audit_rows::name::{bucket_name, object_key};
@@ -30,6 +29,8 @@ use vault_core_model::records::Head;
 pub struct HeadPass {
     /// The head that came last.
     pub last: Option<HeadRow>,
+    /// The sum of the counts of those that came, which stops at 2^64 - 1.
+    pub total: u64,
 }
 
 /// The head that the first four columns tell.
@@ -107,34 +108,43 @@ impl Pass for HeadPass {
     fn take(&mut self, row: &Row) -> Result<bool, Error> {
         let found = match read_headed(row) {
             Ok(found) => found,
-            Err(misread) => return refused(misread),
+            Err(Misread::Wrong) => return Ok(false),
+            Err(Misread::Memory) => return Err(Error::SqliteFailure(ErrorCode::OutOfMemory)),
         };
         if !is_after(&self.last, &found) {
             drop(found);
             return Ok(false);
         }
+        self.total = self.total.saturating_add(found.head.count);
         self.last = Some(found);
         Ok(true)
     }
 }
 
-/// Whether each row of `heads` tells a head in its limits whose newest is a held entry of its bucket and
-/// key, and no two are of one key. It is told of entries whose ids are 1, 2, 3 and so on.
+/// How many entries the rows of `heads` count together, up to 2^64 - 1; or none where not each tells a head in its
+/// limits whose newest is a held entry of its bucket and key, or two are of one key. It is told of entries whose ids
+/// are 1, 2, 3 and so on.
 pub fn check_heads_by_key<S: Alter>(
     conn: &mut Connection<S>,
     edition: Edition,
-) -> Result<bool, Error>
+) -> Result<Option<u64>, Error>
     requires { IsOfEdition S.Store conn.old edition }
-    ensures told { HasCleanDisk (state S.Store conn.new) → IfOk result (λ found. (es : List Entry) → AreEntries (state S.Store conn.new).now es → TellHeadsByKey (state S.Store conn.new).now es found) }
-    ensures damaged { HasCleanDisk (state S.Store conn.new) → IfOk result (λ found. found ≡ false → (v : Vault) → ¬ AreSoundAs edition (state S.Store conn.new).now v) }
+    ensures told { HasCleanDisk (state S.Store conn.new) → IfOk result (λ total. (es : List Entry) → AreEntries (state S.Store conn.new).now es → TellHeadsByKey (state S.Store conn.new).now es total) }
+    ensures damaged { HasCleanDisk (state S.Store conn.new) → IfOk result (λ total. total ≡ None → (v : Vault) → ¬ AreSoundAs edition (state S.Store conn.new).now v) }
     ensures look { OnlyLooks S.Store conn.old conn.new result }
     ensures err { IsHealthy (state S.Store conn.new) → IfErr result IsMemory }
 {
-    let mut pass = HeadPass { last: None };
-    let found = walk(
+    let mut pass = HeadPass {
+        last: None,
+        total: 0,
+    };
+    let whole = walk(
         conn,
         "SELECT h.bucket, h.key, h.newest, h.count, e.bucket, e.key, e.removed FROM heads AS h LEFT JOIN entries AS e ON e.id = h.newest ORDER BY h.bucket, h.key",
         &mut pass,
     )?;
-    Ok(found)
+    if !whole {
+        return Ok(None);
+    }
+    Ok(Some(pass.total))
 }

@@ -11,7 +11,7 @@ ghost use Rattle.vault_audit_walk.specs.Health.{IsHealthy, IsMemory, IsOfEdition
 
 use crate::heads::by_key::check_heads_by_key;
 use crate::heads::counts::check_counts;
-use crate::heads::newest::check_each_is_headed;
+use crate::held::count_held;
 use sqlite::{Alter, Connection, Error};
 use vault_audit_model::schema::Edition;
 
@@ -24,14 +24,14 @@ pub fn check_heads<S: Alter>(conn: &mut Connection<S>, edition: Edition) -> Resu
     ensures look { OnlyLooks S.Store conn.old conn.new result }
     ensures err { IsHealthy (state S.Store conn.new) → IfErr result IsMemory }
 {
-    let by_key = check_heads_by_key(conn, edition)?;
-    if !by_key {
+    let Some(total) = check_heads_by_key(conn, edition)? else {
         return Ok(false);
-    }
-    let headed = check_each_is_headed(conn, edition)?;
-    if !headed {
-        return Ok(false);
-    }
+    };
     let counted = check_counts(conn, edition)?;
-    Ok(counted)
+    if !counted {
+        return Ok(false);
+    }
+    // No entry is counted twice, so where the sum is that of all held entries, each has its head.
+    let held = count_held(conn, edition)?;
+    Ok(held.entries == total)
 }

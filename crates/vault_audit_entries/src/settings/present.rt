@@ -2,7 +2,7 @@
 ghost use Rattle.std.specs.Prelude.{IfOk, IfErr};
 ghost use Rattle.sqlite.specs.State.{HasCleanDisk};
 ghost use Rattle.sqlite.specs.Held.{state};
-ghost use Rattle.vault_audit_entries.specs.SettingPlaces.{TellPresence, TellOwners};
+ghost use Rattle.vault_audit_entries.specs.SettingPlaces.{TellPresence};
 ghost use Rattle.vault_audit_walk.specs.Health.{IsHealthy, IsMemory, IsOfEdition, OnlyLooks};
 
 use sqlite::{Alter, Connection, Error};
@@ -23,23 +23,6 @@ pub(crate) fn have_settings<S: Alter>(
     check_rows(
         conn,
         "SELECT e.marker, s.id FROM entries AS e LEFT JOIN settings AS s ON s.id = e.id",
-        &AbsenceCheck {},
-    )
-}
-
-/// Whether each setting is of an entry.
-pub(crate) fn have_entries<S: Alter>(
-    conn: &mut Connection<S>,
-    edition: Edition,
-) -> Result<bool, Error>
-    requires { IsOfEdition S.Store conn.old edition }
-    ensures told { HasCleanDisk (state S.Store conn.new) → IfOk result (TellOwners (state S.Store conn.new).now) }
-    ensures look { OnlyLooks S.Store conn.old conn.new result }
-    ensures err { IsHealthy (state S.Store conn.new) → IfErr result IsMemory }
-{
-    check_rows(
-        conn,
-        "SELECT 0, e.id FROM settings AS s LEFT JOIN entries AS e ON e.id = s.id",
         &AbsenceCheck {},
     )
 }

@@ -21,7 +21,7 @@ returns-clause-told g c clean es are =
     let some : c.in_ok-count.field-0 ≡ Some c.in-Some.count = search rules in
     let before : AreEntries old es = subst (λ (d : Database). AreEntries d es) db are in
     let told : TellOfHeld old es (Some c.in-Some.count) = rw some at (c.in_ok-count.ensures.told early es before) in
-    decided new es are c.in_ok-held.held c.in-Some.count (c.in_ok-held.ensures.told clean es are) (subst (λ (d : Database). TellOfHeld d es (Some c.in-Some.count)) (sym db) told)
+    decided new es are c.in_ok-held.held.versions c.in-Some.count (c.in_ok-held.ensures.told clean es are).1 (subst (λ (d : Database). TellOfHeld d es (Some c.in-Some.count)) (sym db) told)
 
 pub returns-clause-damaged : goal.returns-clause-damaged
 returns-clause-damaged g c clean same v = (unsound c.args.edition) (state g.S.Store c.count_held.new.conn).now (λ es are. rw same at (returns-clause-told g c clean es are)) v

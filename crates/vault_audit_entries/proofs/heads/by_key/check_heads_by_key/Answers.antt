@@ -1,24 +1,31 @@
-use Rattle.std.proofs.Common.{sym, subst, rules, arith}
+use Rattle.std.proofs.Common.{◌≡◌, true, false, sym, subst, rules, arith}
 use Rattle.sqlite.specs.Held.{state}
 use Rattle.sqlite.specs.State.{HasCleanDisk}
 use Rattle.vault_audit_walk.specs.Health.{Asks, IsMemory}
 use Rattle.sqlite.specs.Given.{IsPlain}
 use Rattle.sqlite.specs.Listing.{understood}
 use Rattle.vault_audit_entries.proofs.CurrentLemmas.{unsound}
-use Rattle.vault_audit_entries.proofs.HeadTellLemmas.{heads_told}
+use Rattle.vault_audit_entries.proofs.HeadTellLemmas.{heads_yes, heads_no}
 use Rattle.vault_audit_entries.proofs.HeadTextLemmas.{heads_walk, heads_walk_plain, heads_walk_asks}
 use Rattle.vault_audit_entries.proofs.heads.by_key.check_heads_by_key.Goals as goal
 
 pub walk-requires : goal.walk-requires
 walk-requires g c clean = subst (λ s. IsPlain (understood s heads_walk)) (sym (c.requires clean)) (heads_walk_plain c.args.edition)
 
+pub returns-then-not-whole-clause-told : goal.returns-then-not-whole-clause-told
+returns-then-not-whole-clause-told g c clean es are =
+    let early : HasCleanDisk (state g.S.Store c.args.conn.now) = omega (arith, c.in_ok-whole.ensures.look.crash.clean) in
+    let no : c.in_ok-whole.whole ≡ false = search rules in
+    (heads_no c.args.edition) (state g.S.Store c.args.conn.now) (state g.S.Store c.walk.new.conn) (c.requires early) (c.in_ok-whole.ensures.look.same clean) c.walk.new.pass es are (rw no at (c.in_ok-whole.ensures.walked clean))
+
+pub returns-then-not-whole-clause-damaged : goal.returns-then-not-whole-clause-damaged
+returns-then-not-whole-clause-damaged g c clean same v = (unsound c.args.edition) (state g.S.Store c.walk.new.conn).now (returns-then-not-whole-clause-told g c clean) v
+
 pub returns-clause-told : goal.returns-clause-told
 returns-clause-told g c clean es are =
-    let early : HasCleanDisk (state g.S.Store c.args.conn.now) = omega (arith, c.in_ok-found.ensures.look.crash.clean) in
-    (heads_told c.args.edition) (state g.S.Store c.args.conn.now) (state g.S.Store c.walk.new.conn) (c.requires early) (c.in_ok-found.ensures.look.same clean) c.walk.new.pass es are c.in_ok-found.found (c.in_ok-found.ensures.walked clean)
+    let early : HasCleanDisk (state g.S.Store c.args.conn.now) = omega (arith, c.in_ok-whole.ensures.look.crash.clean) in
+    let yes : c.in_ok-whole.whole ≡ true = search rules in
+    (heads_yes c.args.edition) (state g.S.Store c.args.conn.now) (state g.S.Store c.walk.new.conn) (c.requires early) (c.in_ok-whole.ensures.look.same clean) c.walk.new.pass es are (rw yes at (c.in_ok-whole.ensures.walked clean))
 
-pub returns-clause-damaged : goal.returns-clause-damaged
-returns-clause-damaged g c clean same v = (unsound c.args.edition) (state g.S.Store c.walk.new.conn).now (λ es are. rw same at (returns-clause-told g c clean es are)) v
-
-pub returns-in_err-found-clause-err : goal.returns-in_err-found-clause-err
-returns-in_err-found-clause-err g c well = let it : IsMemory c.in_err-found.field-0.0 = c.in_err-found.ensures.err well (λ clean. subst (λ s. Asks s heads_walk) (sym (c.requires clean)) (heads_walk_asks c.args.edition)) in search rules
+pub returns-in_err-whole-clause-err : goal.returns-in_err-whole-clause-err
+returns-in_err-whole-clause-err g c well = let it : IsMemory c.in_err-whole.field-0.0 = c.in_err-whole.ensures.err well (λ clean. subst (λ s. Asks s heads_walk) (sym (c.requires clean)) (heads_walk_asks c.args.edition)) in search rules

@@ -1,8 +1,10 @@
-use Rattle.std.proofs.Common.{◌≡◌, true, false, subst, rules, arith}
+use Rattle.std.proofs.Common.{◌≡◌, true, false, ap, subst, ◌∙◌, rules, arith}
+use Rattle.sqlite.specs.Effect.{Database}
 use Rattle.sqlite.specs.Held.{state}
 use Rattle.sqlite.specs.State.{HasCleanDisk}
 use Rattle.vault_audit_entries.specs.SettingPlaces.{TellPlaces, TellPresence}
-use Rattle.vault_audit_entries.proofs.SettingTellLemmas.{not_placed, not_present, last_told, unsound, damaged_if_ok}
+use Rattle.vault_audit_entries.proofs.SettingTellLemmas.{not_placed, not_present, told, unsound}
+use Rattle.vault_audit_entries.proofs.SettingOwnerLemmas.{have_owners}
 use Rattle.vault_audit_entries.proofs.settings.second_look.check_history_of_settings.Goals as goal
 
 pub returns-then-not-placed-clause-told : goal.returns-then-not-placed-clause-told
@@ -25,14 +27,13 @@ returns-then-not-present-clause-damaged g c clean same = (unsound c.args.edition
 
 pub returns-clause-told : goal.returns-clause-told
 returns-clause-told g c clean =
-    let mid : HasCleanDisk (state g.S.Store c.have_settings.new.conn) = omega (arith, c.have_entries.ensures.look.crash.clean) in
-    let early : HasCleanDisk (state g.S.Store c.are_placed.new.conn) = omega (arith, c.in_ok-present.ensures.look.crash.clean, c.have_entries.ensures.look.crash.clean) in
+    let before = state g.S.Store c.are_placed.new.conn in
+    let after = state g.S.Store c.have_settings.new.conn in
+    let early : HasCleanDisk before = omega (arith, c.in_ok-present.ensures.look.crash.clean) in
+    let first : HasCleanDisk (state g.S.Store c.args.conn.now) = omega (arith, c.in_ok-placed.ensures.look.crash.clean, c.in_ok-present.ensures.look.crash.clean) in
     let placed : c.in_ok-placed.placed ≡ true = search rules in
     let present : c.in_ok-present.present ≡ true = search rules in
-    last_told (state g.S.Store c.are_placed.new.conn) (state g.S.Store c.have_settings.new.conn) (state g.S.Store c.have_entries.new.conn) (c.in_ok-present.ensures.look.same mid)
-    (subst (TellPlaces (state g.S.Store c.are_placed.new.conn).now) placed (c.in_ok-placed.ensures.told early))
-    (subst (TellPresence (state g.S.Store c.have_settings.new.conn).now) present (c.in_ok-present.ensures.told mid))
-    c.have_entries.result (c.have_entries.ensures.look.same clean) (c.have_entries.ensures.told clean)
-
-pub returns-clause-damaged : goal.returns-clause-damaged
-returns-clause-damaged g c clean = (damaged_if_ok c.args.edition) (state g.S.Store c.have_entries.new.conn).now c.have_entries.result (returns-clause-told g c clean)
+    let same = c.in_ok-present.ensures.look.same clean in
+    let schema = ap (λ (db : Database). db.schema) (same.0.now_is ∙ (c.in_ok-placed.ensures.look.same early).0.now_is) ∙ c.requires first in
+    told before after same (subst (TellPlaces before.now) placed (c.in_ok-placed.ensures.told early)) (subst (TellPresence after.now) present (c.in_ok-present.ensures.told clean))
+    (have_owners c.args.edition after.now (c.check_ties.ensures same.0.is_open schema))

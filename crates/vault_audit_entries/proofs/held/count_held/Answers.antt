@@ -6,7 +6,7 @@ use Rattle.sqlite.specs.Given.{IsPlain}
 use Rattle.sqlite.specs.Listing.{understood}
 use Rattle.vault_audit_entries.proofs.HeldCountLemmas.{held_all}
 use Rattle.vault_audit_entries.proofs.ContentTextLemmas.{held_text, held_scan, held_asks}
-use Rattle.vault_audit_entries.proofs.contents.held.count_held.Goals as goal
+use Rattle.vault_audit_entries.proofs.held.count_held.Goals as goal
 
 pub walk-requires : goal.walk-requires
 walk-requires g c clean = subst (λ s. IsPlain (understood s held_text)) (sym (c.requires clean)) (held_scan c.args.edition).plain
