@@ -1,5 +1,5 @@
 -- What was told of what came of a job, and where its exit status is 0.
-use Rattle.std.specs.Prelude.{ℕ, ◌≡◌, ◌≢◌, ◌∷◌, ◌++◌, [], IfOk, List, Option, Result, Err, ⊤, codes}
+use Rattle.std.specs.Prelude.{ℕ, ◌≡◌, ◌≢◌, ◌⊎◌, ◌∷◌, ◌++◌, [], IfOk, List, Option, Result, Err, ⊤, codes}
 use Rattle.std.specs.Io.KnownBytes.{Appends}
 use Rattle.vault_base.specs.Refusal.{table_name}
 use Rattle.vault_base.specs.declared.refusal.Table.{Table}
@@ -8,7 +8,7 @@ use Rattle.vaultctl_commands.specs.Told.{TellsIntake}
 use Rattle.vaultctl_commands.specs.declared.fault.JobFault.{JobFault}
 use Rattle.vaultctl_commands.specs.declared.fault.JobFault.TheVariants as fault
 use Rattle.vaultctl_commands.specs.declared.outcome.Outcome.{Outcome}
-use Rattle.vaultctl_commands.specs.declared.outcome.Outcome.TheVariants.{Done}
+use Rattle.vaultctl_commands.specs.declared.outcome.Outcome.TheVariants.{Done, Refused}
 use Rattle.vaultctl_job.specs.declared.job.Job.{Job}
 use Rattle.vaultctl_job.specs.declared.job.Job.TheVariants as job
 
@@ -29,10 +29,14 @@ abbrev pub TellsAsked : Result Outcome JobFault → Option (List ℕ) → Option
 TellsAsked outcome before after =
     IfOk outcome (λ told. TellsReply told before after) × (outcome ≢ Err fault.Read) × (outcome ≢ Err fault.Device)
 
--- an intake is done behind the lines of all its rows alone; no fault of a reader is named, and one of the device is told in a line
+-- the lines of an intake were printed, or the reply that refuses it before its first row
+abbrev pub TellsRows : Outcome → Option (List ℕ) → Option (List ℕ) → Type 0
+TellsRows told before after = TellsIntake told before after ⊎ ((told ≡ Refused) × TellsReply Refused before after)
+
+-- so it is where an intake is done or refused; no fault of a reader is named, and one of the device is told in a line
 abbrev pub TellsTakenIn : Result Outcome JobFault → Option (List ℕ) → Option (List ℕ) → Type 0
 TellsTakenIn outcome before after =
-    IfOk outcome (λ told. told ≡ Done → TellsIntake Done before after) × (outcome ≢ Err fault.Read) × (outcome ≢ Err fault.Device)
+    IfOk outcome (λ told. TellsRows told before after) × (outcome ≢ Err fault.Read) × (outcome ≢ Err fault.Device)
 
 -- a command was done and its reply printed, or each row of an intake was taken in and its line printed, or a vault
 -- is sound or was copied; of registers and scripts other clauses speak, and init and serve print nothing

@@ -5,7 +5,7 @@ ghost use Rattle.vault_core_model.specs.Step.{Reached};
 ghost use Rattle.vault_values.specs.Fault.{Gives};
 ghost use Rattle.vaultctl_commands.specs.Told.{IsIntakeSteady, TellsIntake};
 ghost use Rattle.vaultctl_commands.specs.declared.asked.AskedIntake.{AskedIntake as AskedOf};
-ghost use Rattle.vaultctl_perform.specs.Told.{TellsTakenIn};
+ghost use Rattle.vaultctl_perform.specs.Told.{TellsRows, TellsTakenIn};
 
 use crate::asked::reading;
 use crate::telling::{tell_fault, tell_value};
@@ -38,8 +38,8 @@ fn take_in_read<K: Keeper, W: Write>(
     folder: &str,
     out: &mut W,
 ) -> Result<Outcome, JobFault>
-    // Done is answered only behind the lines that say so.
-    ensures told { IfOk result (λ told. told ≡ Outcome.Done → TellsIntake Outcome.Done (W.contents out.old) (W.contents out.new)) }
+    // Done and refused are answered only behind the lines that say so.
+    ensures told { IfOk result (λ told. TellsRows told (W.contents out.old) (W.contents out.new)) }
     // That the vault's device failed is told where it did.
     ensures steady { IsIntakeSteady (K.count keeper.old) (K.count keeper.new) result (W.contents out.old) (W.contents out.new) }
     ensures reached { K.is_honest keeper.new → Reached (K.vault keeper.old) → Reached (K.vault keeper.new) }
@@ -73,7 +73,7 @@ fn take_in_list<K: Keeper, W: Write>(
     job: &IntakeJob,
     out: &mut W,
 ) -> Result<Outcome, JobFault>
-    ensures told { IfOk result (λ told. told ≡ Outcome.Done → TellsIntake Outcome.Done (W.contents out.old) (W.contents out.new)) }
+    ensures told { IfOk result (λ told. TellsRows told (W.contents out.old) (W.contents out.new)) }
     ensures steady { IsIntakeSteady (K.count keeper.old) (K.count keeper.new) result (W.contents out.old) (W.contents out.new) }
     ensures reached { K.is_honest keeper.new → Reached (K.vault keeper.old) → Reached (K.vault keeper.new) }
     ensures honest { K.is_honest keeper.new → K.is_honest keeper.old }
