@@ -21,4 +21,6 @@ mod lookups;
 #[cfg(test)]
 mod opens;
 #[cfg(test)]
+mod stores;
+#[cfg(test)]
 mod trials;
