@@ -1,12 +1,12 @@
 //! Bodies that come in pieces, with a request right behind them, and what is left where a reader ends or fails, or the
 //! device fails, in the middle of one.
-use crate::exchange::{READING, serve};
+use crate::exchange::NO_BODY;
+use crate::serving::{GET, READING, exchange, serve, spelled};
 use std::alloc::{AllocError, Global};
 use std::io::{self, BufReader, ErrorKind, Read};
 use std::test::Fail;
 use vault_core_model::keeper::Keeper;
 use vault_http::ServeFault;
-use vault_transcript::requests::wire;
 use vault_transcript::trial::{Trial, try_on_failing, try_on_new};
 
 /// More than two of the pieces in which a body may be read, and not a whole number of them.
@@ -21,40 +21,30 @@ const PIECES: &[usize] = &[1, 4_095, 4_096, 4_097, 16_383, 16_384, 16_385, 1_048
 /// How much of a large body comes before its reader ends or fails.
 const CUTS: &[usize] = &[0, 1, 4_096, 16_383, 16_384, 16_385, 32_768, 39_999];
 
-const GET: &str = "GET /docs/a HTTP/1.1|x-vault-caller: ann||";
-
 const NONE: &str =
-    "HTTP/1.1 404 Not Found|date: Mon, 15 Jan 2024 10:30:00 GMT|connection: close|content-type: application/json|content-length: 41||{\"code\":\"NoSuchKey\",\"marker\":false,\"n\":5}";
+    "HTTP/1.1 404 Not Found|~|content-type: application/json|content-length: 41||{\"code\":\"NoSuchKey\",\"marker\":false,\"n\":5}";
 
-const STORED: &str =
-    "HTTP/1.1 200 OK|date: Mon, 15 Jan 2024 10:30:00 GMT|connection: close|content-length: 0|x-amz-version-id: 1||";
-
-const CUT: &str =
-    "HTTP/1.1 400 Bad Request|date: Mon, 15 Jan 2024 10:30:00 GMT|connection: close|content-type: application/json|content-length: 31||{\"code\":\"MalformedBody\",\"n\":12}";
+const STORED: &str = "HTTP/1.1 200 OK|~|content-length: 0|x-amz-version-id: 1||";
 
 const DEVICE: &str =
-    "HTTP/1.1 500 Internal Server Error|date: Mon, 15 Jan 2024 10:30:00 GMT|connection: close|content-type: application/json|content-length: 24||{\"code\":\"Device\",\"n\":23}";
+    "HTTP/1.1 500 Internal Server Error|~|content-type: application/json|content-length: 24||{\"code\":\"Device\",\"n\":23}";
 
 /// How contents come.
 #[derive(Clone, Copy)]
 enum Coming {
-    /// One of so many bytes, in pieces of at most so many.
-    InPieces(u32, usize),
-    /// The same through a buffer.
-    Buffered(u32, usize),
+    /// One of so many bytes, in pieces of at most so many; whether through a buffer.
+    InPieces(u32, usize, bool),
     /// Large ones that are cut; whether their reader fails there.
     Cut(bool),
-    /// Large ones, of which the device refuses the first.
-    Refused,
 }
 
 impl Trial for Coming {
     fn carry_out<K: Keeper>(&self, alloc: Global, keeper: &mut K) -> Result<(), Fail> {
         match self {
-            Coming::InPieces(size, piece) => come_in_pieces(alloc, keeper, *size, *piece),
-            Coming::Buffered(size, piece) => come_buffered(alloc, keeper, *size, *piece),
+            Coming::InPieces(size, piece, is_buffered) => {
+                come_in_pieces(alloc, keeper, *size, *piece, *is_buffered)
+            }
             Coming::Cut(fails) => cut_bodies(alloc, keeper, *fails),
-            Coming::Refused => put_again(alloc, keeper),
         }
     }
 }
@@ -104,9 +94,9 @@ fn content_of(alloc: Global, size: u32) -> Result<Vec<u8>, AllocError> {
     Ok(content)
 }
 
-/// A text with CR LF for each `|`, and these bytes behind it.
+/// What a text spells, and these bytes behind it.
 fn with_body(alloc: Global, text: &str, body: &[u8]) -> Result<Vec<u8>, AllocError> {
-    let text = wire(alloc, text)?;
+    let text = spelled(alloc, text)?;
     let mut bytes = Vec::new(alloc);
     bytes.extend_from_slice(text.as_bytes())?;
     bytes.extend_from_slice(body)?;
@@ -126,7 +116,7 @@ fn put_of(alloc: Global, content: &[u8]) -> Result<Vec<u8>, AllocError> {
 fn shown(alloc: Global, content: &[u8]) -> Result<Vec<u8>, AllocError> {
     let length = content.len();
     let head = format!(in alloc;
-        "HTTP/1.1 200 OK|date: Mon, 15 Jan 2024 10:30:00 GMT|connection: close|content-type: application/octet-stream|content-length: {length}|x-amz-version-id: 1|x-amz-object-lock-legal-hold: OFF||"
+        "HTTP/1.1 200 OK|~|content-type: application/octet-stream|content-length: {length}|x-amz-version-id: 1|x-amz-object-lock-legal-hold: OFF||"
     )?;
     with_body(alloc, head.as_str(), content)
 }
@@ -155,15 +145,8 @@ fn compare_text<R: Read, K: Keeper>(
     keeper: &mut K,
     answer: &str,
 ) -> Result<(), Fail> {
-    let answer = wire(alloc, answer)?;
+    let answer = spelled(alloc, answer)?;
     compare_next(alloc, reader, keeper, Ok(()), answer.as_bytes())
-}
-
-/// Fails unless the vault has no version.
-fn compare_none<K: Keeper>(alloc: Global, keeper: &mut K) -> Result<(), Fail> {
-    let get = wire(alloc, GET)?;
-    let mut reader = get.as_bytes();
-    compare_text(alloc, &mut reader, keeper, NONE)
 }
 
 /// The content is put and then got, by two requests that stand one right behind the other, and then nothing comes.
@@ -182,41 +165,33 @@ fn put_and_get<R: Read, K: Keeper>(
 /// A request that puts a content, and right behind it one that gets it.
 fn put_and_get_of(alloc: Global, content: &[u8]) -> Result<Vec<u8>, AllocError> {
     let mut input = put_of(alloc, content)?;
-    let get = wire(alloc, GET)?;
+    let get = spelled(alloc, GET)?;
     input.extend_from_slice(get.as_bytes())?;
     Ok(input)
 }
 
-/// The two requests come from the reader itself.
+/// The two requests come from the reader itself, or through a buffer.
 fn come_in_pieces<K: Keeper>(
     alloc: Global,
     keeper: &mut K,
     size: u32,
     piece: usize,
+    is_buffered: bool,
 ) -> Result<(), Fail> {
     let content = content_of(alloc, size)?;
     let input = put_and_get_of(alloc, content.as_slice())?;
     let mut reader = in_pieces(input.as_slice(), piece, false);
-    put_and_get(alloc, &mut reader, keeper, content.as_slice())
-}
-
-/// They come through a buffer.
-fn come_buffered<K: Keeper>(
-    alloc: Global,
-    keeper: &mut K,
-    size: u32,
-    piece: usize,
-) -> Result<(), Fail> {
-    let content = content_of(alloc, size)?;
-    let input = put_and_get_of(alloc, content.as_slice())?;
-    let mut reader = BufReader::new(alloc, in_pieces(input.as_slice(), piece, false))?;
+    if !is_buffered {
+        return put_and_get(alloc, &mut reader, keeper, content.as_slice());
+    }
+    let mut reader = BufReader::new(alloc, reader)?;
     put_and_get(alloc, &mut reader, keeper, content.as_slice())
 }
 
 fn come_in_each_piece(alloc: Global, size: u32) -> Result<(), Fail> {
     for piece in PIECES {
-        try_on_new(alloc, &Coming::InPieces(size, *piece))?;
-        try_on_new(alloc, &Coming::Buffered(size, *piece))?;
+        try_on_new(alloc, &Coming::InPieces(size, *piece, false))?;
+        try_on_new(alloc, &Coming::InPieces(size, *piece, true))?;
     }
     Ok(())
 }
@@ -246,7 +221,7 @@ fn cut_body<K: Keeper>(
     if fails {
         compare_next(alloc, &mut reader, keeper, Err(ServeFault::Read), b"")
     } else {
-        compare_text(alloc, &mut reader, keeper, CUT)
+        compare_next(alloc, &mut reader, keeper, Ok(()), NO_BODY.as_bytes())
     }
 }
 
@@ -255,7 +230,7 @@ fn cut_bodies<K: Keeper>(alloc: Global, keeper: &mut K, fails: bool) -> Result<(
     let content = content_of(alloc, LARGE)?;
     for cut in CUTS {
         cut_body(alloc, keeper, content.as_slice(), *cut, fails)?;
-        compare_none(alloc, keeper)?;
+        exchange(alloc, keeper, READING, GET, NONE)?;
     }
     let request = put_of(alloc, content.as_slice())?;
     let mut reader = in_pieces(request.as_slice(), 4_097, fails);
@@ -274,19 +249,39 @@ fn a_reader_that_fails_within_a_body(rt: HostRuntime) -> Result<(), Fail> {
     try_on_new(rt.alloc(), &Coming::Cut(true))
 }
 
-/// A large content is put, and put again right behind, and got; the first time the device is to refuse it.
-fn put_again<K: Keeper>(alloc: Global, keeper: &mut K) -> Result<(), Fail> {
-    let content = content_of(alloc, LARGE)?;
-    let mut input = put_of(alloc, content.as_slice())?;
-    let behind = put_and_get_of(alloc, content.as_slice())?;
-    input.extend_from_slice(behind.as_slice())?;
-    let mut reader = in_pieces(input.as_slice(), 4_095, false);
-    compare_text(alloc, &mut reader, keeper, DEVICE)?;
-    put_and_get(alloc, &mut reader, keeper, content.as_slice())
+/// Fails unless a keeper's device has failed once.
+fn compare_faults<K: Keeper>(keeper: &mut K) -> Result<(), Fail> {
+    let faults = keeper.faults();
+    if faults == 1 {
+        return Ok(());
+    }
+    Err(Fail::new(format_args!("wanted 1 fault, got {faults}")))
 }
 
-/// A device that refuses a content leaves the request behind it whole, and the vault as it was.
+/// A content of so many bytes, which the device refuses the first time.
+#[derive(Clone, Copy)]
+struct Refused(u32);
+
+impl Trial for Refused {
+    /// It is put, and put again right behind, and got.
+    fn carry_out<K: Keeper>(&self, alloc: Global, keeper: &mut K) -> Result<(), Fail> {
+        let content = content_of(alloc, self.0)?;
+        let mut input = put_of(alloc, content.as_slice())?;
+        let behind = put_and_get_of(alloc, content.as_slice())?;
+        input.extend_from_slice(behind.as_slice())?;
+        let mut reader = in_pieces(input.as_slice(), 4_095, false);
+        compare_text(alloc, &mut reader, keeper, DEVICE)?;
+        put_and_get(alloc, &mut reader, keeper, content.as_slice())?;
+        compare_faults(keeper)
+    }
+}
+
+/// A device that refuses a content, a small one or a large one, leaves the request behind it whole, and the vault as it
+/// was.
 #[test]
 fn a_device_that_refuses_a_content(rt: HostRuntime) -> Result<(), Fail> {
-    try_on_failing(rt.alloc(), 0, &Coming::Refused)
+    for size in [5, LARGE] {
+        try_on_failing(rt.alloc(), 0, &Refused(size))?;
+    }
+    Ok(())
 }

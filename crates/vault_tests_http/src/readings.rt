@@ -1,5 +1,5 @@
 //! Readings of the clock that come again, lie behind the last one, or are no moment.
-use crate::exchange::{READING, exchange};
+use crate::serving::{GET, READING, exchange};
 use std::alloc::Global;
 use std::test::Fail;
 use vault_core_model::keeper::Keeper;
@@ -7,20 +7,18 @@ use vault_transcript::trial::{Trial, try_on_new};
 
 const PUT: &str = "PUT /docs/a HTTP/1.1|x-vault-caller: ann|content-length: 1||x";
 
-const GET: &str = "GET /docs/a HTTP/1.1|x-vault-caller: ann||";
-
-/// An equal reading is fine, an earlier one is not; the date is the reading's. A reading that is no moment has none, and
-/// is refused where a head is whole.
+/// An equal reading is fine, an earlier one is not; the date is the reading's. A reading that is no moment has none,
+/// and is refused where a head is whole.
 const READINGS: [(i64, &str, &str); 5] = [
     (
         READING,
         PUT,
-        "HTTP/1.1 200 OK|date: Mon, 15 Jan 2024 10:30:00 GMT|connection: close|content-length: 0|x-amz-version-id: 1||",
+        "HTTP/1.1 200 OK|~|content-length: 0|x-amz-version-id: 1||",
     ),
     (
         READING,
         PUT,
-        "HTTP/1.1 200 OK|date: Mon, 15 Jan 2024 10:30:00 GMT|connection: close|content-length: 0|x-amz-version-id: 2||",
+        "HTTP/1.1 200 OK|~|content-length: 0|x-amz-version-id: 2||",
     ),
     (
         1_705_314_599,
@@ -43,8 +41,8 @@ struct OtherReadings;
 
 impl Trial for OtherReadings {
     fn carry_out<K: Keeper>(&self, alloc: Global, keeper: &mut K) -> Result<(), Fail> {
-        for (reading, request, wanted) in READINGS {
-            exchange(alloc, keeper, reading, request, wanted)?;
+        for (reading, request, wanted) in &READINGS {
+            exchange(alloc, keeper, *reading, request, wanted)?;
         }
         Ok(())
     }

@@ -5,7 +5,7 @@ use vault_base::refusal::{Reason, Refusal, Table};
 use vault_base::right::Right;
 use vault_http::answer::reply::refusal_bytes;
 
-/// The bytes of the answer to a refusal, at no moment. This has no clause, as `exchange::serve`.
+/// The bytes of the answer to a refusal, at no moment. This has no clause, as `serving::serve`.
 fn bytes_of(alloc: Global, refusal: Refusal) -> Result<Vec<u8>, AllocError> {
     refusal_bytes(alloc, None, refusal, None, true)
 }
@@ -54,8 +54,8 @@ const STATUSES: [(Refusal, &str); 24] = [
 #[test]
 fn statuses(rt: HostRuntime) -> Result<(), Fail> {
     let alloc = rt.alloc();
-    for (refusal, status) in STATUSES {
-        compare_status(alloc, refusal, status)?;
+    for (refusal, status) in &STATUSES {
+        compare_status(alloc, *refusal, status)?;
     }
     Ok(())
 }

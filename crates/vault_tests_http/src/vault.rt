@@ -4,6 +4,7 @@ use std::test::Fail;
 use vault_core_list::list_keeper::ListKeeper;
 use vault_core_model::keeper::Keeper;
 use vault_transcript::transcript::{opened, play, replies};
+use vault_transcript::trial::compare;
 
 /// A version under COMPLIANCE at `a`, a marker on top of a version at `b`, a version under GOVERNANCE and
 /// hold at `c`; a default and a rule.
@@ -55,4 +56,10 @@ fn played<K: Keeper + Drop>(alloc: Global, keeper: K, transcript: &str) -> Resul
 /// All that replies tell of the vault: the report, what is held, its locks, contents, the default, the rules.
 pub fn told<K: Keeper>(alloc: Global, keeper: &mut K) -> Result<String, Fail> {
     replies(alloc, keeper, READS.as_bytes())
+}
+
+/// Fails unless replies still tell of the vault what they told before.
+pub fn tells_still<K: Keeper>(alloc: Global, keeper: &mut K, before: &str) -> Result<(), Fail> {
+    let told = told(alloc, keeper)?;
+    compare("the vault", told.as_str(), before)
 }

@@ -19,7 +19,7 @@ pub struct Row {
     pub answer: &'static str,
 }
 
-const ROWS: [Row; 31] = [
+const ROWS: [Row; 32] = [
     Row {
         request: "PUT /docs/n HTTP/1.1|host: x|x-vault-caller: ann|content-length: 5|expect: 100-continue||hello",
         deed: Deed::Made,
@@ -49,6 +49,11 @@ const ROWS: [Row; 31] = [
         request: "PUT /docs/n HTTP/1.1|x-vault-caller: ann|content-length: 5|expect: 100-continue|x-amz-object-lock-mode: GOVERNANCE||hello",
         deed: Deed::Left,
         answer: r#"HTTP/1.1 400 Bad Request|~|content-type: application/json|content-length: 33||{"code":"InvalidArgument","n":10}"#,
+    },
+    Row {
+        request: "PUT /docs/n HTTP/1.1|x-vault-caller: Ann|content-length: 5||hello",
+        deed: Deed::Left,
+        answer: r#"HTTP/1.1 403 Forbidden|~|content-type: application/json|content-length: 55||{"code":"AccessDenied","n":3,"reason":"unknown-caller"}"#,
     },
     Row {
         request: "PUT /other/n HTTP/1.1|x-vault-caller: ann|content-length: 5|expect: 100-continue||hello",
@@ -115,8 +120,9 @@ const ROWS: [Row; 31] = [
         deed: Deed::Read,
         answer: r#"HTTP/1.1 405 Method Not Allowed|~|content-type: application/json|content-length: 33|allow: DELETE, GET, HEAD, PUT||{"code":"MethodNotAllowed","n":7}"#,
     },
+    // The value of `expect` has any letter case.
     Row {
-        request: r#"PUT /docs/a?retention&versionId=1 HTTP/1.1|x-vault-caller: ann|content-length: 52|expect: 100-continue||{"mode":"COMPLIANCE","until":"2030-01-01T00:00:01Z"}"#,
+        request: r#"PUT /docs/a?retention&versionId=1 HTTP/1.1|x-vault-caller: ann|content-length: 52|expect: 100-Continue||{"mode":"COMPLIANCE","until":"2030-01-01T00:00:01Z"}"#,
         deed: Deed::Made,
         answer: "HTTP/1.1 100 Continue||HTTP/1.1 200 OK|~|content-length: 0||",
     },

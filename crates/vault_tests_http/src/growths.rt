@@ -1,6 +1,7 @@
-//! Each row with ample memory, and with a growth refused.
-use crate::exchange::{Exchange, GO_ON, answer_whole, serve};
+//! Each row's request, with ample memory and with a growth refused.
+use crate::exchange::{Exchange, GO_ON, answer_whole};
 use crate::rows::{Deed, Row, rows};
+use crate::serving::{READING, serve};
 use crate::vault::{Filled, told};
 use std::alloc::Global;
 use std::test::Fail;
@@ -8,7 +9,7 @@ use vault_core_list::list_keeper::ListKeeper;
 use vault_http::ServeFault;
 
 /// How a request ended.
-#[derive(Clone, Copy, PartialEq, Eq)]
+#[derive(Clone, Copy)]
 enum Ending {
     /// With its answer.
     Answered,
@@ -91,7 +92,7 @@ fn serve_case<K: Filled>(
 ) -> Result<(), Fail> {
     written.clear();
     let mut reader = case.exchange.request.as_bytes();
-    let served = serve(alloc, &mut reader, written, &mut case.keeper);
+    let served = serve(alloc, &mut reader, written, &mut case.keeper, READING);
     case.ending = ending_of(&case.exchange, served, written.as_slice())?;
     Ok(())
 }
@@ -103,31 +104,6 @@ fn serve_cases<K: Filled>(alloc: Global, cases: &mut [Case<K>]) -> Result<(), Fa
         serve_case(alloc, case, &mut written)?;
     }
     Ok(())
-}
-
-fn served_cases<K: Filled>(alloc: Global) -> Result<Vec<Case<K>>, Fail> {
-    let mut cases = cases(alloc)?;
-    serve_cases(alloc, cases.as_mut_slice())?;
-    Ok(cases)
-}
-
-fn are_answered<K: Filled>(cases: &[Case<K>]) -> Result<(), Fail> {
-    for case in cases {
-        if case.ending != Ending::Answered {
-            return Err(Fail::new(format_args!("no answer to {}", case.exchange.request)));
-        }
-    }
-    Ok(())
-}
-
-fn answer_rows<K: Filled>(alloc: Global) -> Result<(), Fail> {
-    let cases: Vec<Case<K>> = served_cases(alloc)?;
-    are_answered(cases.as_slice())
-}
-
-#[test]
-fn each_row_is_answered(rt: HostRuntime) -> Result<(), Fail> {
-    answer_rows::<ListKeeper>(rt.alloc())
 }
 
 /// What replies tell of the vault before a request.
@@ -175,7 +151,8 @@ fn judge_each<K: Filled>(alloc: Global, cases: &mut [Case<K>]) -> Result<(), Fai
 }
 
 fn judge_rows<K: Filled>(alloc: Global) -> Result<(), Fail> {
-    let mut cases: Vec<Case<K>> = served_cases(alloc)?;
+    let mut cases: Vec<Case<K>> = cases(alloc)?;
+    serve_cases(alloc, cases.as_mut_slice())?;
     judge_each(alloc, cases.as_mut_slice())
 }
 

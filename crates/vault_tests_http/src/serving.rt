@@ -1,0 +1,71 @@
+//! Requests that are served, and texts of requests and answers.
+use std::alloc::{AllocError, Global};
+use std::io::{Read, Write};
+use std::test::Fail;
+use vault_core_model::keeper::Keeper;
+use vault_http::{ServeFault, serve_one};
+use vault_transcript::requests::wire;
+
+/// 2024-01-15T10:30:00Z.
+pub const READING: i64 = 1_705_314_600;
+
+/// Asks for the one key that the tests of bodies and readings put.
+pub const GET: &str = "GET /docs/a HTTP/1.1|x-vault-caller: ann||";
+
+/// The headers that come first in each answer at that reading.
+const FIRST: &str = "date: Mon, 15 Jan 2024 10:30:00 GMT|connection: close";
+
+/// A text with CR LF for each `|`, and those headers for `~`.
+pub fn spelled(alloc: Global, text: &str) -> Result<String, AllocError> {
+    let text = text.replace(alloc, "~", FIRST)?;
+    wire(alloc, text.as_str())
+}
+
+/// Serves one request. This has no clause, so that the proof of a test does not carry what `serve_one` promises.
+pub fn serve<R: Read, W: Write, K: Keeper>(
+    alloc: Global,
+    reader: &mut R,
+    writer: &mut W,
+    keeper: &mut K,
+    reading: i64,
+) -> Result<(), ServeFault> {
+    serve_one(alloc, reader, writer, keeper, reading)
+}
+
+/// The text that is answered to the next request of a reader.
+pub fn answer<R: Read, K: Keeper>(
+    alloc: Global,
+    reader: &mut R,
+    keeper: &mut K,
+    reading: i64,
+) -> Result<String, Fail> {
+    let mut written = Vec::new(alloc);
+    serve(alloc, reader, &mut written, keeper, reading)?;
+    Ok(String::from_utf8(written)?)
+}
+
+/// Whether an answer is the wanted one. Of that just the beginning and the end are told where ` .. ` stands between.
+fn is_wanted(given: &str, wanted: &str) -> bool {
+    match wanted.split_once(" .. ") {
+        Some((front, end)) => given.starts_with(front) && given.ends_with(end),
+        None => given == wanted,
+    }
+}
+
+/// Sends a request at a reading, and fails where its answer isn't the wanted one.
+pub fn exchange<K: Keeper>(
+    alloc: Global,
+    keeper: &mut K,
+    reading: i64,
+    request: &str,
+    wanted: &str,
+) -> Result<(), Fail> {
+    let request = spelled(alloc, request)?;
+    let mut reader = request.as_bytes();
+    let given = answer(alloc, &mut reader, keeper, reading)?;
+    let wanted = spelled(alloc, wanted)?;
+    if is_wanted(given.as_str(), wanted.as_str()) {
+        return Ok(());
+    }
+    Err(Fail::new(format_args!("wanted {wanted}, got {given}, to {request}")))
+}
