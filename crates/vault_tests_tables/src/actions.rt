@@ -1,6 +1,6 @@
 //! What is done to a store, action by action, with what is to come of each.
 use crate::commands::are_answered;
-use crate::stores::{StoreTrial, try_in_files};
+use crate::disks::{let_go, opened_empty};
 use sqlite::{Alter, Connection, Error};
 use std::alloc::Global;
 use std::test::Fail;
@@ -46,25 +46,11 @@ pub fn take_all<S: Alter>(
     (Ok(()), conn)
 }
 
-/// Actions, one after another.
-#[derive(Drop)]
-struct Actions<'a> {
-    actions: &'a [Action<'a>],
-}
-
-impl StoreTrial for Actions<'_> {
-    fn carry_out_in<S: Alter>(
-        &mut self,
-        alloc: Global,
-        conn: Connection<S>,
-    ) -> (Result<(), Fail>, Connection<S>) {
-        take_all(alloc, conn, self.actions)
-    }
-}
-
 /// Takes actions over a new store.
-pub fn take_in_new<'a>(alloc: Global, actions: &'a [Action<'a>]) -> Result<(), Fail> {
-    try_in_files(alloc, &mut Actions { actions })
+pub fn take_in_new(alloc: Global, actions: &[Action<'_>]) -> Result<(), Fail> {
+    let (taken, conn) = take_all(alloc, opened_empty(alloc)?, actions);
+    let_go(conn);
+    taken
 }
 
 /// Whether the action goes as it is to go.

@@ -71,8 +71,8 @@ pub fn opened_empty(alloc: Global) -> Result<Connection<InFiles>, Fail> {
     opened(alloc, sound(alloc, b"", b"")?)
 }
 
-/// Lets go of the files, over any disk: a proof over these would carry their state through each call.
-pub fn let_go<D: Disk + Drop>(conn: Connection<FileStore<D>>) {
+/// Lets go of the files.
+pub fn let_go(conn: Connection<InFiles>) {
     drop(conn.into_store().close());
 }
 

@@ -21,6 +21,4 @@ mod lookups;
 #[cfg(test)]
 mod opens;
 #[cfg(test)]
-mod stores;
-#[cfg(test)]
 mod trials;

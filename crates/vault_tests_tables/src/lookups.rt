@@ -1,6 +1,6 @@
 //! What a report reads, and what is read of one key, takes as many steps in a large vault as in a small one, and of a key with
 //! many removed versions as of a fresh one.
-use crate::stores::{StoreTrial, try_in_files};
+use crate::disks::{let_go, opened_empty};
 use sqlite::{Alter, Connection, Error, params};
 use std::alloc::Global;
 use std::process::Abort;
@@ -165,25 +165,10 @@ fn enough_for_each<S: Alter>(conn: &mut Connection<S>, alloc: Global, names: &Na
 
 #[test]
 fn what_a_command_reads_does_not_grow_with_the_vault(rt: HostRuntime) -> Result<(), Fail> {
-    try_in_files(rt.alloc(), &mut Lookups { rt: &rt })
-}
-
-/// What is read in a small vault and in a large one.
-#[derive(Drop)]
-struct Lookups<'a, R: Abort> {
-    rt: &'a R,
-}
-
-impl<R: Abort> StoreTrial for Lookups<'_, R> {
-    fn carry_out_in<S: Alter>(
-        &mut self,
-        alloc: Global,
-        conn: Connection<S>,
-    ) -> (Result<(), Fail>, Connection<S>) {
-        let mut conn = conn;
-        let judged = read_in_small_and_large(self.rt, alloc, &mut conn);
-        (judged, conn)
-    }
+    let mut conn = opened_empty(rt.alloc())?;
+    let judged = read_in_small_and_large(&rt, rt.alloc(), &mut conn);
+    let_go(conn);
+    judged
 }
 
 /// Makes a vault of ten versions in an empty store.

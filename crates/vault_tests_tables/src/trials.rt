@@ -1,8 +1,8 @@
 //! Trials on a new vault in files in memory, which don't fail: an intake and requests.
 use crate::actions::{Action, take_all};
+use crate::disks::{let_go, opened_empty};
 use crate::exchange::answer;
 use crate::intake::take_in_twice;
-use crate::stores::{StoreTrial, try_in_files};
 use sqlite::{Alter, Connection};
 use std::alloc::Global;
 use std::test::Fail;
@@ -64,30 +64,11 @@ fn carry_out_and_take<S: Alter, T: Trial>(
     }
 }
 
-/// A trial on a new vault, and what is done to its tables behind it.
-#[derive(Drop)]
-struct OnNewVault<'a, T: Trial> {
-    trial: &'a T,
-    actions: &'a [Action<'a>],
-}
-
-impl<T: Trial> StoreTrial for OnNewVault<'_, T> {
-    fn carry_out_in<S: Alter>(
-        &mut self,
-        alloc: Global,
-        conn: Connection<S>,
-    ) -> (Result<(), Fail>, Connection<S>) {
-        carry_out_and_take(alloc, conn, self.trial, self.actions)
-    }
-}
-
 /// Carries a trial out on a new vault in a new store, and takes actions over that.
-fn try_in_new<'a, T: Trial>(
-    alloc: Global,
-    trial: &'a T,
-    actions: &'a [Action<'a>],
-) -> Result<(), Fail> {
-    try_in_files(alloc, &mut OnNewVault { trial, actions })
+fn try_in_new<T: Trial>(alloc: Global, trial: &T, actions: &[Action<'_>]) -> Result<(), Fail> {
+    let (tried, conn) = carry_out_and_take(alloc, opened_empty(alloc)?, trial, actions);
+    let_go(conn);
+    tried
 }
 
 /// A list that is taken in behind two versions, again, and again with other bytes in its first file.

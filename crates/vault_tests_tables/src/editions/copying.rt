@@ -1,7 +1,7 @@
 //! A vault that is copied from one store into another.
+use crate::disks::{let_go, opened_empty};
 use crate::editions::calls::{batches, differing, migrate, open};
-use crate::editions::stores::{Vault, make};
-use crate::stores::{StoreTrial, try_in_files};
+use crate::editions::stores::{StoreTrial, Vault, make};
 use sqlite::{Alter, Connection};
 use std::alloc::Global;
 use std::test::Fail;
@@ -26,43 +26,28 @@ pub struct Copying<'a> {
 
 impl StoreTrial for Copying<'_> {
     fn carry_out_in<S: Alter>(
-        &mut self,
+        &self,
         alloc: Global,
         conn: Connection<S>,
     ) -> (Result<(), Fail>, Connection<S>) {
         let mut conn = conn;
         match make(&mut conn, self.vault) {
-            Ok(()) => (try_between(alloc, &mut conn, *self), conn),
+            Ok(()) => (try_between(alloc, &mut conn, self), conn),
             Err(error) => (Err(Fail::from(error)), conn),
         }
     }
 }
 
-/// A copy out of this store.
-#[derive(Drop)]
-struct CopyingFrom<'a, 'b, O: Alter> {
-    old: &'a mut Connection<O>,
-    copying: Copying<'b>,
-}
-
-impl<O: Alter> StoreTrial for CopyingFrom<'_, '_, O> {
-    fn carry_out_in<S: Alter>(
-        &mut self,
-        alloc: Global,
-        conn: Connection<S>,
-    ) -> (Result<(), Fail>, Connection<S>) {
-        copied(alloc, self.old, conn, &self.copying)
-    }
-}
-
-/// Copies the vault into a store of its own.
+/// Copies the vault into a store of its own. This alone owns that store.
 fn try_between<O: Alter>(
     alloc: Global,
     old: &mut Connection<O>,
-    copying: Copying<'_>,
+    copying: &Copying<'_>,
 ) -> Result<(), Fail> {
     batches(old, &[copying.changes.0])?;
-    try_in_files(alloc, &mut CopyingFrom { old, copying })
+    let (tried, new) = copied(alloc, old, opened_empty(alloc)?, copying);
+    let_go(new);
+    tried
 }
 
 /// Copies the vault of one store into another, and looks at both.

@@ -1,7 +1,6 @@
 //! What isn't copied, and what is left then.
 use crate::editions::copying::Copying;
-use crate::editions::stores::Vault;
-use crate::stores::try_in_files;
+use crate::editions::stores::{Vault, try_in_files};
 use std::alloc::Global;
 use std::test::Fail;
 use vault_audit_model::schema::Edition;
@@ -13,7 +12,7 @@ const IS_BARE: (&str, i64) = ("SELECT count(*) FROM sqlite_schema", 0);
 #[test]
 fn a_vault_is_copied_as_its_own_edition_alone(rt: HostRuntime) -> Result<(), Fail> {
     for edition in [Edition::First, Edition::Third] {
-        let mut copying = Copying {
+        let copying = Copying {
             vault: Vault::Second,
             changes: ("", ""),
             edition,
@@ -21,14 +20,14 @@ fn a_vault_is_copied_as_its_own_edition_alone(rt: HostRuntime) -> Result<(), Fai
             in_old: &[("SELECT schema FROM meta", 2)],
             in_new: &[IS_BARE],
         };
-        try_in_files(rt.alloc(), &mut copying)?;
+        try_in_files(rt.alloc(), &copying)?;
     }
     Ok(())
 }
 
 /// A store with this in it is taken, and keeps what this query tells as seven.
 fn is_taken<'a>(alloc: Global, filled: &'a str, query: &'a str) -> Result<(), Fail> {
-    let mut copying = Copying {
+    let copying = Copying {
         vault: Vault::First,
         changes: ("", filled),
         edition: Edition::First,
@@ -36,7 +35,7 @@ fn is_taken<'a>(alloc: Global, filled: &'a str, query: &'a str) -> Result<(), Fa
         in_old: &[("SELECT schema FROM meta", 1)],
         in_new: &[(query, 7)],
     };
-    try_in_files(alloc, &mut copying)
+    try_in_files(alloc, &copying)
 }
 
 #[test]
@@ -56,7 +55,7 @@ fn a_store_with_anything_in_it_is_taken(rt: HostRuntime) -> Result<(), Fail> {
 /// A damaged vault is told before a store that is taken.
 #[test]
 fn damage_is_told_first(rt: HostRuntime) -> Result<(), Fail> {
-    let mut copying = Copying {
+    let copying = Copying {
         vault: Vault::First,
         changes: (
             "UPDATE meta SET next = 6",
@@ -67,13 +66,13 @@ fn damage_is_told_first(rt: HostRuntime) -> Result<(), Fail> {
         in_old: &[("SELECT next FROM meta", 6)],
         in_new: &[("SELECT count(*) FROM shelf", 0)],
     };
-    try_in_files(rt.alloc(), &mut copying)
+    try_in_files(rt.alloc(), &copying)
 }
 
 #[test]
 fn a_connection_inside_a_transaction_is_refused(rt: HostRuntime) -> Result<(), Fail> {
     for changes in [("BEGIN", ""), ("", "BEGIN")] {
-        let mut copying = Copying {
+        let copying = Copying {
             vault: Vault::First,
             changes,
             edition: Edition::First,
@@ -81,7 +80,7 @@ fn a_connection_inside_a_transaction_is_refused(rt: HostRuntime) -> Result<(), F
             in_old: &[("SELECT schema FROM meta", 1)],
             in_new: &[IS_BARE],
         };
-        try_in_files(rt.alloc(), &mut copying)?;
+        try_in_files(rt.alloc(), &copying)?;
     }
     Ok(())
 }

@@ -1,10 +1,9 @@
 //! A copy that is stopped at each call of one of the new files: these hold no tables then, or the whole vault.
-use crate::disks::{Left, VaultFiles, Which, connected, fused, leave, let_go, sound};
+use crate::disks::{InFiles, Left, VaultFiles, Which, connected, fused, leave, let_go, sound};
 use crate::editions::calls::{differing, migrate, open};
 use crate::editions::earlier::{COPIED, make_first};
-use crate::stores::{StoreTrial, try_in_files};
-use sqlite::{Alter, Connection, FileStore, Files, Options};
-use sqlite_disk::Disk;
+use crate::editions::stores::{StoreTrial, try_in_files};
+use sqlite::{Alter, Connection, Files, Options};
 use std::alloc::Global;
 use std::test::Fail;
 use vault_audit_model::schema::Edition;
@@ -33,19 +32,19 @@ fn held_in<S: Alter>(alloc: Global, conn: Connection<S>) -> ((bool, bool), Conne
     ((is_bare, refusal.is_none() && is_copied), conn)
 }
 
-// Each of these hands a connection on once, and closes it. They are over any disk: a proof over files in memory would
-// carry their state through each call.
+// Each of these hands a connection over files on once, and closes it: a proof over files carries their state through each
+// call.
 
-fn copy_and_close<O: Alter, D: Disk + Drop>(
+fn copy_and_close<O: Alter>(
     alloc: Global,
     old: &mut Connection<O>,
-    conn: Connection<FileStore<D>>,
-) -> (Option<Refusal>, Files<D>) {
+    conn: Connection<InFiles>,
+) -> (Option<Refusal>, VaultFiles) {
     let (refusal, conn) = migrate(alloc, old, Edition::First, conn);
     (refusal, conn.into_store().close())
 }
 
-fn look_and_close<D: Disk + Drop>(alloc: Global, conn: Connection<FileStore<D>>) -> (bool, bool) {
+fn look_and_close(alloc: Global, conn: Connection<InFiles>) -> (bool, bool) {
     let (held, conn) = held_in(alloc, conn);
     let_go(conn);
     held
@@ -140,7 +139,7 @@ struct Stops {
 
 impl StoreTrial for Stops {
     fn carry_out_in<S: Alter>(
-        &mut self,
+        &self,
         alloc: Global,
         conn: Connection<S>,
     ) -> (Result<(), Fail>, Connection<S>) {
@@ -156,18 +155,18 @@ impl StoreTrial for Stops {
 
 #[test]
 fn a_stop_of_the_log_leaves_nothing_or_the_whole_vault(rt: HostRuntime) -> Result<(), Fail> {
-    let mut stops = Stops {
+    let stops = Stops {
         which: Which::Log,
         least: 2,
     };
-    try_in_files(rt.alloc(), &mut stops)
+    try_in_files(rt.alloc(), &stops)
 }
 
 #[test]
 fn a_stop_of_the_database_leaves_nothing_or_the_whole_vault(rt: HostRuntime) -> Result<(), Fail> {
-    let mut stops = Stops {
+    let stops = Stops {
         which: Which::Database,
         least: 1,
     };
-    try_in_files(rt.alloc(), &mut stops)
+    try_in_files(rt.alloc(), &stops)
 }
