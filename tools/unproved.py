@@ -21,12 +21,13 @@ def running(folder):
     return None
 
 
-def built(options, crate, folder):
+def built(options, crate, folder, given=os.devnull, pause=0.02):
     """What `rt try` builds of a crate in its folder: the words in front of a program and its bytes, taken from a run
-    that the tool has begun; or none, and what the tool says."""
+    that the tool has begun, with the file `given` as its standard input; or none, and what the tool says. It looks for
+    such a run every `pause` seconds."""
     said = pathlib.Path(folder) / "said"
-    with open(said, "w") as out:
-        how = {"stdin": subprocess.DEVNULL, "stdout": out, "stderr": out, "env": {**os.environ, "TMPDIR": str(folder)}}
+    with open(said, "w") as out, open(given) as script:
+        how = {"stdin": script, "stdout": out, "stderr": out, "env": {**os.environ, "TMPDIR": str(folder)}}
         tool = subprocess.Popen(["rt", "try", *options], cwd=crate, **how)
         try:
             while tool.poll() is None:
@@ -34,7 +35,7 @@ def built(options, crate, folder):
                 if found:
                     with contextlib.suppress(FileNotFoundError):
                         return (found[0], pathlib.Path(found[1]).read_bytes()), ""
-                time.sleep(0.02)
+                time.sleep(pause)
         finally:
             tool.terminate()
             tool.wait()
