@@ -138,9 +138,9 @@ pub enum Refusal {
     NotImplemented,
     /// The bucket has no rules.
     NoSuchLifecycleConfiguration,
-    /// The department would admit more bytes than its limit.
+    /// The bytes that the department admits and receives would be above its limit.
     QuotaExceeded,
-    /// No id for an entry, or no number for a setting, is left.
+    /// No id for an entry, no number for a setting or none for a move of a bucket is left.
     VaultFull,
     /// A line of an intake batch was taken in before with other content or another lock.
     IntakeConflict,
