@@ -9,7 +9,7 @@ import sys
 from typing import Iterable, Iterator, NamedTuple, Optional, TextIO
 
 from vault_recheck.vault import (
-    CAUSES, MODES, Entry, History, Setting, histories_of, meta_of, moment_of, moment_text, say,
+    CAUSES, MODES, Entry, History, Setting, histories_of, meta_of, moment_of, moment_text,
 )  # fmt: skip
 
 HEADER = "version,event,moment,by,bucket,key,kind,size,sha256,mode,until,hold,bypass,cause,department,move\n"
@@ -170,5 +170,4 @@ def check_seals(base: sqlite3.Connection, name: str) -> list[str]:
     """The differences of the seals in a file of that name."""
     with open(name, encoding="utf-8") as lines:
         seals = read_seals(lines)
-    say(f"{len(seals)} seals")
     return list(differing_seals(base, seals))

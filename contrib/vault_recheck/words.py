@@ -57,7 +57,7 @@ def do_audit(words: argparse.Namespace) -> int:
         with opened(words.file, words.immutable) as base:
             audit(base)
     except Damaged as damage:
-        print(f"damaged {damage.table}")
+        print(f"damaged {damage.table}", flush=True)
         say(damage.why)
         return 1
     print("sound")
@@ -70,7 +70,7 @@ def do_lawful(words: argparse.Namespace) -> int:
     if breach is None:
         print("lawful")
         return 0
-    print(f"unlawful {breach.id} {breach.rule}")
+    print(f"unlawful {breach.id} {breach.rule}", flush=True)
     say(f"entry {breach.id}: {breach.why}")
     return 1
 
