@@ -122,9 +122,9 @@ def look_at_departments(base: sqlite3.Connection, meta: Meta) -> Faults:
     )
     for name, *row in rows:
         sums = found.get(name, Sums())
-        for label, told, counted in zip(Sums._fields, row, sums):
-            if told != counted:
-                yield f"department {name} says {label} {told}, and its tenures come to {counted}"
+        for label, stored, counted in zip(Sums._fields, row, sums):
+            if stored != counted:
+                yield f"department {name} says {label} {stored}, and its tenures come to {counted}"
         if sums.admitted + sums.received > QUOTA:
             yield f"department {name} admitted and received more than {QUOTA} bytes"
 

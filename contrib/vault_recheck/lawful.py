@@ -124,7 +124,7 @@ def end_breaches(callers: Callers, meta: Meta, entry: Entry, last: Optional[Sett
 
 
 class Moves:
-    """The moves of buckets, each as the first tenure tells of it."""
+    """The moves of buckets, each as the first tenure has it."""
 
     def __init__(self) -> None:
         self.first: dict[int, tuple[str, Tenure]] = {}

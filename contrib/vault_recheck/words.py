@@ -20,7 +20,12 @@ The file is opened for reading alone, with the log beside it. SQLite may leave a
 (FILE-shm); --immutable leaves nothing, and reads no log. But for `audit`, each subcommand audits the file first, and
 refuses one whose tables don't fit together.
 """
-STATUS = "Status: 0 done, and nothing found; 1 it isn't so, or a file can't be read; 2 the words aren't understood."
+STATUSES = {
+    "0": "What was asked is so, or is done.",
+    "1": "It isn't so, or a file can't be read: standard error says why.",
+    "2": "The words aren't understood.",
+}
+STATUS = "Status: " + " ".join(f"{number}: {text}" for number, text in STATUSES.items())
 
 
 Command = Callable[[argparse.Namespace], int]

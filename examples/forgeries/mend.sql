@@ -1,4 +1,4 @@
--- What whoever forges a vault puts right behind each change, so that its tables fit together: contents of held versions
+-- What a forger puts right after each change, so that its tables fit together: contents of held versions
 -- alone, the heads, the next id, and the seven sums of each department.
 DELETE FROM contents WHERE id NOT IN (SELECT id FROM entries WHERE removed IS NULL AND NOT marker);
 DELETE FROM heads;
