@@ -7,7 +7,11 @@ asked(t) AS MATERIALIZED (
     SELECT CASE
         WHEN :at IS NULL THEN CAST(strftime('%s', 'now') AS INTEGER)
         WHEN at = strftime('%Y-%m-%dT%H:%M:%SZ', strftime('%s', at), 'unixepoch') THEN CAST(strftime('%s', at) AS INTEGER)
-        ELSE json_extract('{}', ':at is neither a date as 2025-06-10 nor a moment as 2025-06-10T12:00:00Z: ' || :at)
+        ELSE json_extract(
+            '{}',
+            ':at is neither a date as 2025-06-10 nor a moment as 2025-06-10T12:00:00Z: ' || :at
+                || iif(typeof(:at) = 'text', '', ', a number, as of a date that is not in two kinds of quotes')
+        )
     END
     FROM given
 ),
