@@ -1,5 +1,5 @@
 -- Tenures that are met in the order of their versions' ids count as the histories say.
-use Rattle.std.proofs.Common.{◌≡◌, ℕ, ◌+◌, ◌≤◌, ◌<◌, ◌==◌, ◌&&◌, List, [], ◌∷◌, ◌++◌, map, filter, flat_map, cond, option_map, Bool, true, false, nat_le, Option, Some, None, IfSome, IsTrue, refl, sym, ap, subst, ◌∙◌, arith}
+use Rattle.std.proofs.Common.{◌≡◌, ℕ, ◌+◌, ◌≤◌, ◌<◌, ◌==◌, ◌&&◌, List, [], ◌∷◌, ◌++◌, map, filter, flat_map, cond, option_map, Bool, true, false, not, nat_le, Option, Some, None, IfSome, IsTrue, refl, sym, ap, subst, ◌∙◌, arith}
 use Rattle.std.specs.List.{AllByRecursion}
 use Rattle.std.specs.Str.{bytes_eq}
 use Rattle.std.proofs.lemmas.Bool.Decides.{nat_tests}
@@ -34,30 +34,25 @@ same_id n = grind (arith, nat_tests)
 pub other_id : (m n : ℕ) → m < n → (m == n) ≡ false
 other_id m n low = grind (arith, nat_tests, low)
 
-not_first : (m n : ℕ) → m < n → (n == 0) ≡ false
-not_first m n low = grind (arith, nat_tests, low)
-
 pub removal_days : (o : Option Removal) → option_map day (option_map (λ (r : Removal). r.at) o) ≡ removal_day o
 removal_days None = refl
 removal_days (Some r) = refl
 
 -- the last of a version, as its history has it
-last_is : (e : Entry) (t : Tenure) (first : Bool) → (t.number == 0) ≡ first → last_share (told e t) ≡ share e.size first t (removal_day e.removal) true
-last_is e t first is = ap (λ f. share e.size f t (option_map day (option_map (λ (r : Removal). r.at) e.removal)) true) is ∙ ap (λ o. share e.size first t o true) (removal_days e.removal)
+last_is : (e : Entry) (t : Tenure) (first : Bool) → last_share first (told e t) ≡ share e.size first t (removal_day e.removal) true
+last_is e t first = ap (λ o. share e.size first t o true) (removal_days e.removal)
 
 abbrev IsBefore : ℕ → ToldTenure → Type 0
 IsBefore id t = id < t.id
 
-one_version : (moves end : ℕ) (e : Entry) (first : Bool) (t : Tenure) (ts : List Tenure) (rest : List ToldTenure) → (t.number == 0) ≡ first → FollowOn moves end t ts → AllByRecursion (IsBefore e.id) rest
-    → shares_told (told e t ∷ (map (told e) ts ++ rest)) ≡ shares_from e.size e.removal first (t ∷ ts) ++ shares_told rest
-one_version moves end e first t [] [] is on later = ap (λ (s : Share). s ∷ []) (last_is e t first is)
-one_version moves end e first t [] (k ∷ ks) is on later =
-    ap (λ b. share_where b (told e t) k ∷ shares_told (k ∷ ks)) (other_id e.id k.id later.0) ∙ ap (λ (s : Share). s ∷ shares_told (k ∷ ks)) (last_is e t first is)
-one_version moves end e first t (u ∷ us) rest is on later =
-    let more = one_version moves end e false u us rest (not_first t.number u.number on.0) on.4 later in
-    ap (λ b. share_where b (told e t) (told e u) ∷ shares_told (told e u ∷ (map (told e) us ++ rest))) (same_id e.id)
-    ∙ ap (λ f. share e.size f t (Some (day u.from)) false ∷ shares_told (told e u ∷ (map (told e) us ++ rest))) is
-    ∙ ap (λ ss. share e.size first t (Some (day u.from)) false ∷ ss) more
+one_version : (e : Entry) (first : Bool) (t : Tenure) (ts : List Tenure) (rest : List ToldTenure) → AllByRecursion (IsBefore e.id) rest
+    → shares_told first (told e t ∷ (map (told e) ts ++ rest)) ≡ shares_from e.size e.removal first (t ∷ ts) ++ shares_told true rest
+one_version e first t [] [] later = ap (λ (s : Share). s ∷ []) (last_is e t first)
+one_version e first t [] (k ∷ ks) later =
+    ap (λ b. share_where b first (told e t) k ∷ shares_told (not b) (k ∷ ks)) (other_id e.id k.id later.0) ∙ ap (λ (s : Share). s ∷ shares_told true (k ∷ ks)) (last_is e t first)
+one_version e first t (u ∷ us) rest later =
+    ap (λ b. share_where b first (told e t) (told e u) ∷ shares_told (not b) (told e u ∷ (map (told e) us ++ rest))) (same_id e.id)
+    ∙ ap (λ ss. share e.size first t (Some (day u.from)) false ∷ ss) (one_version e false u us rest later)
 
 -- ---- the versions behind it
 
@@ -78,21 +73,17 @@ all_later id next low (h ∷ hs) below are =
 
 -- ---- all of them
 
-by_tenures : (v : Vault) (h : History) (ts : List Tenure) (marker : Bool) (rest : List ToldTenure) → h.tenures ≡ ts → IsTenuredAs marker v h → AllByRecursion (IsBefore h.entry.id) rest
-    → shares_told (map (told h.entry) ts ++ rest) ≡ shares_from h.entry.size h.entry.removal true ts ++ shares_told rest
-by_tenures v h [] marker rest is has later = refl
-by_tenures v h (t ∷ ts) true rest is has later = absurd (let e = sym is ∙ has in cc)
-by_tenures v h (t ∷ ts) false rest is has later =
-    let are : AreTenures v h.entry (t ∷ ts) = subst (λ xs. AreTenures v h.entry xs) is has.0 in
-    let first : (t.number == 0) ≡ true = ap (λ n. n == 0) are.0 in
-    one_version v.moves (end_of v.last h.entry.removal) h.entry true t ts rest first are.2 later
+by_tenures : (e : Entry) (ts : List Tenure) (rest : List ToldTenure) → AllByRecursion (IsBefore e.id) rest
+    → shares_told true (map (told e) ts ++ rest) ≡ shares_from e.size e.removal true ts ++ shares_told true rest
+by_tenures e [] rest later = refl
+by_tenures e (t ∷ ts) rest later = one_version e true t ts rest later
 
-pub shares_are : (v : Vault) (next low : ℕ) (hs : List History) → AreNumbered next low (entries_in hs) → AllByRecursion (IsTenured v) hs → shares_told (flat_map told_in hs) ≡ flat_map shares_of hs
-shares_are v next low [] are all = refl
-shares_are v next low (h ∷ hs) are all =
+pub shares_are : (next low : ℕ) (hs : List History) → AreNumbered next low (entries_in hs) → shares_told true (flat_map told_in hs) ≡ flat_map shares_of hs
+shares_are next low [] are = refl
+shares_are next low (h ∷ hs) are =
     let here = are.0.1.0 in
-    by_tenures v h h.tenures h.entry.marker (flat_map told_in hs) refl all.0 (all_later h.entry.id (next + 1) h.entry.admitted hs (omega (arith, here)) are.1)
-    ∙ ap (λ ss. shares_of h ++ ss) (shares_are v (next + 1) h.entry.admitted hs are.1 all.1)
+    by_tenures h.entry h.tenures (flat_map told_in hs) (all_later h.entry.id (next + 1) h.entry.admitted hs (omega (arith, here)) are.1)
+    ∙ ap (λ ss. shares_of h ++ ss) (shares_are (next + 1) h.entry.admitted hs are.1)
 
 -- ---- those of a department
 

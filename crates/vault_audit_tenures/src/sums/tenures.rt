@@ -6,7 +6,7 @@ ghost use Rattle.vault_core_model.specs.Vault.{Vault};
 ghost use Rattle.vault_audit_model.specs.Relations.{AreEntries, AreTenuresOf};
 ghost use Rattle.vault_audit_model.specs.Spells.{entries_in};
 ghost use Rattle.vault_audit_tenures.specs.declared.sums.tenures.ToldTenure.{ToldTenure as Told};
-ghost use Rattle.vault_audit_tenures.specs.TenureSums.{told_row, IsTold, share_as, last_share, share_before, CountsShare, CountsPending, CountsLast};
+ghost use Rattle.vault_audit_tenures.specs.TenureSums.{told_row, IsTold, begins, share_as, last_share, share_before, CountsShare, CountsPending, CountsLast};
 ghost use Rattle.vault_audit_tenures.specs.Totals.{AreTotals};
 ghost use Rattle.vault_audit_walk.specs.Health.{IsHealthy, IsMemory, IsOfEdition, OnlyLooks};
 
@@ -35,12 +35,20 @@ pub struct ToldTenure {
     pub removed: Option<Moment>,
 }
 
+/// A tenure that isn't counted yet, since the row after it has its end.
+#[derive(Drop)]
+pub struct Pending {
+    pub told: ToldTenure,
+    /// Whether it is its version's first, whatever its number is.
+    pub first: bool,
+}
+
 /// The sums of the departments, taken over the tenures one by one.
 #[derive(Drop)]
 pub struct TenurePass {
     pub totals: Totals,
-    /// The tenure that came last. It isn't counted yet, since the row behind it tells its end.
-    pub pending: Option<ToldTenure>,
+    /// The tenure that came last.
+    pub pending: Option<Pending>,
 }
 
 /// The tenure that a row tells.
@@ -66,19 +74,29 @@ pub fn read_told(row: &Row) -> Result<ToldTenure, Misread>
     })
 }
 
-/// Counts a tenure in, with the moment of its end and whether it is its version's last.
+/// Whether a tenure is its version's first: the one before it, if there is one, is of another version.
+fn begins_version(pending: &Option<Pending>, told: &ToldTenure) -> bool
+    ensures { result ≡ begins pending.now told.now }
+{
+    match pending {
+        None => true,
+        Some(before) => before.told.id != told.id,
+    }
+}
+
+/// Counts a tenure in, with the moment of its end and whether it is its version's first and last.
 fn count_as(
     totals: &mut Totals,
     told: ToldTenure,
+    first: bool,
     ended: Option<Moment>,
     last: bool,
 ) -> Result<(), Error>
-    ensures ok { OnOk result (CountsShare totals.old (share_as told ended last) totals.new) }
+    ensures ok { OnOk result (CountsShare totals.old (share_as first told ended last) totals.new) }
     ensures err { IfErr result IsMemory }
 {
     let ToldTenure { tenure, size, .. } = told;
-    let Tenure { dept, from, number } = tenure;
-    let first = number == 0;
+    let Tenure { dept, from, .. } = tenure;
     let span = Span {
         size,
         first,
@@ -90,49 +108,56 @@ fn count_as(
 }
 
 /// Counts a version's last tenure in: it ends with the removal.
-fn count_last(totals: &mut Totals, told: ToldTenure) -> Result<(), Error>
-    ensures ok { OnOk result (CountsShare totals.old (last_share told) totals.new) }
+fn count_last(totals: &mut Totals, told: ToldTenure, first: bool) -> Result<(), Error>
+    ensures ok { OnOk result (CountsShare totals.old (last_share first told) totals.new) }
     ensures err { IfErr result IsMemory }
 {
     let removed = told.removed;
-    count_as(totals, told, removed, true)
+    count_as(totals, told, first, removed, true)
 }
 
 /// Counts a tenure in as the next row is met: one of the same version ends it.
-fn count_before(totals: &mut Totals, told: ToldTenure, next: &ToldTenure) -> Result<(), Error>
-    ensures ok { OnOk result (CountsShare totals.old (share_before told next.now) totals.new) }
+fn count_before(
+    totals: &mut Totals,
+    told: ToldTenure,
+    first: bool,
+    next: &ToldTenure,
+) -> Result<(), Error>
+    ensures ok { OnOk result (CountsShare totals.old (share_before first told next.now) totals.new) }
     ensures err { IfErr result IsMemory }
 {
     if told.id == next.id {
-        return count_as(totals, told, Some(next.tenure.from), false);
+        return count_as(totals, told, first, Some(next.tenure.from), false);
     }
-    count_last(totals, told)
+    count_last(totals, told, first)
 }
 
 /// Counts the pending tenure in as the next row is met.
 fn count_pending(
     totals: &mut Totals,
-    pending: Option<ToldTenure>,
+    pending: Option<Pending>,
     next: &ToldTenure,
 ) -> Result<(), Error>
     ensures ok { OnOk result (CountsPending totals.old pending next.now totals.new) }
     ensures err { IfErr result IsMemory }
 {
-    let Some(told) = pending else {
+    let Some(before) = pending else {
         return Ok(());
     };
-    count_before(totals, told, next)
+    let Pending { told, first } = before;
+    count_before(totals, told, first, next)
 }
 
 /// Counts the pending tenure in as no row is left.
-fn count_left(totals: &mut Totals, pending: Option<ToldTenure>) -> Result<(), Error>
+fn count_left(totals: &mut Totals, pending: Option<Pending>) -> Result<(), Error>
     ensures ok { OnOk result (CountsLast totals.old pending totals.new) }
     ensures err { IfErr result IsMemory }
 {
-    let Some(told) = pending else {
+    let Some(last) = pending else {
         return Ok(());
     };
-    count_last(totals, told)
+    let Pending { told, first } = last;
+    count_last(totals, told, first)
 }
 
 impl Pass for TenurePass {
@@ -145,9 +170,10 @@ impl Pass for TenurePass {
     fn take(&mut self, row: &Row) -> Result<bool, Error> {
         match read_told(row) {
             Ok(told) => {
+                let first = begins_version(&self.pending, &told);
                 let before = self.pending.take();
                 count_pending(&mut self.totals, before, &told)?;
-                self.pending = Some(told);
+                self.pending = Some(Pending { told, first });
                 Ok(true)
             }
             Err(misread) => refused(misread),
