@@ -1,5 +1,6 @@
 pub mod Heads
 pub mod Prompt
+pub mod Blank
 pub mod TextLemmas
 pub mod Counted
 pub mod Serves

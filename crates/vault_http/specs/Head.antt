@@ -1,6 +1,6 @@
 -- The head at the front of what a reader gives.
 use Rattle.std.specs.Prelude.{ℕ, ◌≡◌, ◌≤◌, ◌<◌, List, [], ◌∷◌, ◌++◌, length, Option, IfSome}
-use Rattle.httparse.specs.Grammar.{RequestHead, ReadsRequest, NeverHasRequest, print_request}
+use Rattle.httparse.specs.Grammar.{RequestHead, ReadsRequest, NeverHasRequest, LineEnd, print_blank, print_request}
 use Rattle.httparse.specs.Spans.{IsRequestAt, IsRequestWithin}
 use Rattle.httparse.specs.declared.spans.HeaderSpan.{HeaderSpan}
 use Rattle.vault_http.specs.declared.read.head.Front.{Front}
@@ -39,3 +39,7 @@ IsWithin buf headers (Head spans) = IsRequestWithin buf headers spans
 -- behind a line with which no head can come, of whatever length, nothing was taken
 abbrev pub IsPrompt : List ℕ → Type 0
 IsPrompt buf = (line later : List ℕ) → buf ≡ (line ++ 10 ∷ []) ++ later → NeverHasRequest (line ++ 10 ∷ []) → later ≡ []
+
+-- empty lines and nothing else
+abbrev pub IsBlank : List ℕ → Type 0
+IsBlank bytes = (ends : List LineEnd) × (bytes ≡ print_blank ends)

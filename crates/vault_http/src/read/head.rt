@@ -1,7 +1,10 @@
 //! The head of a request: its first line, its headers and the blank line (RFC 9112, section 2.1).
-ghost use Rattle.std.specs.Prelude.{◌≡◌, [], IfOk, OnOk, length};
+ghost use Rattle.std.specs.Prelude.{◌≡◌, ◌≤◌, [], IfOk, IsTrue, OnErr, OnOk, length, take};
 ghost use Rattle.std.specs.Io.KnownBytes.{Consumes};
-ghost use Rattle.vault_http.specs.Head.{Came, HasBytes, IsPrompt, IsWithin};
+ghost use Rattle.httparse.specs.Grammar.{HasNoRequest, LineEnd, MayBecomeRequest, print_end};
+ghost use Rattle.httparse.specs.Outcome.{IfComplete, OnPartial};
+ghost use Rattle.httparse.specs.Spans.{IsRequestOf, IsRequestWithin, RequestOverflows};
+ghost use Rattle.vault_http.specs.Head.{Came, HasBytes, IsBlank, IsPrompt, IsWithin};
 
 use crate::read::bytes::{ReadFault, next_byte};
 use httparse::Status;
@@ -17,6 +20,40 @@ pub enum Front {
     NoHead,
     /// A head, whose parts lie here.
     Head(RequestSpans),
+}
+
+/// Whether a line that has come to its end is empty.
+fn is_blank_line(line: &[u8]) -> bool
+    ensures { IsTrue result → (end : LineEnd) × (line.now ≡ print_end end) }
+{
+    line == b"\n".as_slice() || line == b"\r\n".as_slice()
+}
+
+/// The head that these bytes are, up to the end of a line; `Partial` where it may still come.
+///
+/// The first `blank` bytes are empty lines. While no other line has come, `blank` alone moves on: to parse them anew
+/// with each line would cost the square of their number.
+fn parse_lines(
+    buf: &[u8],
+    blank: &mut usize,
+    headers: &mut [HeaderSpan],
+) -> httparse::Result<RequestSpans>
+    requires front { blank.old ≤ length buf.now }
+    requires blank { IsBlank (take blank.old buf.now) }
+    ensures front { blank.new ≤ length buf.now }
+    ensures blank { IsBlank (take blank.new buf.now) }
+    ensures room { length headers.new ≡ length headers.old }
+    ensures within { IfComplete result (IsRequestWithin buf.now headers.new) }
+    ensures complete { IfComplete result (IsRequestOf buf.now headers.new) }
+    ensures partial { OnPartial result (HasNoRequest buf.now) }
+    ensures unfinished { OnPartial result (MayBecomeRequest buf.now) }
+    ensures no_room { OnErr result (RequestOverflows (length headers.old) buf.now) }
+{
+    if is_blank_line(&buf[*blank..]) {
+        *blank = buf.len();
+        return Ok(Status::Partial);
+    }
+    parse_request(buf, headers)
 }
 
 /// Reads the head at the front of what a reader gives, and not a byte more.
@@ -37,6 +74,7 @@ pub fn read_head<R: Read>(
     // With each line but the last one that was taken, a head could still come.
     ensures prompt { IsPrompt buf.new.items }
 {
+    let mut blank = 0;
     for turn in 0..16_384usize {
         let byte = match next_byte(reader) {
             Err(_) => return Err(ReadFault::Read),
@@ -53,7 +91,7 @@ pub fn read_head<R: Read>(
             return Err(ReadFault::Memory);
         }
         if byte == b'\n' {
-            match parse_request(buf.as_slice(), headers) {
+            match parse_lines(buf.as_slice(), &mut blank, headers) {
                 Ok(Status::Complete(spans)) => return Ok(Front::Head(spans)),
                 Ok(Status::Partial) => {}
                 Err(_) => return Ok(Front::NoHead),

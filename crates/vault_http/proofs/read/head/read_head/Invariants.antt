@@ -1,6 +1,7 @@
-use Rattle.std.proofs.Common.{◌≡◌, length}
+use Rattle.std.proofs.Common.{◌≡◌, ◌≤◌, length, take}
 use Rattle.std.specs.Io.KnownBytes.{Consumes}
 use Rattle.httparse.specs.Grammar.{HasNoRequest}
+use Rattle.vault_http.specs.Head.{IsBlank}
 use Rattle.vault_http.proofs.Prompt.{IsOpen}
 use Rattle.vault_http.proofs.read.head.read_head.Given as goal
 
@@ -10,4 +11,6 @@ invariant-loop-turn g l = record {
   none : HasNoRequest l.buf.items;
   going : IsOpen l.buf.items;
   count : length l.buf.items ≡ l.turn;
+  front : l.blank ≤ length l.buf.items;
+  blank : IsBlank (take l.blank l.buf.items);
 }
