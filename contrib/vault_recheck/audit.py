@@ -90,14 +90,25 @@ class Sums(NamedTuple):
     handed: int = 0
 
 
-def sums_with(sums: Sums, size: int, number: int, since: int, end: Optional[int], is_last: bool) -> Sums:
-    """The sums with one tenure more: of a version of that size, by that move, from a moment to its end, if it ended."""
-    admitted, received = (size, 0) if number == 0 else (0, size)
+class Span(NamedTuple):
+    """A tenure of a version of that size, from when to when, if it ended, and whether it is the first and the last."""
+
+    size: int
+    since: int
+    end: Optional[int]
+    is_first: int
+    is_last: int
+
+
+def sums_with(sums: Sums, span: Span) -> Sums:
+    """The sums with one tenure more."""
+    size, since = span.size, span.since // DAY
+    admitted, received = (size, 0) if span.is_first else (0, size)
     sums = sums._replace(admitted=sums.admitted + admitted, received=sums.received + received)
-    if end is None:
-        return sums._replace(held=sums.held + size, weighted=sums.weighted + size * (since // DAY))
-    closed = sums.closed + size * max(0, end // DAY - since // DAY)
-    if is_last:
+    if span.end is None:
+        return sums._replace(held=sums.held + size, weighted=sums.weighted + size * since)
+    closed = sums.closed + size * max(0, span.end // DAY - since)
+    if span.is_last:
         return sums._replace(closed=closed, removed=sums.removed + size)
     return sums._replace(closed=closed, handed=sums.handed + size)
 
@@ -106,12 +117,12 @@ def sums_of_departments(base: sqlite3.Connection) -> dict[str, Sums]:
     """The sums over the tenures of each department. A tenure ends as the version's next begins, or with its removal."""
     found: dict[str, Sums] = collections.defaultdict(Sums)
     rows = base.execute(
-        "SELECT t.n, t.dept, t.moment, lead(t.moment) OVER (PARTITION BY t.id ORDER BY t.n), e.size, e.removed"
-        " FROM tenures AS t JOIN entries AS e ON e.id = t.id"
+        "SELECT t.dept, e.size, t.moment, coalesce(lead(t.moment) OVER w, e.removed), lag(t.n) OVER w IS NULL,"
+        " lead(t.n) OVER w IS NULL FROM tenures AS t JOIN entries AS e ON e.id = t.id"
+        " WINDOW w AS (PARTITION BY t.id ORDER BY t.n)"
     )
-    for number, dept, since, following, size, removed in rows:
-        end = removed if following is None else following
-        found[dept] = sums_with(found[dept], size, number, since, end, following is None)
+    for dept, *span in rows:
+        found[dept] = sums_with(found[dept], Span(*span))
     return found
 
 
