@@ -15,7 +15,7 @@ use vault_rules::rule_set::RuleSet;
 use vault_tally::row::Row;
 
 /// A keeper of which a line is written after each thousand keys whose entries were asked for, as `1000 keys`. A run asks
-/// for those of each key of its bucket, and no other command for more than one key's.
+/// for those of each key of its bucket. A listing asks for those of several keys too, but no job that has a terminal lists.
 ///
 /// What it keeps is what the keeper within it keeps. That a line can't be written is no failure of it, and is told to
 /// nobody; without a terminal nothing is written.
