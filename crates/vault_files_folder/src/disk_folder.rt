@@ -2,7 +2,7 @@
 ghost use Rattle.std.specs.Prelude.{◌≡◌, IfOk};
 ghost use Rattle.std.specs.Path.{path_buf_bytes, path_join};
 
-use crate::opening::{is_file, opened};
+use crate::opening::opened_itself;
 use crate::reading::read_at_most;
 use std::alloc::{AllocError, Global};
 use std::path::{Path, PathBuf};
@@ -24,10 +24,7 @@ fn path_of(alloc: Global, folder: &str, name: &FileName) -> Result<PathBuf, Allo
 
 /// The bytes of a regular file, of a large one `MOST_READ`; none where no such file is there.
 fn bytes_of<R: Files>(alloc: Global, files: &R, path: &str) -> Result<Option<Vec<u8>>, Fault> {
-    if !is_file(files, path)? {
-        return Ok(None);
-    }
-    match opened(files, path)? {
+    match opened_itself(files, path)? {
         Some(file) => Ok(Some(read_at_most(alloc, file, MOST_READ)?)),
         None => Ok(None),
     }
@@ -47,9 +44,9 @@ fn read_file<R: Files>(
 /// A folder of the file system.
 ///
 /// A file that is larger than a version may be is read up to one byte more than that, so that its row is
-/// refused as too large. What isn't a regular file, as a folder in it, is no file of it; a link stands for
-/// what it names. `Device` comes where a file is there and can't be read, and each time one more failure is
-/// counted. What a disk holds no contract can say.
+/// refused as too large. What isn't a regular file of the folder itself is no file of it: a link, whatever it
+/// leads to, a folder, a FIFO, a device. The path of the folder may lead through links. `Device` comes where a file
+/// is there and can't be read, and each time one more failure is counted. What a disk holds no contract can say.
 #[derive(Drop)]
 pub struct DiskFolder<'f, R> {
     alloc: Global,

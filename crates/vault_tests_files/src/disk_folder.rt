@@ -12,7 +12,7 @@ use vault_files::progress::ToldFolder;
 
 const FOLDER: &str = "intake_of_a_test";
 
-/// A small file, one a byte larger than what is read of it, a folder, and a link that names itself.
+/// A small file, one a byte larger than what is read of it, a folder, a link to the small file, and one that names itself.
 fn make(rt: &HostRuntime) -> io::Result<()> {
     fs::create_dir(rt, FOLDER)?;
     fs::write(rt, "intake_of_a_test/small", "hello")?;
@@ -22,6 +22,7 @@ fn make(rt: &HostRuntime) -> io::Result<()> {
         vec![in rt.alloc(); b'a'; 1_048_578]?,
     )?;
     fs::create_dir(rt, "intake_of_a_test/inner")?;
+    rt.symlink("small", "intake_of_a_test/link")?;
     rt.symlink("loop", "intake_of_a_test/loop")
 }
 
@@ -61,14 +62,26 @@ fn compare(given: &str, wanted: &str) -> Result<(), Fail> {
 fn read_all(rt: &HostRuntime) -> Result<(), Fail> {
     let alloc = rt.alloc();
     let mut folder = DiskFolder::new(alloc, rt, FOLDER);
-    let names = ["small", "large", "absent", "inner", "loop", "small"];
+    let names = ["small", "large", "absent", "inner", "link", "loop", "small"];
     let all = told_of(alloc, &mut folder, &names)?;
     compare(
         all.as_str(),
-        "5 of 104; 1048577 of 97; none; none; device; 5 of 104; ",
+        "5 of 104; 1048577 of 97; none; none; none; none; 5 of 104; ",
     )?;
-    if folder.faults() != 1 {
-        return Err(Fail::new("one failure is counted"));
+    if folder.faults() != 0 {
+        return Err(Fail::new("no failure is counted"));
+    }
+    read_through_a_loop(rt)
+}
+
+/// A folder that can't be reached, as the link that leads to it names itself.
+fn read_through_a_loop(rt: &HostRuntime) -> Result<(), Fail> {
+    let alloc = rt.alloc();
+    let mut folder = DiskFolder::new(alloc, rt, "intake_of_a_test/loop");
+    let all = told_of(alloc, &mut folder, &["small", "small"])?;
+    compare(all.as_str(), "device; device; ")?;
+    if folder.faults() != 2 {
+        return Err(Fail::new("two failures are counted"));
     }
     Ok(())
 }
