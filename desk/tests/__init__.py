@@ -1,0 +1,1 @@
+"""Tests of the desk over the real engine, $VAULTCTL."""

@@ -1,0 +1,82 @@
+"""An office for tests: a vault in a folder of its own, with callers, and the desk as one calls it."""
+
+from __future__ import annotations
+
+import contextlib
+import io
+import json
+import os
+import subprocess
+import tempfile
+import unittest
+from collections.abc import Mapping, Sequence
+from dataclasses import dataclass
+from pathlib import Path
+from typing import Any
+from unittest import mock
+
+from vaultdesk.cli import main
+
+PROGRAM = os.environ.get("VAULTCTL", "vaultctl")
+START = "2024-01-15T09:00:00Z"
+ALL_RIGHTS = (
+    "config", "put", "retain", "hold", "get", "list", "delete", "delete-version", "run", "report", "bypass",
+)
+
+
+@dataclass(frozen=True)
+class Done:
+    """What a call of the desk came to."""
+
+    status: int
+    out: str
+    err: str
+
+
+class OfficeTest(unittest.TestCase):
+    """A vault with the department `records`, its caller `ann` with all rights of a department, and a bucket `docs`."""
+
+    def setUp(self) -> None:
+        self.folder = Path(self.enterContext(tempfile.TemporaryDirectory()))
+        self.file = self.folder / "records.vault"
+        subprocess.run([PROGRAM, "init", str(self.file)], check=True)
+        self.lines(
+            {"do": "add-dept", "as": "registrar", "dept": "records"},
+            {"do": "add-caller", "as": "registrar", "caller": "ann", "dept": "records", "rights": list(ALL_RIGHTS)},
+            {"do": "add-bucket", "as": "registrar", "bucket": "docs", "dept": "records"},
+        )
+        environment = {"VAULT": str(self.file), "VAULT_CALLER": "ann", "VAULTCTL": PROGRAM, "VAULTDESK_SETTINGS": ""}
+        self.enterContext(mock.patch.dict(os.environ, environment))
+
+    def lines(self, *lines: Mapping[str, Any], at: str = START) -> list[Any]:
+        """The engine's replies to these lines, by `ann` where a line doesn't say who asks."""
+        script = "".join(json.dumps({"at": at, "as": "ann", **it}) + "\n" for it in lines)
+        done = subprocess.run(
+            [PROGRAM, "replay", str(self.file)], input=script, check=True, capture_output=True, encoding="utf-8"
+        )
+        return [json.loads(it) for it in done.stdout.split("\n")[:-1]]
+
+    def desk(self, *words: str, at: str | None = "2024-01-15T10:00:00Z") -> Done:
+        """A call of the desk with these words."""
+        out, err = io.TextIOWrapper(io.BytesIO(), encoding="utf-8"), io.StringIO()
+        given: Sequence[str] = [*words, "--at", at] if at else words
+        with contextlib.redirect_stdout(out), contextlib.redirect_stderr(err):
+            try:
+                status = main(given)
+            except SystemExit as ended:
+                status = int(ended.code or 0)
+        out.flush()
+        assert isinstance(out.buffer, io.BytesIO)
+        return Done(status, out.buffer.getvalue().decode("utf-8", "surrogateescape"), err.getvalue())
+
+    def done(self, *words: str, at: str | None = "2024-01-15T10:00:00Z") -> str:
+        """What the desk prints, where it ends with status 0."""
+        done = self.desk(*words, at=at)
+        self.assertEqual((done.status, done.err), (0, ""), words)
+        return done.out
+
+    def written(self, name: str, content: bytes) -> str:
+        """The path of a new file of that content."""
+        path = self.folder / name
+        path.write_bytes(content)
+        return str(path)

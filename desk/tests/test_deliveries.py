@@ -1,0 +1,140 @@
+"""Deliveries, and the inventories that they come with."""
+
+from __future__ import annotations
+
+import hashlib
+import json
+import os
+import unicodedata
+from pathlib import Path
+
+from tests.office import OfficeTest
+from vaultdesk import inventory
+from vaultdesk.errors import DeskError
+
+
+class Inventories(OfficeTest):
+    def test_what_offices_write_is_read(self) -> None:
+        rows = [{"file": "a.pdf", "key": "2024/Müller"}, {"file": "b;c.pdf", "key": 'the "ring"'}]
+        comma = 'file,key\na.pdf,2024/Müller\nb;c.pdf,"the ""ring"""\n'
+        semicolon = 'Datei;Schlüssel\r\na.pdf;2024/Müller\r\n"b;c.pdf";"the ""ring"""\r\n'
+        written = {
+            "utf8": comma.encode(),
+            "bom": semicolon.encode("utf-8-sig"),
+            "ansi": semicolon.encode("cp1252"),
+            "utf16": semicolon.encode("utf-16"),
+            "tab": semicolon.replace(";K", "\tK").replace("Datei;", "Datei\t").replace("pdf;2", "pdf\t2")
+            .replace('";"', '"\t"').encode(),
+        }
+        for name, content in written.items():
+            path = Path(self.written(f"{name}.csv", content))
+            self.assertEqual([dict(it) for it in inventory.read(path, ("file", "key"))], rows, name)
+
+    def test_a_missing_column_and_a_short_row_are_named(self) -> None:
+        path = Path(self.written("list.csv", b"name,key\na,b\n"))
+        with self.assertRaisesRegex(DeskError, "no column 'file'"):
+            inventory.read(path, ("file",))
+        path = Path(self.written("list.csv", b"file,key\na\n"))
+        with self.assertRaisesRegex(DeskError, "record 2 has 1 cells"):
+            inventory.read(path, ("file",))
+
+
+class Deliveries(OfficeTest):
+    def setUp(self) -> None:
+        super().setUp()
+        self.scans = self.folder / "scans"
+        self.scans.mkdir()
+        for n in range(4):
+            (self.scans / f"scan {n}.pdf").write_bytes(b"scan %d" % n)
+
+    def deliver(self, *words: str) -> tuple[str, ...]:
+        return ("deliver", str(self.scans), "--bucket", "docs", "--batch", "b1", *words)
+
+    def listed(self, text: str) -> str:
+        return self.written("list.csv", text.encode())
+
+    def test_a_folder_is_taken_in_once(self) -> None:
+        done = json.loads(self.done(*self.deliver("--json")))
+        self.assertEqual((done["taken_in"], done["refused"], done["differing"]), (4, [], []))
+        self.assertEqual(self.done("get", "docs", "scan 3.pdf"), "scan 3")
+        again = self.desk(*self.deliver("--json"))
+        self.assertIn("is known: 4 of its lines", again.err)
+        self.assertEqual({it["result"] for it in json.loads(again.out)["rows"]}, {"again"})
+        self.assertEqual(len(json.loads(self.done("ls", "docs", "--json"))), 4)
+
+    def test_classes_give_the_end_of_each_retention(self) -> None:
+        listed = self.listed("file;key;class;date\nscan 0.pdf;a;deed;2020-05-01\nscan 1.pdf;b;letter;\n")
+        classes = self.written("classes.csv", b"class,years,mode\ndeed,10,GOVERNANCE\nletter,6,GOVERNANCE\n")
+        self.done(*self.deliver("--inventory", listed, "--classes", classes, "--yes"))
+        heads = self.lines(*({"do": "head", "bucket": "docs", "key": it} for it in "ab"), at="2024-01-15T11:00:00Z")
+        ends = [it["ok"]["retention"]["until"] for it in heads]
+        self.assertEqual(ends, ["2031-01-01T00:00:00Z", "2031-01-01T00:00:00Z"])
+
+    def test_each_fault_is_found_before_anything_is_taken_in(self) -> None:
+        (self.scans / "large.pdf").write_bytes(b"x" * 1_048_577)
+        os.symlink(self.scans / "scan 0.pdf", self.scans / "link.pdf")
+        faults = {
+            "missing.pdf,k1,,,": "no such file",
+            "large.pdf,k2,,,": "more than 1,048,576",
+            "link.pdf,k3,,,": "a link",
+            "../scan 0.pdf,k4,,,": "a file of the folder itself",
+            "scan 0.pdf,a\tb,,,": "control character",
+            f"scan 0.pdf,{'k' * 1_025},,,": "1,024 bytes",
+            "scan 0.pdf,k6,GOVERNANCE,2020-01-01,": "ended already",
+            "scan 0.pdf,k7,governance,2030-01-01,": "mode is",
+            "scan 0.pdf,k8,,01.02.2030,": "is no date",
+            "scan 0.pdf,k9,,,yes": "hold is",
+        }
+        for row, wanted in faults.items():
+            listed = self.listed(f"file,key,mode,until,hold\nscan 1.pdf,right,,,\n{row}\n")
+            done = self.desk(*self.deliver("--inventory", listed))
+            self.assertEqual(done.status, 1, row)
+            self.assertIn(wanted, done.out, row)
+        self.assertEqual(self.done("ls", "docs"), "")
+
+    def test_what_is_wrong_may_be_left_out(self) -> None:
+        listed = self.listed("file,key\nscan 0.pdf,a\nmissing.pdf,b\nscan 1.pdf,c\n")
+        self.done(*self.deliver("--inventory", listed, "--leave-out"))
+        self.assertEqual([it["key"] for it in json.loads(self.done("ls", "docs", "--json"))], ["a", "c"])
+
+    def test_a_name_in_another_unicode_form_is_found(self) -> None:
+        apart = unicodedata.normalize("NFD", "Müller.pdf")
+        (self.scans / apart).write_bytes(b"Miller")
+        listed = self.listed("file,key\nMüller.pdf,Müller\n")
+        done = self.desk(*self.deliver("--inventory", listed, "--json"))
+        self.assertEqual(done.status, 0, done.err)
+        self.assertEqual(self.done("get", "docs", "Müller"), "Miller")
+
+    def test_doubled_content_is_noted(self) -> None:
+        (self.scans / "scan 4.pdf").write_bytes(b"scan 0")
+        self.lines({"do": "put", "bucket": "docs", "key": "old", "text": "scan 1"})
+        done = self.desk(*self.deliver("--dry-run"))
+        self.assertEqual(done.status, 0)
+        self.assertEqual(done.out.count("more than once in this delivery"), 2)
+        self.assertEqual(done.out.count("the vault holds the same content"), 1)
+        self.assertEqual(len(json.loads(self.done("ls", "docs", "--json"))), 1)
+
+    def test_compliance_and_a_far_end_are_asked_for(self) -> None:
+        for lock in ("COMPLIANCE,2030-01-01", "GOVERNANCE,2300-01-01"):
+            listed = self.listed(f"file,key,mode,until\nscan 0.pdf,a,{lock}\n")
+            done = self.desk(*self.deliver("--inventory", listed))
+            self.assertEqual(done.status, 2, lock)
+            self.assertIn("--yes", done.err)
+        self.assertEqual(self.done("ls", "docs"), "")
+
+    def test_a_caller_without_a_department_is_noticed(self) -> None:
+        self.lines({"do": "add-caller", "as": "registrar", "caller": "bob", "rights": ["put"]})
+        done = self.desk(*self.deliver("--as", "bob"))
+        self.assertEqual(done.status, 1)
+        self.assertIn("no department", done.err)
+
+    def test_the_digests_are_compared_afterwards(self) -> None:
+        self.done(*self.deliver())
+        asked = [{"do": "head", "bucket": "docs", "key": f"scan {n}.pdf"} for n in range(4)]
+        heads = self.lines(*asked, at="2024-01-15T11:00:00Z")
+        wanted = [hashlib.sha256(b"scan %d" % n).hexdigest() for n in range(4)]
+        self.assertEqual([it["ok"]["sha256"] for it in heads], wanted)
+        (self.scans / "scan 2.pdf").write_bytes(b"another")
+        done = self.desk(*self.deliver())
+        self.assertEqual(done.status, 1)
+        self.assertIn("IntakeConflict", done.out)

@@ -1,0 +1,85 @@
+"""Defaults and lifecycle rules of a bucket."""
+
+from __future__ import annotations
+
+import json
+
+from tests.office import OfficeTest
+
+
+class Defaults(OfficeTest):
+    def test_a_default_is_set_shown_and_cleared(self) -> None:
+        self.assertEqual(self.done("default", "docs"), "none\n")
+        done = self.done("default", "docs", "--years", "10", "--mode", "COMPLIANCE")
+        self.assertEqual(done, "COMPLIANCE for 10 years\n")
+        path = self.written("a.txt", b"hello")
+        self.done("put", "docs", "a", path)
+        [head] = self.lines({"do": "head", "bucket": "docs", "key": "a"}, at="2024-01-15T10:00:00Z")
+        self.assertEqual(head["ok"]["retention"], {"mode": "COMPLIANCE", "until": "2034-01-15T10:00:00Z"})
+        self.assertEqual(self.done("default", "docs", "--none"), "none\n")
+
+
+class Rules(OfficeTest):
+    def test_rules_keep_their_order_and_the_others(self) -> None:
+        first = ["--id", "old", "--prefix", "2020/", "--days", "365", "--noncurrent-days", "30"]
+        self.done("rules", "add", "docs", *first)
+        self.done("rules", "add", "docs", "--id", "lone", "--lone-markers", "--disabled")
+        rules = json.loads(self.done("rules", "list", "docs", "--json"))
+        self.assertEqual([it["ID"] for it in rules], ["old", "lone"])
+        self.assertEqual(rules[0]["NoncurrentVersionExpiration"], {"NoncurrentDays": 30})
+        self.assertEqual(rules[1]["Status"], "Disabled")
+        self.done("rules", "remove", "docs", "old")
+        self.assertIn("lone", self.done("rules", "list", "docs"))
+        self.done("rules", "remove", "docs", "lone")
+        self.assertEqual(self.done("rules", "list", "docs"), "")
+
+    def test_a_rule_that_is_there_is_not_replaced(self) -> None:
+        self.done("rules", "add", "docs", "--id", "old", "--days", "365")
+        self.assertEqual(self.desk("rules", "add", "docs", "--id", "old", "--days", "1").status, 1)
+        self.assertIn("365", self.done("rules", "list", "docs"))
+
+    def test_a_rule_without_an_action_is_refused(self) -> None:
+        wrong: list[list[str]] = [[], ["--keep", "3"], ["--days", "3", "--lone-markers"]]
+        for words in wrong:
+            self.assertEqual(self.desk("rules", "add", "docs", "--id", "r", *words).status, 2, words)
+
+    def test_a_try_says_what_goes_and_when_and_changes_nothing(self) -> None:
+        self.lines({"do": "put", "bucket": "docs", "key": "a", "text": "x"})
+        words = ["--id", "old", "--days", "3", "--noncurrent-days", "2"]
+        rows = json.loads(self.done("rules", "try", "docs", "--until", "2024-02-01", *words, "--json"))
+        # Admitted on the 15th at 9 o'clock: due on the 19th at midnight, and two days after its marker on the 21st.
+        found = [(it["night"], it["what"], it["version"], it["key"]) for it in rows]
+        wanted = [
+            ("2024-01-19T00:00:00Z", "marked", 1, "a"),
+            ("2024-01-21T00:00:00Z", "removed for good", 1, "a"),
+        ]
+        self.assertEqual(found, wanted)
+        self.assertEqual(self.done("rules", "list", "docs"), "")
+        self.assertEqual([it["version"] for it in json.loads(self.done("ls", "docs", "--json"))], [1])
+
+
+class Expire(OfficeTest):
+    def setUp(self) -> None:
+        super().setUp()
+        self.lines({"do": "put", "bucket": "docs", "key": "a", "text": "x"})
+        self.done("rules", "add", "docs", "--id", "old", "--days", "3", "--noncurrent-days", "2")
+
+    def test_it_is_said_first_and_then_done(self) -> None:
+        at = "2024-01-20T00:00:00Z"
+        done = self.desk("expire", "records", "--until", "2024-02-01", "--json", at=at)
+        self.assertEqual(done.status, 2)
+        self.assertIn("--yes", done.err)
+        rows = json.loads(done.out)
+        wanted = [(at, "marked"), ("2024-01-22T00:00:00Z", "removed for good")]
+        self.assertEqual([(it["night"], it["what"]) for it in rows], wanted)
+        done = self.desk("expire", "records", "--yes", at=at)
+        self.assertEqual(done.status, 0, done.err)
+        self.assertIn("docs: 1 marked, 0 removed", done.err)
+        done = self.desk("expire", "records", "--yes", at="2024-01-22T00:00:00Z")
+        self.assertIn("docs: 0 marked, 1 removed", done.err)
+
+    def test_a_department_without_rules(self) -> None:
+        self.done("rules", "remove", "docs", "old")
+        done = self.desk("expire", "records")
+        self.assertEqual(done.status, 1)
+        self.assertIn("no bucket", done.err)

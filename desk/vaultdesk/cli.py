@@ -1,0 +1,52 @@
+"""The desk's words, and its exit status: 0 done, 1 refused or a fault, 2 the words aren't understood."""
+
+from __future__ import annotations
+
+import argparse
+import sys
+from collections.abc import Sequence
+
+from vaultdesk import __version__, deliveries, documents, locks, moments, office, policies, years_end
+from vaultdesk.config import desk
+from vaultdesk.engine import Engine
+from vaultdesk.errors import DeskError
+
+FAMILIES = (documents, locks, policies, deliveries, years_end, office)
+
+
+def common_words() -> argparse.ArgumentParser:
+    """The options that every subcommand has."""
+    it = argparse.ArgumentParser(add_help=False)
+    it.add_argument("--vault", metavar="V", help="the vault's file, or its name in the settings (or $VAULT)")
+    it.add_argument("--as", dest="caller", metavar="CALLER", help="who asks (or $VAULT_CALLER)")
+    it.add_argument("--at", metavar="DATE", help="when it is asked; left out: this machine's clock")
+    it.add_argument("--json", action="store_true", help="print JSON")
+    return it
+
+
+def words() -> argparse.ArgumentParser:
+    """All words of the desk."""
+    it = argparse.ArgumentParser(prog="vaultdesk", description=__doc__)
+    it.add_argument("--version", action="version", version=f"vaultdesk {__version__}")
+    commands = it.add_subparsers(dest="command", required=True, metavar="COMMAND")
+    common = common_words()
+    for family in FAMILIES:
+        family.add(commands, common)
+    return it
+
+
+def main(given: Sequence[str] | None = None) -> int:
+    """Carries out what the words ask for, and returns the exit status."""
+    asked = words().parse_args(given)
+    try:
+        at = moments.read(asked.at) if asked.at else None
+        with Engine(desk(asked.vault, asked.caller), at) as engine:
+            asked.run(engine, asked)
+        return 0
+    except DeskError as error:
+        print(f"vaultdesk {asked.command}: {error}", file=sys.stderr)
+        return error.status
+    except BrokenPipeError:
+        # Whoever reads the output has enough of it.
+        sys.stderr.close()
+        return 1

@@ -1,0 +1,88 @@
+"""Which vault is meant, who asks, and which program is the engine.
+
+An option is asked first, then the environment, then a file of settings (TOML)::
+
+    vault = "records"        # the vault where none is named
+    caller = "ann"           # who asks where nobody is named
+    program = "vaultctl"
+
+    [vaults]
+    records = "/var/lib/vaultctl/records.vault"
+"""
+
+from __future__ import annotations
+
+import os
+import tomllib
+from collections.abc import Mapping
+from dataclasses import dataclass
+from pathlib import Path
+from typing import Any
+
+from vaultdesk.errors import UsageError
+
+PLACES = (Path("~/.config/vaultdesk.toml"), Path("/etc/vaultctl/desk.toml"))
+
+
+@dataclass(frozen=True)
+class Settings:
+    """What stands in a file of settings; all of it may be left out."""
+
+    vault: str | None = None
+    caller: str | None = None
+    program: str | None = None
+    vaults: Mapping[str, str] | None = None
+
+    def file_of(self, vault: str) -> Path:
+        """The file of the vault that is named so, or else that path itself."""
+        return Path((self.vaults or {}).get(vault, vault)).expanduser()
+
+
+@dataclass(frozen=True)
+class Desk:
+    """The vault's file, who asks, and the engine's program."""
+
+    file: Path
+    caller: str
+    program: str
+
+
+def _text(found: Mapping[str, Any], name: str) -> str | None:
+    value = found.get(name)
+    if value is not None and not isinstance(value, str):
+        raise UsageError(f"settings: {name} is no text")
+    return value
+
+
+def read_settings(path: Path) -> Settings:
+    """The settings of a file. `UsageError` where it is no TOML, or a value is of another kind."""
+    try:
+        found = tomllib.loads(path.read_text(encoding="utf-8"))
+    except (OSError, UnicodeDecodeError, tomllib.TOMLDecodeError) as error:
+        raise UsageError(f"settings {path}: {error}") from error
+    vaults = found.get("vaults", {})
+    if not isinstance(vaults, dict) or not all(isinstance(it, str) for it in vaults.values()):
+        raise UsageError(f"settings {path}: [vaults] has names, each with the path of a file")
+    return Settings(_text(found, "vault"), _text(found, "caller"), _text(found, "program"), vaults)
+
+
+def settings() -> Settings:
+    """Those of $VAULTDESK_SETTINGS, or else of the first file that is there; none where no file is."""
+    named = os.environ.get("VAULTDESK_SETTINGS")
+    if named:
+        return read_settings(Path(named))
+    there = (it.expanduser() for it in PLACES)
+    return next((read_settings(it) for it in there if it.is_file()), Settings())
+
+
+def desk(vault: str | None, caller: str | None) -> Desk:
+    """The desk of these options. `UsageError` where no vault or no caller is named anywhere."""
+    given = settings()
+    vault = vault or os.environ.get("VAULT") or given.vault
+    caller = caller or os.environ.get("VAULT_CALLER") or given.caller
+    if not vault:
+        raise UsageError("no vault is named: give --vault FILE, or set $VAULT")
+    if not caller:
+        raise UsageError("nobody asks: give --as CALLER, or set $VAULT_CALLER")
+    program = os.environ.get("VAULTCTL") or given.program or "vaultctl"
+    return Desk(given.file_of(vault), caller, program)

@@ -1,0 +1,29 @@
+"""What ends a subcommand before its end, each with the exit status that the program gives it."""
+
+from __future__ import annotations
+
+
+class DeskError(Exception):
+    """A subcommand that wasn't done. The text says why, and what to do."""
+
+    status = 1
+
+
+class UsageError(DeskError):
+    """Words that aren't understood."""
+
+    status = 2
+
+
+class EngineError(DeskError):
+    """The engine gave no reply: it couldn't be started, it couldn't open the vault, or it ended."""
+
+
+class Refused(DeskError):
+    """The engine refused a line. `code`, `number` and `reason` are those of its reply."""
+
+    def __init__(self, code: str, number: int, reason: str, text: str) -> None:
+        super().__init__(text)
+        self.code = code
+        self.number = number
+        self.reason = reason

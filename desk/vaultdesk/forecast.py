@@ -1,0 +1,98 @@
+"""What the rules of buckets will do, tried night by night on a copy of the vault."""
+
+from __future__ import annotations
+
+import shutil
+import tempfile
+from collections.abc import Iterator, Sequence
+from dataclasses import replace
+from pathlib import Path
+from typing import Any
+
+from vaultdesk import moments
+from vaultdesk.engine import Engine
+from vaultdesk.errors import DeskError, Refused
+
+Rule = dict[str, Any]
+Row = dict[str, Any]
+COLUMNS = ("night", "what", "bucket", "version", "key")
+
+
+def rules_of(engine: Engine, bucket: str) -> list[Rule]:
+    """The lifecycle rules of a bucket, in their order; none where it has none."""
+    try:
+        return list(engine.ask("get-rules", bucket=bucket)["rules"])
+    except Refused as error:
+        if error.code != "NoSuchLifecycleConfiguration":
+            raise
+        return []
+
+
+def set_rules(engine: Engine, bucket: str, rules: Sequence[Rule]) -> None:
+    """Sets the rules of a bucket in place of those that it has; it may be none."""
+    if rules:
+        engine.ask("set-rules", bucket=bucket, rules=list(rules))
+    else:
+        engine.ask("drop-rules", bucket=bucket)
+
+
+class _Bucket:
+    """A bucket of the copy, and what it held after the last run."""
+
+    def __init__(self, trial: Engine, name: str) -> None:
+        self.trial = trial
+        self.name = name
+        self.held, self.marked = self._now()
+
+    def _now(self) -> tuple[dict[int, str], set[str]]:
+        """The documents by their number, newest first within a key; and the keys with a delete marker on top."""
+        held, marked = {}, set()
+        for it in self.trial.entries(self.name):
+            if not it["delete_marker"]:
+                held[it["version_id"]] = it["key"]
+            elif it["current"]:
+                marked.add(it["key"])
+        return held, marked
+
+    def run(self, night: str) -> Iterator[Row]:
+        """Carries out the rules, and gives a row for each document that was marked or removed."""
+        if not self.trial.ask("run", bucket=self.name)["changes"]:
+            return
+        held, marked = self._now()
+        newest = {key: version for version, key in reversed(self.held.items())}
+        row = {"night": night, "bucket": self.name}
+        for key in sorted(marked - self.marked):
+            yield {**row, "what": "marked", "version": newest.get(key, ""), "key": key}
+        for version, key in self.held.items():
+            if version not in held:
+                yield {**row, "what": "removed for good", "version": version, "key": key}
+        self.held, self.marked = held, marked
+
+
+def _copied(file: Path, folder: str) -> Path:
+    """A copy of a vault's two files, to try on."""
+    copy = Path(folder) / file.name
+    try:
+        shutil.copyfile(file, copy)
+        log = Path(f"{file}-wal")
+        if log.exists():
+            shutil.copyfile(log, f"{copy}-wal")
+    except OSError as error:
+        raise DeskError(f"{error.filename}: {error.strerror}") from error
+    return copy
+
+
+def foreseen(engine: Engine, buckets: Sequence[str], last: str, more: Sequence[Rule] = ()) -> list[Row]:
+    """What the rules of these buckets do from now on up to that moment, with more rules where some are given."""
+    first = engine.at or moments.now()
+    engine.close()
+    with tempfile.TemporaryDirectory() as folder:
+        desk = replace(engine.desk, file=_copied(engine.desk.file, folder))
+        with Engine(desk, first) as trial:
+            for bucket in buckets if more else ():
+                set_rules(trial, bucket, [*rules_of(trial, bucket), *more])
+            looked_at = [_Bucket(trial, it) for it in buckets]
+            rows: list[Row] = []
+            for trial.at in moments.nights(first, last):
+                rows += (row for it in looked_at for row in it.run(str(trial.at)))
+    return rows

@@ -1,0 +1,45 @@
+"""Moments as people write them, and as the engine reads them."""
+
+from __future__ import annotations
+
+import datetime as dt
+import re
+from collections.abc import Iterator
+
+from vaultdesk.errors import UsageError
+
+DATE = re.compile(r"\d{4}-\d{2}-\d{2}")
+MOMENT = re.compile(r"\d{4}-\d{2}-\d{2}T\d{2}:\d{2}:\d{2}(Z|[+-]\d{2}:\d{2})")
+
+
+def text_of(moment: dt.datetime) -> str:
+    """The moment in the engine's form, whole seconds of UTC: `2024-01-15T10:30:00Z`."""
+    return moment.astimezone(dt.timezone.utc).strftime("%Y-%m-%dT%H:%M:%SZ")
+
+
+def now() -> str:
+    """The machine's clock, in the engine's form."""
+    return text_of(dt.datetime.now(dt.timezone.utc))
+
+
+def read(text: str) -> str:
+    """A date or a moment in the engine's form: a date alone is its midnight, UTC.
+
+    `UsageError` where it is neither."""
+    try:
+        if DATE.fullmatch(text):
+            return text_of(dt.datetime.fromisoformat(text).replace(tzinfo=dt.timezone.utc))
+        if MOMENT.fullmatch(text):
+            return text_of(dt.datetime.fromisoformat(text.replace("Z", "+00:00")))
+    except (ValueError, OverflowError) as error:
+        raise UsageError(f"{text!r} is no date of the calendar: {error}") from error
+    raise UsageError(f"{text!r} is no date: write 2025-06-10, or 2025-06-10T14:30:00Z")
+
+
+def nights(first: str, last: str) -> Iterator[str]:
+    """The moment `first`, and each midnight (UTC) after it up to and with `last`."""
+    yield first
+    day = dt.datetime.fromisoformat(first[:10]).replace(tzinfo=dt.timezone.utc) + dt.timedelta(days=1)
+    while text_of(day) <= last:
+        yield text_of(day)
+        day += dt.timedelta(days=1)

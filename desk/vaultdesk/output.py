@@ -1,0 +1,39 @@
+"""What the desk prints: columns for people, one JSON value for programs."""
+
+from __future__ import annotations
+
+import json
+import sys
+from collections.abc import Mapping, Sequence
+from typing import Any
+
+
+def shown(text: str) -> str:
+    """A text in which what a terminal would obey, or what ends a line, is escaped."""
+    return "".join(it if it.isprintable() else it.encode("unicode_escape").decode() for it in text)
+
+
+def print_json(value: Any) -> None:
+    """Prints one JSON value and a line's end."""
+    json.dump(value, sys.stdout, ensure_ascii=False, indent=2)
+    print()
+
+
+def print_rows(rows: Sequence[Mapping[str, Any]], columns: Sequence[str]) -> None:
+    """Prints rows below their columns' names, numbers to the right; nothing where there is no row."""
+    if not rows:
+        return
+    cells = [[shown(str(row.get(it, ""))) for it in columns] for row in rows]
+    widths = [max(len(it) for it in [name, *column]) for name, column in zip(columns, zip(*cells), strict=True)]
+    numbers = [all(isinstance(row.get(it, 0), int) for row in rows) for it in columns]
+    for line in [list(columns), *cells]:
+        fitted = [it.rjust(w) if number else it.ljust(w) for it, w, number in zip(line, widths, numbers, strict=True)]
+        print("  ".join(fitted).rstrip())
+
+
+def print_table(rows: Sequence[Mapping[str, Any]], columns: Sequence[str], as_json: bool) -> None:
+    """Prints rows as a table, or as a JSON list of objects."""
+    if as_json:
+        print_json([{it: row.get(it) for it in columns} for row in rows])
+    else:
+        print_rows(rows, columns)

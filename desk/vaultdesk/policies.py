@@ -1,0 +1,190 @@
+"""What a bucket does by itself: its default retention, and its lifecycle rules."""
+
+from __future__ import annotations
+
+import argparse
+import sys
+from typing import Any
+
+from vaultdesk import moments, reading
+from vaultdesk.asking import add_yes, confirm
+from vaultdesk.engine import Engine
+from vaultdesk.errors import DeskError, UsageError
+from vaultdesk.forecast import COLUMNS as FORESEEN
+from vaultdesk.forecast import Rule, foreseen, rules_of, set_rules
+from vaultdesk.output import print_json, print_table
+
+COLUMNS = ("id", "enabled", "prefix", "above", "below", "expires", "noncurrent", "keeps", "lone markers")
+
+
+def default_text(found: dict[str, Any] | None) -> str:
+    """A default retention as `COMPLIANCE for 10 years`, or `none`."""
+    if not found:
+        return "none"
+    unit = "years" if "years" in found else "days"
+    return f"{found['mode']} for {found[unit]} {unit}"
+
+
+def default(engine: Engine, words: argparse.Namespace) -> None:
+    """Sets, clears or prints the retention that later versions of a bucket get."""
+    if words.none:
+        engine.ask("set-default", bucket=words.bucket)
+    elif words.years is not None or words.days is not None:
+        engine.ask("set-default", bucket=words.bucket, mode=words.mode, days=words.days, years=words.years)
+    found = engine.ask("get-default", bucket=words.bucket)["default"]
+    if words.json:
+        print_json(found)
+    else:
+        print(default_text(found))
+
+
+def rule_row(rule: Rule) -> dict[str, Any]:
+    """A lifecycle rule as a row for people."""
+    expires = rule.get("Expiration", {})
+    older = rule.get("NoncurrentVersionExpiration", {})
+    return {
+        "id": rule["ID"],
+        "enabled": "yes" if rule["Status"] == "Enabled" else "no",
+        "prefix": rule.get("Prefix", ""),
+        "above": rule.get("ObjectSizeGreaterThan", ""),
+        "below": rule.get("ObjectSizeLessThan", ""),
+        "expires": f"after {expires['Days']} days" if "Days" in expires else "",
+        "noncurrent": f"after {older['NoncurrentDays']} days" if older else "",
+        "keeps": older.get("NewerNoncurrentVersions", ""),
+        "lone markers": "yes" if expires.get("ExpiredObjectDeleteMarker") else "",
+    }
+
+
+def rule_of(words: argparse.Namespace) -> Rule:
+    """The lifecycle rule that the words spell. `UsageError` where they spell no action."""
+    if words.days is None and words.noncurrent_days is None and not words.lone_markers:
+        raise UsageError("a rule does something: give --days, --noncurrent-days or --lone-markers")
+    if words.days is not None and words.lone_markers:
+        raise UsageError("--days and --lone-markers don't stand in one rule")
+    rule: Rule = {"ID": words.id, "Status": "Disabled" if words.disabled else "Enabled", "Prefix": words.prefix}
+    if words.above is not None:
+        rule["ObjectSizeGreaterThan"] = words.above
+    if words.below is not None:
+        rule["ObjectSizeLessThan"] = words.below
+    if words.days is not None:
+        rule["Expiration"] = {"Days": words.days}
+    if words.lone_markers:
+        rule["Expiration"] = {"ExpiredObjectDeleteMarker": True}
+    if words.noncurrent_days is not None:
+        older = {"NoncurrentDays": words.noncurrent_days}
+        if words.keep is not None:
+            older["NewerNoncurrentVersions"] = words.keep
+        rule["NoncurrentVersionExpiration"] = older
+    elif words.keep is not None:
+        raise UsageError("--keep goes with --noncurrent-days")
+    return rule
+
+
+def list_rules(engine: Engine, words: argparse.Namespace) -> None:
+    """Prints the rules of a bucket in their order."""
+    found = rules_of(engine, words.bucket)
+    if words.json:
+        print_json(found)
+    else:
+        print_table([rule_row(it) for it in found], COLUMNS, as_json=False)
+
+
+def add_rule(engine: Engine, words: argparse.Namespace) -> None:
+    """Adds a rule after those that are there; the others stay as they are."""
+    rules = rules_of(engine, words.bucket)
+    if any(it["ID"] == words.id for it in rules):
+        raise DeskError(f"the bucket has a rule {words.id!r} already: remove it first")
+    set_rules(engine, words.bucket, [*rules, rule_of(words)])
+
+
+def remove_rule(engine: Engine, words: argparse.Namespace) -> None:
+    """Removes a rule; the others stay as they are."""
+    rules = rules_of(engine, words.bucket)
+    left = [it for it in rules if it["ID"] != words.id]
+    if len(left) == len(rules):
+        raise DeskError(f"the bucket has no rule {words.id!r}")
+    set_rules(engine, words.bucket, left)
+
+
+def try_rules(engine: Engine, words: argparse.Namespace) -> None:
+    """Prints what the rules of a bucket do night by night, with one rule more where its words are given."""
+    more = [rule_of(words)] if words.id else []
+    rows = foreseen(engine, [words.bucket], moments.read(words.until), more)
+    print_table(rows, FORESEEN, words.json)
+
+
+def expire(engine: Engine, words: argparse.Namespace) -> None:
+    """Says what the rules of a department's buckets will do, asks, and carries them out."""
+    statement = "SELECT DISTINCT bucket FROM rules JOIN buckets ON bucket = name WHERE dept = ? ORDER BY bucket"
+    buckets = [str(it) for (it,) in reading.rows(engine.desk.file, statement, (words.department,))]
+    if not buckets:
+        raise DeskError(f"no bucket of {words.department!r} has rules")
+    until = moments.read(words.until) if words.until else engine.at or moments.now()
+    rows = foreseen(engine, buckets, until)
+    print_table(rows, FORESEEN, words.json)
+    if words.dry_run or not rows:
+        return
+    confirm(words, f"the rules of {len(buckets)} buckets are carried out as of this moment")
+    for it in buckets:
+        done = engine.ask("run", bucket=it)
+        print(f"{it}: {done['marked']} marked, {done['removed']} removed, {done['lone']} lone markers", file=sys.stderr)
+
+
+def _add_rule_words(it: argparse.ArgumentParser, id_needed: bool) -> None:
+    it.add_argument("--id", required=id_needed, help="the rule's name")
+    it.add_argument("--prefix", default="", help="for keys that begin so")
+    it.add_argument("--days", type=int, metavar="N", help="mark the current version N days after its admission")
+    it.add_argument("--noncurrent-days", type=int, metavar="N", help="remove older versions N days after the next one")
+    it.add_argument("--keep", type=int, metavar="N", help="with --noncurrent-days: but for the newest N of those")
+    it.add_argument("--lone-markers", action="store_true", help="remove delete markers below which nothing is held")
+    it.add_argument("--above", type=int, metavar="BYTES", help="for entries of more bytes")
+    it.add_argument("--below", type=int, metavar="BYTES", help="for entries of fewer bytes")
+    it.add_argument("--disabled", action="store_true", help="not carried out")
+
+
+def add(commands: argparse._SubParsersAction[argparse.ArgumentParser], common: argparse.ArgumentParser) -> None:
+    """Adds the subcommands to the desk's words."""
+    example = "Example: vaultdesk default letters --years 10 --mode COMPLIANCE"
+    what = "set, clear or print a bucket's default retention"
+    it = commands.add_parser("default", parents=[common], help=what, epilog=example)
+    it.add_argument("bucket")
+    period = it.add_mutually_exclusive_group()
+    period.add_argument("--years", type=int, metavar="N")
+    period.add_argument("--days", type=int, metavar="N")
+    period.add_argument("--none", action="store_true", help="none from now on")
+    it.add_argument("--mode", choices=("GOVERNANCE", "COMPLIANCE"), default="GOVERNANCE", help="its mode (GOVERNANCE)")
+    it.set_defaults(run=default)
+
+    rules = commands.add_parser("rules", help="lifecycle rules of a bucket: list, add, remove, try")
+    kinds = rules.add_subparsers(dest="kind", required=True, metavar="KIND")
+    it = kinds.add_parser("list", parents=[common], help="print them", epilog="Example: vaultdesk rules list drafts")
+    it.add_argument("bucket")
+    it.set_defaults(run=list_rules)
+
+    example = "Example: vaultdesk rules add drafts --id old --prefix 2020/ --days 365 --noncurrent-days 30"
+    it = kinds.add_parser("add", parents=[common], help="add one, after the others", epilog=example)
+    it.add_argument("bucket")
+    _add_rule_words(it, id_needed=True)
+    it.set_defaults(run=add_rule)
+
+    example = "Example: vaultdesk rules remove drafts old"
+    it = kinds.add_parser("remove", parents=[common], help="remove one", epilog=example)
+    it.add_argument("bucket")
+    it.add_argument("id")
+    it.set_defaults(run=remove_rule)
+
+    example = "Example: vaultdesk rules try drafts --until 2026-02-01 --id old --days 365 --noncurrent-days 30"
+    what = "what goes, and when, on a copy of the vault: by the rules as they are, or with one more"
+    it = kinds.add_parser("try", parents=[common], help=what, epilog=example)
+    it.add_argument("bucket")
+    it.add_argument("--until", metavar="DATE", required=True, help="the last night that is tried")
+    _add_rule_words(it, id_needed=False)
+    it.set_defaults(run=try_rules)
+
+    example = "Example: vaultdesk expire records --until 2026-02-01"
+    what = "carry out the rules of a department's buckets, after saying what goes and when"
+    it = commands.add_parser("expire", parents=[common], help=what, epilog=example)
+    it.add_argument("department")
+    it.add_argument("--until", metavar="DATE", help="say what goes up to then; left out: tonight")
+    add_yes(it)
+    it.set_defaults(run=expire)
