@@ -16,5 +16,6 @@ mod Machine
 mod MarkAndRemoval
 mod MarkersOverLockedVersions
 mod NewerNoncurrentVersions
+mod RetentionsAreKept
 mod SizeBounds
 mod StoppedRuns
