@@ -1,12 +1,14 @@
--- What is told of a file that can't be opened.
+-- What is reported of a file that can't be opened.
 use Rattle.sqlite.specs.declared.error.Error.{Error}
 use Rattle.sqlite.specs.declared.error.Error.TheVariants.{SqliteFailure}
 use Rattle.sqlite.specs.declared.error.ErrorCode.TheVariants as code
 use Rattle.vault_base.specs.declared.refusal.Refusal.{Refusal}
 use Rattle.vault_base.specs.declared.refusal.Refusal.TheVariants.{Device, Memory, NameTaken}
 use Rattle.vault_store.specs.Create.{without_tables}
+use Rattle.vaultctl_machine.specs.declared.cause.Cause.{Cause}
+use Rattle.vaultctl_machine.specs.declared.cause.Cause.TheVariants.{Full, Failed}
 use Rattle.vaultctl_machine.specs.declared.unopened.Unopened.{Unopened}
-use Rattle.vaultctl_machine.specs.declared.unopened.Unopened.TheVariants.{Held, Refused}
+use Rattle.vaultctl_machine.specs.declared.unopened.Unopened.TheVariants.{Held, Seen, Refused}
 
 -- where a vault should be in it: what is no store of tables holds none
 abbrev pub unopened_of : Error → Refusal
@@ -24,12 +26,15 @@ unmade_of (SqliteFailure code.DatabaseCorrupt) = NameTaken
 unmade_of (SqliteFailure code.TooBig) = NameTaken
 unmade_of _ = Device
 
--- another program has it, or it is told as this
+-- another program has it, the disk has no room or failed, or none of these is known; it is reported as this
 abbrev pub cause_of : Error → Refusal → Unopened
 cause_of (SqliteFailure code.DatabaseBusy) told = Held
+cause_of (SqliteFailure code.DiskFull) told = Seen Full told
+cause_of (SqliteFailure code.SystemIoFailure) told = Seen Failed told
 cause_of _ told = Refused told
 
 -- what another program has can't be had
 abbrev pub refusal_of : Unopened → Refusal
 refusal_of Held = Device
+refusal_of (Seen seen refusal) = refusal
 refusal_of (Refused refusal) = refusal

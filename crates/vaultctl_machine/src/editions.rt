@@ -1,4 +1,4 @@
-//! The edition of tables whose vault is to be copied.
+//! The edition of tables whose vault is to be copied, and whether tables are a vault's at all.
 ghost use Rattle.std.specs.Prelude.{◌≡◌, ◌⊎◌, codes};
 ghost use Rattle.std.specs.List.{list_any};
 ghost use Rattle.std.specs.Str.{bytes_eq};
@@ -6,6 +6,7 @@ ghost use Rattle.vault_audit_model.specs.declared.schema.Edition.TheVariants.{Fi
 ghost use Rattle.vault_audit_model.specs.Tables.{schema_of};
 ghost use Rattle.vaultctl_machine.specs.Editions as spec;
 
+use crate::cause::Cause;
 use sqlite_schema::schema::{self, Column, Schema};
 use vault_audit_model::schema::Edition;
 use vault_base::refusal::Table;
@@ -57,4 +58,35 @@ pub(crate) fn edition_of(schema: &Schema) -> Edition
         return Edition::Second;
     }
     Edition::First
+}
+
+/// Whether one of these tables has that name.
+fn have_table(tables: &[schema::Table], name: &[u8]) -> bool {
+    tables.iter().any(|table| table.name.as_slice() == name)
+}
+
+/// Whether these tables have the names of a vault's, of any edition.
+fn are_of_a_vault(tables: &[schema::Table]) -> bool {
+    have_table(tables, b"meta") && have_table(tables, b"entries") && have_table(tables, b"heads")
+}
+
+/// Why tables that could be opened aren't those of a sound vault of this program, by their names.
+pub(crate) fn why_unsound(schema: &Schema) -> Cause {
+    let tables = schema.tables.as_slice();
+    if !are_of_a_vault(tables) {
+        return Cause::OtherTables;
+    }
+    if have_table(tables, b"tenures") {
+        return Cause::Damaged;
+    }
+    Cause::Earlier
+}
+
+/// Why the tables of a file that was to be copied aren't those of a sound vault of an earlier edition, by their names.
+pub(crate) fn why_uncopied(schema: &Schema) -> Cause {
+    match why_unsound(schema) {
+        Cause::Damaged => Cause::Newest,
+        Cause::Earlier => Cause::Damaged,
+        other => other,
+    }
 }

@@ -1,10 +1,14 @@
 //! What the program uses of the machine: its terminal, and vaults in files.
 #![tactic(auto)]
 
+pub mod cause;
 mod editions;
+mod looks;
 pub mod migration;
 mod places;
+mod site;
 pub mod starts;
+mod stores;
 pub mod terminal;
 pub mod unopened;
 pub mod vaults;

@@ -10,24 +10,26 @@ ghost use Rattle.vault_audit_model.specs.Spells.{AreSound, AreSoundAs};
 ghost use Rattle.vault_base.specs.declared.refusal.Table.{Table};
 ghost use Rattle.vault_core_model.specs.Vault.{Vault};
 ghost use Rattle.vault_store.specs.Kept.{kept_vault};
+ghost use Rattle.vaultctl_machine.specs.Faults.{refusal_of};
 ghost use Rattle.vaultctl_machine.specs.Files.{AreSoundEarlier, IsFoundEarlier, IsHeldAs};
 ghost use Rattle.vaultctl_machine.specs.Places.{after_a_look, with_one_given};
 
-use crate::editions::edition_of;
-use crate::places::place_at;
+use crate::cause::Cause;
+use crate::editions::{edition_of, why_uncopied};
+use crate::looks::{is_one_file, looked_at};
+use crate::site::Site;
 use crate::starts::Starts;
+use crate::stores::Opened;
+use crate::stores::before::Before;
 use crate::unopened::Unopened;
-use crate::vaults::{Machine, VaultStore, close_vault, connect_there, unmade, unseen};
-use sqlite::{Alter, Connection, FileFrom, Leftover, Start};
+use crate::vaults::{
+    Machine, VaultStore, close_vault, connect_new, connect_there, refused, site_for_new, site_there,
+};
+use sqlite::{Alter, Connection, Start};
 use std::alloc::Global;
-use std::fs;
 use vault_audit_model::schema::Edition;
 use vault_base::refusal::Refusal;
-use vault_store::create::is_blank;
 use vault_store::sql_keeper::SqlKeeper;
-
-/// The size of a page in a file that this program makes, in bytes.
-const PAGE_SIZE: u64 = 4096;
 
 /// A vault that was copied, and the files that it was copied from, which nobody else has before it is closed.
 pub struct Migrated<O: Alter, S: Alter> {
@@ -113,119 +115,61 @@ fn copy_file<A: Start, B: Start>(
     copy_to_file(alloc, source, new)
 }
 
-/// The file that gets a copy.
-#[derive(Drop)]
-struct Target<'a> {
-    path: &'a str,
-    /// The name of its log.
-    log: String,
-    /// Whether neither of the two was there, so that both may be removed again.
-    is_free: bool,
-}
-
-impl<'a> Target<'a> {
-    /// The file at a path.
-    ///
-    /// `NameTaken` where something is in it that is no store of tables, or changes may be in the log beside it. `Memory`
-    /// where memory was refused, and `Device` where one can't see what is there.
-    fn of(rt: &HostRuntime, path: &'a str) -> Result<Target<'a>, Unopened> {
-        let is_used = match place_at(rt, path) {
-            Ok(place) if place.may_be_made() => place.is_used(),
-            Ok(_) => return Err(Unopened::Refused(Refusal::NameTaken)),
-            Err(error) => return Err(unseen(error)),
-        };
-        let Ok(log) = format!(in rt.alloc(); "{path}-wal") else {
-            return Err(Unopened::Refused(Refusal::Memory));
-        };
-        Ok(Target {
-            path,
-            log,
-            is_free: !is_used,
-        })
-    }
-
-    /// Removes the file and its log, which this program has open. What can't be removed stays.
-    fn remove(&self, rt: &HostRuntime) {
-        // The log goes first: without it no table is in the file, and the next opening takes it for a new one.
-        let _ = fs::remove_file(rt, self.log.as_str());
-        let _ = fs::remove_file(rt, self.path);
-    }
-}
-
-/// Whether a file is too small for a vault, whose eleven tables take more than a page.
-fn is_one_page(rt: &HostRuntime, path: &str) -> bool {
-    match fs::metadata(rt, path) {
-        Ok(found) => found.len() <= PAGE_SIZE,
-        Err(_) => false,
-    }
-}
-
-/// Lets go of what an opening that failed has left of a copy's files, which are removed if this call made them.
-fn give_up<S: Start>(rt: &HostRuntime, target: &Target<'_>, left: Leftover<FileFrom<S>>) {
-    if target.is_free && is_one_page(rt, target.path) {
-        target.remove(rt);
-    }
-    drop(left.into_files());
-}
-
-/// Opens the file that is to get a copy, or makes it.
-///
-/// `NameTaken` where something is in it that is no store of tables, `Memory` where memory was refused, and `Device`
-/// where the file can't be made or another program has it.
-fn connect_new<S: Start>(
-    rt: &HostRuntime,
-    target: &Target<'_>,
-    start: S,
-) -> Result<Connection<VaultStore<S>>, Refusal> {
-    match Connection::open_from(rt, target.path, false, start) {
-        Ok(conn) => Ok(conn),
-        Err((error, left)) => {
-            if let Some(left) = left {
-                give_up(rt, target, left);
-            }
-            Err(unmade(error))
-        }
-    }
-}
-
 /// Lets go of a connection, and writes nothing more: its files stay as they are.
-fn leave<S: Start>(conn: Connection<VaultStore<S>>) {
+fn let_go<S: Start>(conn: Connection<VaultStore<S>>) {
     drop(conn.into_store().close());
 }
 
-/// Lets go of the file of a copy that was refused, which is removed if this call made it and no table is in it.
-fn abandon<S: Start>(rt: &HostRuntime, target: &Target<'_>, conn: Connection<VaultStore<S>>) {
-    if target.is_free && is_blank(conn.schema()) {
-        target.remove(rt);
-    }
-    leave(conn);
+/// Lets go of a connection. Its files are as they were before it was opened.
+fn leave<S: Start>(site: &Site<'_>, conn: Connection<VaultStore<S>>, before: &Before) {
+    site.leave(conn.into_store().close(), before);
 }
 
-/// Copies the vault of a connection that was opened just now into another. Where that is refused, both are let go of.
+/// Copies the vault of a connection that was opened just now into another. Where that is refused, all files are as they
+/// were.
 ///
 /// The errors are those of `SqlKeeper::migrate`.
 fn copy_into<A: Start, B: Start>(
-    rt: &HostRuntime,
-    target: &Target<'_>,
-    source: Connection<VaultStore<A>>,
-    new: Connection<VaultStore<B>>,
+    old: &Site<'_>,
+    new: &Site<'_>,
+    found: Opened<VaultStore<A>>,
+    empty: Opened<VaultStore<B>>,
 ) -> Result<Migrated<VaultStore<A>, VaultStore<B>>, Unopened>
-    requires opened { HasCleanDisk (file_state source) → IsOpened source }
-    requires found { HasCleanDisk (file_state source) → FindsIn (image_at A.Start) (file_state source) }
+    requires opened { HasCleanDisk (file_state found.conn) → IsOpened found.conn }
+    requires found { HasCleanDisk (file_state found.conn) → FindsIn (image_at A.Start) (file_state found.conn) }
     ensures sound { IfOk result (λ m. HasCleanDisk (file_state m.vault.conn) → AreSound (file_state m.vault.conn).now (kept_vault over_files m.vault.opening.at.items m.vault.opening.known m.vault.made.items)) }
     ensures found { IfOk result (λ m. HasCleanDisk (file_state m.source) → HasCleanDisk (file_state m.vault.conn)
         → IsFoundEarlier (image_at A.Start) (kept_vault over_files m.vault.opening.at.items m.vault.opening.known m.vault.made.items)) }
     ensures held { (n : Edition) (v : Vault) → IsHeldAs n (image_at A.Start) v → IfOk result (λ m. HasCleanDisk (file_state m.source) → HasCleanDisk (file_state m.vault.conn)
         → kept_vault over_files m.vault.opening.at.items m.vault.opening.known m.vault.made.items ≡ v) }
 {
-    let Copied { source, outcome } = copy_file(rt.alloc(), source, new);
+    let Opened { conn, before } = found;
+    let Opened {
+        conn: target,
+        before: new_before,
+    } = empty;
+    let Copied { source, outcome } = copy_file(old.runtime().alloc(), conn, target);
     match outcome {
         Ok(vault) => Ok(Migrated { source, vault }),
-        Err((refusal, new)) => {
-            leave(source);
-            abandon(rt, target, new);
-            Err(Unopened::Refused(refusal))
+        Err((refusal, target)) => {
+            let unsound = why_uncopied(source.schema());
+            leave(old, source, &before);
+            Err(refused(new, refusal, unsound, target, &new_before))
         }
+    }
+}
+
+/// Why the file that is to get a copy isn't opened or made. That another program has it is reported as `Device`.
+fn unmade_new(rt: &HostRuntime, old: &str, new: &str, cause: Unopened) -> Unopened
+    ensures { refusal_of result ≡ refusal_of cause }
+{
+    match cause {
+        Unopened::Held if is_one_file(rt, old, new) => Unopened::Seen(
+            Cause::SameFile,
+            Refusal::Device,
+        ),
+        Unopened::Held => Unopened::Seen(Cause::NewHeld, Refusal::Device),
+        other => looked_at(rt, new, other),
     }
 }
 
@@ -245,13 +189,24 @@ fn copy_at<A: Start, B: Start>(
         → kept_vault over_files m.vault.opening.at.items m.vault.opening.known m.vault.made.items ≡ v) }
 {
     let Starts { first, second } = starts;
-    let target = Target::of(rt, new)?;
-    let source = connect_there(rt, old, first)?;
-    match connect_new(rt, &target, second) {
-        Ok(conn) => copy_into(rt, &target, source, conn),
-        Err(refusal) => {
-            leave(source);
-            Err(Unopened::Refused(refusal))
+    let target = match site_for_new(rt, new) {
+        Ok(site) => site,
+        Err(cause) => return Err(looked_at(rt, new, cause)),
+    };
+    let origin = match site_there(rt, old) {
+        Ok(site) => site,
+        Err(cause) => return Err(looked_at(rt, old, cause)),
+    };
+    let found = match connect_there(&origin, first) {
+        Ok(found) => found,
+        Err(cause) => return Err(looked_at(rt, old, cause)),
+    };
+    match connect_new(&target, second) {
+        Ok(empty) => copy_into(&origin, &target, found, empty),
+        Err(cause) => {
+            let Opened { conn, before } = found;
+            leave(&origin, conn, &before);
+            Err(unmade_new(rt, old, new, cause))
         }
     }
 }
@@ -260,7 +215,7 @@ fn copy_at<A: Start, B: Start>(
 pub fn close_migrated<A: Start, B: Start>(migrated: Migrated<VaultStore<A>, VaultStore<B>>) {
     let Migrated { source, vault } = migrated;
     close_vault(vault);
-    leave(source);
+    let_go(source);
 }
 
 impl<'a> Machine<'a> {

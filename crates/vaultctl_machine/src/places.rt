@@ -1,16 +1,17 @@
 //! What stands at a path before its files are opened: so nothing is made or changed where no vault can be.
-ghost use Rattle.std.specs.Prelude.{◌≡◌};
+ghost use Rattle.std.specs.Prelude.{◌≡◌, is_some, not};
 ghost use Rattle.std.specs.Str.{bytes_eq};
 ghost use Rattle.vaultctl_machine.specs.Places as spec;
 
+use crate::cause::Cause;
 use std::fs;
 use std::io::{self, ErrorKind, Read};
 
 /// How many bytes of a file are looked at.
 const FIRST_BYTES: usize = 16;
 
-/// The bytes that a log has before its first change.
-const LOG_HEADER: u64 = 32;
+/// The bytes of the shortest log that can have a change: its own header, and that of a frame. No opening reads a shorter one.
+const LEAST_LOG: u64 = 56;
 
 /// The files at a path, as they stand before they are opened.
 #[derive(Clone, Copy, Debug, PartialEq, Eq)]
@@ -46,18 +47,54 @@ impl Place {
         self.begins_well || self.log.is_some()
     }
 
-    /// Whether one of the two files is there.
-    pub fn is_used(self) -> bool
-        ensures { result ≡ spec.is_used self }
+    /// Whether no file is there.
+    pub fn lacks_file(self) -> bool
+        ensures { result ≡ not self.is_there }
     {
-        self.is_there || self.log.is_some()
+        !self.is_there
+    }
+
+    /// Whether no log is there.
+    pub fn lacks_log(self) -> bool
+        ensures { result ≡ not (is_some self.log) }
+    {
+        self.log.is_none()
+    }
+
+    /// Why no tables are opened in the files.
+    pub fn why_without_tables(self) -> Cause
+        ensures { result ≡ spec.why_without_tables self }
+    {
+        if self.is_free && self.has_changes() {
+            return Cause::LostFile;
+        }
+        if !self.is_there {
+            return Cause::NoFile;
+        }
+        if self.is_free {
+            return Cause::Empty;
+        }
+        if self.begins_well {
+            return Cause::Damaged;
+        }
+        Cause::OtherFile
+    }
+
+    /// Why no vault is made in the files.
+    pub fn why_taken(self) -> Cause
+        ensures { result ≡ spec.why_taken self }
+    {
+        if self.is_free {
+            return Cause::LostFile;
+        }
+        Cause::Taken
     }
 
     /// Whether a change may be in the log.
     fn has_changes(self) -> bool
         ensures { result ≡ spec.may_have_changes self.log }
     {
-        self.log.is_some_and(|size| size > LOG_HEADER)
+        self.log.is_some_and(|size| size >= LEAST_LOG)
     }
 }
 

@@ -2,28 +2,52 @@
 ghost use Rattle.std.specs.Prelude.{◌≡◌};
 ghost use Rattle.vaultctl_machine.specs.Faults as spec;
 
+use crate::cause::Cause;
 use thiserror::Error;
 use vault_base::refusal::Refusal;
 
 /// Why the vault in a file isn't opened or made.
 #[derive(Clone, Copy, Debug, PartialEq, Eq, Error)]
 pub enum Unopened {
-    /// Another program has the file or its log open, if only to read. It is told as `Device`.
+    /// Another program has the file or its log open, if only to read. It is reported as `Device`.
     #[error("another program has the file or its log open")]
     Held,
-    /// For another cause, which is told as this.
+    /// For a cause that the files show, which is reported as this.
+    #[error("{}", .0.words())]
+    Seen(Cause, Refusal),
+    /// For another cause, which is reported as this.
     #[error("{}", .0.name())]
     Refused(Refusal),
 }
 
 impl Unopened {
-    /// What it is told as.
+    /// What it is reported as.
     pub fn refusal(self) -> Refusal
         ensures { result ≡ spec.refusal_of self }
     {
         match self {
             Unopened::Held => Refusal::Device,
+            Unopened::Seen(_, refusal) => refusal,
             Unopened::Refused(refusal) => refusal,
         }
+    }
+
+    /// The cause in words, with what to do about it; none where the refusal says all that is known.
+    pub fn words(self) -> Option<&'static str> {
+        match self {
+            Unopened::Held => Some("another program has the vault's file open, if only to read"),
+            Unopened::Seen(cause, _) => Some(cause.words()),
+            Unopened::Refused(_) => None,
+        }
+    }
+}
+
+/// The cause of a refusal that the files show, if they show one.
+pub(crate) fn with_cause(refusal: Refusal, seen: Option<Cause>) -> Unopened
+    ensures { spec.refusal_of result ≡ refusal }
+{
+    match seen {
+        Some(cause) => Unopened::Seen(cause, refusal),
+        None => Unopened::Refused(refusal),
     }
 }

@@ -9,15 +9,22 @@ ghost use Rattle.vault_audit_model.specs.Spells.{AreSound};
 ghost use Rattle.vault_core_model.specs.Vault.{Vault, opening};
 ghost use Rattle.vault_store.specs.Kept.{kept_vault};
 ghost use Rattle.vaultctl_machine.specs.Faults as spec;
+ghost use Rattle.vaultctl_machine.specs.Faults.{refusal_of};
 ghost use Rattle.vaultctl_machine.specs.Files.{IsFoundIn, IsHeldIn};
 ghost use Rattle.vaultctl_machine.specs.Places.{after_a_look, with_one_given};
 
+use crate::cause::Cause;
+use crate::editions::why_unsound;
+use crate::looks::{cause_of_kind, looked_at};
 use crate::places::place_at;
-use crate::unopened::Unopened;
+use crate::site::Site;
+use crate::stores::before::Before;
+use crate::stores::{self, Opened};
+use crate::unopened::{Unopened, with_cause};
 use sqlite::{Alter, Connection, Error, ErrorCode, FileFrom, FileStore, Start};
 use std::alloc::Global;
 use std::io::{self, ErrorKind};
-use vault_base::refusal::Refusal;
+use vault_base::refusal::{Refusal, Table};
 use vault_store::create::without_tables;
 use vault_store::sql_keeper::SqlKeeper;
 
@@ -35,7 +42,7 @@ pub struct Machine<'a> {
     given: u64,
 }
 
-/// What a failure to open a file is told as, where a vault should be in it.
+/// What a failure to open a file is reported as, where a vault should be in it.
 fn unopened(error: Error) -> Refusal
     ensures { result ≡ spec.unopened_of error }
 {
@@ -48,7 +55,7 @@ fn unopened(error: Error) -> Refusal
     }
 }
 
-/// What a failure to open a file is told as, where a new vault is to be made in it.
+/// What a failure to open a file is reported as, where a new vault is to be made in it.
 pub(crate) fn unmade(error: Error) -> Refusal
     ensures { result ≡ spec.unmade_of error }
 {
@@ -58,78 +65,117 @@ pub(crate) fn unmade(error: Error) -> Refusal
     }
 }
 
-/// Why the files at a path aren't opened, where the failure is told as that unless another program has them.
-fn cause(error: Error, told: Refusal) -> Unopened
+/// Why the files at a path aren't opened, where the failure is reported as that unless another program has them.
+pub(crate) fn cause(error: Error, told: Refusal) -> Unopened
     ensures { result ≡ spec.cause_of error told }
 {
     match error {
         Error::SqliteFailure(ErrorCode::DatabaseBusy) => Unopened::Held,
+        Error::SqliteFailure(ErrorCode::DiskFull) => Unopened::Seen(Cause::Full, told),
+        Error::SqliteFailure(ErrorCode::SystemIoFailure) => Unopened::Seen(Cause::Failed, told),
         _ => Unopened::Refused(told),
     }
 }
 
-/// What it is told as that one can't see what stands at a path.
-pub(crate) fn unseen(error: io::Error) -> Unopened {
+/// What it is reported as that one can't see what stands at a path.
+fn unseen(error: io::Error) -> Unopened {
     if error.kind() == ErrorKind::OutOfMemory {
         return Unopened::Refused(Refusal::Memory);
     }
     Unopened::Refused(Refusal::Device)
 }
 
-/// That tables may be in the files at a path, or why not.
-fn may_hold_tables(rt: &HostRuntime, path: &str) -> Result<(), Unopened> {
+/// What it is reported as that no file can be made at a path.
+fn unmakable(error: io::Error) -> Unopened {
+    match unseen(error) {
+        Unopened::Refused(Refusal::Device) => with_cause(
+            Refusal::Device,
+            cause_of_kind(error.kind()),
+        ),
+        other => other,
+    }
+}
+
+/// The files at a path where tables may be, or why none can be there.
+pub(crate) fn site_there<'a>(rt: &'a HostRuntime, path: &'a str) -> Result<Site<'a>, Unopened> {
     match place_at(rt, path) {
-        Ok(place) if place.may_hold_tables() => Ok(()),
+        Ok(place) if place.may_hold_tables() => Ok(Site::new(rt, path, place)),
         Ok(_) => Err(Unopened::Refused(without_tables())),
         Err(error) => Err(unseen(error)),
     }
 }
 
-/// That a vault may be made in the files at a path, or why not.
-fn may_be_made(rt: &HostRuntime, path: &str) -> Result<(), Unopened> {
+/// The files at a path where a vault may be made, or why none can be.
+pub(crate) fn site_for_new<'a>(rt: &'a HostRuntime, path: &'a str) -> Result<Site<'a>, Unopened> {
     match place_at(rt, path) {
-        Ok(place) if place.may_be_made() => Ok(()),
+        Ok(place) if place.may_be_made() => Ok(Site::new(rt, path, place)),
         Ok(_) => Err(Unopened::Refused(Refusal::NameTaken)),
         Err(error) => Err(unseen(error)),
     }
 }
 
-/// Opens the files at a path, or makes those that are missing.
-fn connect<S: Start>(
-    rt: &HostRuntime,
-    path: &str,
+/// Opens the files at a path where a vault should be. None is made there but a log.
+///
+/// `Damaged` with `meta` where no file is there, where it is empty or no store of tables whose rows keep its own schema.
+/// `Memory` where memory was refused, `Device` where the file can't be read, and `Held` where another program has it. With
+/// each of them the files are as they were.
+pub(crate) fn connect_there<S: Start>(
+    site: &Site<'_>,
     start: S,
-) -> Result<Connection<VaultStore<S>>, Error>
-    ensures opened { IfOk result (λ conn. HasCleanDisk (file_state conn) → IsOpened conn) }
-    ensures found { IfOk result (λ conn. HasCleanDisk (file_state conn) → FindsIn (image_at S.Start) (file_state conn)) }
+) -> Result<Opened<VaultStore<S>>, Unopened>
+    ensures opened { IfOk result (λ it. HasCleanDisk (file_state it.conn) → IsOpened it.conn) }
+    ensures found { IfOk result (λ it. HasCleanDisk (file_state it.conn) → FindsIn (image_at S.Start) (file_state it.conn)) }
 {
-    match Connection::open_from(rt, path, false, start) {
-        Ok(conn) => Ok(conn),
-        Err((error, left)) => {
-            if let Some(left) = left {
-                drop(left.into_files());
-            }
-            Err(error)
-        }
+    match stores::connect_there(site, start) {
+        Ok(opened) => Ok(opened),
+        Err(error) => Err(cause(error, unopened(error))),
     }
 }
 
-/// Opens the files at a path where a vault should be. None is made there.
+/// Opens the files at a path where a vault is to be made, and makes those that are missing.
 ///
-/// `Damaged` with `meta` where no file is there, where it is empty or no store of tables whose rows keep its own schema.
-/// `Memory` where memory was refused, `Device` where the file can't be read, and `Held` where another program has it.
-pub(crate) fn connect_there<S: Start>(
-    rt: &HostRuntime,
-    path: &str,
+/// `NameTaken` where something is in the file that is no store of tables, `Memory` where memory was refused, `Device` where
+/// the file can't be made, and `Held` where another program has it. With each of them the files are as they were.
+pub(crate) fn connect_new<S: Start>(
+    site: &Site<'_>,
     start: S,
-) -> Result<Connection<VaultStore<S>>, Unopened>
-    ensures opened { IfOk result (λ conn. HasCleanDisk (file_state conn) → IsOpened conn) }
-    ensures found { IfOk result (λ conn. HasCleanDisk (file_state conn) → FindsIn (image_at S.Start) (file_state conn)) }
+) -> Result<Opened<VaultStore<S>>, Unopened> {
+    if let Err(error) = site.make_file() {
+        return Err(unmakable(error));
+    }
+    match stores::connect_new(site, start) {
+        Ok(opened) => Ok(opened),
+        Err(error) => Err(cause(error, unmade(error))),
+    }
+}
+
+/// Lets go of a connection whose vault was refused. Its files are as they were: no commit is copied into the file.
+///
+/// What it is reported as; with the cause of a damage, which is `unsound` where `meta` isn't sound, and of a failure.
+pub(crate) fn refused<S: Start>(
+    site: &Site<'_>,
+    refusal: Refusal,
+    unsound: Cause,
+    conn: Connection<VaultStore<S>>,
+    before: &Before,
+) -> Unopened
+    ensures { refusal_of result ≡ refusal }
 {
-    may_hold_tables(rt, path)?;
-    match connect(rt, path, start) {
-        Ok(conn) => Ok(conn),
-        Err(error) => Err(cause(error, unopened(error))),
+    let files = conn.into_store().close();
+    let had_no_room = files.tally().refused > 0;
+    site.leave(files, before);
+    with_cause(refusal, why_refused(refusal, unsound, had_no_room))
+}
+
+/// Why a vault was refused that was looked at, or made, in an open store.
+fn why_refused(refusal: Refusal, unsound: Cause, had_no_room: bool) -> Option<Cause> {
+    match refusal {
+        Refusal::Damaged(Table::Meta) => Some(unsound),
+        Refusal::Damaged(_) => Some(Cause::Damaged),
+        Refusal::NameTaken => Some(Cause::Taken),
+        Refusal::Device if had_no_room => Some(Cause::Full),
+        Refusal::Device => Some(Cause::Failed),
+        _ => None,
     }
 }
 
@@ -157,22 +203,23 @@ fn open_in<S: Alter>(
     SqlKeeper::open(alloc, conn)
 }
 
-/// The vault in the tables of a connection that was opened just now. One whose tables aren't sound is closed.
+/// The vault in the tables of a connection that was opened just now. Where they aren't sound, the files are as they were.
 fn found_in<S: Start>(
-    alloc: Global,
-    conn: Connection<VaultStore<S>>,
+    site: &Site<'_>,
+    found: Opened<VaultStore<S>>,
 ) -> Result<FileVault<S>, Unopened>
-    requires opened { HasCleanDisk (file_state conn) → IsOpened conn }
-    requires found { HasCleanDisk (file_state conn) → FindsIn (image_at S.Start) (file_state conn) }
+    requires opened { HasCleanDisk (file_state found.conn) → IsOpened found.conn }
+    requires found { HasCleanDisk (file_state found.conn) → FindsIn (image_at S.Start) (file_state found.conn) }
     ensures sound { IfOk result (λ vault. HasCleanDisk (file_state vault.conn) → AreSound (file_state vault.conn).now (kept_vault over_files vault.opening.at.items vault.opening.known vault.made.items)) }
     ensures found { IfOk result (λ vault. HasCleanDisk (file_state vault.conn) → IsFoundIn (image_at S.Start) (kept_vault over_files vault.opening.at.items vault.opening.known vault.made.items)) }
     ensures held { (v : Vault) → IsHeldIn (image_at S.Start) v → IfOk result (λ vault. HasCleanDisk (file_state vault.conn) → kept_vault over_files vault.opening.at.items vault.opening.known vault.made.items ≡ v) }
 {
-    match open_in(alloc, conn) {
+    let Opened { conn, before } = found;
+    match open_in(site.runtime().alloc(), conn) {
         Ok(vault) => Ok(vault),
         Err((refusal, conn)) => {
-            close(conn);
-            Err(Unopened::Refused(refusal))
+            let unsound = why_unsound(conn.schema());
+            Err(refused(site, refusal, unsound, conn, &before))
         }
     }
 }
@@ -188,20 +235,18 @@ fn create_in<S: Alter>(
     SqlKeeper::create(alloc, conn)
 }
 
-/// A new vault in the empty store of a connection. One in which a vault can't be made is closed.
+/// A new vault in the empty store of a connection. Where none can be made there, the files are as they were.
 fn made_in<S: Start>(
-    alloc: Global,
-    conn: Connection<VaultStore<S>>,
+    site: &Site<'_>,
+    empty: Opened<VaultStore<S>>,
 ) -> Result<FileVault<S>, Unopened>
     ensures opening { IfOk result (λ vault. HasCleanDisk (file_state vault.conn) → kept_vault over_files vault.opening.at.items vault.opening.known vault.made.items ≡ opening) }
     ensures sound { IfOk result (λ vault. HasCleanDisk (file_state vault.conn) → AreSound (file_state vault.conn).now opening) }
 {
-    match create_in(alloc, conn) {
+    let Opened { conn, before } = empty;
+    match create_in(site.runtime().alloc(), conn) {
         Ok(vault) => Ok(vault),
-        Err((refusal, conn)) => {
-            close(conn);
-            Err(Unopened::Refused(refusal))
-        }
+        Err((refusal, conn)) => Err(refused(site, refusal, Cause::Taken, conn, &before)),
     }
 }
 
@@ -213,9 +258,13 @@ fn opened_at<S: Start>(rt: &HostRuntime, path: &str, start: S) -> Result<FileVau
     ensures found { IfOk result (λ vault. HasCleanDisk (file_state vault.conn) → IsFoundIn (image_at S.Start) (kept_vault over_files vault.opening.at.items vault.opening.known vault.made.items)) }
     ensures held { (v : Vault) → IsHeldIn (image_at S.Start) v → IfOk result (λ vault. HasCleanDisk (file_state vault.conn) → kept_vault over_files vault.opening.at.items vault.opening.known vault.made.items ≡ v) }
 {
-    match connect_there(rt, path, start) {
-        Ok(conn) => found_in(rt.alloc(), conn),
-        Err(cause) => Err(cause),
+    let site = match site_there(rt, path) {
+        Ok(site) => site,
+        Err(cause) => return Err(looked_at(rt, path, cause)),
+    };
+    match connect_there(&site, start) {
+        Ok(opened) => found_in(&site, opened),
+        Err(cause) => Err(looked_at(rt, path, cause)),
     }
 }
 
@@ -226,10 +275,13 @@ fn made_at<S: Start>(rt: &HostRuntime, path: &str, start: S) -> Result<FileVault
     ensures opening { IfOk result (λ vault. HasCleanDisk (file_state vault.conn) → kept_vault over_files vault.opening.at.items vault.opening.known vault.made.items ≡ opening) }
     ensures sound { IfOk result (λ vault. HasCleanDisk (file_state vault.conn) → AreSound (file_state vault.conn).now opening) }
 {
-    may_be_made(rt, path)?;
-    match connect(rt, path, start) {
-        Ok(conn) => made_in(rt.alloc(), conn),
-        Err(error) => Err(cause(error, unmade(error))),
+    let site = match site_for_new(rt, path) {
+        Ok(site) => site,
+        Err(cause) => return Err(looked_at(rt, path, cause)),
+    };
+    match connect_new(&site, start) {
+        Ok(opened) => made_in(&site, opened),
+        Err(cause) => Err(looked_at(rt, path, cause)),
     }
 }
 

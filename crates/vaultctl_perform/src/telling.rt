@@ -77,17 +77,19 @@ pub fn tell_unopened<E: Write>(err: &mut E, deed: &str, refusal: Refusal) -> u8
     1
 }
 
-/// Names why a vault can't be opened or made; and on a second line says in words that another program has it.
+/// Writes a cause in words on a line of its own, if there are words for it.
+pub fn tell_words<E: Write>(err: &mut E, cause: Unopened) {
+    if let Some(words) = cause.words() {
+        let _ = writeln!(err, "{words}");
+    }
+}
+
+/// Names why a vault can't be opened or made; and on a second line says in words what the cause is and what to do.
 pub fn tell_cause<E: Write>(err: &mut E, deed: &str, cause: Unopened) -> u8
     ensures { result ≡ 1 }
 {
     let status = tell_unopened(err, deed, cause.refusal());
-    if cause == Unopened::Held {
-        let _ = writeln!(
-            err,
-            "another program has the vault's file open, if only to read"
-        );
-    }
+    tell_words(err, cause);
     status
 }
 

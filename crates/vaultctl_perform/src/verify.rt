@@ -4,7 +4,7 @@ ghost use Rattle.std.specs.Io.KnownBytes.{Appends};
 ghost use Rattle.vaultctl_machine.specs.Places.{with_one_given};
 ghost use Rattle.vaultctl_perform.specs.Told as spec;
 
-use crate::telling::{status, tell_cause};
+use crate::telling::{status, tell_cause, tell_words};
 use sqlite::Start;
 use std::alloc::{AllocError, Global};
 use std::io::Write;
@@ -45,6 +45,32 @@ fn tell_sound<W: Write>(out: &mut W) -> Result<Outcome, JobFault>
     Ok(Outcome::Done)
 }
 
+/// Prints that a table isn't sound, and says in words on `err` why.
+fn tell_unsound<W: Write, E: Write>(
+    alloc: Global,
+    table: Table,
+    cause: Unopened,
+    out: &mut W,
+    err: &mut E,
+) -> u8
+    ensures { result ≡ 1 }
+{
+    let printed = tell_damaged(alloc, table, out);
+    let exit = status(err, "verify", printed);
+    tell_words(err, cause);
+    exit
+}
+
+/// Prints `damaged` and the table that isn't sound, or names on `err` why else a vault wasn't opened.
+fn tell_refused<W: Write, E: Write>(alloc: Global, cause: Unopened, out: &mut W, err: &mut E) -> u8
+    ensures { result ≡ 1 }
+{
+    match cause.refusal() {
+        Refusal::Damaged(table) => tell_unsound(alloc, table, cause, out, err),
+        _ => tell_cause(err, "open", cause),
+    }
+}
+
 /// Prints `sound` of a vault that was opened, `damaged` and the table that isn't, or why else it wasn't opened.
 fn tell_opened<W: Write, E: Write>(
     alloc: Global,
@@ -57,12 +83,7 @@ fn tell_opened<W: Write, E: Write>(
 {
     match opened {
         Ok(()) => status(err, "verify", tell_sound(out)),
-        Err(Unopened::Refused(Refusal::Damaged(table))) => status(
-            err,
-            "verify",
-            tell_damaged(alloc, table, out),
-        ),
-        Err(cause) => tell_cause(err, "open", cause),
+        Err(cause) => tell_refused(alloc, cause, out, err),
     }
 }
 
