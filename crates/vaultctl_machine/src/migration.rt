@@ -226,8 +226,9 @@ impl<'a> Machine<'a> {
     /// newest edition, or no store of tables whose rows keep its own schema. `NameTaken` where something is in the file at
     /// `new`, or changes may be in the log beside it. `Memory` where memory was refused. `Held` where another program has
     /// the file at `old`. `Device` where a file can't be read or made, where somebody has the one at `new`, and where
-    /// both are one file. The file at `old` isn't changed; beside it a log without a change may be left. A file that was
-    /// made for the copy is removed with each of the errors, if no table is in it.
+    /// both are one file. With each of the errors the files are as they were, but for an
+    /// empty one that was made at `new` and couldn't be opened. With a copy the file at `old` isn't changed; beside it a log
+    /// without a change may be left.
     pub fn migrate<A: Start, B: Start>(
         &mut self,
         old: &str,

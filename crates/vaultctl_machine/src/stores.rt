@@ -64,7 +64,7 @@ fn options(rt: &HostRuntime) -> Result<Options, Error> {
     }
 }
 
-/// What it is told as that one can't tell whether the files hold something.
+/// What it is reported as that one can't see whether the files hold something.
 fn unprobed(error: sqlite_wal::Error) -> Error {
     match error {
         sqlite_wal::Error::OutOfMemory => NO_MEMORY,

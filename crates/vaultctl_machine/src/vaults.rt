@@ -326,8 +326,8 @@ impl<'a> Machine<'a> {
     /// Opens the vault in a file: its tables have to be sound. `start` stands for what the file and its log hold.
     ///
     /// `Damaged` with the first table that isn't; with `meta` where the file isn't there or is empty, or is no store
-    /// of tables whose rows keep its own schema. No file is made, and what doesn't begin as such a store is left as
-    /// it is, with nothing beside it. `Memory` where memory was refused, `Device` where the file can't be read, and
+    /// of tables whose rows keep its own schema. With each of the errors the file and its log are as they were,
+    /// and none is made. `Memory` where memory was refused, `Device` where the file can't be read, and
     /// `Held` where another program has it.
     pub fn open<S: Start>(&mut self, path: &str, start: S) -> Result<FileVault<S>, Unopened>
         ensures looked { self.new.looked ≡ after_a_look self.old.looked }

@@ -18,7 +18,7 @@ const NO_MEMORY: Error = Error::SqliteFailure(ErrorCode::OutOfMemory);
 
 const IO: Error = Error::SqliteFailure(ErrorCode::SystemIoFailure);
 
-/// What a failure to make the first page is told as. Files that hold something aren't written over.
+/// What a failure to make the first page is reported as. Files that hold something aren't written over.
 fn unmade(error: OpenError) -> Error {
     Error::SqliteFailure(match error {
         OpenError::OutOfMemory => ErrorCode::OutOfMemory,
@@ -28,7 +28,7 @@ fn unmade(error: OpenError) -> Error {
     })
 }
 
-/// What a failure to read a first page is told as that was written just now.
+/// What a failure to read the first page that was just written is reported as.
 fn unread(error: Error) -> Error {
     match error {
         Error::SqliteFailure(ErrorCode::OutOfMemory) => NO_MEMORY,

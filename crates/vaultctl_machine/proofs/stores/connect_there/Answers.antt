@@ -14,9 +14,9 @@ seen log db is_log history = (replay (cond is_log log db) history).seen
 -- what the files held as they were opened is what they hold before their first read, and what was read of them is the same
 pub returns-in-Ok-open_files_with-clause-found : goal.returns-in-Ok-open_files_with-clause-found
 returns-in-Ok-open_files_with-clause-found g c clean =
-    let (log, db) = c.in_ok-open_pair.ensures.fresh in
+    let (log, db) = c.in_ok-files.ensures.fresh in
     let found = c.in-Ok-open_files_with.ensures.found clean in
-    let read_log = c.in-Ok-of.ensures.log.seen in
-    let read_db = c.in-Ok-of.ensures.db.seen in
+    let read_log = c.in-Ok.ensures.log.seen in
+    let read_db = c.in-Ok.ensures.db.seen in
     let same = ap₂ image (read_log ∙ ap₂ (seen g.S.Start.log g.S.Start.db) log.0 log.1) (read_db ∙ ap₂ (seen g.S.Start.log g.S.Start.db) db.0 db.1) in
     subst (λ i. FindsIn i (file_state c.in-Ok-open_files_with.conn)) same (record { holds = found.holds; reads = found.reads })
