@@ -6,10 +6,10 @@ ghost use Rattle.vault_audit_model.specs.declared.schema.Edition.TheVariants.{Fi
 ghost use Rattle.vault_audit_model.specs.Tables.{schema_of};
 ghost use Rattle.vaultctl_machine.specs.Editions as spec;
 
-use crate::cause::Cause;
 use sqlite_schema::schema::{self, Column, Schema};
 use vault_audit_model::schema::Edition;
 use vault_base::refusal::Table;
+use vaultctl_machine_places::cause::Cause;
 
 /// Whether a column has the larger one of the bounds of sizes.
 fn has_bound(column: &Column) -> bool

@@ -1,11 +1,9 @@
 //! What the program uses of the machine: its terminal, and vaults in files.
 #![tactic(auto)]
 
-pub mod cause;
 mod editions;
 mod looks;
 pub mod migration;
-mod places;
 mod site;
 pub mod starts;
 mod stores;

@@ -2,13 +2,13 @@
 ghost use Rattle.std.specs.Prelude.{◌≡◌};
 ghost use Rattle.vaultctl_machine.specs.Faults as spec;
 
-use crate::cause::Cause;
-use crate::places::place_at;
 use crate::unopened::{Unopened, with_cause};
 use std::fs::{self, Metadata, OpenOptions};
 use std::io::{self, ErrorKind};
 use std::os::unix::fs::MetadataExt;
 use vault_base::refusal::Refusal;
+use vaultctl_machine_places::cause::Cause;
+use vaultctl_machine_places::places::place_at;
 
 /// Why a path can't be looked at, or no file can be made there.
 pub(crate) fn cause_of_kind(kind: ErrorKind) -> Option<Cause> {

@@ -14,7 +14,6 @@ ghost use Rattle.vaultctl_machine.specs.Faults.{refusal_of};
 ghost use Rattle.vaultctl_machine.specs.Files.{AreSoundEarlier, IsFoundEarlier, IsHeldAs};
 ghost use Rattle.vaultctl_machine.specs.Places.{after_a_look, with_one_given};
 
-use crate::cause::Cause;
 use crate::editions::{edition_of, why_uncopied};
 use crate::looks::{is_one_file, looked_at};
 use crate::site::Site;
@@ -30,6 +29,7 @@ use std::alloc::Global;
 use vault_audit_model::schema::Edition;
 use vault_base::refusal::Refusal;
 use vault_store::sql_keeper::SqlKeeper;
+use vaultctl_machine_places::cause::Cause;
 
 /// A vault that was copied, and the files that it was copied from, which nobody else has before it is closed.
 pub struct Migrated<O: Alter, S: Alter> {

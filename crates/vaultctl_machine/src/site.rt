@@ -1,11 +1,11 @@
 //! The files at a path, which a refused command leaves as it found them.
 
-use crate::places::Place;
 use crate::stores::before::Before;
 use sqlite_disk::{Disk, Files};
 use std::fs::{self, OpenOptions};
 use std::io::{self, ErrorKind};
 use std::os::unix::fs::OpenOptionsExt;
+use vaultctl_machine_places::places::Place;
 
 /// The mode of a file that is made: its owner alone may read and write it.
 const OWNERS_ALONE: u32 = 0o600;

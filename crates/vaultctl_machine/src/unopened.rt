@@ -2,9 +2,9 @@
 ghost use Rattle.std.specs.Prelude.{◌≡◌};
 ghost use Rattle.vaultctl_machine.specs.Faults as spec;
 
-use crate::cause::Cause;
 use thiserror::Error;
 use vault_base::refusal::Refusal;
+use vaultctl_machine_places::cause::Cause;
 
 /// Why the vault in a file isn't opened or made.
 #[derive(Clone, Copy, Debug, PartialEq, Eq, Error)]

@@ -13,10 +13,8 @@ ghost use Rattle.vaultctl_machine.specs.Faults.{refusal_of};
 ghost use Rattle.vaultctl_machine.specs.Files.{IsFoundIn, IsHeldIn};
 ghost use Rattle.vaultctl_machine.specs.Places.{after_a_look, with_one_given};
 
-use crate::cause::Cause;
 use crate::editions::why_unsound;
 use crate::looks::{cause_of_kind, looked_at};
-use crate::places::place_at;
 use crate::site::Site;
 use crate::stores::before::Before;
 use crate::stores::{self, Opened};
@@ -27,6 +25,8 @@ use std::io::{self, ErrorKind};
 use vault_base::refusal::{Refusal, Table};
 use vault_store::create::without_tables;
 use vault_store::sql_keeper::SqlKeeper;
+use vaultctl_machine_places::cause::Cause;
+use vaultctl_machine_places::places::place_at;
 
 /// The store of a vault in files, which held what `S` says when they were opened.
 pub type VaultStore<S> = FileStore<FileFrom<S>>;

@@ -1,7 +1,7 @@
 //! What stands at a path before its files are opened: so nothing is made or changed where no vault can be.
 ghost use Rattle.std.specs.Prelude.{◌≡◌, is_some, not};
 ghost use Rattle.std.specs.Str.{bytes_eq};
-ghost use Rattle.vaultctl_machine.specs.Places as spec;
+ghost use Rattle.vaultctl_machine_places.specs.Places as spec;
 
 use crate::cause::Cause;
 use std::fs;
