@@ -145,15 +145,17 @@ pub(crate) fn rules_value_cause<'v>(
     let Some(rules) = value.get("rules").and_then(Value::as_array) else {
         return Ok(None);
     };
-    let whole = if rules.is_empty() {
-        Some(Cause::NoRules)
-    } else if rules.len() > 1_000 {
-        Some(Cause::TooManyRules)
-    } else {
-        None
-    };
-    match whole {
-        Some(cause) => Ok(Some(Explained { rule: None, cause })),
-        None => first_cause(alloc, rules.as_slice()),
+    if rules.is_empty() {
+        return Ok(Some(Explained {
+            rule: None,
+            cause: Cause::NoRules,
+        }));
     }
+    if rules.len() > 1_000 {
+        return Ok(Some(Explained {
+            rule: None,
+            cause: Cause::TooManyRules,
+        }));
+    }
+    first_cause(alloc, rules.as_slice())
 }
