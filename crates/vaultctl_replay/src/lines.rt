@@ -5,6 +5,7 @@ ghost use Rattle.vaultctl_replay.specs.Runs.{Began, Finished};
 
 use crate::answer::{answer_line, answer_unended};
 use crate::fault::ReplayFault;
+use crate::observer::Observer;
 use crate::writing::flush;
 use std::alloc::Global;
 use std::io::Write;
@@ -25,10 +26,11 @@ fn push_within(part: &mut Vec<u8>, byte: u8, most: usize) -> Result<(), ReplayFa
 }
 
 /// Takes the next byte of the input, and answers the line that ends with it. Of a line so many bytes are kept.
-fn take_byte<K: Keeper, W: Write>(
+fn take_byte<K: Keeper, W: Write, O: Observer>(
     alloc: Global,
     keeper: &mut K,
     writer: &mut W,
+    observer: &mut O,
     part: &mut Vec<u8>,
     most: usize,
     byte: u8,
@@ -43,7 +45,7 @@ fn take_byte<K: Keeper, W: Write>(
     ensures counted { K.count keeper.old ≤ K.count keeper.new }
 {
     if byte == b'\n' {
-        answer_line(alloc, keeper, writer, part.as_slice())?;
+        answer_line(alloc, keeper, writer, observer, part.as_slice())?;
         part.clear();
         Ok(())
     } else {
@@ -52,10 +54,11 @@ fn take_byte<K: Keeper, W: Write>(
 }
 
 /// Takes the next bytes of the input, and answers each line that ends in them. Of a line so many bytes are kept.
-pub fn feed<K: Keeper, W: Write>(
+pub fn feed<K: Keeper, W: Write, O: Observer>(
     alloc: Global,
     keeper: &mut K,
     writer: &mut W,
+    observer: &mut O,
     part: &mut Vec<u8>,
     most: usize,
     piece: &[u8],
@@ -70,16 +73,17 @@ pub fn feed<K: Keeper, W: Write>(
     ensures counted { K.count keeper.old ≤ K.count keeper.new }
 {
     for byte in piece {
-        take_byte(alloc, keeper, writer, part, most, *byte)?;
+        take_byte(alloc, keeper, writer, observer, part, most, *byte)?;
     }
     Ok(())
 }
 
 /// Answers a last line that lacks its LF, if there is one.
-fn answer_last<K: Keeper, W: Write>(
+fn answer_last<K: Keeper, W: Write, O: Observer>(
     alloc: Global,
     keeper: &mut K,
     writer: &mut W,
+    observer: &mut O,
     part: &[u8],
 ) -> Result<(), ReplayFault>
     ensures ok { OnOk result (Finished (K.is_honest keeper.new) (K.vault keeper.old) (K.count keeper.old) (W.contents writer.old) (last_of part.now) (K.vault keeper.new) (K.count keeper.new) (W.contents writer.new)) }
@@ -91,15 +95,16 @@ fn answer_last<K: Keeper, W: Write>(
     if part.is_empty() {
         Ok(())
     } else {
-        answer_unended(alloc, keeper, writer, part)
+        answer_unended(alloc, keeper, writer, observer, part)
     }
 }
 
 /// Answers a last line that lacks its LF, and hands on what the writer holds back.
-pub fn finish<K: Keeper, W: Write>(
+pub fn finish<K: Keeper, W: Write, O: Observer>(
     alloc: Global,
     keeper: &mut K,
     writer: &mut W,
+    observer: &mut O,
     part: &[u8],
 ) -> Result<(), ReplayFault>
     ensures ok { OnOk result (Finished (K.is_honest keeper.new) (K.vault keeper.old) (K.count keeper.old) (W.contents writer.old) (last_of part.now) (K.vault keeper.new) (K.count keeper.new) (W.contents writer.new)) }
@@ -108,6 +113,6 @@ pub fn finish<K: Keeper, W: Write>(
     ensures honest { K.is_honest keeper.new → K.is_honest keeper.old }
     ensures counted { K.count keeper.old ≤ K.count keeper.new }
 {
-    answer_last(alloc, keeper, writer, part)?;
+    answer_last(alloc, keeper, writer, observer, part)?;
     flush(writer)
 }
