@@ -62,6 +62,16 @@ fn words(alloc: Global, line: &[u8], refusal: Refusal) -> Result<String, AllocEr
     }
 }
 
+/// The refusal of a line, where it is refused.
+fn refusal_of(asked: &Line) -> Option<Refusal>
+    ensures { is_some result ≡ is_refused asked.now }
+{
+    match asked {
+        Line::Refused(refusal) => Some(*refusal),
+        _ => None,
+    }
+}
+
 /// Why a line is refused, in one line of words with an example of what is right; none where it isn't refused.
 ///
 /// The line is what stands before its LF. The error is that memory is wanting.
@@ -69,8 +79,8 @@ pub fn explain_line(alloc: Global, line: &[u8]) -> Result<Option<String>, AllocE
     // It has words for exactly the lines that `read_line` refuses.
     ensures { IfOk result (λ told. is_some told ≡ is_refused (line_of line.now)) }
 {
-    match read_line(alloc, line)? {
-        Line::Refused(refusal) => Ok(Some(words(alloc, line, refusal)?)),
-        _ => Ok(None),
-    }
+    let Some(refusal) = refusal_of(&read_line(alloc, line)?) else {
+        return Ok(None);
+    };
+    Ok(Some(words(alloc, line, refusal)?))
 }
