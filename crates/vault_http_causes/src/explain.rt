@@ -77,7 +77,7 @@ fn refusal_of(asked: &Line) -> Option<Refusal>
 /// The line is what stands before its LF. The error is that memory is wanting.
 pub fn explain_line(alloc: Global, line: &[u8]) -> Result<Option<String>, AllocError>
     // It has words for exactly the lines that `read_line` refuses.
-    ensures { IfOk result (λ told. is_some told ≡ is_refused (line_of line.now)) }
+    ensures { IfOk result (λ found. is_some found ≡ is_refused (line_of line.now)) }
 {
     let Some(refusal) = refusal_of(&read_line(alloc, line)?) else {
         return Ok(None);

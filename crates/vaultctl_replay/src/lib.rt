@@ -13,7 +13,7 @@ mod lines;
 pub mod observer;
 mod writing;
 
-use crate::lines::{feed, finish};
+use crate::lines::{Room, feed, finish};
 use crate::observer::{Observer, Silent};
 use crate::writing::flush;
 pub use fault::ReplayFault;
@@ -63,21 +63,14 @@ pub fn replay_observed<R: Read, W: Write, K: Keeper, O: Observer>(
     ensures honest { K.is_honest keeper.new → K.is_honest keeper.old }
     ensures counted { K.count keeper.old ≤ K.count keeper.new }
 {
+    let room = Room { alloc, most: KEPT };
     let mut part = Vec::new(alloc);
     let mut piece = [0u8; 65_536];
     for _turn in 0..u64::MAX {
         flush(writer)?;
         match read_retrying(reader, &mut piece) {
             Ok(0) => return finish(alloc, keeper, writer, observer, part.as_slice()),
-            Ok(n) => feed(
-                alloc,
-                keeper,
-                writer,
-                observer,
-                &mut part,
-                KEPT,
-                &piece[..n],
-            )?,
+            Ok(n) => feed(room, keeper, writer, observer, &mut part, &piece[..n])?,
             Err(_) => return Err(ReplayFault::Read),
         }
     }
