@@ -154,7 +154,7 @@ fn write_text_cause<W: fmt::Write>(f: &mut fmt::Formatter<W>, cause: Cause<'_>) 
         ),
         Cause::NoJson { column } => write!(
             f,
-            "no JSON: it breaks at column {column}, and each line has one whole object, as {WHOLE}"
+            "no JSON: it breaks near column {column}, and each line has one whole object, as {WHOLE}"
         ),
         _ => Ok(()),
     }
