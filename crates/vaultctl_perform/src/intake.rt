@@ -27,6 +27,7 @@ use vaultctl_commands::carrying::tell_refusal;
 use vaultctl_commands::fault::JobFault;
 use vaultctl_commands::intake::{take_in_and_tell, tell_unread_list};
 use vaultctl_commands::outcome::Outcome;
+use vaultctl_commands::slips::first_slip_of_intake;
 use vaultctl_job::job::IntakeJob;
 use vaultctl_machine::terminal::terminal;
 use vaultctl_machine::vaults::Machine;
@@ -202,7 +203,10 @@ fn take_in_asked<S: Start, W: Write, E: Write>(
             err,
         ),
         Err(LineFault::Memory) => tell_fault(err, "intake", JobFault::Memory),
-        Err(LineFault::Refused(refusal)) => tell_value(alloc, "intake", *refusal, out, err),
+        Err(LineFault::Refused(refusal)) => {
+            let slip = first_slip_of_intake(alloc, job).unwrap_or(None);
+            tell_value(alloc, "intake", *refusal, slip, out, err)
+        }
     }
 }
 
