@@ -28,7 +28,7 @@ pub struct Value<'a> {
     pub text: &'a str,
 }
 
-fn value<'a>(word: &'static str, kind: Kind, text: &'a str) -> Value<'a> {
+fn given<'a>(word: &'static str, kind: Kind, text: &'a str) -> Value<'a> {
     Value { word, kind, text }
 }
 
@@ -65,11 +65,11 @@ fn first_asked<'a>(
 ) -> Result<Option<Value<'a>>, AllocError> {
     if let Some(at) = &asking.at {
         if !is_allowed(alloc, Kind::Moment, at.as_str())? {
-            return Ok(Some(value("--at", Kind::Moment, at.as_str())));
+            return Ok(Some(given("--at", Kind::Moment, at.as_str())));
         }
     }
     if !is_allowed(alloc, Kind::Asker, asking.who.as_str())? {
-        return Ok(Some(value("--as", Kind::Asker, asking.who.as_str())));
+        return Ok(Some(given("--as", Kind::Asker, asking.who.as_str())));
     }
     first(alloc, values)
 }
@@ -78,12 +78,12 @@ fn first_asked<'a>(
 fn first_of_new(alloc: Global, job: &CallerJob) -> Result<Option<Value<'_>>, AllocError> {
     if let Some(dept) = &job.dept {
         if !is_allowed(alloc, Kind::Dept, dept.as_str())? {
-            return Ok(Some(value("--dept", Kind::Dept, dept.as_str())));
+            return Ok(Some(given("--dept", Kind::Dept, dept.as_str())));
         }
     }
     for right in job.rights.as_slice() {
         if !is_allowed(alloc, Kind::Right, right.as_str())? {
-            return Ok(Some(value("RIGHT", Kind::Right, right.as_str())));
+            return Ok(Some(given("RIGHT", Kind::Right, right.as_str())));
         }
     }
     Ok(None)
@@ -91,7 +91,7 @@ fn first_of_new(alloc: Global, job: &CallerJob) -> Result<Option<Value<'_>>, All
 
 /// The same of the words of a caller; where one is closed, neither a department nor rights are looked at.
 fn first_of_caller(alloc: Global, job: &CallerJob) -> Result<Option<Value<'_>>, AllocError> {
-    let name = value("NAME", Kind::Caller, job.name.as_str());
+    let name = given("NAME", Kind::Caller, job.name.as_str());
     let found = first_asked(alloc, &job.asking, &[name])?;
     if found.is_some() || job.close {
         return Ok(found);
@@ -104,8 +104,8 @@ pub fn first_slip_of_intake(
     alloc: Global,
     job: &IntakeJob,
 ) -> Result<Option<Value<'_>>, AllocError> {
-    let bucket = value("BUCKET", Kind::Bucket, job.bucket.as_str());
-    let batch = value("BATCH", Kind::Batch, job.batch.as_str());
+    let bucket = given("BUCKET", Kind::Bucket, job.bucket.as_str());
+    let batch = given("BATCH", Kind::Batch, job.batch.as_str());
     first_asked(alloc, &job.asking, &[bucket, batch])
 }
 
@@ -114,32 +114,32 @@ pub fn first_slip_of_intake(
 pub fn first_slip(alloc: Global, job: &Job) -> Result<Option<Value<'_>>, AllocError> {
     match job {
         Job::Dept(job) => {
-            let name = value("NAME", Kind::Dept, job.name.as_str());
+            let name = given("NAME", Kind::Dept, job.name.as_str());
             first_asked(alloc, &job.asking, &[name])
         }
         Job::Caller(job) => first_of_caller(alloc, job),
         Job::Bucket(job) => {
-            let name = value("NAME", Kind::Bucket, job.name.as_str());
-            let dept = value("DEPT", Kind::Dept, job.dept.as_str());
+            let name = given("NAME", Kind::Bucket, job.name.as_str());
+            let dept = given("DEPT", Kind::Dept, job.dept.as_str());
             first_asked(alloc, &job.asking, &[name, dept])
         }
         Job::Move(job) => {
-            let bucket = value("BUCKET", Kind::Bucket, job.bucket.as_str());
-            let dept = value("DEPT", Kind::Dept, job.dept.as_str());
+            let bucket = given("BUCKET", Kind::Bucket, job.bucket.as_str());
+            let dept = given("DEPT", Kind::Dept, job.dept.as_str());
             first_asked(alloc, &job.asking, &[bucket, dept])
         }
         Job::Intake(job) => first_slip_of_intake(alloc, job),
         Job::Run(job) => {
-            let bucket = value("BUCKET", Kind::Bucket, job.bucket.as_str());
+            let bucket = given("BUCKET", Kind::Bucket, job.bucket.as_str());
             first_asked(alloc, &job.asking, &[bucket])
         }
         Job::Report(job) => {
-            let dept = value("DEPT", Kind::Dept, job.dept.as_str());
+            let dept = given("DEPT", Kind::Dept, job.dept.as_str());
             first_asked(alloc, &job.asking, &[dept])
         }
         Job::Certificate(job) => {
-            let bucket = value("BUCKET", Kind::Bucket, job.bucket.as_str());
-            let version = value("VERSION", Kind::Version, job.version.as_str());
+            let bucket = given("BUCKET", Kind::Bucket, job.bucket.as_str());
+            let version = given("VERSION", Kind::Version, job.version.as_str());
             first_asked(alloc, &job.asking, &[bucket, version])
         }
         _ => Ok(None),
