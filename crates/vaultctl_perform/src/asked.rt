@@ -49,7 +49,7 @@ fn is_ahead<C: Clock>(clock: &C, given: Option<Moment>) -> bool {
         return false;
     };
     match now(clock) {
-        Some(now) => at.secs().saturating_sub(now.secs()) > AHEAD,
+        Some(shown) => at.secs().saturating_sub(shown.secs()) > AHEAD,
         None => false,
     }
 }

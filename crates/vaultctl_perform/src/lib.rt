@@ -275,6 +275,29 @@ fn tell_refused<E: Write>(words: &[String], text: &str, err: &mut E) -> u8
     2
 }
 
+/// The same as `answer_words`, of words that don't ask for the version.
+fn answer_job<A: Start, B: Start, R: Read, W: Write, E: Write>(
+    rt: &HostRuntime,
+    starts: Starts<A, B>,
+    words: &[String],
+    reader: &mut R,
+    out: &mut W,
+    err: &mut E,
+) -> u8
+    ensures replayed { job_for (map string_bytes words.now) ≡ Some (Job.Replay (record { file = None })) → result ≡ 0 → AnswersFromNew (R.remaining reader.old) (R.remaining reader.new) (W.contents out.old) (W.contents out.new) }
+    ensures refused { result ≡ 2 → fault_of vaultctl (map string_bytes words.now) ≢ [] }
+    // Words that ask for nothing, and values that aren't such, are never reported as done.
+    ensures words { job_for (map string_bytes words.now) ≡ None → result ≢ 0 }
+    ensures values { (job : AnyJob) (r : Refusal) → job_for (map string_bytes words.now) ≡ Some job → IsValueFault job r → result ≢ 0 }
+    ensures told { (job : AnyJob) → job_for (map string_bytes words.now) ≡ Some job → result ≡ 0 → IsTold job (W.contents out.old) (W.contents out.new) }
+{
+    match job_of(rt.alloc(), words) {
+        Ok(job) => perform(rt, starts, &job, reader, out, err),
+        Err(WordsFault::Refused(text)) => tell_refused(words, text.as_str(), err),
+        Err(WordsFault::Memory) => tell_fault(err, "words", JobFault::Memory),
+    }
+}
+
 /// Reads the words, of which the first is the program's name, and carries out their job.
 ///
 /// The exit status is that of the job. It is 2 where the words are refused, and the text that says why
@@ -297,11 +320,8 @@ pub fn answer_words<A: Start, B: Start, R: Read, W: Write, E: Write>(
     ensures told { (job : AnyJob) → job_for (map string_bytes words.now) ≡ Some job → result ≡ 0 → IsTold job (W.contents out.old) (W.contents out.new) }
 {
     if asks_version(words) {
-        return status(err, "version", print_version(rt.alloc(), out));
-    }
-    match job_of(rt.alloc(), words) {
-        Ok(job) => perform(rt, starts, &job, reader, out, err),
-        Err(WordsFault::Refused(text)) => tell_refused(words, text.as_str(), err),
-        Err(WordsFault::Memory) => tell_fault(err, "words", JobFault::Memory),
+        status(err, "version", print_version(rt.alloc(), out))
+    } else {
+        answer_job(rt, starts, words, reader, out, err)
     }
 }
