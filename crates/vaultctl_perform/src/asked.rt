@@ -40,10 +40,10 @@ pub fn reading<C: Clock>(clock: &C, given: Option<Moment>) -> Option<Moment>
     }
 }
 
-/// How many seconds a reading may be ahead of the machine's clock before a person is warned: those of 366 days.
+/// The most seconds by which a reading may lie ahead of the machine's clock without a word: those of 366 days.
 const AHEAD: u64 = 366 * 86_400;
 
-/// Whether a reading lies further ahead of the machine's clock than a slip of the pen would go unseen.
+/// Whether the reading that is given lies more than that ahead of the machine's clock.
 fn is_ahead<C: Clock>(clock: &C, given: Option<Moment>) -> bool {
     let Some(at) = given else {
         return false;
@@ -54,7 +54,7 @@ fn is_ahead<C: Clock>(clock: &C, given: Option<Moment>) -> bool {
     }
 }
 
-/// Says in words that the reading that is given lies more than a year ahead of the machine's clock, where it does.
+/// Says in words where the reading that is given lies more than a year ahead of the machine's clock.
 pub fn say_ahead<C: Clock, E: Write>(clock: &C, given: Option<Moment>, err: &mut E) {
     if is_ahead(clock, given) {
         say(

@@ -7,7 +7,7 @@ ghost use Rattle.vaultctl_commands.specs.Told.{IsIntakeSteady, TellsIntake};
 ghost use Rattle.vaultctl_commands.specs.declared.asked.AskedIntake.{AskedIntake as AskedOf};
 ghost use Rattle.vaultctl_perform.specs.Told.{TellsRows, TellsTakenIn};
 
-use crate::asked::reading;
+use crate::asked::{reading, say_ahead};
 use crate::telling::{tell_fault, tell_value};
 use crate::work::{Work, in_vault};
 use sqlite::Start;
@@ -173,6 +173,7 @@ impl Work for Intake<'_> {
         out: &mut W,
         err: &mut E,
     ) -> Result<Outcome, JobFault> {
+        say_ahead(rt, self.asked.at, err);
         take_in_list(rt, keeper, self.asked, self.job, out, err)
     }
 }
