@@ -115,7 +115,7 @@ pub fn asks_version(words: &[String]) -> bool
     is_version_asked(words)
 }
 
-/// What words that are refused often mean, in words; none where they are like no such.
+/// What is often meant by words that are refused, and how it is asked for; none where that isn't known.
 pub fn hint(words: &[String]) -> Option<&'static str> {
     match words.get(1)?.as_str() {
         "replay" if words.len() > 3 => {
