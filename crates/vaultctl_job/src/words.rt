@@ -1,5 +1,5 @@
 //! The words of a command line.
-ghost use Rattle.std.specs.Prelude.{◌≡◌, ◌≢◌, [], IfOk, IfErr, IsTrue, None, Some, map, string_bytes, true};
+ghost use Rattle.std.specs.Prelude.{◌≡◌, ◌≢◌, [], IfOk, IfErr, IfSome, None, Some, is_some, map, string_bytes, true};
 ghost use Rattle.clap.specs.Words.{app_of, fault_of, kind_of, subcommand_rows_of};
 ghost use Rattle.vaultctl_job.specs.Words.{vaultctl, job_for, job_in, needing_subcommand, IsRefusal};
 ghost use Rattle.vaultctl_job.specs.Words as spec;
@@ -106,13 +106,18 @@ fn is_version_asked(words: &[String]) -> bool
     }
 }
 
-/// Whether the words ask for the version, by `--version` or `-V` alone.
-pub fn asks_version(words: &[String]) -> bool
-    ensures exact { result ≡ spec.asks_version (map string_bytes words.now) }
+/// The version, where the words ask for it by `--version` or `-V` alone.
+#[tactic(auto, using(crate::proofs::WordsLemmas::no_job))]
+pub fn version_asked(words: &[String]) -> Option<&'static str>
+    ensures exact { is_some result ≡ spec.asks_version (map string_bytes words.now) }
     // Such words are no job.
-    ensures none { IsTrue result → job_for (map string_bytes words.now) ≡ None }
+    ensures none { IfSome result (λ _. job_for (map string_bytes words.now) ≡ None) }
 {
-    is_version_asked(words)
+    if is_version_asked(words) {
+        Some(VERSION)
+    } else {
+        None
+    }
 }
 
 /// What is often meant by words that are refused, and how it is asked for; none where that isn't known.

@@ -34,7 +34,7 @@ use vaultctl_commands::printing::print;
 use vaultctl_job::fault::WordsFault;
 use vaultctl_job::job::{Job, ReplayJob};
 use vaultctl_job::word::Word;
-use vaultctl_job::words::{VERSION, asks_version, hint, job_of};
+use vaultctl_job::words::{hint, job_of, version_asked};
 use vaultctl_machine::starts::Starts;
 use vaultctl_machine::vaults::Machine;
 
@@ -247,16 +247,16 @@ pub fn perform<A: Start, B: Start, R: Read, W: Write, E: Write>(
 }
 
 /// The line that says which version this is. The error is want of memory.
-fn version_line(alloc: Global) -> Result<String, AllocError> {
+fn version_line(alloc: Global, version: &str) -> Result<String, AllocError> {
     let mut line = String::from_str(alloc, "vaultctl ")?;
-    line.push_str(VERSION)?;
+    line.push_str(version)?;
     line.push_str("\n")?;
     Ok(line)
 }
 
 /// Prints which version this is.
-fn print_version<W: Write>(alloc: Global, out: &mut W) -> Result<Outcome, JobFault> {
-    let Ok(line) = version_line(alloc) else {
+fn print_version<W: Write>(alloc: Global, version: &str, out: &mut W) -> Result<Outcome, JobFault> {
+    let Ok(line) = version_line(alloc, version) else {
         return Err(JobFault::Memory);
     };
     print(out, line.as_str())?;
@@ -319,9 +319,8 @@ pub fn answer_words<A: Start, B: Start, R: Read, W: Write, E: Write>(
     ensures values { (job : AnyJob) (r : Refusal) → job_for (map string_bytes words.now) ≡ Some job → IsValueFault job r → result ≢ 0 }
     ensures told { (job : AnyJob) → job_for (map string_bytes words.now) ≡ Some job → result ≡ 0 → IsTold job (W.contents out.old) (W.contents out.new) }
 {
-    if asks_version(words) {
-        status(err, "version", print_version(rt.alloc(), out))
-    } else {
-        answer_job(rt, starts, words, reader, out, err)
+    match version_asked(words) {
+        Some(version) => status(err, "version", print_version(rt.alloc(), version, out)),
+        None => answer_job(rt, starts, words, reader, out, err),
     }
 }
