@@ -14,9 +14,11 @@ mod asked;
 mod files;
 mod intake;
 mod migrate;
+mod opened_files;
 mod replay;
 mod telling;
 mod verify;
+mod watched_keeper;
 mod work;
 
 use crate::telling::tell_fault;
