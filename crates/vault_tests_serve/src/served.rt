@@ -152,7 +152,7 @@ fn a_port_that_is_taken(rt: HostRuntime) -> Result<(), Fail> {
     let port = listener.local_addr()?.port();
     let mut told = Vec::new(alloc);
     let served = serve(&rt, alloc, &mut keeper, "a.vault", port, 1, &mut told);
-    assert!(rt; served == Err(PortFault::Device));
+    assert!(rt; served == Err(PortFault::Taken));
     assert!(rt; told.is_empty());
     Ok(())
 }

@@ -13,16 +13,25 @@ pub enum JobFault {
     /// Memory was refused.
     #[error("Memory")]
     Memory,
-    /// A device failed, or a port can't be had.
+    /// A device failed.
     #[error("Device")]
     Device,
+    /// Another program has the port.
+    #[error("Device")]
+    PortTaken,
+    /// The port isn't for this user.
+    #[error("Device")]
+    PortForbidden,
+    /// The port can't be had for another cause.
+    #[error("Device")]
+    Port,
 }
 
 impl JobFault {
     ghost use Rattle.std.specs.Prelude.{◌≡◌};
     ghost use Rattle.vaultctl_commands.specs.Faults.{fault_name};
 
-    /// Its name, as `Read`.
+    /// Its name, as `Read`. That a port can't be had is named `Device`, whatever the cause.
     pub fn name(self) -> &'static str
         ensures { result.now ≡ fault_name self }
     {
@@ -30,7 +39,8 @@ impl JobFault {
             JobFault::Read => "Read",
             JobFault::Write => "Write",
             JobFault::Memory => "Memory",
-            JobFault::Device => "Device",
+            JobFault::Device | JobFault::PortTaken | JobFault::PortForbidden | JobFault::Port =>
+                "Device",
         }
     }
 }

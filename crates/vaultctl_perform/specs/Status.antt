@@ -41,7 +41,13 @@ abbrev pub replayed : Result (Unit {0}) ReplayFault → Result Outcome JobFault
 replayed (Ok t) = Ok Done
 replayed (Err fault) = Err (replay_fault fault)
 
--- so many requests were served, or a port can't be had
+-- why a port can't be had
+abbrev pub port_fault : PortFault → JobFault
+port_fault port.Taken = fault.PortTaken
+port_fault port.Forbidden = fault.PortForbidden
+port_fault port.Other = fault.Port
+
+-- the requests were served, or a port can't be had
 abbrev pub served : Result (Unit {0}) PortFault → Result Outcome JobFault
 served (Ok t) = Ok Done
-served (Err port.Device) = Err fault.Device
+served (Err cause) = Err (port_fault cause)

@@ -111,12 +111,22 @@ impl Work for ReplayJob {
     }
 }
 
+fn port_fault(cause: PortFault) -> JobFault
+    ensures { result ≡ spec.port_fault cause }
+{
+    match cause {
+        PortFault::Taken => JobFault::PortTaken,
+        PortFault::Forbidden => JobFault::PortForbidden,
+        PortFault::Other => JobFault::Port,
+    }
+}
+
 fn served(ended: Result<(), PortFault>) -> Result<Outcome, JobFault>
     ensures { result ≡ spec.served ended }
 {
     match ended {
         Ok(()) => Ok(Outcome::Done),
-        Err(PortFault::Device) => Err(JobFault::Device),
+        Err(cause) => Err(port_fault(cause)),
     }
 }
 

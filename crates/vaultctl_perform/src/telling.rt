@@ -91,6 +91,23 @@ pub fn tell_cause<E: Write>(err: &mut E, deed: &str, cause: Unopened) -> u8
     status
 }
 
+/// Why a port can't be had, in words; none where that isn't what came of a job.
+fn words_of_port(outcome: Result<Outcome, JobFault>) -> Option<&'static str> {
+    match outcome {
+        Err(JobFault::PortTaken) => Some("another program has the port"),
+        Err(JobFault::PortForbidden) => Some("the port isn't for this user, as one below 1024"),
+        Err(JobFault::Port) => Some("the system doesn't give the port"),
+        _ => None,
+    }
+}
+
+/// Writes in words why a port can't be had, on a line after the one that names the fault.
+pub fn tell_port<E: Write>(err: &mut E, outcome: Result<Outcome, JobFault>) {
+    if let Some(words) = words_of_port(outcome) {
+        let _ = writeln!(err, "{words}");
+    }
+}
+
 /// Prints the line of a refusal, as of a value that isn't such; the status is 1.
 pub fn tell_value<W: Write, E: Write>(
     alloc: Global,

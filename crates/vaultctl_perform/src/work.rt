@@ -4,7 +4,7 @@ ghost use Rattle.vaultctl_commands.specs.declared.fault.JobFault.{JobFault as An
 ghost use Rattle.vaultctl_commands.specs.declared.outcome.Outcome.{Outcome as AnyOutcome};
 
 use crate::opened_files::OpenedFiles;
-use crate::telling::{status, tell_cause};
+use crate::telling::{status, tell_cause, tell_port};
 use crate::watched_keeper::WatchedKeeper;
 use sqlite::Start;
 use std::io::{Read, Stderr, Write};
@@ -101,7 +101,9 @@ pub fn in_vault<S: Start, T: Work, R: Read, W: Write, E: Write>(
     match open_watched(machine, file, start) {
         Ok(vault) => {
             let outcome = with_vault(rt, vault, work, reader, out, err);
-            status(err, subcommand, outcome)
+            let ended = status(err, subcommand, outcome);
+            tell_port(err, outcome);
+            ended
         }
         Err(cause) => tell_cause(err, "open", cause),
     }

@@ -7,7 +7,7 @@ ghost use Rattle.vaultctl_serve.specs.Serving.{Stepped};
 use crate::clock::reading;
 use crate::connection::serve_connection;
 use crate::deadline::BETWEEN_TRIES;
-use crate::fault::PortFault;
+use crate::fault::{PortFault, port_fault};
 use crate::peer::Peer;
 use std::alloc::Global;
 use std::io::Write;
@@ -95,8 +95,8 @@ pub fn serve_connections<
 /// Serves so many requests at that port of 127.0.0.1, each on a connection of its own, and ends.
 ///
 /// Once it listens it tells so by a line, `serving FILE at 127.0.0.1:PORT`, and once the vault's device has failed by
-/// another; a line that can't be written is lost. `Device` comes where the port can't be had. No fault of a connection
-/// or of the device ends it.
+/// another; a line that can't be written is lost. The error says why the port can't be had. No fault of a connection or
+/// of the device ends it.
 pub fn serve<R: Net<Stream = TcpStream> + Clock, K: Keeper, W: Write>(
     rt: &R,
     alloc: Global,
@@ -114,10 +114,12 @@ pub fn serve<R: Net<Stream = TcpStream> + Clock, K: Keeper, W: Write>(
     ensures honest { K.is_honest keeper.new → K.is_honest keeper.old }
     ensures counted { K.count keeper.old ≤ K.count keeper.new }
 {
-    let Ok(listener) = TcpListener::bind(rt, (Ipv4Addr::LOCALHOST, port)) else {
-        return Err(PortFault::Device);
-    };
-    let _ = writeln!(told, "serving {file} at {}:{port}", Ipv4Addr::LOCALHOST);
-    serve_connections(rt, alloc, &listener, keeper, count, told);
-    Ok(())
+    match TcpListener::bind(rt, (Ipv4Addr::LOCALHOST, port)) {
+        Ok(listener) => {
+            let _ = writeln!(told, "serving {file} at {}:{port}", Ipv4Addr::LOCALHOST);
+            serve_connections(rt, alloc, &listener, keeper, count, told);
+            Ok(())
+        }
+        Err(error) => Err(port_fault(error)),
+    }
 }
