@@ -12,7 +12,7 @@ Command = collections.namedtuple("Command", "name about usage arguments options 
 
 
 def texts():
-    """The lines of each help text, by the subcommand."""
+    """The lines of each help text, by the subcommand; those that are asked for by `help` are the same."""
     found, name = {}, None
     for line in (TOP / "examples" / "help.txt").read_text().splitlines():
         if line.startswith("$ "):
@@ -20,7 +20,7 @@ def texts():
             found[name] = []
         elif line.startswith("!"):
             found[name].append(line[2:])
-    return {name: lines for name, lines in found.items() if not name.startswith("-")}
+    return {name: lines for name, lines in found.items() if not name.startswith("-") and name != "help"}
 
 
 def blocks(lines):

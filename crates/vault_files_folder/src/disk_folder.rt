@@ -16,7 +16,7 @@ use vault_files_intake::folder::Folder;
 const MOST_READ: u64 = MOST_CONTENT as u64 + 1;
 
 /// The path of a file of a folder. The error is want of memory.
-fn path_of(alloc: Global, folder: &str, name: &FileName) -> Result<PathBuf, AllocError>
+pub(crate) fn path_of(alloc: Global, folder: &str, name: &FileName) -> Result<PathBuf, AllocError>
     ensures { IfOk result (λ path. path_buf_bytes path ≡ path_join folder.now name.now) }
 {
     Path::new(folder).join(alloc, name.as_str())

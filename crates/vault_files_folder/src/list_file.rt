@@ -1,8 +1,12 @@
 //! The list of an intake, read from a file.
-use crate::opening::opened;
+use crate::opening::{is_missing, opened};
 use crate::reading::read_at_most;
+use crate::shown::Shown;
 use std::alloc::Global;
+use std::fs;
+use std::io::{self, ErrorKind, Write};
 use std::rt::Files;
+use thiserror::Error;
 use vault_core_model::halt::Fault;
 use vault_files_intake::list::MOST_LIST;
 
@@ -18,4 +22,59 @@ pub fn read_list<R: Files>(alloc: Global, files: &R, path: &str) -> Result<Vec<u
         Some(file) => read_at_most(alloc, file, MOST_READ),
         None => Err(Fault::Device),
     }
+}
+
+/// Why a list can't be read.
+#[derive(Debug, Drop, Error)]
+enum UnreadList {
+    #[error("it isn't there")]
+    Missing,
+    #[error("it is a folder, and FOLDER is a file; the list is given before the folder")]
+    Swapped,
+    #[error("it is a folder; a list is a file")]
+    Folder,
+    #[error("it isn't yours to read")]
+    Forbidden,
+    #[error("it can't be read: {0}")]
+    Unread(io::Error),
+    #[error("it couldn't be read, and can be by now")]
+    Once,
+}
+
+fn fault_of(error: io::Error) -> UnreadList {
+    if is_missing(&error) {
+        return UnreadList::Missing;
+    }
+    if error.kind() == ErrorKind::PermissionDenied {
+        return UnreadList::Forbidden;
+    }
+    UnreadList::Unread(error)
+}
+
+/// Whether a file stands there that is no folder.
+fn is_file<R: Files>(files: &R, path: &str) -> bool {
+    match fs::metadata(files, path) {
+        Ok(metadata) => metadata.is_file(),
+        Err(_) => false,
+    }
+}
+
+/// Why a list couldn't be read, as a second look shows it.
+fn unread_list<R: Files>(files: &R, list: &str, folder: &str) -> UnreadList {
+    match fs::metadata(files, list) {
+        Ok(metadata) if metadata.is_dir() && is_file(files, folder) => UnreadList::Swapped,
+        Ok(metadata) if metadata.is_dir() => UnreadList::Folder,
+        Ok(_) => match fs::open(files, list) {
+            Ok(_) => UnreadList::Once,
+            Err(error) => fault_of(error),
+        },
+        Err(error) => fault_of(error),
+    }
+}
+
+/// Says on `err` why the list at a path couldn't be read. Where the line can't be written, nothing is said.
+pub fn explain_unread_list<R: Files, E: Write>(files: &R, list: &str, folder: &str, err: &mut E) {
+    let fault = unread_list(files, list, folder);
+    let path = Shown(list.as_bytes());
+    let _ = writeln!(err, "list: {path}: {fault}");
 }

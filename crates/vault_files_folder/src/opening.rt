@@ -11,7 +11,7 @@ use std::rt::Files;
 use vault_core_model::halt::Fault;
 
 /// Whether an error says that there is no such file.
-fn is_missing(error: &io::Error) -> bool
+pub(crate) fn is_missing(error: &io::Error) -> bool
     ensures { IsTrue result ↔ ((error_kind error.now ≡ ErrorKind.NotFound) ⊎ (error_kind error.now ≡ ErrorKind.NotADirectory)) }
 {
     error.kind() == ErrorKind::NotFound || error.kind() == ErrorKind::NotADirectory

@@ -38,7 +38,8 @@ pub enum Verb {
     Intake,
 }
 
-const VERBS: [Verb; 24] = [
+/// All verbs.
+pub const VERBS: [Verb; 24] = [
     Verb::AddDept,
     Verb::AddCaller,
     Verb::CloseCaller,
@@ -194,7 +195,7 @@ impl Verb {
     }
 
     /// The name that a line's `do` calls this verb by.
-    fn name(self) -> &'static str
+    pub fn name(self) -> &'static str
         ensures { result.now ≡ spec.verb_name self }
     {
         match self {
@@ -243,7 +244,7 @@ impl Verb {
     }
 
     /// The members of this verb's line.
-    fn members(self) -> &'static [(&'static str, Kind)]
+    pub fn members(self) -> &'static [(&'static str, Kind)]
         ensures { map (λ m. (m.0.now, m.1)) result.now ≡ spec.members_of self }
     {
         match self {

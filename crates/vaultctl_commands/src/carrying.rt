@@ -8,14 +8,15 @@ ghost use Rattle.vault_core_model.specs.declared.reply.Reply.{Reply as AnyReply}
 ghost use Rattle.vault_core_model.specs.declared.reply.Reply.TheVariants.{Refused};
 ghost use Rattle.vaultctl_commands.specs.Printed as spec;
 
+use crate::asked::Asked;
 use crate::fault::JobFault;
 use crate::outcome::Outcome;
 use crate::printing::print;
+use crate::remedies::say_reply;
 use crate::text::{outcome, reply_text};
 use std::alloc::Global;
 use std::io::Write;
 use vault_base::moment::Moment;
-use vault_base::name::CallerName;
 use vault_base::refusal::Refusal;
 use vault_core::step::step;
 use vault_core_model::command::Command;
@@ -46,6 +47,27 @@ fn tell<W: Write>(alloc: Global, reply: Reply, out: &mut W) -> Result<Outcome, J
     outcome
 }
 
+/// Prints the reply to a command, says in words on `err` what it leaves a person to know, and drops it; answers what came
+/// of it.
+fn tell_in_words<W: Write, E: Write>(
+    alloc: Global,
+    command: &Command,
+    reply: Reply,
+    out: &mut W,
+    err: &mut E,
+) -> Result<Outcome, JobFault>
+    ensures ok { IfOk result (λ outcome. (outcome ≡ spec.outcome_of reply) × Appends (W.contents out.old) (W.contents out.new) (spec.printed reply)) }
+    ensures reader { result ≢ Err JobFault.Read }
+    ensures device { result ≢ Err JobFault.Device }
+{
+    let outcome = tell_lent(alloc, &reply, out);
+    if outcome.is_ok() {
+        say_reply(command, &reply, err);
+    }
+    drop(reply);
+    outcome
+}
+
 /// Prints the line of a refusal.
 pub fn tell_refusal<W: Write>(
     alloc: Global,
@@ -60,29 +82,30 @@ pub fn tell_refusal<W: Write>(
     tell(alloc, Reply::Refused(refusal), out)
 }
 
-/// Carries out a command at a reading, prints its reply, and answers what came of it.
+/// Carries out what is asked at a reading, prints the reply, and answers what came of it. Why it was refused, and what to
+/// do, stands in words on `err`.
 ///
 /// `Write` comes where the reply can't be written, and `Memory` where there is no room for its text; the
 /// command was carried out all the same.
-pub fn carry_out<K: Keeper, W: Write>(
+pub fn carry_out<K: Keeper, W: Write, E: Write>(
     alloc: Global,
     keeper: &mut K,
     at: Moment,
-    who: &CallerName,
-    command: &Command,
+    asked: &Asked,
     out: &mut W,
+    err: &mut E,
 ) -> Result<Outcome, JobFault>
     // The reply is that of one step of the machine, and it is what is printed. It tells that the device failed only
     // where the count of failures rose, or stands at its greatest value.
-    ensures ok { K.is_honest keeper.new → IfOk result (λ outcome. (reply : AnyReply) × IsStep (K.vault keeper.old) at who.now command.now reply (K.vault keeper.new)
+    ensures ok { K.is_honest keeper.new → IfOk result (λ outcome. (reply : AnyReply) × IsStep (K.vault keeper.old) at asked.now.who asked.now.command reply (K.vault keeper.new)
         × (outcome ≡ spec.outcome_of reply) × Appends (W.contents out.old) (W.contents out.new) (spec.printed reply)
         × (IsTrue (is_device_reply reply) → RoseOrIsFull (K.count keeper.old) (K.count keeper.new))) }
-    ensures err { K.is_honest keeper.new → OnErr result ((reply : AnyReply) × IsStep (K.vault keeper.old) at who.now command.now reply (K.vault keeper.new)) }
+    ensures err { K.is_honest keeper.new → OnErr result ((reply : AnyReply) × IsStep (K.vault keeper.old) at asked.now.who asked.now.command reply (K.vault keeper.new)) }
     // Whatever the device does, what is answered is what the printed reply says.
     ensures told { IfOk result (λ outcome. spec.TellsReply outcome (W.contents out.old) (W.contents out.new)) }
     // And there is one reply, printed where anything is, which tells that the device failed just where the count of
     // failures rose, or can rise no further; where it doesn't tell it, the count is as it was.
-    ensures steady { (reply : AnyReply) × (K.is_honest keeper.new → IsStep (K.vault keeper.old) at who.now command.now reply (K.vault keeper.new))
+    ensures steady { (reply : AnyReply) × (K.is_honest keeper.new → IsStep (K.vault keeper.old) at asked.now.who asked.now.command reply (K.vault keeper.new))
         × IfOk result (λ outcome. (outcome ≡ spec.outcome_of reply) × Appends (W.contents out.old) (W.contents out.new) (spec.printed reply))
         × CountAsTold (K.count keeper.old) (K.count keeper.new) (is_device_reply reply) }
     ensures reached { K.is_honest keeper.new → Reached (K.vault keeper.old) → Reached (K.vault keeper.new) }
@@ -91,6 +114,6 @@ pub fn carry_out<K: Keeper, W: Write>(
     ensures reader { result ≢ Err JobFault.Read }
     ensures device { result ≢ Err JobFault.Device }
 {
-    let reply = step(alloc, keeper, at, who, command);
-    tell(alloc, reply, out)
+    let reply = step(alloc, keeper, at, &asked.who, &asked.command);
+    tell_in_words(alloc, &asked.command, reply, out, err)
 }

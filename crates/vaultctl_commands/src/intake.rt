@@ -31,20 +31,21 @@ fn outcome(report: &IntakeReport) -> Outcome
     }
 }
 
-/// Prints the lines of an intake, drops it, and answers what came of it.
-fn tell<W: Write>(alloc: Global, report: IntakeReport, out: &mut W) -> Result<Outcome, JobFault>
-    ensures ok { IfOk result (λ outcome. (outcome ≡ spec.intake_outcome report.rows.items report.stopped) × Appends (W.contents out.old) (W.contents out.new) (lines report.rows.items report.stopped)) }
+/// Prints the lines of an intake, and returns what came of it.
+fn tell<W: Write>(alloc: Global, report: &IntakeReport, out: &mut W) -> Result<Outcome, JobFault>
+    ensures ok { IfOk result (λ outcome. (outcome ≡ spec.intake_outcome report.now.rows.items report.now.stopped) × Appends (W.contents out.old) (W.contents out.new) (lines report.now.rows.items report.now.stopped)) }
     ensures reader { result ≢ Err JobFault.Read }
     ensures device { result ≢ Err JobFault.Device }
 {
-    let Ok(text) = intake_lines(alloc, &report) else {
+    let Ok(text) = intake_lines(alloc, report) else {
         return Err(JobFault::Memory);
     };
     print(out, text.as_str())?;
-    Ok(outcome(&report))
+    Ok(outcome(report))
 }
 
-/// Takes in files of a folder by a list, prints a line for each row, and answers what came of it.
+/// Takes in files of a folder by a list and prints a line for each row; and returns what came of it, with the replies to
+/// its rows for whoever says more about them.
 ///
 /// `Write` comes where the lines can't be written, and `Memory` where there is no room for them; the files
 /// were taken in all the same.
@@ -58,23 +59,24 @@ pub fn take_in_and_tell<K: Keeper, F: Folder, W: Write>(
     list: &[u8],
     folder: &mut F,
     out: &mut W,
-) -> Result<Outcome, JobFault>
-    ensures ok { K.is_honest keeper.new → IfOk result (λ outcome. spec.ToldIntake (F.files folder.old) at who.now bucket.now batch.now list.now (K.vault keeper.old) (K.vault keeper.new) outcome (W.contents out.old) (W.contents out.new)) }
+) -> (Result<Outcome, JobFault>, IntakeReport)
+    ensures ok { K.is_honest keeper.new → IfOk result.0 (λ outcome. spec.ToldIntake (F.files folder.old) at who.now bucket.now batch.now list.now (K.vault keeper.old) (K.vault keeper.new) outcome (W.contents out.old) (W.contents out.new)) }
     // Whatever the device does, what is answered is what the printed lines say.
-    ensures told { IfOk result (λ outcome. spec.TellsIntake outcome (W.contents out.old) (W.contents out.new)) }
+    ensures told { IfOk result.0 (λ outcome. spec.TellsIntake outcome (W.contents out.old) (W.contents out.new)) }
     // The intake was made whole before its lines were tried.
-    ensures err { K.is_honest keeper.new → OnErr result (spec.IsTakenIn (F.files folder.old) at who.now bucket.now batch.now list.now (K.vault keeper.old) (K.vault keeper.new)) }
+    ensures err { K.is_honest keeper.new → OnErr result.0 (spec.IsTakenIn (F.files folder.old) at who.now bucket.now batch.now list.now (K.vault keeper.old) (K.vault keeper.new)) }
     ensures reached { K.is_honest keeper.new → Reached (K.vault keeper.old) → Reached (K.vault keeper.new) }
     ensures honest { K.is_honest keeper.new → K.is_honest keeper.old }
     ensures counted { K.count keeper.old ≤ K.count keeper.new }
     ensures counted_there { F.count folder.old ≤ F.count folder.new }
     // That a device failed is told where it did.
-    ensures steady { spec.SteadyIntake (K.is_honest keeper.new) (F.files folder.old) at who.now bucket.now batch.now list.now (K.vault keeper.old) (K.vault keeper.new) (K.count keeper.old) (K.count keeper.new) (F.count folder.old) (F.count folder.new) result (W.contents out.old) (W.contents out.new) }
-    ensures reader { result ≢ Err JobFault.Read }
-    ensures device { result ≢ Err JobFault.Device }
+    ensures steady { spec.SteadyIntake (K.is_honest keeper.new) (F.files folder.old) at who.now bucket.now batch.now list.now (K.vault keeper.old) (K.vault keeper.new) (K.count keeper.old) (K.count keeper.new) (F.count folder.old) (F.count folder.new) result.0 (W.contents out.old) (W.contents out.new) }
+    ensures reader { result.0 ≢ Err JobFault.Read }
+    ensures device { result.0 ≢ Err JobFault.Device }
 {
     let report = take_in(alloc, keeper, at, who, bucket, batch, list, folder);
-    tell(alloc, report, out)
+    let told = tell(alloc, &report, out);
+    (told, report)
 }
 
 /// Prints `stopped Device`, as for a list that can't be read.

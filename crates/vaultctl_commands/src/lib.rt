@@ -7,6 +7,8 @@ pub mod fault;
 pub mod intake;
 pub mod outcome;
 pub mod printing;
+pub mod remedies;
+pub mod slips;
 pub mod text;
 pub mod told_keeper;
 pub mod told_writer;

@@ -1,5 +1,6 @@
 -- Where clap takes the words, they ask for a job.
-use Rattle.std.proofs.Common.{◌≡◌, List, [], ◌∷◌, Bool, true, false, cond, not, ◌&&◌, Option, Some, None, is_some, option_map, find, refl, sym, ap, ◌∙◌, inl, inr}
+use Rattle.std.proofs.Common.{◌≡◌, List, [], ◌∷◌, Bool, true, false, true≢false, cond, not, ◌&&◌, ◌||◌, Option, Some, None, is_some, option_map, find, refl, sym, ap, ◌∙◌, inl, inr, codes, bytes_eq}
+use Rattle.std.proofs.lemmas.Slice.Eq.{bytes_eq-Decides}
 use Rattle.std.specs.List.{AllByRecursion, list_any}
 use Rattle.clap.specs.Words.{App, Row, Shape, Text, built, fault_of, is_simple, subcommand_of}
 use Rattle.clap.specs.Faults.{is_simple_and_free, check_fault, level_fault, entered_fault, defaults_fault, settle_fault, walk_fault}
@@ -13,7 +14,7 @@ use Rattle.clap.specs.Simple.{argument_words, entered, label_of, names_of, rows_
 use Rattle.clap.specs.Walk.{Held, Names, Rule, answers_to, finished, nothing_held, rows_after, settled, stop_after, walk, walk_from}
 use Rattle.clap.proofs.OnLiterals.{clap_on_literals}
 use Rattle.vaultctl_job.specs.Jobs.{job_named}
-use Rattle.vaultctl_job.specs.Words.{vaultctl, job_for, job_in}
+use Rattle.vaultctl_job.specs.Words.{vaultctl, asks_version, job_for, job_in}
 
 pub is_simple_lem : is_simple vaultctl ≡ true
 unfolding vaultctl clap_on_literals
@@ -102,3 +103,26 @@ module _ (a : App) (words : List Text) (is : a ≡ vaultctl) where
 
   pub refused : (e : Error) → HasKind (fault_of a words) e → fault_of vaultctl words ≡ [] → kind_of e ≡ OutOfMemory
   refused e has none = memory e (fault_of a words) has (ap (λ (b : App). fault_of b words) is ∙ none)
+
+-- words that ask for the version are no job
+no_job_long : (program : Text) → job_for (program ∷ codes "--version" ∷ []) ≡ None
+unfolding vaultctl clap_on_literals
+no_job_long program = refl
+
+no_job_short : (program : Text) → job_for (program ∷ codes "-V" ∷ []) ≡ None
+unfolding vaultctl clap_on_literals
+no_job_short program = refl
+
+no_job_by : (program word : Text) (long short : Bool) → bytes_eq word (codes "--version") ≡ long → bytes_eq word (codes "-V") ≡ short
+    → (long || short) ≡ true → job_for (program ∷ word ∷ []) ≡ None
+no_job_by program word true short is other e =
+    ap (λ (w : Text). job_for (program ∷ w ∷ [])) ((bytes_eq-Decides word (codes "--version")).0 is) ∙ no_job_long program
+no_job_by program word false true other is e =
+    ap (λ (w : Text). job_for (program ∷ w ∷ [])) ((bytes_eq-Decides word (codes "-V")).0 is) ∙ no_job_short program
+no_job_by program word false false other another e = absurd (true≢false (sym e))
+
+pub no_job : (words : List Text) → asks_version words ≡ true → job_for words ≡ None
+no_job [] e = absurd (true≢false (sym e))
+no_job (program ∷ []) e = absurd (true≢false (sym e))
+no_job (program ∷ word ∷ []) e = no_job_by program word (bytes_eq word (codes "--version")) (bytes_eq word (codes "-V")) refl refl e
+no_job (program ∷ word ∷ other ∷ rest) e = absurd (true≢false (sym e))

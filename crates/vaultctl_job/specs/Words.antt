@@ -1,5 +1,6 @@
 -- The command line, as one of clap's simple commands.
-use Rattle.std.specs.Prelude.{List, [], ◌∷◌, codes, fold, Option, true, option_and_then}
+use Rattle.std.specs.Prelude.{◌||◌, Bool, List, [], ◌∷◌, codes, false, fold, Option, true, option_and_then}
+use Rattle.std.specs.Str.{bytes_eq}
 use Rattle.clap.specs.Words.{App, Row, Shape, Text, new_app, with_rule, with_subcommand, subcommand_of}
 use Rattle.vaultctl_job.specs.Arguments as arg
 use Rattle.vaultctl_job.specs.Jobs.{job_named}
@@ -67,9 +68,9 @@ serve_app = with_rule (with_rule (on_file (codes "serve")) arg.port) arg.count
 abbrev pub migrate_app : App
 migrate_app = with_rule (with_rule (new_app (codes "migrate")) (arg.place (codes "OLD"))) (arg.place (codes "NEW"))
 
--- a subcommand is asked for, and help is no subcommand
+-- a subcommand is asked for, help is no subcommand, and there is a version to ask for
 abbrev pub needing_subcommand : App → App
-needing_subcommand a = record a { top = record a.top { subcommand_required = true; disable_help_subcommand = true } }
+needing_subcommand a = record a { top = record a.top { has_version = true; subcommand_required = true; disable_help_subcommand = true } }
 
 -- the subcommands, in the order in which help shows them
 abbrev pub subcommands : List Shape
@@ -88,6 +89,11 @@ job_in = option_and_then (λ p. job_named p.0 p.1)
 -- what the words ask for
 abbrev pub job_for : List Text → Option Job
 job_for words = job_in (subcommand_of vaultctl words)
+
+-- the program's name, and one word that asks for the version
+abbrev pub asks_version : List Text → Bool
+asks_version (program ∷ word ∷ []) = bytes_eq word (codes "--version") || bytes_eq word (codes "-V")
+asks_version _ = false
 
 -- the words are refused
 abbrev pub IsRefusal : WordsFault → Type 0

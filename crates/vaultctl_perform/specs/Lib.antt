@@ -4,3 +4,4 @@ pub mod Replay
 pub mod Status
 pub mod Told
 pub mod Values
+pub mod Watched

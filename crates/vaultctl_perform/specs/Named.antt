@@ -4,7 +4,7 @@ use Rattle.vault_base.specs.Refusal.{name_of, table_name}
 use Rattle.vault_base.specs.declared.refusal.Refusal.{Refusal}
 use Rattle.vault_base.specs.declared.refusal.Refusal.TheVariants.{Damaged}
 use Rattle.vault_base.specs.declared.refusal.Table.{Table}
-use Rattle.vaultctl_commands.specs.Faults.{fault_name}
+use Rattle.vaultctl_commands.specs.Faults.{fault_name, fault_words}
 use Rattle.vaultctl_commands.specs.declared.fault.JobFault.{JobFault}
 use Rattle.vaultctl_commands.specs.declared.outcome.Outcome.{Outcome}
 
@@ -19,6 +19,10 @@ table_line deed what table = deed ++ codes ": " ++ (what ++ codes " " ++ (table 
 -- a fault of a subcommand, as `replay: Read`
 abbrev pub fault_line : List ℕ → JobFault → List ℕ
 fault_line subcommand fault = line subcommand (fault_name fault)
+
+-- the same, and below it what it means in words
+abbrev pub fault_lines : List ℕ → JobFault → List ℕ
+fault_lines subcommand fault = fault_line subcommand fault ++ fault_words fault
 
 -- the table that a refusal speaks of
 abbrev pub table_of : Refusal → Option Table
@@ -36,4 +40,4 @@ refusal_line deed refusal = line_of deed (name_of refusal) (table_of refusal)
 -- what a job names of what came of it: its fault, if one stopped it
 abbrev pub named : List ℕ → Result Outcome JobFault → List ℕ
 named subcommand (Ok outcome) = []
-named subcommand (Err fault) = fault_line subcommand fault
+named subcommand (Err fault) = fault_lines subcommand fault

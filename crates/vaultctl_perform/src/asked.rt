@@ -9,7 +9,7 @@ ghost use Rattle.vaultctl_perform.specs.Asked as spec;
 ghost use Rattle.vaultctl_commands.specs.declared.asked.Asked.{Asked as AskedOf};
 ghost use Rattle.vaultctl_perform.specs.Told.{TellsAsked};
 
-use crate::telling::{tell_fault, tell_value};
+use crate::telling::{say, tell_fault, tell_value};
 use crate::work::{Work, in_vault};
 use sqlite::Start;
 use std::alloc::Global;
@@ -23,6 +23,9 @@ use vaultctl_commands::asked::Asked;
 use vaultctl_commands::carrying::{carry_out, tell_refusal};
 use vaultctl_commands::fault::JobFault;
 use vaultctl_commands::outcome::Outcome;
+use vaultctl_commands::remedies::remedy;
+use vaultctl_commands::slips::first_slip;
+use vaultctl_job::job::Job;
 use vaultctl_machine::terminal::terminal;
 use vaultctl_machine::vaults::Machine;
 use vaultctl_serve::clock::now;
@@ -37,14 +40,39 @@ pub fn reading<C: Clock>(clock: &C, given: Option<Moment>) -> Option<Moment>
     }
 }
 
+/// The most seconds by which a reading may lie ahead of the machine's clock without a word: those of 366 days.
+const AHEAD: u64 = 366 * 86_400;
+
+/// Whether the reading that is given lies more than that ahead of the machine's clock.
+fn is_ahead<C: Clock>(clock: &C, given: Option<Moment>) -> bool {
+    let Some(at) = given else {
+        return false;
+    };
+    match now(clock) {
+        Some(shown) => at.secs().saturating_sub(shown.secs()) > AHEAD,
+        None => false,
+    }
+}
+
+/// Says in words where the reading that is given lies more than a year ahead of the machine's clock.
+pub fn say_ahead<C: Clock, E: Write>(clock: &C, given: Option<Moment>, err: &mut E) {
+    if is_ahead(clock, given) {
+        say(
+            err,
+            "--at lies more than a year ahead of this machine's clock: a change that is dated so has the vault refuse whatever is dated before it, for good",
+        );
+    }
+}
+
 /// Carries out what is asked of a vault, at the reading that is given or else at the clock's, and prints the
 /// reply. A clock that shows no moment is refused ClockOutOfRange.
-fn carry_out_asked<C: Clock, K: Keeper, W: Write>(
+fn carry_out_asked<C: Clock, K: Keeper, W: Write, E: Write>(
     alloc: Global,
     clock: &C,
     keeper: &mut K,
     asked: &Asked,
     out: &mut W,
+    err: &mut E,
 ) -> Result<Outcome, JobFault>
     // It is one step, by the caller who asks and at the reading that is given, and what is printed is the reply to it.
     ensures done { K.is_honest keeper.new → IfOk result (λ told. spec.IsDoneAt (RoseOrIsFull (K.count keeper.old) (K.count keeper.new)) asked.now.at asked.now (K.vault keeper.old) (K.vault keeper.new) told (W.contents out.old) (W.contents out.new)) }
@@ -59,9 +87,12 @@ fn carry_out_asked<C: Clock, K: Keeper, W: Write>(
     ensures device { result ≢ Err JobFault.Device }
 {
     let Some(at) = reading(clock, asked.at) else {
-        return tell_refusal(alloc, Refusal::ClockOutOfRange, out);
+        let refused = tell_refusal(alloc, Refusal::ClockOutOfRange, out);
+        say(err, remedy(Refusal::ClockOutOfRange));
+        return refused;
     };
-    carry_out(alloc, keeper, at, &asked.who, &asked.command, out)
+    say_ahead(clock, asked.at, err);
+    carry_out(alloc, keeper, at, asked, out, err)
 }
 
 impl Work for Asked {
@@ -78,17 +109,24 @@ impl Work for Asked {
         keeper: &mut K,
         _reader: &mut R,
         out: &mut W,
-        _err: &mut E,
+        err: &mut E,
     ) -> Result<Outcome, JobFault> {
-        carry_out_asked(rt.alloc(), rt, keeper, self, out)
+        carry_out_asked(rt.alloc(), rt, keeper, self, out, err)
     }
+}
+
+/// A job that asks one thing of a vault: the name of its subcommand, the vault's file, and all of its words.
+#[derive(Clone, Copy)]
+pub struct Call<'a> {
+    pub subcommand: &'a str,
+    pub file: &'a str,
+    pub job: &'a Job,
 }
 
 /// The same as `ask`, of what was read by another.
 fn ask_read<S: Start, W: Write, E: Write>(
     machine: &mut Machine<'_>,
-    subcommand: &str,
-    file: &str,
+    call: Call<'_>,
     start: S,
     asked: &Result<Asked, LineFault>,
     out: &mut W,
@@ -102,16 +140,19 @@ fn ask_read<S: Start, W: Write, E: Write>(
     match asked {
         Ok(asked) => in_vault(
             machine,
-            subcommand,
-            file,
+            call.subcommand,
+            call.file,
             start,
             asked,
             &mut io::empty(),
             out,
             err,
         ),
-        Err(LineFault::Memory) => tell_fault(err, subcommand, JobFault::Memory),
-        Err(LineFault::Refused(refusal)) => tell_value(alloc, subcommand, *refusal, out, err),
+        Err(LineFault::Memory) => tell_fault(err, call.subcommand, JobFault::Memory),
+        Err(LineFault::Refused(refusal)) => {
+            let slip = first_slip(alloc, call.job).unwrap_or(None);
+            tell_value(alloc, call.subcommand, *refusal, slip, out, err)
+        }
     }
 }
 
@@ -119,8 +160,7 @@ fn ask_read<S: Start, W: Write, E: Write>(
 /// refusal of the first that isn't, and looks for no file.
 pub fn ask<S: Start, W: Write, E: Write>(
     machine: &mut Machine<'_>,
-    subcommand: &str,
-    file: &str,
+    call: Call<'_>,
     start: S,
     asked: Result<Asked, LineFault>,
     out: &mut W,
@@ -131,5 +171,5 @@ pub fn ask<S: Start, W: Write, E: Write>(
     ensures told { result ≡ 0 → TellsReply Outcome.Done (W.contents out.old) (W.contents out.new) }
     ensures status { result ≢ 2 }
 {
-    ask_read(machine, subcommand, file, start, &asked, out, err)
+    ask_read(machine, call, start, &asked, out, err)
 }

@@ -18,7 +18,8 @@ use vaultctl_job::job::{RegisterJob, ReplayJob, ServeJob};
 use vaultctl_machine::terminal::terminal_beside;
 use vaultctl_machine::unopened::Unopened;
 use vaultctl_machine::vaults::{Machine, close_vault};
-use vaultctl_replay::{ReplayFault, replay};
+use vaultctl_replay::observer::Explainer;
+use vaultctl_replay::{ReplayFault, replay_observed};
 use vaultctl_serve::{PortFault, serve};
 
 /// Makes the vault in a file and closes it.
@@ -99,15 +100,16 @@ impl Work for ReplayJob {
         None
     }
 
+    /// On `err` there is a line of words for each line that is refused.
     fn carry_out<K: Keeper, R: Read, W: Write, E: Write>(
         &self,
         rt: &HostRuntime,
         keeper: &mut K,
         reader: &mut R,
         out: &mut W,
-        _err: &mut E,
+        err: &mut E,
     ) -> Result<Outcome, JobFault> {
-        replayed(replay(rt.alloc(), reader, out, keeper))
+        replayed(replay_observed(rt.alloc(), reader, out, keeper, &mut Explainer::new(err)))
     }
 }
 

@@ -7,36 +7,89 @@ ghost use Rattle.vaultctl_commands.specs.Told.{IsIntakeSteady, TellsIntake};
 ghost use Rattle.vaultctl_commands.specs.declared.asked.AskedIntake.{AskedIntake as AskedOf};
 ghost use Rattle.vaultctl_perform.specs.Told.{TellsRows, TellsTakenIn};
 
-use crate::asked::reading;
+use crate::asked::{reading, say_ahead};
 use crate::telling::{tell_fault, tell_value};
 use crate::work::{Work, in_vault};
 use sqlite::Start;
 use std::io::{self, Read, Stderr, Write};
+use vault_base::moment::Moment;
 use vault_base::refusal::Refusal;
 use vault_core_model::halt::Fault;
 use vault_core_model::keeper::Keeper;
 use vault_files::disk_folder::DiskFolder;
-use vault_files::list_file::read_list;
+use vault_files::folder::Folder;
+use vault_files::list_file::{explain_unread_list, read_list};
 use vault_files::progress::ToldFolder;
+use vault_files::second_look::{TakenList, explain};
 use vault_values::fault::LineFault;
 use vaultctl_commands::asked::AskedIntake;
 use vaultctl_commands::carrying::tell_refusal;
 use vaultctl_commands::fault::JobFault;
 use vaultctl_commands::intake::{take_in_and_tell, tell_unread_list};
 use vaultctl_commands::outcome::Outcome;
+use vaultctl_commands::slips::first_slip_of_intake;
 use vaultctl_job::job::IntakeJob;
 use vaultctl_machine::terminal::terminal;
 use vaultctl_machine::vaults::Machine;
 
-/// Takes in a list whose bytes were read, at the reading that is given or else at the clock's; on a terminal
-/// it tells how far it has come.
-fn take_in_read<K: Keeper, W: Write>(
+/// A list whose bytes were read, and the path of the folder that its files lie in.
+#[derive(Clone, Copy)]
+struct Delivery<'a> {
+    list: &'a [u8],
+    folder: &'a str,
+}
+
+/// Takes in a list at a moment; on a terminal it says how far it has come, and at last on `err` why rows were refused.
+fn take_in_at<K: Keeper, W: Write, E: Write>(
+    rt: &HostRuntime,
+    keeper: &mut K,
+    at: Moment,
+    asked: &AskedIntake,
+    delivery: Delivery<'_>,
+    out: &mut W,
+    err: &mut E,
+) -> Result<Outcome, JobFault>
+    ensures told { IfOk result (λ told. TellsRows told (W.contents out.old) (W.contents out.new)) }
+    ensures steady { IsIntakeSteady (K.count keeper.old) (K.count keeper.new) result (W.contents out.old) (W.contents out.new) }
+    ensures reached { K.is_honest keeper.new → Reached (K.vault keeper.old) → Reached (K.vault keeper.new) }
+    ensures honest { K.is_honest keeper.new → K.is_honest keeper.old }
+    ensures reader { result ≢ Err JobFault.Read }
+    ensures device { result ≢ Err JobFault.Device }
+{
+    let alloc = rt.alloc();
+    let Delivery { list, folder: path } = delivery;
+    let mut folder = ToldFolder::new(DiskFolder::new(alloc, rt, path), terminal(rt));
+    let (told, report) = take_in_and_tell(
+        alloc,
+        keeper,
+        at,
+        &asked.who,
+        &asked.bucket,
+        &asked.batch,
+        list,
+        &mut folder,
+        out,
+    );
+    let taken = TakenList {
+        alloc,
+        files: rt,
+        list,
+        folder: path,
+        at,
+    };
+    explain(&taken, &report, folder.faults() != 0, err);
+    drop(report);
+    told
+}
+
+/// Takes in a list whose bytes were read, at the reading that is given or else at the clock's.
+fn take_in_read<K: Keeper, W: Write, E: Write>(
     rt: &HostRuntime,
     keeper: &mut K,
     asked: &AskedIntake,
-    list: &[u8],
-    folder: &str,
+    delivery: Delivery<'_>,
     out: &mut W,
+    err: &mut E,
 ) -> Result<Outcome, JobFault>
     // Done and refused are answered only behind the lines that say so.
     ensures told { IfOk result (λ told. TellsRows told (W.contents out.old) (W.contents out.new)) }
@@ -47,31 +100,36 @@ fn take_in_read<K: Keeper, W: Write>(
     ensures reader { result ≢ Err JobFault.Read }
     ensures device { result ≢ Err JobFault.Device }
 {
-    let alloc = rt.alloc();
     let Some(at) = reading(rt, asked.at) else {
-        return tell_refusal(alloc, Refusal::ClockOutOfRange, out);
+        return tell_refusal(rt.alloc(), Refusal::ClockOutOfRange, out);
     };
-    let mut folder = ToldFolder::new(DiskFolder::new(alloc, rt, folder), terminal(rt));
-    take_in_and_tell(
-        alloc,
-        keeper,
-        at,
-        &asked.who,
-        &asked.bucket,
-        &asked.batch,
-        list,
-        &mut folder,
-        out,
-    )
+    take_in_at(rt, keeper, at, asked, delivery, out, err)
+}
+
+/// Says that a list couldn't be read: on `out` by the line of a failed device, and on `err` why.
+fn tell_unread<W: Write, E: Write>(
+    rt: &HostRuntime,
+    job: &IntakeJob,
+    out: &mut W,
+    err: &mut E,
+) -> Result<Outcome, JobFault>
+    ensures told { IfOk result (λ told. TellsRows told (W.contents out.old) (W.contents out.new)) }
+    ensures reader { result ≢ Err JobFault.Read }
+    ensures device { result ≢ Err JobFault.Device }
+{
+    let told = tell_unread_list(rt.alloc(), out);
+    explain_unread_list(rt, job.list.as_str(), job.folder.as_str(), err);
+    told
 }
 
 /// Takes in the list of that file.
-fn take_in_list<K: Keeper, W: Write>(
+fn take_in_list<K: Keeper, W: Write, E: Write>(
     rt: &HostRuntime,
     keeper: &mut K,
     asked: &AskedIntake,
     job: &IntakeJob,
     out: &mut W,
+    err: &mut E,
 ) -> Result<Outcome, JobFault>
     ensures told { IfOk result (λ told. TellsRows told (W.contents out.old) (W.contents out.new)) }
     ensures steady { IsIntakeSteady (K.count keeper.old) (K.count keeper.new) result (W.contents out.old) (W.contents out.new) }
@@ -81,9 +139,15 @@ fn take_in_list<K: Keeper, W: Write>(
     ensures device { result ≢ Err JobFault.Device }
 {
     match read_list(rt.alloc(), rt, job.list.as_str()) {
-        Ok(list) => take_in_read(rt, keeper, asked, list.as_slice(), job.folder.as_str(), out),
+        Ok(list) => {
+            let delivery = Delivery {
+                list: list.as_slice(),
+                folder: job.folder.as_str(),
+            };
+            take_in_read(rt, keeper, asked, delivery, out, err)
+        }
         Err(Fault::Memory) => Err(JobFault::Memory),
-        Err(Fault::Device) => tell_unread_list(rt.alloc(), out),
+        Err(Fault::Device) => tell_unread(rt, job, out, err),
     }
 }
 
@@ -107,9 +171,10 @@ impl Work for Intake<'_> {
         keeper: &mut K,
         _reader: &mut R,
         out: &mut W,
-        _err: &mut E,
+        err: &mut E,
     ) -> Result<Outcome, JobFault> {
-        take_in_list(rt, keeper, self.asked, self.job, out)
+        say_ahead(rt, self.asked.at, err);
+        take_in_list(rt, keeper, self.asked, self.job, out, err)
     }
 }
 
@@ -139,7 +204,10 @@ fn take_in_asked<S: Start, W: Write, E: Write>(
             err,
         ),
         Err(LineFault::Memory) => tell_fault(err, "intake", JobFault::Memory),
-        Err(LineFault::Refused(refusal)) => tell_value(alloc, "intake", *refusal, out, err),
+        Err(LineFault::Refused(refusal)) => {
+            let slip = first_slip_of_intake(alloc, job).unwrap_or(None);
+            tell_value(alloc, "intake", *refusal, slip, out, err)
+        }
     }
 }
 

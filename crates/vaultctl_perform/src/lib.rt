@@ -1,9 +1,9 @@
 //! Carries out what the program's words ask for.
 #![tactic(auto)]
 
-ghost use Rattle.std.specs.Prelude.{◌≡◌, ◌≢◌, [], None, Some, map, string_bytes};
+ghost use Rattle.std.specs.Prelude.{◌≡◌, ◌≢◌, [], None, Some, false, map, string_bytes};
 ghost use Rattle.clap.specs.Words.{fault_of};
-ghost use Rattle.vaultctl_job.specs.Words.{job_for, vaultctl};
+ghost use Rattle.vaultctl_job.specs.Words.{asks_version, job_for, vaultctl};
 ghost use Rattle.vaultctl_job.specs.declared.job.Job.{Job as AnyJob};
 ghost use Rattle.vault_base.specs.declared.refusal.Refusal.{Refusal};
 ghost use Rattle.vaultctl_perform.specs.Replay.{AnswersFromNew};
@@ -14,20 +14,27 @@ mod asked;
 mod files;
 mod intake;
 mod migrate;
+mod opened_files;
 mod replay;
 mod telling;
 mod verify;
+mod watched_keeper;
 mod work;
 
-use crate::telling::tell_fault;
+use crate::asked::Call;
+use crate::telling::{say, status, tell_fault};
 use crate::work::in_vault;
 use sqlite::Start;
+use std::alloc::{AllocError, Global};
 use std::io::{Read, Write};
 use vaultctl_commands::asked as values;
 use vaultctl_commands::fault::JobFault;
+use vaultctl_commands::outcome::Outcome;
+use vaultctl_commands::printing::print;
 use vaultctl_job::fault::WordsFault;
 use vaultctl_job::job::{Job, ReplayJob};
-use vaultctl_job::words::job_of;
+use vaultctl_job::word::Word;
+use vaultctl_job::words::{hint, job_of, version_asked};
 use vaultctl_machine::starts::Starts;
 use vaultctl_machine::vaults::Machine;
 
@@ -57,6 +64,15 @@ fn replay_script<S: Start, R: Read, W: Write, E: Write>(
     }
 }
 
+/// The job as one that asks one thing of the vault in that file.
+fn called<'a>(subcommand: &'a str, file: &'a Word, job: &'a Job) -> Call<'a> {
+    Call {
+        subcommand,
+        file: file.as_str(),
+        job,
+    }
+}
+
 /// Carries a job out over the files of a machine.
 fn carry_out<A: Start, B: Start, R: Read, W: Write, E: Write>(
     machine: &mut Machine<'_>,
@@ -77,23 +93,52 @@ fn carry_out<A: Start, B: Start, R: Read, W: Write, E: Write>(
         first: start,
         second,
     } = starts;
+    let whole = job;
     match job {
         Job::Init(job) => files::init(machine, job.file.as_str(), start, err),
         Job::Dept(job) => {
             let asked = values::dept(alloc, job);
-            asked::ask(machine, "dept", job.file.as_str(), start, asked, out, err)
+            asked::ask(
+                machine,
+                called("dept", &job.file, whole),
+                start,
+                asked,
+                out,
+                err,
+            )
         }
         Job::Caller(job) => {
             let asked = values::caller(alloc, job);
-            asked::ask(machine, "caller", job.file.as_str(), start, asked, out, err)
+            asked::ask(
+                machine,
+                called("caller", &job.file, whole),
+                start,
+                asked,
+                out,
+                err,
+            )
         }
         Job::Bucket(job) => {
             let asked = values::bucket(alloc, job);
-            asked::ask(machine, "bucket", job.file.as_str(), start, asked, out, err)
+            asked::ask(
+                machine,
+                called("bucket", &job.file, whole),
+                start,
+                asked,
+                out,
+                err,
+            )
         }
         Job::Move(job) => {
             let asked = values::move_bucket(alloc, job);
-            asked::ask(machine, "move", job.file.as_str(), start, asked, out, err)
+            asked::ask(
+                machine,
+                called("move", &job.file, whole),
+                start,
+                asked,
+                out,
+                err,
+            )
         }
         Job::Intake(job) => intake::take_in(
             machine,
@@ -105,18 +150,31 @@ fn carry_out<A: Start, B: Start, R: Read, W: Write, E: Write>(
         ),
         Job::Run(job) => {
             let asked = values::run(alloc, job);
-            asked::ask(machine, "run", job.file.as_str(), start, asked, out, err)
+            asked::ask(
+                machine,
+                called("run", &job.file, whole),
+                start,
+                asked,
+                out,
+                err,
+            )
         }
         Job::Report(job) => {
             let asked = values::report(alloc, job);
-            asked::ask(machine, "report", job.file.as_str(), start, asked, out, err)
+            asked::ask(
+                machine,
+                called("report", &job.file, whole),
+                start,
+                asked,
+                out,
+                err,
+            )
         }
         Job::Certificate(job) => {
             let asked = values::certificate(alloc, job);
             asked::ask(
                 machine,
-                "certificate",
-                job.file.as_str(),
+                called("certificate", &job.file, whole),
                 start,
                 asked,
                 out,
@@ -188,10 +246,63 @@ pub fn perform<A: Start, B: Start, R: Read, W: Write, E: Write>(
     carry_out(&mut machine, starts, job, reader, out, err)
 }
 
+/// The line that says which version this is. The error is want of memory.
+fn version_line(alloc: Global, version: &str) -> Result<String, AllocError> {
+    let mut line = String::from_str(alloc, "vaultctl ")?;
+    line.push_str(version)?;
+    line.push_str("\n")?;
+    Ok(line)
+}
+
+/// Prints which version this is.
+fn print_version<W: Write>(alloc: Global, version: &str, out: &mut W) -> Result<Outcome, JobFault> {
+    let Ok(line) = version_line(alloc, version) else {
+        return Err(JobFault::Memory);
+    };
+    print(out, line.as_str())?;
+    Ok(Outcome::Done)
+}
+
+/// Writes why words are refused, and where they are often meant otherwise, how; the status is 2.
+fn tell_refused<E: Write>(words: &[String], text: &str, err: &mut E) -> u8
+    ensures { result ≡ 2 }
+{
+    // Where even this can't be written, the status tells alone.
+    let _ = write!(err, "{text}");
+    if let Some(hint) = hint(words) {
+        say(err, hint);
+    }
+    2
+}
+
+/// The same as `answer_words`, of words that don't ask for the version.
+fn answer_job<A: Start, B: Start, R: Read, W: Write, E: Write>(
+    rt: &HostRuntime,
+    starts: Starts<A, B>,
+    words: &[String],
+    reader: &mut R,
+    out: &mut W,
+    err: &mut E,
+) -> u8
+    ensures replayed { job_for (map string_bytes words.now) ≡ Some (Job.Replay (record { file = None })) → result ≡ 0 → AnswersFromNew (R.remaining reader.old) (R.remaining reader.new) (W.contents out.old) (W.contents out.new) }
+    ensures refused { result ≡ 2 → fault_of vaultctl (map string_bytes words.now) ≢ [] }
+    // Words that ask for nothing, and values that aren't such, are never reported as done.
+    ensures words { job_for (map string_bytes words.now) ≡ None → result ≢ 0 }
+    ensures values { (job : AnyJob) (r : Refusal) → job_for (map string_bytes words.now) ≡ Some job → IsValueFault job r → result ≢ 0 }
+    ensures told { (job : AnyJob) → job_for (map string_bytes words.now) ≡ Some job → result ≡ 0 → IsTold job (W.contents out.old) (W.contents out.new) }
+{
+    match job_of(rt.alloc(), words) {
+        Ok(job) => perform(rt, starts, &job, reader, out, err),
+        Err(WordsFault::Refused(text)) => tell_refused(words, text.as_str(), err),
+        Err(WordsFault::Memory) => tell_fault(err, "words", JobFault::Memory),
+    }
+}
+
 /// Reads the words, of which the first is the program's name, and carries out their job.
 ///
 /// The exit status is that of the job. It is 2 where the words are refused, and the text that says why
-/// goes to `err`; where memory for reading them was refused, it is 1 and `err` gets `words: Memory`.
+/// goes to `err`; where memory for reading them was refused, it is 1 and `err` gets `words: Memory`. Words that ask for
+/// the version are no job: it is printed, with status 0.
 pub fn answer_words<A: Start, B: Start, R: Read, W: Write, E: Write>(
     rt: &HostRuntime,
     starts: Starts<A, B>,
@@ -202,18 +313,14 @@ pub fn answer_words<A: Start, B: Start, R: Read, W: Write, E: Write>(
 ) -> u8
     ensures replayed { job_for (map string_bytes words.now) ≡ Some (Job.Replay (record { file = None })) → result ≡ 0 → AnswersFromNew (R.remaining reader.old) (R.remaining reader.new) (W.contents out.old) (W.contents out.new) }
     ensures refused { result ≡ 2 → fault_of vaultctl (map string_bytes words.now) ≢ [] }
-    // Words that ask for nothing, and values that aren't such, are never told as done.
-    ensures words { job_for (map string_bytes words.now) ≡ None → result ≢ 0 }
+    // Words that ask for nothing, and values that aren't such, are never reported as done; words that ask for the version
+    // are no job.
+    ensures words { job_for (map string_bytes words.now) ≡ None → asks_version (map string_bytes words.now) ≡ false → result ≢ 0 }
     ensures values { (job : AnyJob) (r : Refusal) → job_for (map string_bytes words.now) ≡ Some job → IsValueFault job r → result ≢ 0 }
     ensures told { (job : AnyJob) → job_for (map string_bytes words.now) ≡ Some job → result ≡ 0 → IsTold job (W.contents out.old) (W.contents out.new) }
 {
-    match job_of(rt.alloc(), words) {
-        Ok(job) => perform(rt, starts, &job, reader, out, err),
-        Err(WordsFault::Refused(text)) => {
-            // Where even this can't be written, the status tells alone.
-            let _ = write!(err, "{text}");
-            2
-        }
-        Err(WordsFault::Memory) => tell_fault(err, "words", JobFault::Memory),
+    match version_asked(words) {
+        Some(version) => status(err, "version", print_version(rt.alloc(), version, out)),
+        None => answer_job(rt, starts, words, reader, out, err),
     }
 }

@@ -8,7 +8,8 @@ use std::alloc::Global;
 use std::io::{Read, Write};
 use vault_core_list::list_keeper::ListKeeper;
 use vaultctl_commands::fault::JobFault;
-use vaultctl_replay::{ReplayFault, replay};
+use vaultctl_replay::observer::Explainer;
+use vaultctl_replay::{ReplayFault, replay_observed};
 
 /// What a fault of a script is told as.
 pub fn fault_of(fault: ReplayFault) -> JobFault
@@ -21,20 +22,22 @@ pub fn fault_of(fault: ReplayFault) -> JobFault
     }
 }
 
-fn answer_all<R: Read, W: Write>(
+fn answer_all<R: Read, W: Write, E: Write>(
     alloc: Global,
     reader: &mut R,
     out: &mut W,
+    err: &mut E,
 ) -> Result<(), ReplayFault>
     ensures { OnOk result (AnswersFromNew (R.remaining reader.old) (R.remaining reader.new) (W.contents out.old) (W.contents out.new)) }
 {
     let Ok(mut keeper) = ListKeeper::new(alloc) else {
         return Err(ReplayFault::Memory);
     };
-    replay(alloc, reader, out, &mut keeper)
+    replay_observed(alloc, reader, out, &mut keeper, &mut Explainer::new(err))
 }
 
-/// Answers the script that the reader gives; a fault is named on `err`, and status 1 answered.
+/// Answers the script that the reader gives. On `err` there is a line of words for each line that is refused, and a
+/// fault is named, with status 1.
 pub fn from_new<R: Read, W: Write, E: Write>(
     alloc: Global,
     reader: &mut R,
@@ -44,7 +47,7 @@ pub fn from_new<R: Read, W: Write, E: Write>(
     ensures replayed { result ≡ 0 → AnswersFromNew (R.remaining reader.old) (R.remaining reader.new) (W.contents out.old) (W.contents out.new) }
     ensures status { result ≢ 2 }
 {
-    match answer_all(alloc, reader, out) {
+    match answer_all(alloc, reader, out, err) {
         Ok(()) => 0,
         Err(fault) => tell_fault(err, "replay", fault_of(fault)),
     }

@@ -12,6 +12,8 @@ use vault_io::writing::write_bytes;
 use vaultctl_commands::carrying::tell_refusal;
 use vaultctl_commands::fault::JobFault;
 use vaultctl_commands::outcome::Outcome;
+use vaultctl_commands::remedies::remedy;
+use vaultctl_commands::slips::{Value, say_slip};
 use vaultctl_machine::unopened::Unopened;
 
 /// Writes two texts, one behind the other.
@@ -32,14 +34,24 @@ fn write_line<E: Write>(err: &mut E, deed: &str, what: &str) -> io::Result<()>
     write_both(err, what, "\n")
 }
 
-/// Names a fault, as `replay: Read`. Where even this can't be written, the status tells alone.
+/// Writes the line that names a fault, and what it means in words.
+fn write_fault<E: Write>(err: &mut E, subcommand: &str, fault: JobFault) -> io::Result<()>
+    ensures ok { OnOk result (Appends (E.contents err.old) (E.contents err.new) (named.fault_lines subcommand.now fault)) }
+    ensures err { OnErr result (Begins (E.contents err.old) (E.contents err.new) (named.fault_lines subcommand.now fault)) }
+{
+    write_line(err, subcommand, fault.name())?;
+    write_bytes(err, fault.words().as_bytes())
+}
+
+/// Names a fault, as `replay: Read`, and below it says in words what it means and what to do. Where even this can't be
+/// written, the status tells alone.
 #[tactic(auto, using(crate::proofs::TellingLemmas::begins_anyway))]
 pub fn tell_fault<E: Write>(err: &mut E, subcommand: &str, fault: JobFault) -> u8
     ensures status { result ≡ 1 }
-    // What is written is that line, or a beginning of it where the writer fails.
-    ensures named { Begins (E.contents err.old) (E.contents err.new) (named.fault_line subcommand.now fault) }
+    // What is written is these lines, or a beginning of them where the writer fails.
+    ensures named { Begins (E.contents err.old) (E.contents err.new) (named.fault_lines subcommand.now fault) }
 {
-    let _ = write_line(err, subcommand, fault.name());
+    let _ = write_fault(err, subcommand, fault);
     1
 }
 
@@ -93,18 +105,35 @@ pub fn tell_cause<E: Write>(err: &mut E, deed: &str, cause: Unopened) -> u8
     status
 }
 
-/// Prints the line of a refusal, as of a value that isn't such; the status is 1.
+/// Says something in words, on a line of its own. Where this can't be written, what stands before it says it alone.
+pub fn say<E: Write>(err: &mut E, words: &str) {
+    let _ = writeln!(err, "{words}");
+}
+
+/// Says in words which value isn't allowed; where none was found, what the refusal means.
+fn explain<E: Write>(refusal: Refusal, slip: Option<Value<'_>>, err: &mut E) {
+    match slip {
+        Some(value) => say_slip(value, err),
+        None => say(err, remedy(refusal)),
+    }
+}
+
+/// Prints the line of the refusal of a value, and says in words on `err` which value it is; the status is 1.
 pub fn tell_value<W: Write, E: Write>(
     alloc: Global,
     subcommand: &str,
     refusal: Refusal,
+    slip: Option<Value<'_>>,
     out: &mut W,
     err: &mut E,
 ) -> u8
     ensures { result ≡ 1 }
 {
     match tell_refusal(alloc, refusal, out) {
-        Ok(_) => 1,
+        Ok(_) => {
+            explain(refusal, slip, err);
+            1
+        }
         Err(fault) => tell_fault(err, subcommand, fault),
     }
 }

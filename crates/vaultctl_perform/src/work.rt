@@ -3,13 +3,16 @@ ghost use Rattle.std.specs.Prelude.{◌≡◌, ◌≢◌, ℕ, List, Option, Ok,
 ghost use Rattle.vaultctl_commands.specs.declared.fault.JobFault.{JobFault as AnyFault};
 ghost use Rattle.vaultctl_commands.specs.declared.outcome.Outcome.{Outcome as AnyOutcome};
 
+use crate::opened_files::OpenedFiles;
 use crate::telling::{status, tell_cause};
+use crate::watched_keeper::WatchedKeeper;
 use sqlite::Start;
 use std::io::{Read, Stderr, Write};
 use vault_core_model::keeper::Keeper;
 use vaultctl_commands::fault::JobFault;
 use vaultctl_commands::outcome::Outcome;
 use vaultctl_commands::told_keeper::ToldKeeper;
+use vaultctl_machine::unopened::Unopened;
 use vaultctl_machine::vaults::{FileVault, Machine, close_vault};
 
 /// What a job does with a vault.
@@ -33,10 +36,40 @@ pub trait Work {
         ensures { tells result (W.contents out.old) (W.contents out.new) };
 }
 
+/// A vault in files, which looks before each change whether they are still those that were opened.
+type WatchedVault<'a, S> = WatchedKeeper<FileVault<S>, OpenedFiles<'a>>;
+
+/// Watches the files of a vault, which was opened just now. Where one can't see them, the vault is closed.
+fn watch<'a, S: Start>(
+    rt: &'a HostRuntime,
+    file: &str,
+    vault: FileVault<S>,
+) -> Result<WatchedVault<'a, S>, Unopened> {
+    match OpenedFiles::at(rt, file) {
+        Ok(files) => Ok(WatchedKeeper::new(vault, files)),
+        Err(cause) => {
+            close_vault(vault);
+            Err(cause)
+        }
+    }
+}
+
+/// Opens the vault in a file, and watches it.
+fn open_watched<'a, S: Start>(
+    machine: &mut Machine<'a>,
+    file: &str,
+    start: S,
+) -> Result<WatchedVault<'a, S>, Unopened> {
+    match machine.open(file, start) {
+        Ok(vault) => watch(machine.runtime(), file, vault),
+        Err(cause) => Err(cause),
+    }
+}
+
 /// Does it with a vault, and closes the vault.
 fn with_vault<S: Start, T: Work, R: Read, W: Write, E: Write>(
     rt: &HostRuntime,
-    vault: FileVault<S>,
+    vault: WatchedVault<'_, S>,
     work: &T,
     reader: &mut R,
     out: &mut W,
@@ -46,7 +79,7 @@ fn with_vault<S: Start, T: Work, R: Read, W: Write, E: Write>(
 {
     let mut told = ToldKeeper::new(vault, work.terminal(rt));
     let outcome = work.carry_out(rt, &mut told, reader, out, err);
-    close_vault(told.into_keeper());
+    close_vault(told.into_keeper().into_keeper());
     outcome
 }
 
@@ -65,7 +98,7 @@ pub fn in_vault<S: Start, T: Work, R: Read, W: Write, E: Write>(
     ensures status { result ≢ 2 }
 {
     let rt = machine.runtime();
-    match machine.open(file, start) {
+    match open_watched(machine, file, start) {
         Ok(vault) => {
             let outcome = with_vault(rt, vault, work, reader, out, err);
             status(err, subcommand, outcome)

@@ -7,6 +7,7 @@ ghost use Rattle.vaultctl_replay.specs.Lines.{unended_of};
 ghost use Rattle.vaultctl_replay.specs.Runs.{Began, Finished, Replied, Unwritten};
 
 use crate::fault::ReplayFault;
+use crate::observer::Observer;
 use crate::writing::write_bytes;
 use std::alloc::{AllocError, Global};
 use std::io::Write;
@@ -73,10 +74,11 @@ fn answer<K: Keeper, W: Write>(
 }
 
 /// Carries out a line and writes its reply.
-pub fn answer_line<K: Keeper, W: Write>(
+pub fn answer_line<K: Keeper, W: Write, O: Observer>(
     alloc: Global,
     keeper: &mut K,
     writer: &mut W,
+    observer: &mut O,
     line: &[u8],
 ) -> Result<(), ReplayFault>
     ensures ok { OnOk result (Finished (K.is_honest keeper.new) (K.vault keeper.old) (K.count keeper.old) (W.contents writer.old) (line_of line.now ∷ []) (K.vault keeper.new) (K.count keeper.new) (W.contents writer.new)) }
@@ -88,14 +90,16 @@ pub fn answer_line<K: Keeper, W: Write>(
     let Ok(asked) = read_line(alloc, line) else {
         return Err(ReplayFault::Memory);
     };
+    observer.line(alloc, line, &asked);
     answer(alloc, keeper, writer, asked)
 }
 
 /// Carries out a last line that lacks its LF, and writes its reply.
-pub fn answer_unended<K: Keeper, W: Write>(
+pub fn answer_unended<K: Keeper, W: Write, O: Observer>(
     alloc: Global,
     keeper: &mut K,
     writer: &mut W,
+    observer: &mut O,
     line: &[u8],
 ) -> Result<(), ReplayFault>
     ensures ok { OnOk result (Finished (K.is_honest keeper.new) (K.vault keeper.old) (K.count keeper.old) (W.contents writer.old) (unended_of line.now ∷ []) (K.vault keeper.new) (K.count keeper.new) (W.contents writer.new)) }
@@ -105,8 +109,10 @@ pub fn answer_unended<K: Keeper, W: Write>(
     ensures counted { K.count keeper.old ≤ K.count keeper.new }
 {
     if line.len() == 1 && line[0] == b'\r' {
-        answer(alloc, keeper, writer, Line::Refused(Refusal::MalformedBody))
+        let asked = Line::Refused(Refusal::MalformedBody);
+        observer.line(alloc, line, &asked);
+        answer(alloc, keeper, writer, asked)
     } else {
-        answer_line(alloc, keeper, writer, line)
+        answer_line(alloc, keeper, writer, observer, line)
     }
 }

@@ -5,10 +5,18 @@ ghost use Rattle.vaultctl_replay.specs.Runs.{Began, Finished};
 
 use crate::answer::{answer_line, answer_unended};
 use crate::fault::ReplayFault;
+use crate::observer::Observer;
 use crate::writing::flush;
 use std::alloc::Global;
 use std::io::Write;
 use vault_core_model::keeper::Keeper;
+
+/// Where the bytes of a line are kept, and how many of them at most.
+#[derive(Clone, Copy)]
+pub struct Room {
+    pub alloc: Global,
+    pub most: usize,
+}
 
 /// Adds a byte to a line, of which so many bytes are kept.
 fn push_within(part: &mut Vec<u8>, byte: u8, most: usize) -> Result<(), ReplayFault>
@@ -24,62 +32,63 @@ fn push_within(part: &mut Vec<u8>, byte: u8, most: usize) -> Result<(), ReplayFa
     Ok(())
 }
 
-/// Takes the next byte of the input, and answers the line that ends with it. Of a line so many bytes are kept.
-fn take_byte<K: Keeper, W: Write>(
-    alloc: Global,
+/// Takes the next byte of the input, and answers the line that ends with it.
+fn take_byte<K: Keeper, W: Write, O: Observer>(
+    room: Room,
     keeper: &mut K,
     writer: &mut W,
+    observer: &mut O,
     part: &mut Vec<u8>,
-    most: usize,
     byte: u8,
 ) -> Result<(), ReplayFault>
-    requires { vec_len part.old ≤ most }
-    ensures ok { OnOk result (Finished (K.is_honest keeper.new) (K.vault keeper.old) (K.count keeper.old) (W.contents writer.old) (asked_in most part.old.items (byte ∷ [])) (K.vault keeper.new) (K.count keeper.new) (W.contents writer.new)) }
-    ensures part { OnOk result (part.new.items ≡ (advance most part.old.items (byte ∷ [])).1) }
-    ensures err { OnErr result (Began (K.is_honest keeper.new) (K.vault keeper.old) (K.count keeper.old) (W.contents writer.old) (asked_in most part.old.items (byte ∷ [])) (K.vault keeper.new) (K.count keeper.new) (W.contents writer.new)) }
-    ensures bound { vec_len part.new ≤ most }
+    requires { vec_len part.old ≤ room.most }
+    ensures ok { OnOk result (Finished (K.is_honest keeper.new) (K.vault keeper.old) (K.count keeper.old) (W.contents writer.old) (asked_in room.most part.old.items (byte ∷ [])) (K.vault keeper.new) (K.count keeper.new) (W.contents writer.new)) }
+    ensures part { OnOk result (part.new.items ≡ (advance room.most part.old.items (byte ∷ [])).1) }
+    ensures err { OnErr result (Began (K.is_honest keeper.new) (K.vault keeper.old) (K.count keeper.old) (W.contents writer.old) (asked_in room.most part.old.items (byte ∷ [])) (K.vault keeper.new) (K.count keeper.new) (W.contents writer.new)) }
+    ensures bound { vec_len part.new ≤ room.most }
     ensures kind { ¬ (result ≡ Err ReplayFault.Read) }
     ensures honest { K.is_honest keeper.new → K.is_honest keeper.old }
     ensures counted { K.count keeper.old ≤ K.count keeper.new }
 {
     if byte == b'\n' {
-        answer_line(alloc, keeper, writer, part.as_slice())?;
+        answer_line(room.alloc, keeper, writer, observer, part.as_slice())?;
         part.clear();
         Ok(())
     } else {
-        push_within(part, byte, most)
+        push_within(part, byte, room.most)
     }
 }
 
-/// Takes the next bytes of the input, and answers each line that ends in them. Of a line so many bytes are kept.
-pub fn feed<K: Keeper, W: Write>(
-    alloc: Global,
+/// Takes the next bytes of the input, and answers each line that ends in them.
+pub fn feed<K: Keeper, W: Write, O: Observer>(
+    room: Room,
     keeper: &mut K,
     writer: &mut W,
+    observer: &mut O,
     part: &mut Vec<u8>,
-    most: usize,
     piece: &[u8],
 ) -> Result<(), ReplayFault>
-    requires { vec_len part.old ≤ most }
-    ensures ok { OnOk result (Finished (K.is_honest keeper.new) (K.vault keeper.old) (K.count keeper.old) (W.contents writer.old) (asked_in most part.old.items piece.now) (K.vault keeper.new) (K.count keeper.new) (W.contents writer.new)) }
-    ensures part { OnOk result (part.new.items ≡ (advance most part.old.items piece.now).1) }
-    ensures err { OnErr result (Began (K.is_honest keeper.new) (K.vault keeper.old) (K.count keeper.old) (W.contents writer.old) (asked_in most part.old.items piece.now) (K.vault keeper.new) (K.count keeper.new) (W.contents writer.new)) }
-    ensures bound { vec_len part.new ≤ most }
+    requires { vec_len part.old ≤ room.most }
+    ensures ok { OnOk result (Finished (K.is_honest keeper.new) (K.vault keeper.old) (K.count keeper.old) (W.contents writer.old) (asked_in room.most part.old.items piece.now) (K.vault keeper.new) (K.count keeper.new) (W.contents writer.new)) }
+    ensures part { OnOk result (part.new.items ≡ (advance room.most part.old.items piece.now).1) }
+    ensures err { OnErr result (Began (K.is_honest keeper.new) (K.vault keeper.old) (K.count keeper.old) (W.contents writer.old) (asked_in room.most part.old.items piece.now) (K.vault keeper.new) (K.count keeper.new) (W.contents writer.new)) }
+    ensures bound { vec_len part.new ≤ room.most }
     ensures kind { ¬ (result ≡ Err ReplayFault.Read) }
     ensures honest { K.is_honest keeper.new → K.is_honest keeper.old }
     ensures counted { K.count keeper.old ≤ K.count keeper.new }
 {
     for byte in piece {
-        take_byte(alloc, keeper, writer, part, most, *byte)?;
+        take_byte(room, keeper, writer, observer, part, *byte)?;
     }
     Ok(())
 }
 
 /// Answers a last line that lacks its LF, if there is one.
-fn answer_last<K: Keeper, W: Write>(
+fn answer_last<K: Keeper, W: Write, O: Observer>(
     alloc: Global,
     keeper: &mut K,
     writer: &mut W,
+    observer: &mut O,
     part: &[u8],
 ) -> Result<(), ReplayFault>
     ensures ok { OnOk result (Finished (K.is_honest keeper.new) (K.vault keeper.old) (K.count keeper.old) (W.contents writer.old) (last_of part.now) (K.vault keeper.new) (K.count keeper.new) (W.contents writer.new)) }
@@ -91,15 +100,16 @@ fn answer_last<K: Keeper, W: Write>(
     if part.is_empty() {
         Ok(())
     } else {
-        answer_unended(alloc, keeper, writer, part)
+        answer_unended(alloc, keeper, writer, observer, part)
     }
 }
 
 /// Answers a last line that lacks its LF, and hands on what the writer holds back.
-pub fn finish<K: Keeper, W: Write>(
+pub fn finish<K: Keeper, W: Write, O: Observer>(
     alloc: Global,
     keeper: &mut K,
     writer: &mut W,
+    observer: &mut O,
     part: &[u8],
 ) -> Result<(), ReplayFault>
     ensures ok { OnOk result (Finished (K.is_honest keeper.new) (K.vault keeper.old) (K.count keeper.old) (W.contents writer.old) (last_of part.now) (K.vault keeper.new) (K.count keeper.new) (W.contents writer.new)) }
@@ -108,6 +118,6 @@ pub fn finish<K: Keeper, W: Write>(
     ensures honest { K.is_honest keeper.new → K.is_honest keeper.old }
     ensures counted { K.count keeper.old ≤ K.count keeper.new }
 {
-    answer_last(alloc, keeper, writer, part)?;
+    answer_last(alloc, keeper, writer, observer, part)?;
     flush(writer)
 }

@@ -8,7 +8,7 @@ pub returns-in-Err-clause-refused : goal.returns-in-Err-clause-refused
 returns-in-Err-clause-refused c =
     let is = c.in-Ok.ensures in
     let kinds = c.in-Err.ensures.kinds (ap is_simple_and_free is ∙ is_free_lem) in
-    λ refusal none. c.refusal.ensures refusal (refused (app_of c.in-Ok.command) _ is c.in-Err.error kinds none)
+    λ refusal none. c.refusal_of.ensures refusal (refused (app_of c.in-Ok.command) _ is c.in-Err.error kinds none)
 
 pub unreachable-requires : goal.unreachable-requires
 unreachable-requires c =

@@ -7,10 +7,10 @@ use Rattle.vaultctl_perform.proofs.replay.answer_all.Goals as goal
 pub returns : goal.returns
 returns g c =
     let before = g.W.Write.contents c.args.out.now in
-    let after = g.W.Write.contents c.replay.new.writer in
-    let last = c.replay.new.keeper in
-    on_ok_weaker c.replay.result
+    let after = g.W.Write.contents c.replay_observed.new.writer in
+    let last = c.replay_observed.new.keeper in
+    on_ok_weaker c.replay_observed.result
     (λ s.
     let P : Vault → Type 0 = λ v. AnswersAll (Unit {0}) v 0 before s.0 last 0 after in
     (s.0, s.1, s.2, (last, subst P c.in-Ok.ensures s.3)))
-    c.replay.ensures.ok
+    c.replay_observed.ensures.ok

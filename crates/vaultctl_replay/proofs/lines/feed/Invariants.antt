@@ -7,7 +7,7 @@ abbrev pub invariant-loop-byte : goal.invariant-loop-byte
 invariant-loop-byte g l = record {
   honest : g.K.Keeper.is_honest l.keeper → g.K.Keeper.is_honest l.fn.keeper;
   counted : g.K.Keeper.count l.fn.keeper ≤ g.K.Keeper.count l.keeper;
-  finished : Finished (g.K.Keeper.is_honest l.keeper) (g.K.Keeper.vault l.fn.keeper) (g.K.Keeper.count l.fn.keeper) (g.W.Write.contents l.fn.writer) (asked_in l.most l.fn.part.items (take l.byte-index l.piece)) (g.K.Keeper.vault l.keeper) (g.K.Keeper.count l.keeper) (g.W.Write.contents l.writer);
-  rest : l.part.items ≡ (advance l.most l.fn.part.items (take l.byte-index l.piece)).1;
-  bound : vec_len l.part ≤ l.most;
+  finished : Finished (g.K.Keeper.is_honest l.keeper) (g.K.Keeper.vault l.fn.keeper) (g.K.Keeper.count l.fn.keeper) (g.W.Write.contents l.fn.writer) (asked_in l.room.most l.fn.part.items (take l.byte-index l.piece)) (g.K.Keeper.vault l.keeper) (g.K.Keeper.count l.keeper) (g.W.Write.contents l.writer);
+  rest : l.part.items ≡ (advance l.room.most l.fn.part.items (take l.byte-index l.piece)).1;
+  bound : vec_len l.part ≤ l.room.most;
 }

@@ -4,7 +4,7 @@ use Rattle.std.specs.Io.KnownBytes.{Consumes, IsAtEnd}
 use Rattle.std.proofs.KnownBytes.{Consumes-trans, Consumes-kept}
 use Rattle.vaultctl_replay.specs.Runs.{AnswersSome}
 use Rattle.vaultctl_replay.proofs.RunLemmas.{on_err, begun, next_ok, next_part, next_err, answers_all, answers_ended, answers_some, answers_some_last, none_read, Finished-keeps, finished_reached, began_reached, either_reached, some_steady, either_steady}
-use Rattle.vaultctl_replay.proofs.replay.Goals as goal
+use Rattle.vaultctl_replay.proofs.replay_observed.Goals as goal
 
 -- ---- at the end of the input
 

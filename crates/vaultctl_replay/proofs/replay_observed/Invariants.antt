@@ -2,7 +2,7 @@ use Rattle.std.proofs.Common.{◌≡◌, ◌≤◌, ℕ, List, [], vec_len}
 use Rattle.std.specs.Io.KnownBytes.{Consumes}
 use Rattle.vaultctl_replay.specs.Lines.{advance, asked_in}
 use Rattle.vaultctl_replay.specs.Runs.{Finished}
-use Rattle.vaultctl_replay.proofs.replay.Given as goal
+use Rattle.vaultctl_replay.proofs.replay_observed.Given as goal
 
 abbrev pub invariant-loop-turn : goal.invariant-loop-turn
 invariant-loop-turn g l = record {

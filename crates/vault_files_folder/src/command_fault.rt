@@ -1,0 +1,44 @@
+//! Why the command of a row is refused.
+use std::fmt::{self, Display, Formatter, Write};
+use vault_base::refusal::{Reason, Refusal};
+
+/// Why the command of a row is refused, where its cells and its file are as they have to be.
+#[derive(Clone, Copy, Debug)]
+pub(crate) struct CommandFault {
+    pub refusal: Refusal,
+}
+
+fn words_of_reason(reason: Reason) -> &'static str {
+    match reason {
+        Reason::UnknownCaller => "no open caller has the name that `--as` gives",
+        Reason::Department => "the caller is of another department than the bucket",
+        _ => "the caller may not",
+    }
+}
+
+fn words_of(refusal: Refusal) -> &'static str {
+    match refusal {
+        Refusal::AccessDenied(reason) => words_of_reason(reason),
+        Refusal::NoSuchBucket => "no bucket has that name",
+        Refusal::ClockBack => "the moment of the intake is before the vault's last one",
+        Refusal::InvalidArgument => "`until` doesn't lie after the moment of the intake",
+        Refusal::RetentionOutOfRange =>
+            "the bucket's default retention would end after the year 9999",
+        Refusal::QuotaExceeded => "the department would admit more bytes than its limit",
+        Refusal::VaultFull => "the vault has no number for another version",
+        Refusal::IntakeConflict => {
+            "this row of the batch was taken in before with another key, content, retention or hold; give the changed file a row of its own at the list's end"
+        }
+        _ => refusal.name(),
+    }
+}
+
+impl Display for CommandFault {
+    fn fmt<W: Write>(&self, f: &mut Formatter<W>) -> fmt::Result {
+        if let Refusal::AccessDenied(Reason::Right(right)) = self.refusal {
+            let right = right.name();
+            return write!(f, "the caller hasn't the right `{right}`");
+        }
+        f.write_str(words_of(self.refusal))
+    }
+}
