@@ -4,4 +4,3 @@ pub mod Replay
 pub mod Status
 pub mod Told
 pub mod Values
-pub mod Watched

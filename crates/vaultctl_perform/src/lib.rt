@@ -14,11 +14,9 @@ mod asked;
 mod files;
 mod intake;
 mod migrate;
-mod opened_files;
 mod replay;
 mod telling;
 mod verify;
-mod watched_keeper;
 mod work;
 
 use crate::asked::Call;

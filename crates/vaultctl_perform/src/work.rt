@@ -3,9 +3,7 @@ ghost use Rattle.std.specs.Prelude.{◌≡◌, ◌≢◌, ℕ, List, Option, Ok,
 ghost use Rattle.vaultctl_commands.specs.declared.fault.JobFault.{JobFault as AnyFault};
 ghost use Rattle.vaultctl_commands.specs.declared.outcome.Outcome.{Outcome as AnyOutcome};
 
-use crate::opened_files::OpenedFiles;
 use crate::telling::{status, tell_cause};
-use crate::watched_keeper::WatchedKeeper;
 use sqlite::Start;
 use std::io::{Read, Stderr, Write};
 use vault_core_model::keeper::Keeper;
@@ -14,6 +12,8 @@ use vaultctl_commands::outcome::Outcome;
 use vaultctl_commands::told_keeper::ToldKeeper;
 use vaultctl_machine::unopened::Unopened;
 use vaultctl_machine::vaults::{FileVault, Machine, close_vault};
+use vaultctl_machine_places::opened_files::OpenedFiles;
+use vaultctl_machine_places::watched_keeper::WatchedKeeper;
 
 /// What a job does with a vault.
 pub trait Work {
@@ -47,9 +47,9 @@ fn watch<'a, S: Start>(
 ) -> Result<WatchedVault<'a, S>, Unopened> {
     match OpenedFiles::at(rt, file) {
         Ok(files) => Ok(WatchedKeeper::new(vault, files)),
-        Err(cause) => {
+        Err(refusal) => {
             close_vault(vault);
-            Err(cause)
+            Err(Unopened::Refused(refusal))
         }
     }
 }

@@ -84,7 +84,7 @@ fn is_lost<W: Watch>(watch: &W, refused: u64) -> bool
 }
 
 impl<K: Keeper, W: Watch> Keeper for WatchedKeeper<K, W> {
-    ghost use Rattle.vaultctl_perform.specs.Watched.{failures};
+    ghost use Rattle.vaultctl_machine_places.specs.Watched.{failures};
 
     ghost is_honest = { λ k. K.is_honest k.keeper };
 

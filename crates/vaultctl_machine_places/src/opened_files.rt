@@ -4,7 +4,6 @@ use std::fs;
 use std::io::{self, ErrorKind, Write};
 use std::os::unix::fs::MetadataExt;
 use vault_base::refusal::Refusal;
-use vaultctl_machine::unopened::Unopened;
 
 /// Which file a name means: two files of one moment differ in these numbers.
 #[derive(Clone, Copy, PartialEq, Eq)]
@@ -66,18 +65,18 @@ fn files_at<'a>(rt: &'a HostRuntime, path: &str) -> io::Result<OpenedFiles<'a>> 
 }
 
 /// What it is reported as that one can't see the files.
-fn unseen(error: io::Error) -> Unopened {
+fn unseen(error: io::Error) -> Refusal {
     if error.kind() == ErrorKind::OutOfMemory {
-        return Unopened::Refused(Refusal::Memory);
+        return Refusal::Memory;
     }
-    Unopened::Refused(Refusal::Device)
+    Refusal::Device
 }
 
 impl<'a> OpenedFiles<'a> {
     /// The files at a path, where a vault was opened just now.
     ///
     /// `Memory` where memory was refused, and `Device` where one can't see them.
-    pub fn at(rt: &'a HostRuntime, path: &str) -> Result<OpenedFiles<'a>, Unopened> {
+    pub fn at(rt: &'a HostRuntime, path: &str) -> Result<OpenedFiles<'a>, Refusal> {
         match files_at(rt, path) {
             Ok(files) => Ok(files),
             Err(error) => Err(unseen(error)),
