@@ -7,7 +7,9 @@ use vault_base::name::{
 use vault_core_model::change::Change;
 use vault_core_model::halt::Fault;
 use vault_core_model::keeper::{Keeper, Sink};
-use vault_core_model::records::{BucketConfig, Caller, Entry, Head, LastSetting, Note, Tenures};
+use vault_core_model::records::{
+    BucketConfig, Caller, Entry, Head, LastSetting, Note, Settings, Tenures,
+};
 use vault_rules::plan::Held;
 use vault_rules::rule_set::RuleSet;
 use vault_tally::row::Row;
@@ -106,6 +108,10 @@ impl<K: Keeper> Keeper for FuseKeeper<K> {
 
     fn setting(&mut self, id: VersionId) -> Result<Option<LastSetting>, Fault> {
         self.keeper.setting(id)
+    }
+
+    fn settings(&mut self, id: VersionId) -> Result<Settings, Fault> {
+        self.keeper.settings(id)
     }
 
     fn content(&mut self, id: VersionId) -> Result<Option<Content>, Fault> {

@@ -138,6 +138,20 @@ pub(crate) fn tenures(
     history.tenures.clone()
 }
 
+/// The settings of the entry of that id; none where no entry has it.
+pub(crate) fn settings(
+    alloc: Global,
+    histories: &[History],
+    id: VersionId,
+) -> Result<Settings, AllocError>
+    ensures { IfOk result (λ found. found ≡ unwrap_or (option_map (λ h. h.settings) (find (λ h. h.entry.id == id) histories.now)) []) }
+{
+    let Some(history) = history(histories, id) else {
+        return Ok(Settings::new(alloc));
+    };
+    history.settings.clone()
+}
+
 /// The last setting of the version of that id.
 pub(crate) fn setting(histories: &[History], id: VersionId) -> Option<LastSetting>
     ensures { result ≡ option_and_then (λ h. last_setting h.settings) (find (λ h. h.entry.id == id) histories.now) }

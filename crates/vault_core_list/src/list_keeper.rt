@@ -16,7 +16,8 @@ use vault_core_model::change::Change;
 use vault_core_model::halt::Fault;
 use vault_core_model::keeper::{Keeper, Sink};
 use vault_core_model::records::{
-    Bucket, BucketConfig, Caller, Entry, Head, History, LastSetting, Note, Tenure, Tenures,
+    Bucket, BucketConfig, Caller, Entry, Head, History, LastSetting, Note, Settings, Tenure,
+    Tenures,
 };
 use vault_core_model::rights::Rights;
 use vault_rules::plan::Held;
@@ -157,6 +158,10 @@ impl Keeper for ListKeeper {
         ensures same { self.new ≡ self.old }
     {
         Ok(find::setting(&self.histories, id))
+    }
+
+    fn settings(&mut self, id: VersionId) -> Result<Settings, Fault> {
+        Ok(find::settings(self.alloc, &self.histories, id)?)
     }
 
     fn content(&mut self, id: VersionId) -> Result<Option<Content>, Fault> {

@@ -37,6 +37,10 @@ abbrev pub count_of_settings : Option LastSetting → ℕ
 count_of_settings None = 0
 count_of_settings (Some s) = s.count
 
+-- the settings of the entry of that id, oldest first; a marker has none
+abbrev pub settings_of : Vault → ℕ → List Setting
+settings_of v id = unwrap_or (option_map (λ h. h.settings) (history_of v id)) []
+
 -- the tenures of the entry of that id; a marker has none
 abbrev pub tenures_of : Vault → ℕ → List Tenure
 tenures_of v id = unwrap_or (option_map (λ h. h.tenures) (history_of v id)) []

@@ -1,7 +1,7 @@
 //! What keeps a vault.
 ghost use Rattle.std.specs.Prelude.{◌≡◌, ◌≤◌, ◌<◌, ℕ, IfOk, OnOk, OnErr, false};
 ghost use Rattle.vault_core_model.specs.Vault.{Vault, caller_of, config_of, has_department, next_id, note_of, rules_of};
-ghost use Rattle.vault_core_model.specs.Reads.{content_of, entries_of, entry_of, head_of, keys_after, removed_entries, setting_of, tenures_of};
+ghost use Rattle.vault_core_model.specs.Reads.{content_of, entries_of, entry_of, head_of, keys_after, removed_entries, setting_of, settings_of, tenures_of};
 ghost use Rattle.vault_core_model.specs.Change.{changed};
 ghost use Rattle.vault_core_model.specs.Allowed.{Allows};
 ghost use Rattle.vault_core_model.specs.Sound.{Sound};
@@ -11,7 +11,7 @@ ghost use Rattle.vault_core_model.specs.Totals.{IsRowFor, bucket_bytes, bucket_w
 
 use crate::change::Change;
 use crate::halt::Fault;
-use crate::records::{BucketConfig, Caller, Entry, Head, LastSetting, Note, Tenures};
+use crate::records::{BucketConfig, Caller, Entry, Head, LastSetting, Note, Settings, Tenures};
 use vault_base::content::Content;
 use vault_base::moment::Moment;
 use vault_base::name::{
@@ -136,6 +136,15 @@ pub trait Keeper {
     /// The last setting of a version, and how many it has; a marker has none.
     fn setting(&mut self, id: VersionId) -> Result<Option<LastSetting>, Fault>
         ensures value { is_honest self.new → IfOk result (λ found. found ≡ setting_of (vault self.old) id) }
+        ensures same { vault self.new ≡ vault self.old }
+        ensures honest { is_honest self.new → is_honest self.old }
+        ensures counted { count self.old ≤ count self.new }
+        ensures device { result ≡ Err Fault.Device → RoseOrIsFull (count self.old) (count self.new) }
+        ensures steady { is_device_given result ≡ false → count self.new ≡ count self.old };
+
+    /// The settings of an entry, oldest first; a marker has none.
+    fn settings(&mut self, id: VersionId) -> Result<Settings, Fault>
+        ensures value { is_honest self.new → IfOk result (λ found. found ≡ settings_of (vault self.old) id) }
         ensures same { vault self.new ≡ vault self.old }
         ensures honest { is_honest self.new → is_honest self.old }
         ensures counted { count self.old ≤ count self.new }

@@ -10,7 +10,9 @@ use Rattle.vault_base.specs.declared.right.Right.TheVariants as right
 use Rattle.vault_core_model.specs.declared.access.Access.{Access}
 use Rattle.vault_core_model.specs.declared.records.Caller.{Caller}
 use Rattle.vault_core_model.specs.Vault.{Vault, caller_of, config_of}
-use Rattle.vault_core_model.specs.Checks.{◌>>=◌, check, found, open_caller, in_time, asking, administrator, access, needs, is_own}
+use Rattle.vault_core_model.specs.Rights.{has}
+use Rattle.vault_core_model.specs.Checks.{◌>>=◌, check, found, open_caller, in_time, asking, administrator, access, needs, needs_if, is_own}
+use Rattle.vault_core_worm_laws.specs.Entitled.{has_right, HasRight}
 
 -- ---- one check after another
 
@@ -80,10 +82,22 @@ pub record HasAccess (v : Vault) (t : ℕ) (who name : List ℕ) (a : Access) : 
   pub caller : caller_of v who ≡ Some a.caller
   pub bucket : config_of v name ≡ Some a.bucket
 
-pub access-is : (v : Vault) (t : ℕ) (who bucket : List ℕ) (r : Right) → IfOk (access v t who bucket r) (HasAccess v t who bucket)
+pub has-right : (v : Vault) (who : List ℕ) (c : Caller) (r : Right) → caller_of v who ≡ Some c → has c.rights r ≡ true → HasRight v who r
+has-right v who c r there may = let P : Option Caller → Type 0 = λ o. has_right r o ≡ true in subst P (sym there) may
+
+-- who has access has the right
+pub access-is : (v : Vault) (t : ℕ) (who bucket : List ℕ) (r : Right) → IfOk (access v t who bucket r) (λ a. HasAccess v t who bucket a × HasRight v who r)
 access-is v t who bucket r =
     bind_if (asking v t who) (IsAsking v t who) _ _ (asking-is v t who)
     (λ c asked. bind_if (found (config_of v bucket) NoSuchBucket) (λ b. config_of v bucket ≡ Some b) _ _ (found-is (config_of v bucket) NoSuchBucket)
     (λ b there. bind_if (check (is_own c.dept b.dept) (AccessDenied reason.Department)) (λ u. Unit {0}) _ _ (any-is (check (is_own c.dept b.dept) (AccessDenied reason.Department)))
-    (λ u own. bind_if (needs c r) (λ u. Unit {0}) _ _ (any-is (needs c r))
-    (λ w may. record { in_time = asked.in_time; caller = asked.caller; bucket = there }))))
+    (λ u own. bind_if (needs c r) (λ u. has c.rights r ≡ true) _ _ (check-is (has c.rights r) (AccessDenied (reason.Right r)))
+    (λ w may. (record { in_time = asked.in_time; caller = asked.caller; bucket = there }, has-right v who c r asked.caller may)))))
+
+-- the same, but for the right
+pub access-only : (v : Vault) (t : ℕ) (who bucket : List ℕ) (r : Right) → IfOk (access v t who bucket r) (HasAccess v t who bucket)
+access-only v t who bucket r = if_weaker (access v t who bucket r) (λ a. HasAccess v t who bucket a × HasRight v who r) (HasAccess v t who bucket) (λ a at. at.0) (access-is v t who bucket r)
+
+pub needs_if-is : (b : Bool) (c : Caller) (r : Right) → IfOk (needs_if b c r) (λ u. b ≡ true → has c.rights r ≡ true)
+needs_if-is true c r = if_weaker (needs c r) (λ u. has c.rights r ≡ true) (λ u. true ≡ true → has c.rights r ≡ true) (λ u may e. may) (check-is (has c.rights r) (AccessDenied (reason.Right r)))
+needs_if-is false c r = λ e. absurd (cc e)

@@ -25,15 +25,16 @@ use Rattle.vault_core_model.specs.Sound.{Sound}
 use Rattle.vault_core_model.specs.Allowed.{IsNextSetting, IsHeldId}
 use Rattle.vault_core_model.specs.Checks.{access, ends_later, version_meant, permitted, free_setting, most_settings}
 use Rattle.vault_core_model.specs.LockOutcomes as locks
+use Rattle.vault_core_worm_laws.specs.Entitled.{HasRight, IsSetByRight}
 use Rattle.vault_core_worm_laws.specs.Permits.{IsRetentionSetting, IsPermittedSetting}
-use Rattle.vault_core_worm_laws.proofs.Checked.{bind_if, any-is, check-is, HasAccess, access-is}
+use Rattle.vault_core_worm_laws.proofs.Checked.{bind_if, any-is, check-is, HasAccess, access-is, access-only}
 use Rattle.vault_core_worm_laws.proofs.Meant.{IsHeldVersion, version_meant-is}
 use Rattle.vault_core_worm_laws.proofs.EntryChanges.{may_bypass}
 use Rattle.vault_core_worm_laws.proofs.RecordChanges.{Changes, unchanged, one_change}
 
 -- ---- what a permit says of a new retention
 
-abbrev Retained : Option Retention → Retention → ℕ → Bool → Permit → Type 0
+abbrev pub Retained : Option Retention → Retention → ℕ → Bool → Permit → Type 0
 Retained old new t allowed Free = KeepsRetention old new t
 Retained old new t allowed Bypass = LowersGovernance old new t × (allowed ≡ true)
 
@@ -52,7 +53,7 @@ keeps-is old new e =
     let parts = and_parts (is_mode old.mode new.mode) (nat_le old.until new.until) e in
     (one_mode old.mode new.mode parts.0, leb-true old.until new.until parts.1)
 
-is-keeps : (old new : Retention) → (new.mode ≡ old.mode) × (old.until ≤ new.until) → keeps old new ≡ true
+pub is-keeps : (old new : Retention) → (new.mode ≡ old.mode) × (old.until ≤ new.until) → keeps old new ≡ true
 is-keeps old new kept =
     let P : Mode → Type 0 = λ m. (is_mode old.mode m && nat_le old.until new.until) ≡ true in
     subst P (sym kept.0) (rw (mode_itself old.mode, le_true old.until new.until kept.1) refl)
@@ -74,7 +75,7 @@ if_forced : (old new : Retention) (t : ℕ) (b asked allowed : Bool) → is_in_f
 if_forced old new t true asked allowed e = if_kept old new t (keeps old new) asked allowed refl (ltb-true t old.until e)
 if_forced old new t false asked allowed e = λ force. absurd (omega (arith, force, ltb-false t old.until e))
 
-retainable-is : (o : Option Retention) (new : Retention) (t : ℕ) (asked allowed : Bool) → IfOk (permitted (permit_instead (in_force o t) new asked allowed)) (Retained o new t allowed)
+pub retainable-is : (o : Option Retention) (new : Retention) (t : ℕ) (asked allowed : Bool) → IfOk (permitted (permit_instead (in_force o t) new asked allowed)) (Retained o new t allowed)
 retainable-is None new t asked allowed = tt
 retainable-is (Some old) new t asked allowed = if_forced old new t (is_in_force old t) asked allowed refl
 
@@ -85,13 +86,14 @@ pub record IsNext (v : Vault) (t : ℕ) (who : List ℕ) (n : NextSetting) : Typ
   pub allowed : IsNextSetting v t n.id n.setting
   pub held : IsHeldId v n.id
   pub permitted : IsPermittedSetting v t who (lock_of v n.id) n.setting
+  pub entitled : IsSetByRight v t (lock_of v n.id) n.setting
 
 setting-retains : (v : Vault) (t : ℕ) (who : List ℕ) (a : Access) (old : Lock) (new : Retention) (p : Permit) → caller_of v who ≡ Some a.caller → t < new.until → Retained old.retention new t a.caller.rights.bypass p → IsRetentionSetting v t old (locks.setting t who (record { retention = Some new; hold = old.hold }) p)
 setting-retains v t who a old new Free there later may = record { new = new; given = refl; later = later; hold = refl; kept = inl (may, refl) }
 setting-retains v t who a old new Bypass there later may = record { new = new; given = refl; later = later; hold = refl; kept = inr (may.0, refl, may_bypass v who a.caller there may.1) }
 
-next_retention-is : (v : Vault) (t : ℕ) (who : List ℕ) (c : SetRetention) (a : Access) → Sound v → caller_of v who ≡ Some a.caller → IfOk (locks.next_retention v t who c a) (IsNext v t who)
-next_retention-is v t who c a sound there =
+next_retention-is : (v : Vault) (t : ℕ) (who : List ℕ) (c : SetRetention) (a : Access) → Sound v → caller_of v who ≡ Some a.caller → HasRight v who right.Retain → IfOk (locks.next_retention v t who c a) (IsNext v t who)
+next_retention-is v t who c a sound there right_to =
     bind_if (ends_later t c.retention) (λ u. nat_lt t c.retention.until ≡ true) _ _ (check-is (nat_lt t c.retention.until) InvalidArgument)
     (λ u later. bind_if (version_meant v c.bucket c.key c.id) (IsHeldVersion v) _ _ (version_meant-is v c.bucket c.key c.id sound)
     (λ e held. bind_if (permitted (retainable (lock_of v e.id) c.retention t c.bypass a.caller.rights.bypass)) (Retained (lock_of v e.id).retention c.retention t a.caller.rights.bypass) _ _ (retainable-is (lock_of v e.id).retention c.retention t c.bypass a.caller.rights.bypass)
@@ -100,29 +102,31 @@ next_retention-is v t who c a sound there =
       allowed = record { now = refl; entry = e; there = held.there; held = held.held; version = held.version; fits = ltb-true (count_of_settings (setting_of v e.id)) most_settings free };
       held = (e, held.there, held.held);
       permitted = (refl, inl (setting-retains v t who a (lock_of v e.id) c.retention p there (ltb-true t c.retention.until later) may));
+      entitled = inl (setting-retains v t who a (lock_of v e.id) c.retention p there (ltb-true t c.retention.until later) may, right_to);
     }))))
 
 pub set_retention-changes : (v : Vault) (t : ℕ) (who : List ℕ) (c : SetRetention) → Sound v → Changes v t who (locks.set_retention v t who c)
 set_retention-changes v t who c sound =
-    bind_if (access v t who c.bucket right.Retain) (HasAccess v t who c.bucket) _ _ (access-is v t who c.bucket right.Retain)
-    (λ a at. bind_if (locks.next_retention v t who c a) (IsNext v t who) _ _ (next_retention-is v t who c a sound at.caller)
-    (λ n is. one_change v t who (change.AddSetting n.id n.setting) (record { in_time = at.in_time; allowed = is.allowed; permitted = (is.held, is.permitted) })))
+    bind_if (access v t who c.bucket right.Retain) (λ a. HasAccess v t who c.bucket a × HasRight v who right.Retain) _ _ (access-is v t who c.bucket right.Retain)
+    (λ a at. bind_if (locks.next_retention v t who c a) (IsNext v t who) _ _ (next_retention-is v t who c a sound at.0.caller at.1)
+    (λ n is. one_change v t who (change.AddSetting n.id n.setting) (record { in_time = at.0.in_time; allowed = is.allowed; permitted = (is.held, is.permitted); entitled = is.entitled })))
 
-next_hold-is : (v : Vault) (t : ℕ) (who : List ℕ) (c : SetHold) → Sound v → IfOk (locks.next_hold v t who c) (IsNext v t who)
-next_hold-is v t who c sound =
+next_hold-is : (v : Vault) (t : ℕ) (who : List ℕ) (c : SetHold) → Sound v → HasRight v who right.Hold → IfOk (locks.next_hold v t who c) (IsNext v t who)
+next_hold-is v t who c sound right_to =
     bind_if (version_meant v c.bucket c.key c.id) (IsHeldVersion v) _ _ (version_meant-is v c.bucket c.key c.id sound)
     (λ e held. bind_if (free_setting v e.id) (λ u. nat_lt (count_of_settings (setting_of v e.id)) most_settings ≡ true) _ _ (check-is (nat_lt (count_of_settings (setting_of v e.id)) most_settings) VaultFull)
     (λ w free. record {
       allowed = record { now = refl; entry = e; there = held.there; held = held.held; version = held.version; fits = ltb-true (count_of_settings (setting_of v e.id)) most_settings free };
       held = (e, held.there, held.held);
       permitted = (refl, inr (refl, refl));
+      entitled = inr ((refl, refl), right_to);
     }))
 
 pub set_hold-changes : (v : Vault) (t : ℕ) (who : List ℕ) (c : SetHold) → Sound v → Changes v t who (locks.set_hold v t who c)
 set_hold-changes v t who c sound =
-    bind_if (access v t who c.bucket right.Hold) (HasAccess v t who c.bucket) _ _ (access-is v t who c.bucket right.Hold)
-    (λ a at. bind_if (locks.next_hold v t who c) (IsNext v t who) _ _ (next_hold-is v t who c sound)
-    (λ n is. one_change v t who (change.AddSetting n.id n.setting) (record { in_time = at.in_time; allowed = is.allowed; permitted = (is.held, is.permitted) })))
+    bind_if (access v t who c.bucket right.Hold) (λ a. HasAccess v t who c.bucket a × HasRight v who right.Hold) _ _ (access-is v t who c.bucket right.Hold)
+    (λ a at. bind_if (locks.next_hold v t who c) (IsNext v t who) _ _ (next_hold-is v t who c sound at.1)
+    (λ n is. one_change v t who (change.AddSetting n.id n.setting) (record { in_time = at.0.in_time; allowed = is.allowed; permitted = (is.held, is.permitted); entitled = is.entitled })))
 
 -- ---- reads
 

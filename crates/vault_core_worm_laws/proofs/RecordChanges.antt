@@ -30,7 +30,7 @@ use Rattle.vault_core_model.specs.Totals.{admitted_bytes, received_bytes, bucket
 use Rattle.vault_core_model.specs.Checks.{check, found, needs, access, allowed_default, has_period, asking, administrator, known_department, known_department_if_given, other_department, within_quota, free_move, most_moves, may_report}
 use Rattle.vault_core_model.specs.RecordOutcomes as records
 use Rattle.vault_core_worm_laws.specs.Chains.{MayMake, MayMakeAll}
-use Rattle.vault_core_worm_laws.proofs.Checked.{bind_if, if_weaker, any-is, check-is, found-is, not-true, not_some, some_is, IsAsking, asking-is, administrator-is, HasAccess, access-is}
+use Rattle.vault_core_worm_laws.proofs.Checked.{bind_if, if_weaker, any-is, check-is, found-is, not-true, not_some, some_is, IsAsking, asking-is, administrator-is, HasAccess, access-only}
 
 -- one permitted change at most leads from v to v'
 abbrev pub LeadsOnce : Vault → ℕ → List ℕ → Vault → Type 0
@@ -50,7 +50,7 @@ pub add_dept-changes : (v : Vault) (t : ℕ) (who : List ℕ) (c : AddDept) → 
 add_dept-changes v t who c =
     bind_if (administrator v t who) (IsAsking v t who) _ _ (administrator-is v t who)
     (λ a asked. bind_if (check (not (has_department v c.dept)) NameTaken) (λ u. not (has_department v c.dept) ≡ true) _ _ (check-is (not (has_department v c.dept)) NameTaken)
-    (λ u free. one_change v t who (change.AddDept c.dept) (record { in_time = asked.in_time; allowed = not-true (has_department v c.dept) free; permitted = tt })))
+    (λ u free. one_change v t who (change.AddDept c.dept) (record { in_time = asked.in_time; allowed = not-true (has_department v c.dept) free; permitted = tt; entitled = tt })))
 
 -- the department, where one is given, is there
 known_if_given : (v : Vault) (o : Option (List ℕ)) → IfOk (known_department_if_given v o) (λ u. IsTrue (passes_if_given (has_department v) o))
@@ -62,7 +62,7 @@ add_caller-changes v t who c =
     bind_if (administrator v t who) (IsAsking v t who) _ _ (administrator-is v t who)
     (λ a asked. bind_if (known_department_if_given v c.dept) (λ u. IsTrue (passes_if_given (has_department v) c.dept)) _ _ (known_if_given v c.dept)
     (λ u known. bind_if (check (not (is_some (caller_of v c.caller))) NameTaken) (λ u. not (is_some (caller_of v c.caller)) ≡ true) _ _ (check-is (not (is_some (caller_of v c.caller))) NameTaken)
-    (λ w free. one_change v t who (change.AddCaller (records.new_caller c)) (record { in_time = asked.in_time; allowed = (not_some (caller_of v c.caller) free, known); permitted = tt }))))
+    (λ w free. one_change v t who (change.AddCaller (records.new_caller c)) (record { in_time = asked.in_time; allowed = (not_some (caller_of v c.caller) free, known); permitted = tt; entitled = tt }))))
 
 open_is_there : (o : Option Caller) → records.is_open o ≡ true → IsSome o
 open_is_there None e = absurd (cc e)
@@ -72,14 +72,14 @@ pub close_caller-changes : (v : Vault) (t : ℕ) (who : List ℕ) (c : CloseCall
 close_caller-changes v t who c =
     bind_if (administrator v t who) (IsAsking v t who) _ _ (administrator-is v t who)
     (λ a asked. bind_if (check (records.is_open (caller_of v c.caller)) InvalidArgument) (λ u. records.is_open (caller_of v c.caller) ≡ true) _ _ (check-is (records.is_open (caller_of v c.caller)) InvalidArgument)
-    (λ u there. one_change v t who (change.CloseCaller c.caller) (record { in_time = asked.in_time; allowed = open_is_there (caller_of v c.caller) there; permitted = tt })))
+    (λ u there. one_change v t who (change.CloseCaller c.caller) (record { in_time = asked.in_time; allowed = open_is_there (caller_of v c.caller) there; permitted = tt; entitled = tt })))
 
 pub add_bucket-changes : (v : Vault) (t : ℕ) (who : List ℕ) (c : AddBucket) → Changes v t who (records.add_bucket v t who c)
 add_bucket-changes v t who c =
     bind_if (administrator v t who) (IsAsking v t who) _ _ (administrator-is v t who)
     (λ a asked. bind_if (known_department v c.dept) (λ u. has_department v c.dept ≡ true) _ _ (check-is (has_department v c.dept) InvalidArgument)
     (λ u known. bind_if (check (not (is_some (config_of v c.bucket))) BucketAlreadyExists) (λ u. not (is_some (config_of v c.bucket)) ≡ true) _ _ (check-is (not (is_some (config_of v c.bucket))) BucketAlreadyExists)
-    (λ w free. one_change v t who (change.AddBucket c.bucket c.dept) (record { in_time = asked.in_time; allowed = (not_some (config_of v c.bucket) free, known); permitted = tt }))))
+    (λ w free. one_change v t who (change.AddBucket c.bucket c.dept) (record { in_time = asked.in_time; allowed = (not_some (config_of v c.bucket) free, known); permitted = tt; entitled = tt }))))
 
 -- a bucket that is asked in time to be moved
 record IsToMove (v : Vault) (t : ℕ) (name : List ℕ) (b : BucketConfig) : Type 0 where
@@ -116,23 +116,24 @@ move_bucket-changes v t who c =
       in_time = at.in_time;
       allowed = record { bucket = b; there = at.there; known = other.0; other = other.1; fits = leb-true (counted_after v c) quota fits; left = ltb-true v.moves most_moves left };
       permitted = tt;
+      entitled = tt;
     })))))
 
 pub set_default-changes : (v : Vault) (t : ℕ) (who : List ℕ) (c : SetDefault) → Changes v t who (records.set_default v t who c)
 set_default-changes v t who c =
-    bind_if (access v t who c.bucket right.Config) (HasAccess v t who c.bucket) _ _ (access-is v t who c.bucket right.Config)
+    bind_if (access v t who c.bucket right.Config) (HasAccess v t who c.bucket) _ _ (access-only v t who c.bucket right.Config)
     (λ a at. bind_if (allowed_default c.default) (λ u. has_period c.default ≡ true) _ _ (check-is (has_period c.default) InvalidArgument)
-    (λ u period. one_change v t who (change.SetDefault c.bucket c.default) (record { in_time = at.in_time; allowed = (some_is (config_of v c.bucket) a.bucket at.bucket, period); permitted = tt })))
+    (λ u period. one_change v t who (change.SetDefault c.bucket c.default) (record { in_time = at.in_time; allowed = (some_is (config_of v c.bucket) a.bucket at.bucket, period); permitted = tt; entitled = tt })))
 
 pub set_rules-changes : (v : Vault) (t : ℕ) (who : List ℕ) (c : SetRules) → IsTrue (is_rule_set c.rules) → Changes v t who (records.set_rules v t who c)
 set_rules-changes v t who c set =
-    bind_if (access v t who c.bucket right.Config) (HasAccess v t who c.bucket) _ _ (access-is v t who c.bucket right.Config)
-    (λ a at. one_change v t who (change.SetRules c.bucket (Some c.rules)) (record { in_time = at.in_time; allowed = (some_is (config_of v c.bucket) a.bucket at.bucket, set); permitted = tt }))
+    bind_if (access v t who c.bucket right.Config) (HasAccess v t who c.bucket) _ _ (access-only v t who c.bucket right.Config)
+    (λ a at. one_change v t who (change.SetRules c.bucket (Some c.rules)) (record { in_time = at.in_time; allowed = (some_is (config_of v c.bucket) a.bucket at.bucket, set); permitted = tt; entitled = tt }))
 
 pub drop_rules-changes : (v : Vault) (t : ℕ) (who : List ℕ) (c : DropRules) → Changes v t who (records.drop_rules v t who c)
 drop_rules-changes v t who c =
-    bind_if (access v t who c.bucket right.Config) (HasAccess v t who c.bucket) _ _ (access-is v t who c.bucket right.Config)
-    (λ a at. one_change v t who (change.SetRules c.bucket None) (record { in_time = at.in_time; allowed = (some_is (config_of v c.bucket) a.bucket at.bucket, refl); permitted = tt }))
+    bind_if (access v t who c.bucket right.Config) (HasAccess v t who c.bucket) _ _ (access-only v t who c.bucket right.Config)
+    (λ a at. one_change v t who (change.SetRules c.bucket None) (record { in_time = at.in_time; allowed = (some_is (config_of v c.bucket) a.bucket at.bucket, refl); permitted = tt; entitled = tt }))
 
 -- ---- reads
 

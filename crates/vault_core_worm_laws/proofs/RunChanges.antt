@@ -44,7 +44,7 @@ use Rattle.vault_core_run_laws.proofs.Plain.{plain_of, plains, histories_after_s
 use Rattle.vault_core_run_laws.proofs.RunLaws.{plans_are_key_by_key}
 use Rattle.vault_core_run_laws.proofs.Steps.{orderly}
 use Rattle.vault_core_worm_laws.specs.Chains.{MayMake, MayMakeAll}
-use Rattle.vault_core_worm_laws.proofs.Checked.{some_is, bind_if, HasAccess, access-is}
+use Rattle.vault_core_worm_laws.proofs.Checked.{some_is, bind_if, HasAccess, access-only}
 use Rattle.vault_core_worm_laws.proofs.Kept.{lock_of-found}
 
 -- ---- what may be removed
@@ -93,6 +93,7 @@ may_remove v t id who rule le free = record {
   in_time = le;
   allowed = record { now = refl; held = (free.history.entry, ap (λ (o : Option History). option_map (λ h. h.entry) o) free.there, free.held) };
   permitted = (tt, ap (λ l. guards l t) (lock_of-found v id free.history free.there) ∙ free.free);
+  entitled = tt;
 }
 
 -- ---- a step
@@ -120,6 +121,7 @@ may_step v bucket config t who key (Mark r) sound le placed finds free = record 
     noted = tt;
   };
   permitted = refl;
+  entitled = (tt, tt);
 }
 may_step v bucket config t who key (Remove id r) sound le placed finds free = may_remove v t id who _ le (is_unguarded v bucket key t id sound free)
 may_step v bucket config t who key (RemoveLone id r) sound le placed finds free = may_remove v t id who _ le (is_unguarded v bucket key t id sound free)
@@ -204,7 +206,7 @@ pub record IsRunOf (v : Vault) (t : ℕ) (c : Run) (ps : List Planned) : Type 0 
 
 planned_run-is : (v : Vault) (t : ℕ) (who : List ℕ) (c : Run) → IfOk (planned_run v t who c) (IsRunOf v t c)
 planned_run-is v t who c =
-    bind_if (access v t who c.bucket right.Run) (HasAccess v t who c.bucket) _ _ (access-is v t who c.bucket right.Run)
+    bind_if (access v t who c.bucket right.Run) (HasAccess v t who c.bucket) _ _ (access-only v t who c.bucket right.Run)
     (λ a at. record { in_time = at.in_time; config = a.bucket; placed = at.bucket; whole = refl })
 
 is_run : (v : Vault) (t : ℕ) (who : List ℕ) (c : Run) (ps : List Planned) → planned_run v t who c ≡ Ok ps → IsRunOf v t c ps

@@ -6,6 +6,7 @@ use Rattle.vault_core_model.specs.declared.command.Command.TheVariants as comman
 use Rattle.vault_core_model.specs.Vault.{Vault}
 use Rattle.vault_core_model.specs.Change.{changed}
 use Rattle.vault_core_model.specs.Allowed.{Allows}
+use Rattle.vault_core_worm_laws.specs.Entitled.{IsEntitled}
 use Rattle.vault_core_worm_laws.specs.Permits.{Permits}
 
 -- a change that the caller may make at t
@@ -13,6 +14,7 @@ pub record MayMake (v : Vault) (t : ℕ) (who : List ℕ) (c : Change) : Type 0 
   pub in_time : v.last ≤ t
   pub allowed : Allows v t c
   pub permitted : Permits v t who c
+  pub entitled : IsEntitled v t c
 
 -- changes that the caller may make at t, one after another, lead from v to v'
 abbrev pub MayMakeAll : Vault → ℕ → List ℕ → List Change → Vault → Type 0

@@ -2,6 +2,7 @@ pub mod Worm
 pub mod Removals
 pub mod Bypass
 pub mod Permits
+pub mod Entitled
 pub mod Chains
 pub mod Once
 pub mod Stored

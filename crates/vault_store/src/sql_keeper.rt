@@ -31,7 +31,9 @@ use vault_base::refusal::Refusal;
 use vault_core_model::change::Change;
 use vault_core_model::halt::Fault;
 use vault_core_model::keeper::{Keeper, Sink};
-use vault_core_model::records::{BucketConfig, Caller, Entry, Head, LastSetting, Note, Tenures};
+use vault_core_model::records::{
+    BucketConfig, Caller, Entry, Head, LastSetting, Note, Settings, Tenures,
+};
 use vault_rules::plan::Held;
 use vault_rules::rule_set::RuleSet;
 use vault_store_apply::apply::apply_change;
@@ -43,7 +45,8 @@ use vault_store_reads::names::{has_department, read_bucket, read_caller, read_to
 use vault_store_reads::notes::read_note;
 use vault_store_reads::removed::walk_removed;
 use vault_store_reads::rows_in_order::reads::{
-    read_bucket_held, read_entries, read_keys, read_rules, read_setting, read_tenures,
+    read_bucket_held, read_entries, read_keys, read_rules, read_setting, read_settings,
+    read_tenures,
 };
 use vault_tally::row::Row;
 
@@ -268,6 +271,13 @@ impl<S: Alter> Keeper for SqlKeeper<S> {
 
     fn setting(&mut self, id: VersionId) -> Result<Option<LastSetting>, Fault> {
         match read_setting(&mut self.conn, id) {
+            Ok(found) => Ok(found),
+            Err(error) => Err(blame(&mut self.faults, error)),
+        }
+    }
+
+    fn settings(&mut self, id: VersionId) -> Result<Settings, Fault> {
+        match read_settings(&mut self.conn, self.alloc, id) {
             Ok(found) => Ok(found),
             Err(error) => Err(blame(&mut self.faults, error)),
         }

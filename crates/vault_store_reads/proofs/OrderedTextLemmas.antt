@@ -40,6 +40,21 @@ pub setting_is : Selects setting_text (select_of settings_tree setting_tests set
 unfolding understood everything
 setting_is = record { names = codes "n" ∷ codes "mode" ∷ codes "until" ∷ codes "hold" ∷ []; is = refl; plain = (refl, refl); unlisted = refl }
 
+-- ---- all settings of a version
+
+abbrev pub settings_text : List ℕ
+settings_text = codes "SELECT id, n, moment, caller, mode, until, hold, bypass FROM settings WHERE id = ?1 ORDER BY n"
+
+abbrev pub settings_shown : List Term
+settings_shown = col 1 1 ∷ col 1 2 ∷ col 1 3 ∷ col 1 4 ∷ col 1 5 ∷ col 1 6 ∷ col 1 7 ∷ col 1 8 ∷ []
+
+abbrev pub settings_order : List (Term × Key)
+settings_order = (col 1 2, ascending Binary) ∷ []
+
+pub settings_is : Selects settings_text (select_of settings_tree setting_tests settings_shown settings_order no_limit)
+unfolding understood everything
+settings_is = record { names = codes "id" ∷ codes "n" ∷ codes "moment" ∷ codes "caller" ∷ codes "mode" ∷ codes "until" ∷ codes "hold" ∷ codes "bypass" ∷ []; is = refl; plain = (refl, refl); unlisted = refl }
+
 -- ---- the rules of a bucket
 
 abbrev pub rules_text : List ℕ

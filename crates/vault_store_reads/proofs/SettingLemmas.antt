@@ -1,6 +1,6 @@
 -- The last setting of a version is the one at the greatest place.
 use Rattle.std.proofs.Common.{◌≡◌, ℕ, ◌+◌, ◌<◌, ◌==◌, ◌&&◌, pos, List, [], ◌∷◌, length, map, filter, flat_map, reverse, take, Bool, true, false, Option, None, Some, option_to_list, Less, refl, sym, ap, subst, ◌∙◌, arith}
-use Rattle.std.specs.Prelude.{option_map, option_and_then}
+use Rattle.std.specs.Prelude.{unwrap_or, option_map, option_and_then}
 use Rattle.std.specs.List.{AllByRecursion}
 use Rattle.std.proofs.lemmas.Bool.Decides.{nat_tests}
 use Rattle.std.proofs.lemmas.List.Sorted.{IsPermutation-reverse, IsPermutation-sym, IsPermutation-trans}
@@ -18,7 +18,7 @@ use Rattle.vault_audit_model.specs.Tables.{settings_tree}
 use Rattle.vault_core_model.specs.declared.records.History.{History}
 use Rattle.vault_core_model.specs.declared.records.LastSetting.{LastSetting}
 use Rattle.vault_core_model.specs.declared.records.Setting.{Setting}
-use Rattle.vault_core_model.specs.Reads.{last_setting, setting_of}
+use Rattle.vault_core_model.specs.Reads.{last_setting, setting_of, settings_of}
 use Rattle.vault_core_model.specs.Sound.{AreIdsFrom}
 use Rattle.vault_core_model.specs.Vault.{Vault, history_of, last_lock}
 use Rattle.vault_audit_model.specs.declared.rows.SettingRow.{SettingRow}
@@ -31,7 +31,7 @@ use Rattle.vault_store_reads.specs.Shown.{last_row}
 use Rattle.sqlite_tied.proofs.RuleLemmas.{and_true}
 use Rattle.vault_store_reads.proofs.OrderedListLemmas.{falls, map-reverse, last, first_reversed, last-map, part_of, in_one_part, always}
 use Rattle.vault_store_reads.proofs.SelectLemmas.{select_of, of_records, answered}
-use Rattle.vault_store_reads.proofs.OrderedTextLemmas.{setting_text, setting_tests, setting_shown, setting_order, setting_is}
+use Rattle.vault_store_reads.proofs.OrderedTextLemmas.{setting_text, setting_tests, setting_shown, setting_order, setting_is, settings_text, settings_shown, settings_order, settings_is, no_limit}
 use Rattle.vault_audit_model.proofs.ValueLemmas.{same_number}
 use Rattle.vault_store_reads.proofs.ValueLemmas.{number_less}
 
@@ -126,3 +126,46 @@ found_setting v id rows (db, sound, answers) =
     let rise = subst (IsAscending (λ s t. s.place < t.place)) (sym its) (part_rises (history_of v id)) in
     answered settings_tree setting_tests setting_shown setting_order (lit (Int (pos 1))) db params rows (answers query setting_is) (reverse (outs mine)) same (outs_fall mine rise)
     ∙ first_out mine ∙ ap (λ ss. map last_row (option_to_list (option_map told (last ss)))) its ∙ ap (λ o. map last_row (option_to_list o)) (last_of_part (history_of v id))
+
+-- ---- all of them
+
+abbrev setting_in : SettingRow → Setting
+setting_in x = x.setting
+
+same_all : (id place : ℕ) (ss : List Setting) → map setting_in (settings_from id place ss) ≡ ss
+same_all id place [] = refl
+same_all id place (s ∷ ss) = ap (λ l. s ∷ l) (same_all id (place + 1) ss)
+
+told_part : (o : Option History) → map setting_in (part_of settings_in o) ≡ unwrap_or (option_map (λ h. h.settings) o) []
+told_part None = refl
+told_part (Some h) = same_all h.entry.id 1 h.settings
+
+pub told_settings : (v : Vault) (id : ℕ) → map setting_in (part_of settings_in (history_of v id)) ≡ settings_of v id
+told_settings v id = told_part (history_of v id)
+
+abbrev out_all : Row → Output
+out_all c = (column c 1 ∷ [], column c 0 ∷ column c 1 ∷ column c 2 ∷ column c 3 ∷ column c 4 ∷ column c 5 ∷ column c 6 ∷ column c 7 ∷ [])
+
+abbrev pub all_query : Query
+all_query = select_of settings_tree setting_tests settings_shown settings_order no_limit
+
+abbrev outs_all : List SettingRow → List Output
+outs_all ss = map (λ s. out_all (setting_row s)) ss
+
+outs_rise : (ss : List SettingRow) → IsAscending (λ s t. s.place < t.place) ss → IsAscending (λ a b. output_cmp all_query a b ≡ Less) (outs_all ss)
+outs_rise ss up =
+    let R : Output → Output → Type 0 = λ a b. output_cmp all_query a b ≡ Less in
+    ascending-map R (λ s. out_all (setting_row s)) ss (ascending_weaker (λ s t. s.place < t.place) (λ s t. R (out_all (setting_row s)) (out_all (setting_row t))) (λ s t low. number_less s.place t.place low) ss up)
+
+pub found_settings : (v : Vault) (id : ℕ) (rows : List Row) → FindsRows v settings_text (number id ∷ []) rows → rows ≡ map setting_row (part_of settings_in (history_of v id))
+found_settings v id rows (db, sound, answers) =
+    let all = flat_map settings_in v.histories in
+    let mine = filter (λ s. s.id == id) all in
+    let its : mine ≡ part_of settings_in (history_of v id) =
+    in_one_part (λ h. h.entry.id == id) settings_in (λ s. s.id == id) (λ h. all_of h.entry.id 1 h.settings id) v.histories (ids_apart id v.histories sound.spells.kept.sound.ids) in
+    let params : Row = number id ∷ [] in
+    let are = of_records setting_row setting_columns (test id) out_all (passes setting_tests params) (λ r. output all_query (params ∷ r ∷ [])) (λ r. refl) (λ r. refl) (λ s. s.id == id) all (db.trees settings_tree) sound.spells.settings
+    (always (λ s. test id (setting_row s) ≡ (s.id == id)) (λ s. and_true _ ∙ same_number s.id id) all) in
+    let rise = subst (IsAscending (λ s t. s.place < t.place)) (sym its) (part_rises (history_of v id)) in
+    answered settings_tree setting_tests settings_shown settings_order no_limit db params rows (answers all_query settings_is) (outs_all mine) are (outs_rise mine rise)
+    ∙ map-map (λ (o : Output). o.1) (λ s. out_all (setting_row s)) mine ∙ ap (map setting_row) its

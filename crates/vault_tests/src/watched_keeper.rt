@@ -8,7 +8,9 @@ use vault_base::name::{
 use vault_core_model::change::Change;
 use vault_core_model::halt::Fault;
 use vault_core_model::keeper::{Keeper, Sink};
-use vault_core_model::records::{BucketConfig, Caller, Entry, Head, LastSetting, Note, Tenures};
+use vault_core_model::records::{
+    BucketConfig, Caller, Entry, Head, LastSetting, Note, Settings, Tenures,
+};
 use vault_rules::plan::Held;
 use vault_rules::rule_set::RuleSet;
 use vault_tally::row::Row;
@@ -131,6 +133,11 @@ impl<K: Keeper> Keeper for WatchedKeeper<'_, K> {
     fn setting(&mut self, id: VersionId) -> Result<Option<LastSetting>, Fault> {
         note_call(&mut self.calls, "setting", "");
         self.keeper.setting(id)
+    }
+
+    fn settings(&mut self, id: VersionId) -> Result<Settings, Fault> {
+        note_call(&mut self.calls, "settings", "");
+        self.keeper.settings(id)
     }
 
     fn content(&mut self, id: VersionId) -> Result<Option<Content>, Fault> {

@@ -1,17 +1,18 @@
 //! All rows of an ordered read, as what they tell.
 ghost use Rattle.std.specs.Prelude.{◌≡◌, List, map, IfOk};
 ghost use Rattle.vault_audit_model.specs.declared.rows.RuleRow.{RuleRow};
+ghost use Rattle.vault_audit_model.specs.declared.rows.SettingRow.{SettingRow};
 ghost use Rattle.vault_audit_model.specs.declared.rows.TenureRow.{TenureRow};
-ghost use Rattle.vault_audit_model.specs.Rows.{rule_row, tenure_row};
+ghost use Rattle.vault_audit_model.specs.Rows.{rule_row, setting_row, tenure_row};
 ghost use Rattle.vault_store_reads.specs.Shown.{held_row, key_row, set_of, sized_row};
 
 use crate::query::unread;
 use crate::rows_in_order::shown::{HeldRow, SizedRow, UNREADABLE, read_held, read_key, read_sized};
 use sqlite::{Error, Row};
 use std::alloc::Global;
-use vault_audit_rows::records::{read_rule, read_tenure};
+use vault_audit_rows::records::{read_rule, read_setting, read_tenure};
 use vault_base::name::ObjectKey;
-use vault_core_model::records::{Tenure, Tenures};
+use vault_core_model::records::{Setting, Settings, Tenure, Tenures};
 use vault_rules::rule::Rule;
 use vault_rules::rule_set::RuleSet;
 
@@ -103,4 +104,24 @@ pub fn decode_tenures(alloc: Global, rows: &[Row]) -> Result<Tenures, Error>
         tenures.push(one)?;
     }
     Ok(tenures)
+}
+
+/// The setting of a row.
+fn decode_setting(row: &Row) -> Result<Setting, Error>
+    ensures { IfOk result (λ setting. (x : SettingRow) × (row.now ≡ setting_row x) × (setting ≡ x.setting)) }
+{
+    let setting_row = read_setting(row).map_err(unread)?;
+    Ok(setting_row.setting)
+}
+
+/// The settings of these rows.
+pub fn decode_settings(alloc: Global, rows: &[Row]) -> Result<Settings, Error>
+    ensures { IfOk result (λ settings. (xs : List SettingRow) × (rows.now ≡ map setting_row xs) × (settings ≡ map (λ x. x.setting) xs)) }
+{
+    let mut settings = Settings::new(alloc);
+    for row in rows {
+        let one = decode_setting(row)?;
+        settings.push(one)?;
+    }
+    Ok(settings)
 }

@@ -2,7 +2,7 @@
 ghost use Rattle.std.specs.Prelude.{◌≡◌, IfOk};
 ghost use Rattle.sqlite.specs.Held.{state};
 ghost use Rattle.sqlite.specs.State.{HasCleanDisk};
-ghost use Rattle.vault_core_model.specs.Reads.{entries_of, keys_after, setting_of, tenures_of};
+ghost use Rattle.vault_core_model.specs.Reads.{entries_of, keys_after, setting_of, settings_of, tenures_of};
 ghost use Rattle.vault_core_model.specs.Totals.{bucket_bytes, bucket_weight};
 ghost use Rattle.vault_core_model.specs.Vault.{Vault, rules_of};
 ghost use Rattle.vault_store_model.specs.Keeping.{Keeps};
@@ -10,15 +10,15 @@ ghost use Rattle.vault_store_model.specs.Sums.{last_tenure_of};
 ghost use Rattle.vault_store_reads.specs.Shown.{newest_but};
 ghost use Rattle.vault_store_reads.specs.Quiet.{OnlyReads, IsOpenIfOk};
 
-use crate::rows_in_order::decode::{decode_keys, decode_rules, decode_tenures};
+use crate::rows_in_order::decode::{decode_keys, decode_rules, decode_settings, decode_tenures};
 use crate::rows_in_order::find::{find_entries, find_last_tenure, find_setting};
 use crate::rows_in_order::holding::find_bucket_held;
-use crate::rows_in_order::rows::{key_rows, newest_rows, rule_rows, tenure_rows};
+use crate::rows_in_order::rows::{key_rows, newest_rows, rule_rows, settings_rows, tenure_rows};
 use crate::rows_in_order::shown::{UNREADABLE, read_id};
 use sqlite::{Alter, Connection, Error};
 use std::alloc::Global;
 use vault_base::name::{BucketName, KeyPrefix, ObjectKey, VersionId};
-use vault_core_model::records::{LastSetting, Tenure, Tenures};
+use vault_core_model::records::{LastSetting, Settings, Tenure, Tenures};
 use vault_rules::plan::Held;
 use vault_rules::rule_set::RuleSet;
 
@@ -129,4 +129,17 @@ pub fn read_bucket_held<S: Alter>(
     ensures open { IsOpenIfOk S.Store conn.new result }
 {
     find_bucket_held(conn, alloc, bucket)
+}
+
+/// The settings of a version, oldest first; a marker has none, nor has an id that no entry has.
+pub fn read_settings<S: Alter>(
+    conn: &mut Connection<S>,
+    alloc: Global,
+    id: VersionId,
+) -> Result<Settings, Error>
+    ensures value { HasCleanDisk (state S.Store conn.new) → IfOk result (λ found. (v : Vault) → Keeps (state S.Store conn.old) v → found ≡ settings_of v id) }
+    ensures read { OnlyReads S.Store conn.old conn.new }
+{
+    let rows = settings_rows(conn, id)?;
+    decode_settings(alloc, &rows)
 }

@@ -4,13 +4,14 @@ ghost use Rattle.sqlite_sql.specs.Query.{Query};
 ghost use Rattle.sqlite.specs.Held.{state};
 ghost use Rattle.sqlite.specs.State.{HasCleanDisk};
 ghost use Rattle.sqlite.specs.Values.{bound};
-ghost use Rattle.vault_core_model.specs.Reads.{entries_of, keys_after, setting_of, tenures_of};
+ghost use Rattle.vault_core_model.specs.Reads.{entries_of, keys_after, setting_of, settings_of, tenures_of};
 ghost use Rattle.vault_core_model.specs.Sound.{Sound};
 ghost use Rattle.vault_core_model.specs.Totals.{held_versions_in};
 ghost use Rattle.vault_core_model.specs.Vault.{Vault, rules_of};
 ghost use Rattle.vault_audit_model.specs.declared.rows.RuleRow.{RuleRow};
+ghost use Rattle.vault_audit_model.specs.declared.rows.SettingRow.{SettingRow};
 ghost use Rattle.vault_audit_model.specs.declared.rows.TenureRow.{TenureRow};
-ghost use Rattle.vault_audit_model.specs.Rows.{rule_row, tenure_row};
+ghost use Rattle.vault_audit_model.specs.Rows.{rule_row, setting_row, tenure_row};
 ghost use Rattle.vault_store_model.specs.Keeping.{Keeps};
 ghost use Rattle.vault_store_model.specs.Sums.{last_tenure_of};
 ghost use Rattle.vault_store_reads.specs.Queries.{Selects, FindsRows};
@@ -155,5 +156,17 @@ pub fn newest_rows<S: Alter>(
         conn,
         "SELECT id FROM entries WHERE bucket = ?1 AND key = ?2 AND id <> ?3 AND removed IS NULL ORDER BY removed, id DESC LIMIT 1",
         params![bucket.as_str(), key.as_str(), id.number()],
+    )
+}
+
+/// The rows of a version's settings.
+pub fn settings_rows<S: Alter>(conn: &mut Connection<S>, id: VersionId) -> Result<Vec<Row>, Error>
+    ensures rows { HasCleanDisk (state S.Store conn.new) → IfOk result (λ rows. (v : Vault) → Keeps (state S.Store conn.old) v → (settings : List SettingRow) × (rows.items ≡ map setting_row settings) × (map (λ x. x.setting) settings ≡ settings_of v id)) }
+    ensures read { OnlyReads S.Store conn.old conn.new }
+{
+    query_rows(
+        conn,
+        "SELECT id, n, moment, caller, mode, until, hold, bypass FROM settings WHERE id = ?1 ORDER BY n",
+        params![id.number()],
     )
 }
