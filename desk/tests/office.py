@@ -9,7 +9,7 @@ import os
 import subprocess
 import tempfile
 import unittest
-from collections.abc import Mapping, Sequence
+from collections.abc import Iterator, Mapping, Sequence
 from dataclasses import dataclass
 from pathlib import Path
 from typing import Any
@@ -74,6 +74,15 @@ class OfficeTest(unittest.TestCase):
         done = self.desk(*words, at=at)
         self.assertEqual((done.status, done.err), (0, ""), words)
         return done.out
+
+    @contextlib.contextmanager
+    def without(self, name: str) -> Iterator[None]:
+        """Without that variable of the environment."""
+        kept = os.environ.pop(name)
+        try:
+            yield
+        finally:
+            os.environ[name] = kept
 
     def written(self, name: str, content: bytes) -> str:
         """The path of a new file of that content."""

@@ -40,11 +40,25 @@ class Settings:
 
 @dataclass(frozen=True)
 class Desk:
-    """The vault's file, who asks, and the engine's program."""
+    """The engine's program, and which vault is meant and who asks, where these were named."""
 
-    file: Path
-    caller: str
     program: str
+    vault: Path | None = None
+    asker: str | None = None
+
+    @property
+    def file(self) -> Path:
+        """The vault's file. `UsageError` where no vault is named anywhere."""
+        if self.vault is None:
+            raise UsageError("no vault is named: give --vault FILE, or set $VAULT")
+        return self.vault
+
+    @property
+    def caller(self) -> str:
+        """Who asks. `UsageError` where nobody is named anywhere."""
+        if not self.asker:
+            raise UsageError("nobody asks: give --as CALLER, or set $VAULT_CALLER")
+        return self.asker
 
 
 def _text(found: Mapping[str, Any], name: str) -> str | None:
@@ -76,13 +90,9 @@ def settings() -> Settings:
 
 
 def desk(vault: str | None, caller: str | None) -> Desk:
-    """The desk of these options. `UsageError` where no vault or no caller is named anywhere."""
+    """The desk of these options; what a subcommand lacks is found where it asks for it."""
     given = settings()
     vault = vault or os.environ.get("VAULT") or given.vault
     caller = caller or os.environ.get("VAULT_CALLER") or given.caller
-    if not vault:
-        raise UsageError("no vault is named: give --vault FILE, or set $VAULT")
-    if not caller:
-        raise UsageError("nobody asks: give --as CALLER, or set $VAULT_CALLER")
     program = os.environ.get("VAULTCTL") or given.program or "vaultctl"
-    return Desk(given.file_of(vault), caller, program)
+    return Desk(program, given.file_of(vault) if vault else None, caller)

@@ -87,7 +87,7 @@ def foreseen(engine: Engine, buckets: Sequence[str], last: str, more: Sequence[R
     first = engine.at or moments.now()
     engine.close()
     with tempfile.TemporaryDirectory() as folder:
-        desk = replace(engine.desk, file=_copied(engine.desk.file, folder))
+        desk = replace(engine.desk, vault=_copied(engine.desk.file, folder))
         with Engine(desk, first) as trial:
             for bucket in buckets if more else ():
                 set_rules(trial, bucket, [*rules_of(trial, bucket), *more])

@@ -1,25 +1,65 @@
-"""What the desk reads in the vault's tables before it hands the file to the engine; it never writes there."""
+"""What the desk reads in the vault's tables while the engine hasn't the file; it never writes there.
+
+Lists and pasts are asked by the queries that auditors have too (`contrib/queries`), so that stock `sqlite3` gives the
+same answers.
+"""
 
 from __future__ import annotations
 
+import re
 import sqlite3
 import urllib.parse
-from collections.abc import Iterator, Sequence
-from contextlib import closing
+from collections.abc import Iterator, Mapping, Sequence
+from contextlib import closing, contextmanager
 from pathlib import Path
 from typing import Any
 
-from vaultdesk.errors import EngineError
+from vaultdesk import beside
+from vaultdesk.errors import DeskError, EngineError
 
 
-def rows(file: Path, statement: str, values: Sequence[Any] = ()) -> list[tuple[Any, ...]]:
-    """The rows of a query. `EngineError` where the file can't be read, or a program has it."""
+Values = Sequence[Any] | Mapping[str, Any]
+Row = dict[str, Any]
+
+# A query that is given what is no date, or no version, ends with an error of SQLite that quotes what the query says.
+SAID_BY_QUERY = re.compile(r"(?:JSON path error near|bad JSON path:) '(.*)'", re.DOTALL)
+
+
+def _error(file: Path, error: sqlite3.Error) -> DeskError:
+    said = SAID_BY_QUERY.fullmatch(str(error))
+    if said:
+        return DeskError(said[1].replace("''", "'"))
+    why = ": a server or another program has the vault: see vault-offline" if "locked" in str(error) else ""
+    return EngineError(f"{file}: {error}{why}")
+
+
+@contextmanager
+def _opened(file: Path) -> Iterator[sqlite3.Connection]:
+    """The file for reading alone. `EngineError` where it can't be read, or a program has it."""
+    if not file.is_file():
+        raise EngineError(f"{file}: there is no such file: --vault or $VAULT names the vault")
     place = f"file:{urllib.parse.quote(str(file.resolve()))}?mode=ro"
     try:
         with closing(sqlite3.connect(place, uri=True, timeout=2)) as opened:
-            return list(opened.execute(statement, values))
+            yield opened
     except sqlite3.Error as error:
-        raise EngineError(f"{file}: {error}: is the vault served?") from error
+        raise _error(file, error) from error
+
+
+def rows(file: Path, statement: str, values: Values = ()) -> list[tuple[Any, ...]]:
+    """The rows of a statement. `EngineError` where the file can't be read, or a program has it."""
+    with _opened(file) as opened:
+        return list(opened.execute(statement, values))
+
+
+def query(file: Path, name: str, **values: Any) -> list[Row]:
+    """The rows of one of the auditor's queries, by the names of its columns; values are those of its parameters.
+
+    `EngineError` as of `rows`, `DeskError` where the query says that a value isn't one."""
+    statement = (beside.place_of("queries") / f"{name}.sql").read_text(encoding="utf-8")
+    with _opened(file) as opened:
+        opened.row_factory = sqlite3.Row
+        return [dict(it) for it in opened.execute(statement, values)]
 
 
 def held_digests(file: Path) -> Iterator[str]:

@@ -1,0 +1,93 @@
+"""Finding versions by what one knows of them."""
+
+from __future__ import annotations
+
+import csv
+import hashlib
+import io
+import json
+import unicodedata
+
+from tests.office import OfficeTest
+
+APART = unicodedata.normalize("NFD", "2024/Müller")
+KEYS = ("2024/100%_a", "2024/100xyb", "2024/Müller", APART, "2025/%41", "2025/=1+1;\"x\"")
+
+
+class Find(OfficeTest):
+    def setUp(self) -> None:
+        super().setUp()
+        self.lines({"do": "add-bucket", "as": "registrar", "bucket": "mail", "dept": "records"})
+        for day, key in enumerate(KEYS, start=1):
+            put = {"do": "put", "bucket": "docs", "key": key, "text": f"text {day}"}
+            self.lines(put, at=f"2024-02-{day:02}T09:00:00Z")
+        self.lines(
+            {"do": "put", "bucket": "mail", "key": "2024/Müller", "text": "text 3"},
+            {"do": "delete", "bucket": "docs", "key": "2025/%41"},
+            {"do": "delete-version", "bucket": "docs", "key": "2024/100xyb", "id": 2},
+            at="2024-03-01T09:00:00Z",
+        )
+
+    def found(self, *words: str) -> list[int]:
+        return [it["version"] for it in json.loads(self.done("find", *words, "--json", at=None))]
+
+    def test_a_prefix_and_a_text_are_taken_letter_by_letter(self) -> None:
+        self.assertEqual(self.found("--prefix", "2024/100%_"), [1])
+        self.assertEqual(self.found("100%"), [1])
+        self.assertEqual(self.found("_"), [1])
+        self.assertEqual(self.found("%41"), [5])
+        self.assertEqual(self.found("--prefix", "024/"), [])
+        self.assertEqual(self.found("024/1"), [1, 2])
+
+    def test_letters_in_another_form_are_other_letters_unless_asked(self) -> None:
+        self.assertEqual(self.found("Müller"), [3, 7])
+        self.assertEqual(self.found(unicodedata.normalize("NFD", "Müller")), [4])
+        self.assertEqual(self.found("müller"), [])
+        self.assertEqual(self.found("-i", "MÜLLER"), [3, 4, 7])
+
+    def test_keys_are_printed_as_they_are(self) -> None:
+        rows = json.loads(self.done("find", "--bucket", "docs", "--json", at=None))
+        self.assertEqual([it["key"] for it in rows], list(KEYS))
+        table = list(csv.DictReader(io.StringIO(self.done("find", "--bucket", "docs", "--csv", at=None), newline="")))
+        self.assertEqual([it["key"] for it in table], list(KEYS))
+
+    def test_content_is_found_by_its_digest_or_a_file(self) -> None:
+        digest = hashlib.sha256(b"text 3").hexdigest()
+        for words in (["--sha256", digest], ["--sha256", digest[:8].upper()]):
+            self.assertEqual(self.found(*words), [3, 7], words)
+        self.assertEqual(self.found("--same-as", self.written("scan", b"text 3")), [3, 7])
+        self.assertEqual(self.found("--same-as", self.written("scan", b"text 33")), [])
+        for wrong in ("", "abc", "x" * 64, digest + "0", "%" * 8):
+            self.assertEqual(self.desk("find", "--sha256", wrong).status, 2, wrong)
+        missing = self.desk("find", "--same-as", str(self.folder / "none"))
+        self.assertEqual((missing.status, missing.out), (1, ""))
+
+    def test_dates_have_a_first_moment_and_one_that_is_left_out(self) -> None:
+        self.assertEqual(self.found("--since", "2024-02-03T09:00:00Z", "--before", "2024-02-05T09:00:00Z"), [3, 4])
+        self.assertEqual(self.found("--before", "2024-02-02"), [1])
+        self.assertEqual(self.found("--since", "2024-02-06"), [6, 7])
+        self.assertEqual(self.desk("find", "--since", "03.02.2024").status, 2)
+
+    def test_held_and_removed_are_told_apart(self) -> None:
+        self.assertEqual(self.found("--bucket", "docs", "--held"), [1, 3, 4, 5, 6])
+        self.assertEqual(self.found("--removed"), [2])
+        self.assertIn("removed 2024-03-01T09:00:00Z", self.done("find", "100xyb", at=None))
+        self.assertEqual(self.found("%41", "--markers"), [5, 8])
+        self.assertEqual(self.found("--bucket", "nowhere"), [])
+
+    def test_nobody_has_to_ask(self) -> None:
+        with self.without("VAULT_CALLER"):
+            self.assertEqual(self.found("--removed"), [2])
+            done = self.desk("ls", "docs")
+            self.assertEqual(done.status, 2)
+            self.assertIn("--as", done.err)
+        with self.without("VAULT"):
+            done = self.desk("find", "x")
+            self.assertEqual(done.status, 2)
+            self.assertIn("--vault", done.err)
+
+    def test_a_file_that_is_no_vault_or_isnt_there_is_said(self) -> None:
+        for name in (str(self.folder / "none"), self.written("text", b"no vault, but a text of some bytes")):
+            done = self.desk("find", "x", "--vault", name)
+            self.assertEqual((done.status, done.out), (1, ""), name)
+            self.assertIn(name, done.err)

@@ -1,0 +1,103 @@
+"""Documents by what one knows of them: find."""
+
+from __future__ import annotations
+
+import argparse
+import csv
+import hashlib
+import re
+import sys
+import unicodedata
+from pathlib import Path
+
+from vaultdesk import moments, reading
+from vaultdesk.engine import Engine
+from vaultdesk.errors import DeskError, UsageError
+from vaultdesk.output import print_json, print_rows
+
+COLUMNS = ("version", "bucket", "size", "admitted", "by", "state", "key")
+DIGEST = re.compile(r"[0-9a-fA-F]{8,64}")
+
+
+def digest_of(path: Path) -> str:
+    """The SHA-256 of a file's content, in hex digits."""
+    try:
+        with path.open("rb") as file:
+            return hashlib.file_digest(file, "sha256").hexdigest()
+    except OSError as error:
+        raise DeskError(f"{path}: {error.strerror}") from error
+
+
+def folded(text: str) -> str:
+    """A text by which small and large letters, and letters written in two Unicode forms, are one."""
+    return unicodedata.normalize("NFC", unicodedata.normalize("NFC", text).casefold())
+
+
+def _wanted_digest(words: argparse.Namespace) -> str | None:
+    if words.same_as:
+        return digest_of(Path(words.same_as))
+    if words.sha256 is not None and not DIGEST.fullmatch(words.sha256):
+        raise UsageError(f"{words.sha256!r} is no digest: give its 64 hex digits, or at least the first 8")
+    return str(words.sha256) if words.sha256 else None
+
+
+def found_by(engine: Engine, words: argparse.Namespace) -> list[reading.Row]:
+    """The rows of the query `find` for these words."""
+    rows = reading.query(
+        engine.desk.file,
+        "find",
+        bucket=words.bucket,
+        prefix=words.prefix,
+        text=None if words.ignore_case else words.text,
+        sha256=_wanted_digest(words),
+        since=moments.read(words.since) if words.since else None,
+        before=moments.read(words.before) if words.before else None,
+        state="held" if words.held else "removed" if words.removed else None,
+    )
+    if words.text and words.ignore_case:
+        rows = [it for it in rows if folded(words.text) in folded(it["key"])]
+    return [it for it in rows if words.markers or it["kind"] == "version"]
+
+
+def _state(row: reading.Row) -> str:
+    state = f"removed {row['removed']}" if row["removed"] else "held"
+    return state if row["kind"] == "version" else f"marker, {state}"
+
+
+def find(engine: Engine, words: argparse.Namespace) -> None:
+    """Prints the versions that are asked for."""
+    rows = found_by(engine, words)
+    if words.json:
+        print_json(rows)
+    elif words.csv:
+        writer = csv.DictWriter(sys.stdout, rows[0] if rows else ("key", "version"), lineterminator="\n")
+        writer.writeheader()
+        writer.writerows(rows)
+    else:
+        print_rows([{**it, "by": it["admitted_by"], "state": _state(it)} for it in rows], COLUMNS)
+
+
+def add(commands: argparse._SubParsersAction[argparse.ArgumentParser], common: argparse.ArgumentParser) -> None:
+    """Adds the subcommand to the desk's words."""
+    it = commands.add_parser(
+        "find",
+        parents=[common],
+        help="find versions, held and removed ones: by a part of the key, content, date",
+        epilog="Examples: vaultdesk find Miller --held; vaultdesk find --same-as scan.pdf; "
+        "vaultdesk find --prefix 2024/ --since 2024-06-01 --before 2024-07-01 --csv",
+    )
+    it.add_argument("text", nargs="?", help="what stands in the key, letter by letter")
+    it.add_argument("-i", "--ignore-case", action="store_true", help="small and large letters of TEXT are one")
+    it.add_argument("--prefix", metavar="P", help="how the key begins")
+    it.add_argument("--bucket", metavar="B")
+    content = it.add_mutually_exclusive_group()
+    content.add_argument("--sha256", metavar="HEX", help="the content's digest, or its first hex digits")
+    content.add_argument("--same-as", metavar="FILE", help="the content is this file's")
+    it.add_argument("--since", metavar="DATE", help="admitted at that moment or later")
+    it.add_argument("--before", metavar="DATE", help="admitted earlier than that")
+    state = it.add_mutually_exclusive_group()
+    state.add_argument("--held", action="store_true", help="without what was removed")
+    state.add_argument("--removed", action="store_true", help="only what was removed")
+    it.add_argument("--markers", action="store_true", help="delete markers too")
+    it.add_argument("--csv", action="store_true", help="print CSV, as hold --from takes it")
+    it.set_defaults(run=find)
