@@ -18,9 +18,9 @@ class Find(OfficeTest):
     def setUp(self) -> None:
         super().setUp()
         self.lines({"do": "add-bucket", "as": "registrar", "bucket": "mail", "dept": "records"})
-        for day, key in enumerate(KEYS, start=1):
-            put = {"do": "put", "bucket": "docs", "key": key, "text": f"text {day}"}
-            self.lines(put, at=f"2024-02-{day:02}T09:00:00Z")
+        put = {"do": "put", "bucket": "docs"}
+        days = enumerate(KEYS, start=1)
+        self.lines(*({**put, "at": f"2024-02-{n:02}T09:00:00Z", "key": key, "text": f"text {n}"} for n, key in days))
         self.lines(
             {"do": "put", "bucket": "mail", "key": "2024/Müller", "text": "text 3"},
             {"do": "delete", "bucket": "docs", "key": "2025/%41"},

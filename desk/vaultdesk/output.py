@@ -19,16 +19,24 @@ def print_json(value: Any) -> None:
     print()
 
 
-def print_rows(rows: Sequence[Mapping[str, Any]], columns: Sequence[str]) -> None:
-    """Prints rows below their columns' names, numbers to the right; nothing where there is no row."""
+def table_lines(rows: Sequence[Mapping[str, Any]], columns: Sequence[str]) -> list[str]:
+    """The lines of a table: rows below their columns' names, numbers to the right; none where there is no row."""
     if not rows:
-        return
+        return []
     cells = [[shown(str(row.get(it, ""))) for it in columns] for row in rows]
     widths = [max(len(it) for it in [name, *column]) for name, column in zip(columns, zip(*cells), strict=True)]
     numbers = [all(isinstance(row.get(it, 0), int) for row in rows) for it in columns]
+    lines = []
     for line in [list(columns), *cells]:
         fitted = [it.rjust(w) if number else it.ljust(w) for it, w, number in zip(line, widths, numbers, strict=True)]
-        print("  ".join(fitted).rstrip())
+        lines.append("  ".join(fitted).rstrip())
+    return lines
+
+
+def print_rows(rows: Sequence[Mapping[str, Any]], columns: Sequence[str]) -> None:
+    """Prints rows as a table."""
+    for line in table_lines(rows, columns):
+        print(line)
 
 
 def print_table(rows: Sequence[Mapping[str, Any]], columns: Sequence[str], as_json: bool) -> None:

@@ -1,0 +1,285 @@
+"""The page for a court: what the vault has of one version, what guarded it at a moment, and what that shows."""
+
+from __future__ import annotations
+
+import argparse
+import html
+import textwrap
+from collections.abc import Iterator, Mapping, Sequence
+from dataclasses import dataclass, field
+from pathlib import Path
+from typing import Any
+
+from vaultdesk import __version__, evidence, events, moments, reading, recheck
+from vaultdesk.documents import write_content
+from vaultdesk.engine import Engine
+from vaultdesk.errors import DeskError
+from vaultdesk.events import Event, Guards
+from vaultdesk.history import document_of, life_of, number
+from vaultdesk.output import print_json, shown, table_lines
+
+WIDTH = 100
+WHAT = ("what", "is")
+STYLE = (
+    "body{font:11pt/1.4 Georgia,serif;max-width:50em;margin:2em auto;padding:0 1em}h1{font-size:16pt}h2{font-size:12pt}"
+    "table{border-collapse:collapse;width:100%}td,th{border-bottom:1px solid #999;padding:.2em .6em .2em 0;"
+    "text-align:left;vertical-align:top;overflow-wrap:anywhere}thead{display:table-header-group}"
+    "tr,li{break-inside:avoid}h2{break-after:avoid}"
+)
+UNSHOWN = (
+    "When the vault was made. A command is dated as its user says, though never before the vault's last change, so a "
+    "whole vault with earlier dates can be made later. Only a seal or a copy that somebody else had at the time shows "
+    "that it was there.",
+    "What was tried and what was read: the vault keeps neither refused commands nor reads.",
+    "Which person it was. The vault takes the name that it is given; who may give it is for the machine to guard.",
+    "What the content says, or who wrote it. The vault has its bytes, and here stands their digest.",
+)
+
+
+@dataclass(frozen=True)
+class Part:
+    """A part of the page: sentences, and a table below them. `name` is the part's in JSON."""
+
+    name: str
+    title: str
+    sentences: Sequence[str] = ()
+    columns: Sequence[str] = ()
+    rows: Sequence[Mapping[str, Any]] = ()
+
+
+@dataclass(frozen=True)
+class Checked:
+    """What vault-recheck found. `sealed` is the last moment whose seal comes out of the file."""
+
+    last: str
+    breach: str
+    seals: Path | None = None
+    count: int = 0
+    differing: Sequence[str] = field(default_factory=list)
+    sealed: str = ""
+
+    @property
+    def is_good(self) -> bool:
+        """Whether nothing was found that speaks against the history."""
+        return not self.breach and not self.differing
+
+
+# ---- what guarded it
+
+
+def _retention_sentences(guards: Guards) -> Iterator[str]:
+    lock, retained, mode_since = guards.lock, guards.retained, guards.mode_since
+    if lock is None or retained is None or mode_since is None:
+        yield "It had no retention."
+        return
+    if not lock.in_force(guards.at):
+        yield f"Its retention in {lock.mode} had ended at {lock.until}, and guarded it no longer."
+    elif lock.mode == "COMPLIANCE":
+        yield f"Its retention in COMPLIANCE was in force, until {lock.until}: nobody could remove it, with any right."
+    else:
+        yield (
+            f"Its retention in GOVERNANCE was in force, until {lock.until}: only a caller with the right bypass could "
+            "remove it, who asked for just that."
+        )
+    yield f"That retention was set at {retained.moment} by {retained.who}."
+    if mode_since != retained:
+        yield f"It was in {lock.mode} from {mode_since.moment} on, set by {mode_since.who}."
+
+
+def _hold_sentence(guards: Guards, found: Sequence[Event]) -> str:
+    if guards.held_since:
+        since = guards.held_since
+        return f"A legal hold was on, put on at {since.moment} by {since.who}: nobody could remove it before its end."
+    settings = [it for it in events.up_to(found, guards.at) if it.event == "locked"]
+    lifted = [new for old, new in zip(settings, settings[1:]) if old.hold == "ON" and new.hold == "OFF"]
+    if lifted:
+        return f"No legal hold was on; the last one was lifted at {lifted[-1].moment} by {lifted[-1].who}."
+    return "No legal hold was on, and none had been."
+
+
+def _guard_sentences(found: Sequence[Event], guards: Guards) -> Iterator[str]:
+    if guards.at < found[0].moment:
+        yield f"It wasn't in the vault yet: it was admitted at {found[0].moment}."
+        return
+    if found[0].kind == "marker":
+        yield "It is a delete marker, which has no content, and on which no retention and no legal hold can be."
+    if guards.removed:
+        yield f"It was no longer in the vault: it had been removed at {guards.removed.moment} by {guards.removed.who}."
+        if found[0].kind == "version":
+            yield f"As it was removed, at {guards.removed.moment}:"
+            guards = events.guards_at(found, guards.removed.moment)
+    elif found[0].kind == "version":
+        yield f"The department {guards.department} held it."
+    if found[0].kind == "version":
+        yield from _retention_sentences(guards)
+        yield _hold_sentence(guards, found)
+
+
+# ---- what was checked
+
+
+def _checked(file: Path, given: str | None) -> Checked:
+    """What vault-recheck says of the file, and of the seals that are given or stand beside it."""
+    beside = evidence.seals_beside(file)
+    path = Path(given) if given else beside if beside.is_file() else None
+    seals = evidence.read_seals(path) if path else []
+    evidence.say_while_long(f"{recheck.WHO}, audits the file first")
+    with recheck.audited(file) as base:
+        last = recheck.vault.moment_text(recheck.vault.meta_of(base).last)
+        breach = recheck.lawful.first_breach(base)
+        differing = list(recheck.events.differing_seals(base, seals))
+    said = f"unlawful {breach.id} {breach.rule}: {breach.why}" if breach else ""
+    texts = sorted(recheck.vault.moment_text(it.before) for it in seals)
+    good = [it for it in texts if not any(line.startswith(it) for line in differing)]
+    return Checked(last, said, path, len(seals), differing, good[-1] if good else "")
+
+
+def _checked_sentences(checked: Checked, found: Sequence[Event]) -> Iterator[str]:
+    yield f"By {recheck.WHO}:"
+    yield "Tables: sound. They fit together, and each content that the vault holds has its digest."
+    if checked.breach:
+        yield f"Rules: {checked.breach}. No commands of the vault can have made this history."
+    else:
+        yield "Rules: lawful. Each lock and each removal keeps the rules, and its caller had the right to it."
+    if checked.seals is None:
+        yield "Seals: none were given (--seals FILE), so nothing from before is compared."
+        return
+    for it in checked.differing:
+        yield f"Seals: {checked.seals} differs: {it}"
+    if not checked.differing:
+        yield f"Seals: {evidence.counted(checked.count, 'seal')} of {checked.seals}, and as sealed."
+    if checked.sealed:
+        before = sum(it.moment < checked.sealed for it in found)
+        yield (
+            f"The last seal that comes out of the vault again is of {checked.sealed}: {before} of the "
+            f"{evidence.counted(len(found), 'event')} above are before it."
+        )
+
+
+def _shown_sentences(checked: Checked) -> Iterator[str]:
+    if not checked.is_good:
+        yield "The checks above found what speaks against this history: it shows nothing until that is explained."
+        return
+    yield (
+        "That the file has this history of the version; that its tables fit together; and that each lock and each "
+        "removal in it keeps the rules and was made by a caller who had the right to it, as the file has callers."
+    )
+    if checked.sealed:
+        yield (
+            f"That what is dated before {checked.sealed} is what it was as the seal of that moment was taken: if the "
+            "seals come from somebody who isn't the office, and had them then."
+        )
+
+
+def _unshown_sentences(checked: Checked) -> Iterator[str]:
+    yield from UNSHOWN
+    if checked.sealed:
+        yield f"Whether what is dated {checked.sealed} or later was altered since: no seal is of it."
+    else:
+        yield "Whether somebody who may write to the file altered the history within the rules: no seal is of it."
+
+
+# ---- the page
+
+
+def _people(file: Path, found: Sequence[Event]) -> list[reading.Row]:
+    names = {it.by for it in found if it.by and not it.who.startswith("rule ")}
+    return [it for it in reading.query(file, "callers") if it["caller"] in names]
+
+
+def parts_of(file: Path, found: Sequence[Event], at: str, checked: Checked) -> list[Part]:
+    """The parts of the page of a version, for the moment that is asked about."""
+    document = {name: value for name, value in document_of(found).items() if value != ""}
+    document["vault"] = f"{file}, whose last change is of {checked.last}"
+    document["page"] = f"made by vaultdesk {__version__}, which only reads the file"
+    guards = list(_guard_sentences(found, events.guards_at(found, at)))
+    if at > checked.last:
+        guards.append(f"The vault's last change is of {checked.last}: this is so if nothing was changed after it.")
+    people = ("caller", "department", "state", "rights")
+    return [
+        Part("document", "The document", (), WHAT, [dict(zip(WHAT, it, strict=True)) for it in document.items()]),
+        Part("life", "What happened to it", (), ("moment", "who", "what"), life_of(found)),
+        Part("guarded", f"What guarded it at {at}", guards),
+        Part("people", "Who they are, as the file has it", (), people, _people(file, found)),
+        Part("checked", "What was checked", list(_checked_sentences(checked, found))),
+        Part("shows", "What this shows", list(_shown_sentences(checked))),
+        Part("shows_not", "What this doesn't show", list(_unshown_sentences(checked))),
+    ]
+
+
+def _is_there(part: Part) -> bool:
+    return bool(part.sentences or part.rows)
+
+
+def as_text(title: str, parts: Sequence[Part]) -> str:
+    """The page as text."""
+    lines = [title, "=" * len(title)]
+    for it in filter(_is_there, parts):
+        lines += ["", it.title, "-" * len(it.title)]
+        for sentence in it.sentences:
+            lines += textwrap.wrap(shown(sentence), WIDTH, initial_indent="- ", subsequent_indent="  ")
+        lines += table_lines(it.rows, it.columns)
+    return "\n".join(lines) + "\n"
+
+
+def _html_table(part: Part) -> str:
+    head = "".join(f"<th>{html.escape(it)}</th>" for it in part.columns)
+    body = ""
+    for row in part.rows:
+        body += "<tr>" + "".join(f"<td>{html.escape(shown(str(row[it])))}</td>" for it in part.columns) + "</tr>"
+    return f"<table><thead><tr>{head}</tr></thead><tbody>{body}</tbody></table>\n"
+
+
+def as_html(title: str, parts: Sequence[Part]) -> str:
+    """The page as HTML, to be printed."""
+    body = f"<h1>{html.escape(title)}</h1>\n"
+    for it in filter(_is_there, parts):
+        body += f"<h2>{html.escape(it.title)}</h2>\n"
+        if it.sentences:
+            body += "<ul>" + "".join(f"<li>{html.escape(shown(line))}</li>" for line in it.sentences) + "</ul>\n"
+        if it.rows:
+            body += _html_table(it)
+    head = f'<meta charset="utf-8"><title>{html.escape(title)}</title><style>{STYLE}</style>'
+    return f'<!DOCTYPE html>\n<html lang="en"><head>{head}</head><body>\n{body}</body></html>\n'
+
+
+def as_json(parts: Sequence[Part]) -> dict[str, Any]:
+    """The page as JSON has it: a part has sentences or rows."""
+    found: dict[str, Any] = {}
+    for it in parts:
+        if it.columns == WHAT:
+            found[it.name] = {row["what"]: row["is"] for row in it.rows}
+        elif it.columns:
+            found[it.name] = [dict(row) for row in it.rows]
+        else:
+            found[it.name] = list(it.sentences)
+    return found
+
+
+def answer(engine: Engine, words: argparse.Namespace) -> None:
+    """Prints the page of a version, or writes it as HTML."""
+    file, at = engine.desk.file, engine.at or moments.now()
+    found = events.of_version(file, words.number)
+    checked = _checked(file, words.seals)
+    parts = parts_of(file, found, at, checked)
+    title = f"What the vault has of version {words.number}"
+    if words.html:
+        write_content(Path(words.html), as_html(title, parts).encode(), words.force)
+    if words.json:
+        print_json({"title": title, "at": at, "good": checked.is_good, **as_json(parts)})
+    elif not words.html:
+        print(as_text(title, parts), end="")
+    if not checked.is_good:
+        raise DeskError(f"the checks found what speaks against this history: {checked.breach or checked.differing[0]}")
+
+
+def add(commands: argparse._SubParsersAction[argparse.ArgumentParser], common: argparse.ArgumentParser) -> None:
+    """Adds the subcommand to the desk's words."""
+    what = "a page for a court: one version's life, what guarded it at a moment (--at), and what that shows"
+    example = "Example: vaultdesk answer 17 --at 2024-09-01 --seals deposited/records.seals --html answer.html"
+    it = commands.add_parser("answer", parents=[common], help=what, epilog=example)
+    it.add_argument("number", type=number, metavar="N", help="the version's number, as find and ls print it")
+    it.add_argument("--seals", metavar="FILE", help="seals to check; left out: NAME.seals beside NAME.vault, if there")
+    it.add_argument("--html", metavar="FILE", help="write the page as HTML, to be printed")
+    it.add_argument("--force", action="store_true", help="write over a file that is there")
+    it.set_defaults(run=answer)

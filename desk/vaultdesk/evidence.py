@@ -1,0 +1,178 @@
+"""What holds against whoever may write to the vault's file: seal, check-seals, compare.
+
+The answers are vault-recheck's, which shares no code with the program that writes the vault.
+"""
+
+from __future__ import annotations
+
+import argparse
+import os
+import sys
+from collections.abc import Iterable, Sequence
+from pathlib import Path
+from typing import Any
+
+from vaultdesk import moments, recheck
+from vaultdesk.engine import Engine
+from vaultdesk.errors import DeskError, UsageError
+from vaultdesk.output import print_json
+
+Seal = recheck.events.Seal
+
+
+def seals_beside(file: Path) -> Path:
+    """Where the seals of a vault are kept if nothing else is said: `records.seals` beside `records.vault`."""
+    return file.with_suffix(".seals") if file.suffix == ".vault" else file.with_name(f"{file.name}.seals")
+
+
+def read_seals(path: Path) -> list[Seal]:
+    """The seals of a file. `DeskError` where it can't be read, or has something else."""
+    try:
+        with path.open(encoding="utf-8") as lines:
+            return recheck.events.read_seals(lines)
+    except (OSError, ValueError) as error:
+        raise DeskError(f"{path}: {error}") from error
+
+
+def seal_json(seal: Seal) -> dict[str, Any]:
+    """A seal as JSON has it."""
+    return {**seal._asdict(), "before": recheck.vault.moment_text(seal.before)}
+
+
+def counted(number: int, what: str) -> str:
+    """A number with what it counts: `1 seal`, `12 seals`."""
+    return f"{number} {what}{'' if number == 1 else 's'}"
+
+
+def say(text: str) -> None:
+    """A line for people, who see it beside what is printed for programs."""
+    print(text, file=sys.stderr)
+
+
+def say_while_long(text: str) -> None:
+    """A line for a person at a terminal, before what may take long."""
+    if sys.stderr.isatty():
+        say(text)
+
+
+def _seconds_of(moment: str) -> int:
+    try:
+        return recheck.vault.moment_of(moment)
+    except ValueError as error:
+        raise UsageError(str(error)) from error
+
+
+def seal_of(file: Path, before: str | None) -> Seal:
+    """The seal of a moment, or of the vault's last one. `DeskError` where it is later than that."""
+    say_while_long(f"{recheck.WHO}, audits the file first")
+    with recheck.audited(file) as base:
+        moment = _seconds_of(before) if before else recheck.vault.meta_of(base).last
+        try:
+            [found] = recheck.events.seals_of(base, [moment])
+        except recheck.events.TooLate as late:
+            raise DeskError(f"{late}: later changes could still come before it; ask for an earlier one") from late
+    return found
+
+
+def _append(path: Path, seal: Seal) -> bool:
+    """Puts a seal behind those of a file, in one piece; false where it stands there already.
+
+    `DeskError` where the file has another seal of that moment, or can't be written."""
+    there = [it for it in read_seals(path) if it.before == seal.before] if path.exists() else []
+    if any(it != seal for it in there):
+        raise DeskError(f"{path} has another seal of that moment: the vault isn't what was sealed; see check-seals")
+    if there:
+        return False
+    try:
+        with open(os.open(path, os.O_WRONLY | os.O_CREAT | os.O_APPEND, 0o600), "wb", buffering=0) as file:
+            file.write(seal.text().encode())
+    except OSError as error:
+        raise DeskError(f"{path}: {error.strerror}") from error
+    return True
+
+
+def seal(engine: Engine, words: argparse.Namespace) -> None:
+    """Prints the seal of a moment, and puts it behind the others of a file where that is asked."""
+    file = engine.desk.file
+    found = seal_of(file, moments.read(words.before) if words.before else None)
+    if words.json:
+        print_json({**seal_json(found), "by": recheck.WHO})
+    else:
+        print(found.text(), end="")
+    if words.append is not None:
+        path = Path(words.append) if words.append else seals_beside(file)
+        done = "is appended to" if _append(path, found) else "stood already in"
+        say(f"the seal {done} {path}: keep a copy of that file where the office can't write")
+    if not words.json:
+        say(f"sealed by {recheck.WHO}")
+
+
+def differing(file: Path, seals: Sequence[Seal]) -> list[str]:
+    """What of these seals doesn't come out of the file, a line each; one pass for all of them."""
+    say_while_long(f"{recheck.WHO}, audits the file first")
+    with recheck.audited(file) as base:
+        return list(recheck.events.differing_seals(base, list(seals)))
+
+
+def span_text(seals: Iterable[Seal]) -> str:
+    """The first and the last moment of some seals."""
+    texts = sorted(recheck.vault.moment_text(it.before) for it in seals)
+    return texts[0] if len(texts) == 1 else f"from {texts[0]} to {texts[-1]}"
+
+
+def check_seals(engine: Engine, words: argparse.Namespace) -> None:
+    """Says whether each seal of the files comes out of the vault again."""
+    file = engine.desk.file
+    seals = [it for path in words.files or [seals_beside(file)] for it in read_seals(Path(path))]
+    found = differing(file, seals)
+    if words.json:
+        print_json({"seals": len(seals), "differing": found, "by": recheck.WHO})
+    else:
+        for it in found:
+            print(f"differs {it}")
+        if not found:
+            print(f"as sealed: {counted(len(seals), 'seal')}, {span_text(seals)}")
+        print(f"checked by {recheck.WHO}")
+    if found:
+        raise DeskError(f"{len(found)} of {counted(len(seals), 'seal')} differ: what was before isn't what was sealed")
+
+
+def compare(engine: Engine, words: argparse.Namespace) -> None:
+    """Says whether what the older copy had stands unaltered in the newer one."""
+    say_while_long(f"{recheck.WHO}, audits both files first")
+    with recheck.audited(Path(words.old)) as old, recheck.audited(Path(words.new)) as new:
+        found = list(recheck.compare.differences(old, new))
+    if words.json:
+        print_json({"unaltered": not found, "differences": found, "by": recheck.WHO})
+    else:
+        for it in found:
+            print(it)
+        if not found:
+            print(f"unaltered: all that {words.old} has stands in {words.new}, and nothing new is dated before its end")
+        print(f"compared by {recheck.WHO}")
+    if found:
+        raise DeskError(f"{counted(len(found), 'difference')}: {words.new} isn't {words.old} with what came since")
+
+
+def add(commands: argparse._SubParsersAction[argparse.ArgumentParser], common: argparse.ArgumentParser) -> None:
+    """Adds the subcommands to the desk's words."""
+    what = "the seal of all that happened before a moment: four lines to be deposited with somebody else"
+    example = "Example: vaultdesk seal --vault records.vault --append"
+    it = commands.add_parser("seal", parents=[common], help=what, epilog=example)
+    it.add_argument("--before", metavar="DATE", help="the moment; left out: that of the vault's last change")
+    more = "put it behind the seals of FILE; left out: NAME.seals beside NAME.vault"
+    it.add_argument("--append", nargs="?", const="", metavar="FILE", help=more)
+    it.set_defaults(run=seal)
+
+    what = "whether seals come out of the vault again, a whole year of them in one pass"
+    example = "Example: vaultdesk check-seals deposited/records.seals"
+    it = commands.add_parser("check-seals", parents=[common], help=what, epilog=example)
+    it.add_argument("files", nargs="*", metavar="FILE", help="files of seals; left out: NAME.seals beside NAME.vault")
+    it.set_defaults(run=check_seals)
+
+    what = "whether what an older copy has stands unaltered in a newer one, and nothing new is dated before its end"
+    example = "Example: vaultdesk compare backup/records-20250101.vault records.vault"
+    it = commands.add_parser("compare", parents=[common], help=what, epilog=example)
+    it.add_argument("old", metavar="OLD", help="the file of the older copy")
+    it.add_argument("new", metavar="NEW", help="the file of the newer one")
+    it.set_defaults(run=compare)
