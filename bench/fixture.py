@@ -28,6 +28,10 @@ LONG = 40_000
 LONG_KEY = "long"
 
 EVERY_RIGHT = 4095
+# How many versions the other key has.
+TEN = 10
+# The bytes of a page in a file as SQLite makes it.
+STOCK_PAGE = 4_096
 
 
 @dataclasses.dataclass(frozen=True)
@@ -43,6 +47,8 @@ class Shape:
     scattered: bool = False
     # How many versions of one key, in a bucket of its own, were removed; one more is held.
     removed: int = 0
+    # How many versions of one key, in a bucket of its own, are held; a key of another bucket has ten.
+    versions: int = 0
 
     def key(self, i):
         """The key of an entry of this number, and of those that are put later."""
@@ -142,6 +148,31 @@ def fill_removed(connection, shape):
     )
 
 
+def fill_versions(connection, shape):
+    """Adds two keys with held versions alone: as many as the shape has in a bucket `deep`, and ten in a bucket `flat`.
+    Returns how many entries these are."""
+    data = content(0, shape.size)
+    digest, first = hashlib.sha256(data).digest(), shape.entries + 1
+    execute, many = connection.execute, connection.executemany
+    for bucket, count in (("deep", shape.versions), ("flat", TEN)):
+        numbers = range(first, first + count)
+        execute("INSERT INTO buckets VALUES (?, 'records', 0, NULL, NULL)", (bucket,))
+        row = "INSERT INTO entries VALUES (?, ?, 'key', 0, ?, ?, ?, 0, 'ann', NULL, NULL, NULL)"
+        many(row, ((n, bucket, len(data), digest, MOMENT) for n in numbers))
+        many("INSERT INTO contents VALUES (?, ?)", ((n, data) for n in numbers))
+        many("INSERT INTO settings VALUES (?, 1, ?, 'ann', 0, NULL, 0, 0)", ((n, MOMENT) for n in numbers))
+        execute("INSERT INTO heads VALUES (?, 'key', ?, ?)", (bucket, numbers[-1], count))
+        first += count
+    add_tenures(connection)
+    held = (shape.versions + TEN) * len(data)
+    execute(
+        "UPDATE departments SET admitted = admitted + ?1, held = held + ?1, weighted = weighted + ?2"
+        " WHERE name = 'records'",
+        (held, held * DAY),
+    )
+    return shape.versions + TEN
+
+
 def fill(connection, shape):
     """Adds all that the vault has, and what a new vault's `meta` tells of it."""
     fill_departments(connection, shape)
@@ -150,6 +181,8 @@ def fill(connection, shape):
     if shape.removed:
         fill_removed(connection, shape)
         count += shape.removed + 2
+    if shape.versions:
+        count += fill_versions(connection, shape)
     connection.execute("UPDATE meta SET last = ?, next = ?", (MOMENT, count + 1))
 
 
@@ -173,6 +206,16 @@ def copy(path, to):
         with contextlib.suppress(FileNotFoundError):
             shutil.copyfile(f"{path}{end}", f"{to}{end}")
     return to
+
+
+def with_stock_pages(path):
+    """Gives a file the pages that SQLite gives to a new one."""
+    with contextlib.closing(sqlite3.connect(path, isolation_level=None)) as connection:
+        connection.execute("PRAGMA journal_mode = DELETE")
+        connection.execute(f"PRAGMA page_size = {STOCK_PAGE}")
+        connection.execute("VACUUM")
+        connection.execute("PRAGMA journal_mode = WAL")
+    return path
 
 
 class Vaults:

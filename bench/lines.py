@@ -49,6 +49,22 @@ def report(shape):
         yield line("report", department, dept=fixture.name_of("records", department))
 
 
+def remove(shape):
+    """Removals of entries by their numbers, from the first short one on."""
+    for i in range(1, shape.entries):
+        yield of_entry("delete-version", shape, i, id=i + 1)
+
+
+def list_by_prefix(shape, i):
+    """One entry by the whole key of an entry of this number as the prefix."""
+    return itertools.repeat(line("list-versions", bucket="docs", prefix=shape.key(i), most=1))
+
+
+def list_one_of(bucket):
+    """The newest entry of the only key of a bucket."""
+    return itertools.repeat(line("list-versions", bucket=bucket, most=1))
+
+
 def list_page(shape):
     """Pages of a hundred versions, each behind a key picked at random."""
     dice = random.Random(3)

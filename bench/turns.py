@@ -30,12 +30,15 @@ def ask(process, asked, what):
 
 
 class Pair:
-    """The program and the peer, each over a copy of a file; or the program alone."""
+    """The program and the peer, each over a copy of a file; or the program alone. The peer's copy has the pages of a
+    file that SQLite made, or those of the program's file."""
 
-    def __init__(self, program, whole, folder, both=True):
+    def __init__(self, program, whole, folder, both=True, same_pages=False):
         self.talks = {}
         for who in (PROGRAM, PEER) if both else (PROGRAM,):
             path = fixture.copy(whole, folder / f"{who}.vault")
+            if who == PEER and not same_pages:
+                fixture.with_stock_pages(path)
             self.talks[who] = talk.Talk(words(who, program, path))
 
     def measure(self, results, what, size, source, turns, ops, alone=False):

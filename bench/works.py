@@ -1,5 +1,6 @@
 """Work over many entries at once: lifecycle runs, and intakes of folders."""
 
+import itertools
 import json
 import shutil
 import sys
@@ -84,6 +85,72 @@ def removed(wanted, vaults, results):
         for bucket, size in (("old", wanted.removed), ("new", 0)):
             pair.measure(results, f"{do}, {bucket} key", size, on_key(do, bucket), wanted.turns, few)
     pair.end(results, "put, old key", wanted.removed)
+
+
+def listings(wanted, vaults, results):
+    """One entry by the first prefix of many keys and by the last, and one of a key with ten held versions and of a key
+    with many."""
+    shape = fixture.Shape(max(wanted.sizes), versions=wanted.versions)
+    few = max(1, wanted.ops // 30)
+    pair = Pair(vaults.program, vaults.of(shape), vaults.folder, both=False)
+    for name, number in (("first", 1), ("last", shape.entries - 1)):
+        source = lines.list_by_prefix(shape, number)
+        pair.measure(results, f"one by the {name} prefix", shape.entries, source, wanted.turns, few)
+    for bucket, size in (("flat", fixture.TEN), ("deep", wanted.versions)):
+        pair.measure(results, "one of a key's versions", size, lines.list_one_of(bucket), wanted.turns, few)
+    pair.end(results, "one by the last prefix", shape.entries)
+
+
+def removals(wanted, vaults, results):
+    """Removals of versions by their numbers."""
+    for size in wanted.sizes:
+        shape = fixture.Shape(size)
+        few = min(wanted.ops, size // (wanted.turns + 1) - 1)
+        pair = Pair(vaults.program, vaults.of(shape), vaults.folder, both=False)
+        pair.measure(results, "delete-version", size, lines.remove(shape), wanted.turns, few)
+        pair.end(results, "delete-version", size)
+
+
+def move_once(vaults, shape):
+    """The seconds of a move of the bucket with all entries, those of a processor, and the most memory."""
+    path = fixture.copy(vaults.of(shape), vaults.folder / "move.vault")
+    process = talk.Talk([vaults.program, "replay", path])
+    process.ask([lines.MARK])
+    by_registrar = {"at": fixture.AT, "as": "registrar"}
+    asked = [
+        {**by_registrar, "do": "add-dept", "dept": "court"},
+        {**by_registrar, "do": "move-bucket", "bucket": "docs", "dept": "court"},
+        {**by_registrar, "do": "add-caller", "caller": "cas", "dept": "court", "rights": ["get"]},
+        {"at": fixture.AT, "as": "cas", "do": "get", "bucket": "docs", "key": fixture.LONG_KEY},
+    ]
+    replies, seconds, processor = process.ask([json.dumps(it) for it in asked])
+    if any(not it.startswith(b'{"ok":') for it in replies):
+        sys.exit(f"move: {replies!r}"[:400])
+    return seconds, processor, process.end()
+
+
+def moves(wanted, vaults, results):
+    """Moves of a bucket to another department, by one held version."""
+    for size in wanted.sizes:
+        for _ in range(wanted.repeat):
+            seconds, processor, most = move_once(vaults, fixture.Shape(size))
+            results.note("move of a bucket, a version", size, PROGRAM, seconds / size, processor / size)
+            results.note_memory("move of a bucket, a version", size, PROGRAM, most)
+
+
+# A rule whose prefix no key of a fixture has.
+NO_KEY = [{"ID": "none", "Prefix": "1999/", "Status": "Enabled", "Expiration": {"Days": 1}}]
+
+
+def rule(wanted, vaults, results):
+    """Lifecycle runs of a bucket whose one rule fits no key; what a whole run takes is told."""
+    for size in wanted.sizes:
+        pair = Pair(vaults.program, vaults.of(fixture.Shape(size)), vaults.folder, both=False)
+        given = itertools.repeat(lines.line("set-rules", bucket="docs", rules=NO_KEY))
+        pair.measure(results, "set-rules", size, given, 1, 1)
+        asked = itertools.repeat(lines.line("run", bucket="docs"))
+        pair.measure(results, "run, a rule for no key", size, asked, wanted.turns, 1)
+        pair.end(results, "run, a rule for no key", size)
 
 
 def on_key(do, bucket):
