@@ -7,13 +7,14 @@ import sys
 from collections.abc import Sequence
 
 from vaultdesk import (
-    __version__, answer, deliveries, documents, evidence, find, history, locks, moments, office, policies, years_end,
+    __version__, answer, cases, deliveries, documents, evidence, find, history, locks, moments, office, policies,
+    years_end,
 )
 from vaultdesk.config import desk
 from vaultdesk.engine import Engine
 from vaultdesk.errors import DeskError
 
-FAMILIES = (documents, find, history, locks, policies, deliveries, years_end, evidence, answer, office)
+FAMILIES = (documents, find, history, locks, cases, policies, deliveries, years_end, evidence, answer, office)
 
 
 def common_words() -> argparse.ArgumentParser:

@@ -3,86 +3,152 @@
 from __future__ import annotations
 
 import argparse
-import csv
-import io
+import contextlib
 from collections.abc import Callable, Mapping, Sequence
 from typing import Any
 
 from vaultdesk import moments
 from vaultdesk.asking import add_yes, confirm
+from vaultdesk.cases import HOLD, RELEASE, Cases, Note, check_name, file_beside
 from vaultdesk.engine import Engine
 from vaultdesk.errors import DeskError, Refused, UsageError
-from vaultdesk.output import print_table
+from vaultdesk.output import print_json, print_rows
 from vaultdesk.targets import Target, add_targets, targets
 
+COLUMNS = ("bucket", "version", "was", "is", "refused", "key")
 Row = dict[str, Any]
-COLUMNS = ("key", "version", "was", "is", "refused")
+Change = Callable[[Target], Row]
 
 
-def lock_text(retention: Mapping[str, str] | None) -> str:
-    """A retention as `COMPLIANCE until 2034-01-01T00:00:00Z`, or `none`."""
-    return f"{retention['mode']} until {retention['until']}" if retention else "none"
+class NotDone(DeskError):
+    """A version that was left as it is, by what the office has noted of it."""
 
 
-def _each(found: Sequence[Target], change: Callable[[Target], Row]) -> list[Row]:
+def retention_text(retention: Mapping[str, str] | None) -> str:
+    """A retention as `COMPLIANCE until 2034-01-01T00:00:00Z`, or `no retention`."""
+    return f"{retention['mode']} until {retention['until']}" if retention else "no retention"
+
+
+def lock_text(head: Mapping[str, Any]) -> str:
+    """The lock of a version as `COMPLIANCE until 2034-01-01T00:00:00Z, hold ON`."""
+    return f"{retention_text(head['retention'])}, hold {head['hold']}"
+
+
+def _each(found: Sequence[Target], change: Change) -> list[Row]:
     """The row of each target; what is refused has its refusal in its row, and those after it are tried all the same."""
     rows: list[Row] = []
     for it in found:
-        row: Row = {"key": it.key, "version": it.version or "current", "was": "", "is": "", "refused": ""}
+        row: Row = {"bucket": it.bucket, "key": it.key, "version": it.version or "current", "was": "", "is": ""}
+        row["refused"] = ""
         try:
             row |= change(it)
-        except Refused as error:
+        except (Refused, NotDone) as error:
             row["refused"] = str(error)
         rows.append(row)
     return rows
 
 
-def _print(rows: Sequence[Row], as_json: bool) -> None:
+def _print(rows: Sequence[Row], words: argparse.Namespace) -> None:
     """Prints the rows. `DeskError` where one was refused, after all of them."""
     refused = sum(bool(it["refused"]) for it in rows)
-    print_table(rows, COLUMNS if refused else COLUMNS[:-1], as_json)
+    if words.json:
+        print_json(rows)
+    else:
+        there = {"bucket": not words.bucket, "refused": refused}
+        print_rows(rows, [it for it in COLUMNS if there.get(it, True)])
     if refused:
-        raise DeskError(f"{refused} of {len(rows)} were refused")
+        raise DeskError(f"{refused} of {len(rows)} were refused, and the others were done")
 
 
-def _note(engine: Engine, words: argparse.Namespace, rows: Sequence[Row]) -> None:
-    """Keeps a case's list as a document: what was changed for the case, as CSV."""
-    if not words.case:
-        return
-    if not words.cases:
-        raise UsageError("--case keeps the list as a document: name its bucket by --cases")
-    text = io.StringIO()
-    writer = csv.writer(text, lineterminator="\n")
-    writer.writerow(["bucket", *COLUMNS])
-    writer.writerows([words.bucket, *(it[name] for name in COLUMNS)] for it in rows)
-    key = f"{words.case}/{words.command} {engine.at or moments.now()}.csv"
-    engine.ask("put", bucket=words.cases, key=key, text=text.getvalue())
+# ---- legal holds
 
 
-def _set_hold(engine: Engine, words: argparse.Namespace, hold: str) -> None:
-    found = targets(engine, words)
+class _Holds:
+    """Sets or lifts legal holds, and notes for which case."""
 
-    def change(it: Target) -> Row:
-        place = {"bucket": words.bucket, "key": it.key, "id": it.version}
-        was = engine.ask("get-hold", **place)["hold"]
-        if not words.dry_run:
-            engine.ask("set-hold", **place, hold=hold)
-        return {"was": was, "is": was if words.dry_run else hold}
+    def __init__(self, engine: Engine, words: argparse.Namespace) -> None:
+        self.engine = engine
+        self.case = check_name(words.case) if words.case is not None else None
+        self.dry_run = bool(words.dry_run)
+        self.cases = Cases(file_beside(engine.desk.file))
 
-    rows = _each(found, change)
-    if not words.dry_run:
-        _note(engine, words, rows)
-    _print(rows, words.json)
+    def _note(self, done: str, it: Target, version: int, was: str) -> None:
+        if self.case is not None:
+            moment = self.engine.at or moments.now()
+            self.cases.add(Note(moment, self.engine.desk.caller, self.case, done, it.bucket, it.key, version, was))
+
+    def _set(self, it: Target, head: Mapping[str, Any], hold: str) -> Row:
+        """Sets the hold of just the version that was looked at."""
+        version, was = int(head["version_id"]), lock_text(head)
+        row = {"version": version, "was": was, "is": lock_text({**head, "hold": hold})}
+        if self.dry_run:
+            return {**row, "is": f"would be: {row['is']}"}
+        self.engine.ask("set-hold", bucket=it.bucket, key=it.key, id=version, hold=hold)
+        self._note(HOLD if hold == "ON" else RELEASE, it, version, was)
+        return row
+
+    def hold(self, it: Target) -> Row:
+        """Puts a legal hold on a version."""
+        return self._set(it, self.engine.ask("head", **it.place), "ON")
+
+    def release(self, it: Target) -> Row:
+        """Lifts the legal hold of a version, unless another case has it on hold."""
+        head = self.engine.ask("head", **it.place)
+        version, was = int(head["version_id"]), lock_text(head)
+        cases = self.cases.held_for(it.bucket, it.key, version)
+        if self.case is not None and self.case not in cases:
+            raise NotDone(f"it isn't on hold for case {self.case!r}: release it without --case, or look at its cases")
+        others = ", ".join(repr(other) for other in sorted(cases - {self.case}))
+        if others and self.case is None:
+            raise NotDone(f"it is on hold for case {others}: release it by --case")
+        if not others:
+            return self._set(it, head, "OFF")
+        if not self.dry_run:
+            self._note(RELEASE, it, version, was)
+        return {"version": version, "was": was, "is": f"{was}: still for case {others}"}
+
+    def gone(self, it: Target) -> Row:
+        """Notes the release of what a case had on hold and the vault holds no more."""
+        if not self.dry_run:
+            self._note(RELEASE, it, it.version or 0, "not held any more")
+        return {"is": "not held any more"}
+
+    def carry_out(self, found: Sequence[Target], change: Change) -> list[Row]:
+        """The rows of all targets. The file of cases is opened before the first change."""
+        noted = self.case is not None and not self.dry_run
+        with self.cases.open() if noted else contextlib.nullcontext():
+            return _each(found, change)
 
 
 def hold(engine: Engine, words: argparse.Namespace) -> None:
     """Sets a legal hold on each version that is meant."""
-    _set_hold(engine, words, "ON")
+    holds = _Holds(engine, words)
+    _print(holds.carry_out(targets(engine, words), holds.hold), words)
 
 
 def release(engine: Engine, words: argparse.Namespace) -> None:
-    """Lifts the legal hold of each version that is meant."""
-    _set_hold(engine, words, "OFF")
+    """Lifts the legal hold of each version that is meant: without others, of all that a case has on hold."""
+    holds = _Holds(engine, words)
+    named = any(it is not None for it in (words.bucket, words.key, words.prefix, words.list))
+    if named or holds.case is None:
+        _print(holds.carry_out(targets(engine, words), holds.release), words)
+        return
+    found = [Target(it.bucket, it.key, it.version) for it in holds.cases.of_case(holds.case)]
+    if not found:
+        raise DeskError(f"{holds.cases.path} has nothing on hold for case {holds.case!r}: vaultdesk cases lists them")
+
+    def change(it: Target) -> Row:
+        try:
+            return holds.release(it)
+        except Refused as error:
+            if error.code != "NoSuchVersion":
+                raise
+            return holds.gone(it)
+
+    _print(holds.carry_out(found, change), words)
+
+
+# ---- retentions, and what takes a document away
 
 
 def retain(engine: Engine, words: argparse.Namespace) -> None:
@@ -93,14 +159,16 @@ def retain(engine: Engine, words: argparse.Namespace) -> None:
         confirm(words, f"{len(found)} versions can't be removed by anybody before {until}")
 
     def change(it: Target) -> Row:
-        place = {"bucket": words.bucket, "key": it.key, "id": it.version}
-        was = lock_text(engine.ask("get-retention", **place)["retention"])
+        head = engine.ask("head", **it.place)
+        version, after = head["version_id"], {**head, "retention": {"mode": words.mode, "until": until}}
+        row = {"version": version, "was": lock_text(head), "is": lock_text(after)}
         if words.dry_run:
-            return {"was": was, "is": was}
+            return {**row, "is": f"would be: {row['is']}"}
+        place = {"bucket": it.bucket, "key": it.key, "id": version}
         engine.ask("set-retention", **place, mode=words.mode, until=until, bypass=words.bypass or None)
-        return {"was": was, "is": lock_text({"mode": words.mode, "until": until})}
+        return row
 
-    _print(_each(found, change), words.json)
+    _print(_each(found, change), words)
 
 
 def rm(engine: Engine, words: argparse.Namespace) -> None:
@@ -110,10 +178,10 @@ def rm(engine: Engine, words: argparse.Namespace) -> None:
     def change(it: Target) -> Row:
         if words.dry_run:
             return {"is": "would be marked"}
-        done = engine.ask("delete", bucket=words.bucket, key=it.key)
+        done = engine.ask("delete", bucket=it.bucket, key=it.key)
         return {"version": done["version_id"], "is": "marked"}
 
-    _print(_each(found, change), words.json)
+    _print(_each(found, change), words)
 
 
 def delete(engine: Engine, words: argparse.Namespace) -> None:
@@ -127,31 +195,34 @@ def delete(engine: Engine, words: argparse.Namespace) -> None:
     def change(it: Target) -> Row:
         if words.dry_run:
             return {"is": "would be asked for"}
-        place = {"bucket": words.bucket, "key": it.key, "id": it.version}
-        done = engine.ask("delete-version", **place, bypass=words.bypass or None)
+        done = engine.ask("delete-version", **it.place, bypass=words.bypass or None)
         return {"is": f"removed ({done['cause']})"}
 
-    _print(_each(found, change), words.json)
+    _print(_each(found, change), words)
 
 
-def _add_case(it: argparse.ArgumentParser) -> None:
-    it.add_argument("--case", metavar="NAME", help="keep the list of what was changed as a document of that case")
-    it.add_argument("--cases", metavar="BUCKET", help="the bucket in which cases are kept")
+def _add_holds(commands: argparse._SubParsersAction[argparse.ArgumentParser], common: argparse.ArgumentParser) -> None:
+    example = 'Example: vaultdesk hold letters --prefix "2025/" --case "Miller 17"'
+    what = "set a legal hold: on one document, on many by prefix, or by a list"
+    it = commands.add_parser("hold", parents=[common], help=what, epilog=example)
+    it.set_defaults(run=hold)
+    add_targets(it)
+    it.add_argument("--case", metavar="NAME", help="note in NAME.cases beside NAME.vault for which case")
+    it.add_argument("--dry-run", action="store_true", help="say what would be done, and change nothing")
+
+    example = 'Example: vaultdesk release --case "Miller 17"'
+    what = "lift a legal hold: of one document, of many by prefix, by a list, or all of a case"
+    it = commands.add_parser("release", parents=[common], help=what, epilog=example)
+    it.set_defaults(run=release)
+    add_targets(it)
+    more = "of that case; without others, all that it has on hold; what another case has on hold stays so"
+    it.add_argument("--case", metavar="NAME", help=more)
     it.add_argument("--dry-run", action="store_true", help="say what would be done, and change nothing")
 
 
 def add(commands: argparse._SubParsersAction[argparse.ArgumentParser], common: argparse.ArgumentParser) -> None:
     """Adds the subcommands to the desk's words."""
-    for name, run, what in (
-        ("hold", hold, "set a legal hold: on one document, on many by prefix, or by a list"),
-        ("release", release, "lift a legal hold: of one document, of many by prefix, or by a list"),
-    ):
-        example = f'Example: vaultdesk {name} letters --prefix "2025/" --case "Miller 17" --cases cases'
-        it = commands.add_parser(name, parents=[common], help=what, epilog=example)
-        add_targets(it)
-        _add_case(it)
-        it.set_defaults(run=run)
-
+    _add_holds(commands, common)
     example = "Example: vaultdesk retain letters 2025/002 --until 2035-01-01"
     it = commands.add_parser("retain", parents=[common], help="set or extend a retention", epilog=example)
     add_targets(it)

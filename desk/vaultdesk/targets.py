@@ -4,9 +4,10 @@ from __future__ import annotations
 
 import argparse
 import csv
-from collections.abc import Iterator
+from collections.abc import Iterator, Mapping
 from dataclasses import dataclass
 from pathlib import Path
+from typing import Any
 
 from vaultdesk.engine import Engine
 from vaultdesk.errors import DeskError, UsageError
@@ -14,58 +15,75 @@ from vaultdesk.errors import DeskError, UsageError
 
 @dataclass(frozen=True)
 class Target:
-    """A version of a key; without a number, the current one."""
+    """A version of a key in a bucket; without a number, the current one."""
 
+    bucket: str
     key: str
     version: int | None = None
+
+    @property
+    def place(self) -> dict[str, Any]:
+        """The members of a line that name it."""
+        return {"bucket": self.bucket, "key": self.key, "id": self.version}
 
 
 def add_targets(it: argparse.ArgumentParser) -> None:
     """The words that say which versions are meant."""
-    it.add_argument("bucket")
+    it.add_argument("bucket", nargs="?", help="may be left out where a list has the column bucket")
     it.add_argument("key", nargs="?")
     it.add_argument("--version", type=int, metavar="N", help="that version of KEY, and not the current one")
     it.add_argument("--prefix", metavar="P", help="in place of KEY: the current version of each key that begins so")
     it.add_argument("--all-versions", action="store_true", help="with --prefix: older versions too")
-    it.add_argument("--list", metavar="FILE", help="in place of KEY: a CSV file with the column key, or key,version")
+    more = "in place of KEY: a CSV file with the column key, and if wanted version and bucket, as find --csv prints it"
+    it.add_argument("--from", dest="list", metavar="FILE", help=more)
 
 
 def _by_prefix(engine: Engine, bucket: str, prefix: str, all_versions: bool) -> Iterator[Target]:
     for it in engine.entries(bucket, prefix):
         if not it["delete_marker"] and (it["current"] or all_versions):
-            yield Target(it["key"], it["version_id"])
+            yield Target(bucket, it["key"], it["version_id"])
 
 
-def _of_row(path: Path, number: int, row: list[str]) -> Target:
-    if len(row) > 1 and row[1]:
-        if not row[1].isdecimal():
-            raise DeskError(f"{path}: record {number}: {row[1]!r} is no version's number")
-        return Target(row[0], int(row[1]))
-    return Target(row[0])
+def _of_row(place: str, row: Mapping[str, str], bucket: str | None) -> Target:
+    """The target of a record of a list, whose bucket is the one that the words name, if they name one."""
+    there = row.get("bucket") or bucket
+    if not there:
+        raise DeskError(f"{place}: no bucket is named: give BUCKET, or a list with the column bucket")
+    if bucket and there != bucket:
+        raise DeskError(f"{place}: its bucket is {there!r}, and not {bucket!r}: nothing was changed")
+    if not row["key"]:
+        raise DeskError(f"{place}: it has no key: nothing was changed")
+    version = row.get("version", "")
+    if version and not (version.isascii() and version.isdecimal()):
+        raise DeskError(f"{place}: {version!r} is no version's number: nothing was changed")
+    return Target(there, row["key"], int(version) if version else None)
 
 
-def _by_list(path: Path) -> Iterator[Target]:
+def _by_list(path: Path, bucket: str | None) -> Iterator[Target]:
     try:
         with path.open(encoding="utf-8-sig", newline="") as file:
-            rows = list(csv.reader(file, strict=True))
+            rows = [it for it in csv.reader(file, strict=True) if it]
     except (OSError, UnicodeDecodeError, csv.Error) as error:
-        raise DeskError(f"{path}: {error}") from error
-    if not rows or rows[0][:1] != ["key"] or rows[0][1:2] not in ([], ["version"]):
-        raise DeskError(f"{path}: the first record is 'key', or 'key,version'")
+        raise DeskError(f"{path}: {error}: save it as CSV in UTF-8 with commas") from error
+    if not rows or "key" not in rows[0]:
+        raise DeskError(f"{path}: the first record has no column 'key': save it as CSV in UTF-8 with commas")
     for number, row in enumerate(rows[1:], start=2):
-        if row:
-            yield _of_row(path, number, row)
+        if len(row) != len(rows[0]):
+            raise DeskError(f"{path}: record {number} has {len(row)} cells, and the first one {len(rows[0])}")
+        yield _of_row(f"{path}: record {number}", dict(zip(rows[0], row)), bucket)
 
 
 def targets(engine: Engine, words: argparse.Namespace) -> list[Target]:
     """The versions that the words mean. `UsageError` where they mean none, or in two ways."""
     ways = [words.key, words.prefix, words.list]
     if sum(it is not None for it in ways) != 1:
-        raise UsageError("give one of KEY, --prefix and --list")
+        raise UsageError("give one of KEY, --prefix and --from")
     if words.version is not None and words.key is None:
         raise UsageError("--version goes with KEY")
     if words.key is not None:
-        return [Target(words.key, words.version)]
+        return [Target(words.bucket, words.key, words.version)]
     if words.list is not None:
-        return list(_by_list(Path(words.list)))
+        return list(_by_list(Path(words.list), words.bucket))
+    if not words.bucket:
+        raise UsageError("--prefix is of the keys of a bucket: give BUCKET")
     return list(_by_prefix(engine, words.bucket, words.prefix, words.all_versions))
