@@ -21,7 +21,10 @@ class Office(OfficeTest):
         self.assertEqual((found["files"]["department"], found["files"]["documents"]), ("court", 0))
         callers = {it["caller"]: it for it in json.loads(self.done("callers", "--json"))}
         self.assertEqual((callers["cid"]["department"], callers["cid"]["rights"]), ("court", "put get"))
-        self.done("callers", "--close", "cid", "--as", "registrar")
+        done = self.desk("callers", "--close", "cid", "--as", "registrar")
+        self.assertEqual(done.status, 2)
+        self.assertIn("--yes", done.err)
+        self.done("callers", "--close", "cid", "--as", "registrar", "--yes")
         callers = {it["caller"]: it for it in json.loads(self.done("callers", "--json"))}
         self.assertEqual(callers["cid"]["closed"], "closed")
 
@@ -30,6 +33,25 @@ class Office(OfficeTest):
         self.assertEqual(done.status, 2)
         self.assertIn("--department", done.err)
         self.done("callers", "--add", "eve", "--rights", "admin", "--as", "registrar")
+
+    def test_the_last_administrator_stays(self) -> None:
+        done = self.desk("callers", "--close", "registrar", "--as", "registrar", "--yes")
+        self.assertEqual(done.status, 1)
+        self.assertIn("nobody could add another", done.err)
+        self.done("callers", "--add", "eve", "--rights", "admin", "--as", "registrar")
+        self.done("callers", "--close", "registrar", "--as", "registrar", "--yes")
+
+    def test_a_bucket_moves_with_what_it_holds(self) -> None:
+        self.lines({"do": "add-dept", "as": "registrar", "dept": "court"})
+        self.lines({"do": "put", "bucket": "docs", "key": "a", "text": "hello"})
+        move = ("buckets", "--move", "docs", "--department", "court", "--as", "registrar")
+        self.done(*move, "--dry-run")
+        self.assertEqual(self.desk(*move).status, 2)
+        [before] = json.loads(self.done("buckets", "--json"))
+        told = json.loads(self.done(*move, "--yes", "--json"))
+        [after] = json.loads(self.done("buckets", "--json"))
+        self.assertEqual((before["department"], after["department"], told["bytes"]), ("records", "court", 5))
+        self.assertEqual(self.desk("buckets", "--add", "more", "--as", "registrar").status, 2)
 
     def test_who_may_not_is_refused(self) -> None:
         done = self.desk("departments", "--add", "court")

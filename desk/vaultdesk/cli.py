@@ -10,11 +10,14 @@ from vaultdesk import (
     __version__, answer, cases, deliveries, documents, evidence, find, history, locks, moments, office, policies,
     years_end,
 )
+from vaultdesk import backup, glue, night, offices, page, server, users
 from vaultdesk.config import desk
 from vaultdesk.engine import Engine
 from vaultdesk.errors import DeskError
 
+# Those that ask about a vault, and those that look after files, servers and users.
 FAMILIES = (documents, find, history, locks, cases, policies, deliveries, years_end, evidence, answer, office)
+MACHINE = (page, backup, night, server, offices, users, glue)
 
 
 def common_words() -> argparse.ArgumentParser:
@@ -35,17 +38,28 @@ def words() -> argparse.ArgumentParser:
     common = common_words()
     for family in FAMILIES:
         family.add(commands, common)
+    plain = argparse.ArgumentParser(add_help=False)
+    plain.add_argument("--json", action="store_true", help="print JSON")
+    for other in MACHINE:
+        other.add(commands, plain)
     return it
+
+
+def carried_out(asked: argparse.Namespace) -> int:
+    """The status of what the words ask for: `do` needs no engine, `run` does."""
+    if "do" in asked:
+        return int(asked.do(asked))
+    at = moments.read(asked.at) if asked.at else None
+    with Engine(desk(asked.vault, asked.caller), at) as engine:
+        asked.run(engine, asked)
+    return 0
 
 
 def main(given: Sequence[str] | None = None) -> int:
     """Carries out what the words ask for, and returns the exit status."""
     asked = words().parse_args(given)
     try:
-        at = moments.read(asked.at) if asked.at else None
-        with Engine(desk(asked.vault, asked.caller), at) as engine:
-            asked.run(engine, asked)
-        return 0
+        return carried_out(asked)
     except DeskError as error:
         print(f"vaultdesk {asked.command}: {error}", file=sys.stderr)
         return error.status

@@ -89,10 +89,19 @@ def settings() -> Settings:
     return next((read_settings(it) for it in there if it.is_file()), Settings())
 
 
+def program() -> str:
+    """The engine's program: $VAULTCTL, or that of the settings, or else vaultctl on the path."""
+    return os.environ.get("VAULTCTL") or settings().program or "vaultctl"
+
+
+def named_vault() -> str | None:
+    """The vault that is meant where none is named: $VAULT, or that of the settings."""
+    return os.environ.get("VAULT") or settings().vault
+
+
 def desk(vault: str | None, caller: str | None) -> Desk:
     """The desk of these options; what a subcommand lacks is found where it asks for it."""
     given = settings()
-    vault = vault or os.environ.get("VAULT") or given.vault
+    vault = vault or named_vault()
     caller = caller or os.environ.get("VAULT_CALLER") or given.caller
-    program = os.environ.get("VAULTCTL") or given.program or "vaultctl"
-    return Desk(program, given.file_of(vault) if vault else None, caller)
+    return Desk(program(), given.file_of(vault) if vault else None, caller)

@@ -17,6 +17,16 @@ def text_of(moment: dt.datetime) -> str:
     return moment.astimezone(dt.timezone.utc).strftime("%Y-%m-%dT%H:%M:%SZ")
 
 
+def of_seconds(seconds: int) -> str:
+    """The moment of a number of seconds since 1970, in the engine's form."""
+    return text_of(dt.datetime.fromtimestamp(seconds, dt.timezone.utc))
+
+
+def seconds_of(moment: str) -> int:
+    """Seconds since 1970 of a moment in the engine's form."""
+    return int(dt.datetime.fromisoformat(moment.replace("Z", "+00:00")).timestamp())
+
+
 def now() -> str:
     """The machine's clock, in the engine's form."""
     return text_of(dt.datetime.now(dt.timezone.utc))

@@ -6,9 +6,10 @@ import argparse
 from typing import Any
 
 from vaultdesk import reading
+from vaultdesk.asking import add_yes, confirm
 from vaultdesk.engine import Engine
-from vaultdesk.errors import UsageError
-from vaultdesk.output import print_table
+from vaultdesk.errors import DeskError, UsageError
+from vaultdesk.output import print_json, print_table
 
 # Each right and its number in the column of rights.
 RIGHTS = {
@@ -46,11 +47,27 @@ def departments(engine: Engine, words: argparse.Namespace) -> None:
     print_table([dict(zip(columns, it, strict=True)) for it in found], columns, words.json)
 
 
+def _move(engine: Engine, words: argparse.Namespace) -> None:
+    """Moves a bucket with all that it holds to another department."""
+    if words.dry_run:
+        print(f"{words.move} would go to {words.department}")
+        return
+    confirm(words, f"{words.move} is of {words.department} from now on, and counts against its quota")
+    moved = engine.ask("move-bucket", bucket=words.move, dept=words.department)["bytes"]
+    if words.json:
+        print_json({"bucket": words.move, "department": words.department, "bytes": moved})
+    else:
+        print(f"{moved:,} bytes went with {words.move} to {words.department}")
+
+
 def buckets(engine: Engine, words: argparse.Namespace) -> None:
-    """Lists the buckets with what they hold, or adds one to a department."""
+    """Lists the buckets with what they hold, adds one to a department, or moves one to another department."""
+    if (words.add or words.move) and not words.department:
+        raise UsageError("a bucket is a department's: give --department")
+    if words.move:
+        _move(engine, words)
+        return
     if words.add:
-        if not words.department:
-            raise UsageError("a bucket is a department's: give --department")
         engine.ask("add-bucket", bucket=words.add, dept=words.department)
         return
     columns = ("bucket", "department", "documents", "bytes", "markers", "rules")
@@ -58,24 +75,38 @@ def buckets(engine: Engine, words: argparse.Namespace) -> None:
     print_table([dict(zip(columns, it, strict=True)) for it in found], columns, words.json)
 
 
-def _rights_text(number: int) -> str:
+def rights_text(number: int) -> str:
+    """The rights of a number in the column of rights."""
     return " ".join(name for name, bit in RIGHTS.items() if number & bit)
 
 
 def callers(engine: Engine, words: argparse.Namespace) -> None:
     """Lists the callers with their rights, adds one, or closes one for good."""
     if words.close:
-        engine.ask("close-caller", caller=words.close)
+        _close(engine, words)
         return
     if words.add:
         _add_caller(engine, words)
         return
     found = reading.rows(engine.desk.file, "SELECT name, dept, rights, closed FROM callers ORDER BY name")
     rows: list[dict[str, Any]] = [
-        {"caller": name, "department": dept or "", "rights": _rights_text(rights), "closed": "closed" if closed else ""}
+        {"caller": name, "department": dept or "", "rights": rights_text(rights), "closed": "closed" if closed else ""}
         for name, dept, rights, closed in found
     ]
     print_table(rows, ("caller", "department", "rights", "closed"), words.json)
+
+
+def _close(engine: Engine, words: argparse.Namespace) -> None:
+    """Closes a caller for good, unless nobody could add callers after that."""
+    statement = "SELECT name FROM callers WHERE NOT closed AND rights & 1 AND name <> ?"
+    found = reading.rows(engine.desk.file, "SELECT 1 FROM callers WHERE name = ? AND rights & 1", (words.close,))
+    if found and not reading.rows(engine.desk.file, statement, (words.close,)):
+        raise DeskError(f"{words.close} is the last caller with the right admin: nobody could add another")
+    if words.dry_run:
+        print(f"{words.close} would be closed")
+        return
+    confirm(words, f"{words.close} is closed for good")
+    engine.ask("close-caller", caller=words.close)
 
 
 def _add_caller(engine: Engine, words: argparse.Namespace) -> None:
@@ -89,21 +120,26 @@ def add(commands: argparse._SubParsersAction[argparse.ArgumentParser], common: a
     """Adds the subcommands to the desk's words."""
     example = "Example: vaultdesk departments --add court --as registrar"
     it = commands.add_parser("departments", parents=[common], help="list the departments, or add one", epilog=example)
-    it.add_argument("--add", metavar="NAME")
+    it.add_argument("--add", metavar="NAME", help="a new department")
     it.set_defaults(run=departments)
 
     example = "Example: vaultdesk buckets --add files --department court --as registrar"
-    it = commands.add_parser("buckets", parents=[common], help="list the buckets, or add one", epilog=example)
-    it.add_argument("--add", metavar="NAME")
-    it.add_argument("--department", metavar="NAME")
+    what = "list the buckets, add one, or move one to another department"
+    it = commands.add_parser("buckets", parents=[common], help=what, epilog=example)
+    one = it.add_mutually_exclusive_group()
+    one.add_argument("--add", metavar="NAME", help="a new bucket of --department")
+    one.add_argument("--move", metavar="NAME", help="the bucket goes to --department with all that it holds")
+    it.add_argument("--department", metavar="NAME", help="of which department it is then")
+    add_yes(it)
     it.set_defaults(run=buckets)
 
     example = "Example: vaultdesk callers --add ann --department records --rights put get list --as registrar"
     what = "list the callers, add one, or close one for good"
     it = commands.add_parser("callers", parents=[common], help=what, epilog=example)
     one = it.add_mutually_exclusive_group()
-    one.add_argument("--add", metavar="NAME")
-    one.add_argument("--close", metavar="NAME")
-    it.add_argument("--department", metavar="NAME", help="for good, as are the rights")
+    one.add_argument("--add", metavar="NAME", help="a new caller; its name, department and rights never change")
+    one.add_argument("--close", metavar="NAME", help="that caller can do nothing from now on")
+    it.add_argument("--department", metavar="NAME", help="the new caller works on the buckets of that department")
     it.add_argument("--rights", nargs="+", choices=tuple(RIGHTS), default=[], metavar="RIGHT", help=" ".join(RIGHTS))
+    add_yes(it)
     it.set_defaults(run=callers)

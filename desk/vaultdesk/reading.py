@@ -29,7 +29,7 @@ def _error(file: Path, error: sqlite3.Error) -> DeskError:
     said = SAID_BY_QUERY.fullmatch(str(error))
     if said:
         return DeskError(said[1].replace("''", "'"))
-    why = ": a server or another program has the vault: see vault-offline" if "locked" in str(error) else ""
+    why = ": a server or another program has the vault: see vaultdesk offline" if "locked" in str(error) else ""
     return EngineError(f"{file}: {error}{why}")
 
 
@@ -78,3 +78,13 @@ def department_of(file: Path, caller: str) -> str | None:
     """A caller's department; none where the caller has none, or isn't there."""
     found = rows(file, "SELECT dept FROM callers WHERE name = ?", (caller,))
     return str(found[0][0]) if found and found[0][0] is not None else None
+
+
+def of_two(file: Path, old: Path, statement: str) -> list[tuple[Any, ...]]:
+    """The rows of a query over two vaults, of which the other one's tables are named `old`."""
+    try:
+        with closing(sqlite3.connect(f"{file.resolve().as_uri()}?mode=ro", uri=True)) as opened:
+            opened.execute("ATTACH ? AS old", (f"{old.resolve().as_uri()}?mode=ro",))
+            return list(opened.execute(statement))
+    except sqlite3.Error as error:
+        raise EngineError(f"{file}, {old}: {error}") from error

@@ -30,7 +30,7 @@ def audited(file: Path) -> Iterator[sqlite3.Connection]:
             yield base
     except vault.Damaged as damage:
         if "locked" in damage.why:
-            raise EngineError(f"{file}: a server or another program has the vault: see vault-offline") from damage
+            raise EngineError(f"{file}: a server or another program has the vault: see vaultdesk offline") from damage
         raise DeskError(f"{file}: damaged {damage.table}: {damage.why}: put the last sound copy back") from damage
     except sqlite3.Error as error:
         raise EngineError(f"{file}: {error}") from error

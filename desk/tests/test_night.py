@@ -1,0 +1,192 @@
+"""The night's work, and copies."""
+
+from __future__ import annotations
+
+import datetime as dt
+import json
+import sqlite3
+import subprocess
+import time
+from contextlib import closing
+from pathlib import Path
+from unittest import mock
+
+from tests.machine import STOPPED_AND_STARTED, MachineTest
+from tests.office import PROGRAM
+from vaultdesk import night
+
+
+def ago(days: float) -> str:
+    """A moment that many days before now."""
+    moment = dt.datetime.now(dt.timezone.utc) - dt.timedelta(days=days)
+    return moment.strftime("%Y-%m-%dT%H:%M:%SZ")
+
+
+class Night(MachineTest):
+    def setUp(self) -> None:
+        super().setUp()
+        rule = {"ID": "old", "Status": "Enabled", "Prefix": "", "Expiration": {"Days": 30}}
+        self.lines(
+            {"do": "add-dept", "as": "registrar", "dept": "court"},
+            {"do": "add-caller", "as": "registrar", "caller": "night", "dept": "records", "rights": ["run"]},
+            {"do": "add-caller", "as": "registrar", "caller": "night-court", "dept": "court", "rights": ["run"]},
+            {"do": "add-bucket", "as": "registrar", "bucket": "cases", "dept": "court"},
+            {"do": "set-rules", "bucket": "docs", "rules": [rule]},
+            {"do": "put", "bucket": "docs", "key": "2024/a", "text": "hello"},
+        )
+        # A day of yesterday, as a clock that is far ahead of all that is known carries out nothing.
+        self.lines({"do": "put", "bucket": "docs", "key": "new", "text": "new"}, at=ago(1))
+        self.configure(BUCKETS="docs cases:night-court")
+
+    def keys_marked(self) -> list[str]:
+        """The keys with a delete marker on top."""
+        with closing(sqlite3.connect(f"{self.file.as_uri()}?mode=ro", uri=True)) as base:
+            return [key for (key,) in base.execute("SELECT key FROM entries WHERE marker ORDER BY id")]
+
+    def test_rules_of_two_departments_and_a_copy(self) -> None:
+        self.set_state("active")
+        done = self.desk("night", "records", "--json", at=None)
+        self.assertEqual((done.status, done.err), (0, ""))
+        told = json.loads(done.out)
+        wanted = [{"bucket": "docs", "marked": 1, "removed": 0, "lone": 0}]
+        self.assertEqual(told["rules"], [*wanted, {"bucket": "cases", "marked": 0, "removed": 0, "lone": 0}])
+        self.assertEqual(self.keys_marked(), ["2024/a"])
+        self.assertEqual(self.asked(), STOPPED_AND_STARTED)
+        found = subprocess.run([PROGRAM, "verify", told["copy"]], capture_output=True, text=True, check=True)
+        self.assertEqual(found.stdout, "sound\n")
+        self.assertEqual([it.stat().st_mode & 0o777 for it in self.made()], [0o600] * len(self.made()))
+
+    def test_a_server_that_did_not_run_is_not_started(self) -> None:
+        self.done("night", "records", at=None)
+        self.assertEqual(self.asked(), [])
+
+    def test_one_that_is_refused_is_named_and_the_others_are_done(self) -> None:
+        self.configure(BUCKETS="cases docs")
+        done = self.desk("night", "records", at=None)
+        self.assertEqual(done.status, 1)
+        self.assertIn("the rules of cases weren't carried out to their end: AccessDenied department", done.err)
+        self.assertIn("docs: 1 marked", done.out)
+        self.assertEqual(len(self.made()[:1]), 1)
+
+    def test_what_is_no_bucket_is_passed_to_nobody(self) -> None:
+        self.configure(BUCKETS="docs *")
+        done = self.desk("night", "records", at=None)
+        self.assertEqual(done.status, 1)
+        self.assertIn("BUCKETS has *", done.err)
+        self.assertEqual(self.keys_marked(), [])
+        self.assertTrue(self.made())
+
+    def refused_by_the_clock(self, why: str) -> None:
+        """No rule is carried out, for that reason; the copy is made all the same."""
+        done = self.desk("night", "records", at=None)
+        self.assertEqual(done.status, 1)
+        self.assertIn(why, done.err)
+        self.assertIn("no rule of the vault records was carried out", done.err)
+        self.assertEqual(self.keys_marked(), [])
+        self.assertTrue(self.made())
+        for it in self.made():
+            it.unlink()
+
+    def test_a_clock_that_nothing_synchronizes(self) -> None:
+        (self.machine / "synchronized").write_text("no\n")
+        self.refused_by_the_clock("isn't synchronized")
+        self.configure(BUCKETS="docs", TRUST_CLOCK="yes")
+        self.done("night", "records", at=None)
+        self.assertEqual(self.keys_marked(), ["2024/a"])
+
+    def test_a_clock_that_is_behind(self) -> None:
+        self.lines({"do": "put", "bucket": "docs", "key": "later", "text": "x"}, at=ago(-1))
+        self.refused_by_the_clock("stands before the vault's last change")
+
+    def test_a_clock_that_is_far_ahead(self) -> None:
+        self.configure(BUCKETS="docs", MAX_JUMP="0")
+        self.refused_by_the_clock("stands more than 0 days past")
+        self.done("night", "records", "--clock-is-right", at=None)
+        self.assertEqual(self.keys_marked(), ["2024/a"])
+
+    def test_the_last_night_is_known(self) -> None:
+        self.configure(BUCKETS="docs", MAX_JUMP="0")
+        mark = self.folder / "records.night"
+        mark.touch()
+        self.done("night", "records", at=None)
+        self.assertLess(time.time() - mark.stat().st_mtime, 60)
+
+    def test_a_dry_run_changes_nothing(self) -> None:
+        old = self.copies / "records-20200101T000000Z.vault"
+        self.copies.mkdir()
+        old.touch()
+        self.configure(BUCKETS="docs", KEEP="1")
+        before = self.file.read_bytes()
+        told = json.loads(self.done("night", "records", "--dry-run", "--json", at=None))
+        self.assertEqual([(it["what"], it["key"]) for it in told["rules"]], [("marked", "2024/a")])
+        self.assertEqual(told["copies_removed"], [str(old)])
+        self.assertEqual((self.file.read_bytes(), self.made()), (before, [old]))
+
+    def test_the_newest_copies_stay(self) -> None:
+        self.copies.mkdir()
+        others = ["records-2-20200101T000000Z.vault", "records-20200101T000000Z.vault.damaged", "records-old.vault"]
+        old = [f"records-20200{it}01T000000Z.vault" for it in (1, 2, 3)]
+        for it in [*others, *old, f"{old[0]}-wal"]:
+            (self.copies / it).touch()
+        self.configure(KEEP="2")
+        copy = Path(self.done("night", "records", at=None).strip())
+        there = {it.name for it in self.made() if it.name != f"{copy.name}-wal"}
+        self.assertEqual(there, {*others, old[2], copy.name})
+
+    def test_a_number_of_copies_that_is_none_removes_nothing(self) -> None:
+        self.copies.mkdir()
+        (self.copies / "records-20200101T000000Z.vault").touch()
+        self.configure(KEEP="x")
+        self.assertEqual(self.desk("night", "records", at=None).status, 1)
+        self.assertIn("records-20200101T000000Z.vault", [it.name for it in self.made()])
+
+    def test_want_of_memory_is_said_before_it_comes(self) -> None:
+        little = Path(self.written("meminfo", b"MemTotal: 1 kB\nMemAvailable:          0 kB\n"))
+        before, night.MEMORY = night.MEMORY, little
+        self.addCleanup(setattr, night, "MEMORY", before)
+        done = self.desk("night", "records", at=None)
+        self.assertEqual(done.status, 0)
+        self.assertIn("the vault holds 8 bytes, and 0 bytes of memory are free", done.err)
+
+
+class Backup(MachineTest):
+    def test_a_copy_is_the_owners_alone(self) -> None:
+        copy = Path(self.done("backup", str(self.file), str(self.copies), at=None).strip())
+        self.assertRegex(copy.name, r"^records-\d{8}T\d{6}Z\.vault$")
+        self.assertEqual((copy.stat().st_mode & 0o777, self.copies.stat().st_mode & 0o777), (0o600, 0o700))
+
+    def test_none_is_made_while_a_program_has_the_vault(self) -> None:
+        with closing(sqlite3.connect(self.file, isolation_level=None)) as base:
+            base.execute("PRAGMA locking_mode=EXCLUSIVE")
+            base.execute("BEGIN EXCLUSIVE")
+            done = self.desk("backup", str(self.file), str(self.copies), at=None)
+        self.assertEqual((done.status, done.out, self.made()), (1, "", []))
+        self.assertIn("vaultdesk offline", done.err)
+
+    def test_one_that_is_not_sound_keeps_its_name(self) -> None:
+        with closing(sqlite3.connect(self.file)) as base:
+            base.execute("UPDATE departments SET held = held + 1, admitted = admitted + 1")
+            base.commit()
+        done = self.desk("backup", str(self.file), str(self.copies), "--keep", "1", at=None)
+        self.assertEqual(done.status, 1)
+        self.assertIn("damaged departments", done.err)
+        self.assertEqual([it.suffix for it in self.made() if not it.name.endswith("-wal")], [".damaged"])
+
+    def test_folder_and_number_of_the_configuration(self) -> None:
+        self.configure(KEEP="1")
+        self.copies.mkdir()
+        (self.copies / "records-20200101T000000Z.vault").touch()
+        told = json.loads(self.done("backup", "records", "--dry-run", "--json", at=None))
+        self.assertEqual((told["copy"], len(told["removed"]), len(self.made())), (None, 1, 1))
+        copy = Path(self.done("backup", "records", at=None).strip())
+        self.assertEqual({it.name.removesuffix("-wal") for it in self.made()}, {copy.name})
+        self.assertEqual(self.desk("backup", "other", at=None).status, 2)
+        self.assertEqual(self.desk("backup", "records", "--keep", "0", at=None).status, 2)
+
+    def test_nothing_is_written_over(self) -> None:
+        with mock.patch("vaultdesk.backup.stamp", return_value="20261127T030000Z"):
+            self.done("backup", "records", at=None)
+            before = [it.read_bytes() for it in self.made()]
+            done = self.desk("backup", "records", at=None)
+        self.assertEqual((done.status, [it.read_bytes() for it in self.made()]), (1, before))
+        self.assertIn("is there already", done.err)

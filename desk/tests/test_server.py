@@ -1,0 +1,231 @@
+"""Around a server: offline, restore, check, and what units ask for."""
+
+from __future__ import annotations
+
+import json
+import os
+import socketserver
+import sqlite3
+import threading
+from contextlib import closing
+from pathlib import Path
+from unittest import mock
+
+from tests.machine import STOPPED_AND_STARTED, UNIT, MachineTest
+
+
+class Offline(MachineTest):
+    def test_a_command_is_done_while_the_server_stands_still(self) -> None:
+        self.set_state("active")
+        done = self.desk("offline", "records", "sh", "-c", 'cp "$MACHINE/state" seen; exit 7', at=None)
+        self.assertEqual((done.status, (self.folder / "seen").read_text()), (7, "inactive\n"))
+        self.assertEqual(self.asked(), STOPPED_AND_STARTED)
+
+    def test_a_server_that_did_not_run_is_not_started(self) -> None:
+        self.done("offline", "records", "true", at=None)
+        self.assertEqual(self.asked(), [])
+
+    def test_a_server_that_does_not_start_is_a_failure(self) -> None:
+        self.set_state("active")
+        (self.machine / "broken").touch()
+        done = self.desk("offline", "records", "true", at=None)
+        self.assertEqual(done.status, 1)
+        self.assertIn("doesn't start", done.err)
+
+    def test_a_command_that_is_not_there(self) -> None:
+        self.set_state("active")
+        done = self.desk("offline", "records", "nothing-of-that-name", at=None)
+        self.assertEqual(done.status, 1)
+        self.assertEqual(self.asked(), STOPPED_AND_STARTED)
+        self.assertEqual(self.desk("offline", "records", at=None).status, 2)
+
+    def test_a_command_that_is_killed(self) -> None:
+        done = self.desk("offline", "records", "sh", "-c", "kill -9 $$", at=None)
+        self.assertEqual(done.status, 137)
+
+    def test_a_signal_starts_the_server_all_the_same(self) -> None:
+        self.set_state("active")
+        words = ("offline", "records", "sh", "-c", f"kill -TERM {os.getpid()}; exec sleep 60")
+        done = self.desk(*words, at=None)
+        self.assertEqual(done.status, 1)
+        self.assertIn("SIGTERM", done.err)
+        self.assertEqual(self.asked(), STOPPED_AND_STARTED)
+
+    def test_it_is_for_root(self) -> None:
+        with mock.patch("os.geteuid", return_value=1000):
+            done = self.desk("offline", "records", "true", at=None)
+        self.assertEqual(done.status, 1)
+        self.assertIn("this is for root", done.err)
+
+
+class Restore(MachineTest):
+    def setUp(self) -> None:
+        super().setUp()
+        self.copy = self.done("backup", "records", at=None).strip()
+        self.lines({"do": "add-dept", "as": "registrar", "dept": "later"})
+
+    def departments(self) -> list[str]:
+        with closing(sqlite3.connect(f"{self.file.as_uri()}?mode=ro", uri=True)) as base:
+            return [name for (name,) in base.execute("SELECT name FROM departments ORDER BY name")]
+
+    def test_a_copy_is_put_back_and_what_stood_there_is_kept(self) -> None:
+        self.set_state("active")
+        Path(f"{self.file}-shm").touch()
+        away = json.loads(self.done("restore", "records", self.copy, "--json", at=None))["replaced"]
+        self.assertEqual(self.asked(), STOPPED_AND_STARTED)
+        self.assertFalse(Path(f"{self.file}-shm").exists())
+        self.assertEqual(self.departments(), ["records"])
+        with closing(sqlite3.connect(f"{(Path(away) / self.file.name).as_uri()}?mode=ro", uri=True)) as base:
+            self.assertEqual(base.execute("SELECT count(*) FROM departments").fetchone(), (2,))
+
+    def test_a_server_that_failed_is_started(self) -> None:
+        self.set_state("failed")
+        self.done("restore", "records", self.copy, at=None)
+        self.assertEqual(self.asked(), STOPPED_AND_STARTED)
+
+    def test_a_vault_that_is_not_served_is_not_started(self) -> None:
+        self.done("restore", "records", self.copy, at=None)
+        self.assertEqual(self.asked(), [])
+
+    def unchanged(self, copy: str, *words: str) -> str:
+        """What is said of a copy that changes nothing."""
+        self.set_state("active")
+        before = self.file.read_bytes(), sorted(it.name for it in self.folder.iterdir())
+        done = self.desk("restore", "records", copy, *words, at=None)
+        self.assertEqual((self.file.read_bytes(), sorted(it.name for it in self.folder.iterdir())), before)
+        self.assertEqual(self.asked(), [])
+        self.assertEqual(done.status, 0 if words else 1)
+        return done.err or done.out
+
+    def test_a_copy_that_is_not_sound_changes_nothing(self) -> None:
+        self.assertIn("isn't sound", self.unchanged(self.written("none", b"no vault")))
+        (self.folder / "none").unlink()
+        self.assertIn("isn't a file", self.unchanged(str(self.folder / "absent")))
+
+    def test_a_dry_run_changes_nothing(self) -> None:
+        self.assertIn("is sound, and would be put", self.unchanged(self.copy, "--dry-run"))
+
+
+class Answering(socketserver.BaseRequestHandler):
+    """Answers the next of the answers that are set, and the last one again."""
+
+    answers: list[tuple[str, str]] = []
+    heads: list[bytes] = []
+
+    def handle(self) -> None:
+        self.heads.append(self.request.recv(65_536))
+        status, body = self.answers[0]
+        if len(self.answers) > 1:
+            del self.answers[0]
+        head = f"HTTP/1.1 {status}\r\ncontent-length: {len(body)}\r\nconnection: close\r\n\r\n"
+        self.request.sendall(f"{head}{body}".encode())
+
+
+SERVES = ("403 Forbidden", '{"code":"AccessDenied","n":3,"reason":"unknown-caller"}')
+FAILED = ("500 Internal Server Error", '{"code":"Device","n":23}')
+
+
+class Check(MachineTest):
+    def setUp(self) -> None:
+        super().setUp()
+        server = socketserver.TCPServer(("127.0.0.1", 0), Answering)
+        self.enterContext(server)
+        threading.Thread(target=server.serve_forever, daemon=True).start()
+        self.addCleanup(server.shutdown)
+        self.configure(PORT=str(server.server_address[1]))
+        Answering.heads.clear()
+        self.set_state("active")
+
+    def fault(self, *answers: tuple[str, str]) -> str:
+        """What the check says of a server that answers so; empty where it serves."""
+        Answering.answers = list(answers)
+        done = self.desk("check", "records", at=None)
+        self.assertEqual(done.status, 1 if "vault records: " in done.err.split("started anew")[-1] else 0, done.err)
+        return done.err
+
+    def test_one_that_serves(self) -> None:
+        self.assertEqual(self.fault(SERVES), "")
+        self.assertEqual(self.asked(), [])
+        self.fault(SERVES)
+        callers = {it.split(b"x-vault-caller: ")[1].split(b"\r\n")[0] for it in Answering.heads}
+        self.assertEqual(len(callers), 2)
+
+    def test_one_whose_file_failed_is_started_anew(self) -> None:
+        self.assertIn("the server is started anew", self.fault(FAILED, SERVES))
+        self.assertEqual(self.asked(), [f"reset-failed {UNIT}", f"restart {UNIT}"])
+        self.assertIn("vault records: its file failed (500)", self.fault(FAILED, FAILED))
+
+    def test_one_that_serves_nobody(self) -> None:
+        self.assertIn("before the vault's last change", self.fault(("503 x", '{"code":"ClockBack","n":1}')))
+        self.assertIn("shows no moment", self.fault(("503 x", '{"code":"ClockOutOfRange","n":2}')))
+        self.assertIn("no memory left", self.fault(("503 x", '{"code":"Memory","n":22}')))
+
+    def test_another_program(self) -> None:
+        self.assertIn("isn't its server", self.fault(("404 Not Found", "nothing here")))
+        self.assertIn("isn't its server", self.fault(("403 Forbidden", "no")))
+
+    def test_no_answer(self) -> None:
+        self.configure(PORT="1")
+        self.assertIn("no answer at port 1", self.fault(SERVES))
+
+    def test_one_that_is_enabled_and_does_not_run(self) -> None:
+        self.set_state("inactive")
+        self.assertEqual(self.fault(SERVES), "")
+        (self.machine / "enabled").touch()
+        self.assertIn("is enabled and doesn't run", self.fault(SERVES))
+        self.set_state("activating")
+        self.assertEqual(self.fault(SERVES), "")
+
+    def test_while_another_job_works_nothing_is_asked(self) -> None:
+        (self.machine / "enabled").touch()
+        done = self.desk("offline", "records", "sh", "-c", self.words_of_a_check(), at=None)
+        self.assertEqual((done.status, Answering.heads), (0, []))
+
+    def words_of_a_check(self) -> str:
+        """A check by a process of its own."""
+        desk = Path(__file__).resolve().parents[1] / "bin" / "vaultdesk"
+        return f"exec {desk} check records"
+
+
+class Glue(MachineTest):
+    def test_a_failure_is_reported_once_an_hour(self) -> None:
+        self.configure(ALARM='cat > "$MACHINE/told"; echo "$UNIT $VAULT" >> "$MACHINE/told"')
+        told = self.machine / "told"
+        self.done("unit", "failed", "vault-run@records", at=None)
+        unit = "vault-run@records"
+        wanted = [f"the state of {unit}.service", f"the journal of {unit}.service", f"{unit} records"]
+        self.assertEqual(told.read_text().splitlines(), wanted)
+        told.unlink()
+        self.done("unit", "failed", "vault-run@records", at=None)
+        self.assertFalse(told.exists())
+        self.done("night", "records", "--clock-is-right", at=None)
+        self.done("unit", "failed", "vault-run@records", at=None)
+        self.assertTrue(told.exists())
+
+    def test_an_alarm_that_fails_is_given_again(self) -> None:
+        self.configure(ALARM='echo >> "$MACHINE/tried"; exit 3')
+        for _ in range(2):
+            done = self.desk("unit", "failed", "vault-check@records", at=None)
+            self.assertEqual(done.status, 1)
+            self.assertIn("status 3", done.err)
+        self.assertEqual((self.machine / "tried").read_text(), "\n\n")
+
+    def test_a_name_without_a_vault_is_reported_to_nobody(self) -> None:
+        self.done("unit", "failed", "vault-run@recrods", at=None)
+
+    def test_after_a_stop_the_log_is_in_the_file(self) -> None:
+        self.assertEqual(self.done("unit", "stopped", "records", at=None), "")
+        with mock.patch.dict(os.environ, {"SERVICE_RESULT": "success", "EXIT_CODE": "killed"}):
+            self.assertEqual(self.done("unit", "stopped", "records", at=None), "sound\n")
+
+    def test_a_server_that_ended_is_not_waited_for(self) -> None:
+        with mock.patch.dict(os.environ, {"MAINPID": "4194305"}):
+            done = self.desk("unit", "started", "records", at=None)
+        self.assertEqual(done.status, 1)
+
+    def test_a_server_that_listens_is_waited_for(self) -> None:
+        with socketserver.TCPServer(("127.0.0.1", 0), Answering) as server:
+            self.configure(PORT=str(server.server_address[1]))
+            with mock.patch.dict(os.environ, {"MAINPID": str(os.getpid())}):
+                self.done("unit", "started", "records", at=None)
+        self.assertEqual(self.asked(), [f"reset-failed {UNIT}"])

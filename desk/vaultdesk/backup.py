@@ -1,0 +1,143 @@
+"""Copies of a vault: made while it may be read, audited, and the oldest removed."""
+
+from __future__ import annotations
+
+import argparse
+import datetime as dt
+import os
+import re
+import sqlite3
+import subprocess
+from contextlib import closing
+from pathlib import Path
+
+from vaultdesk import conf, config, units
+from vaultdesk.errors import DeskError, UsageError
+from vaultdesk.output import print_json
+from vaultdesk.owner import owner_of
+
+
+def stamp() -> str:
+    """This moment, as it stands in the names of copies."""
+    return dt.datetime.now(dt.timezone.utc).strftime("%Y%m%dT%H%M%SZ")
+
+
+def read_copy(source: Path, target: Path) -> None:
+    """Copies a vault by SQLite's online backup. `DeskError` where a program has it, or it can't be read or written."""
+    try:
+        with closing(sqlite3.connect(f"{source.resolve().as_uri()}?mode=ro", uri=True, timeout=0)) as opened:
+            opened.isolation_level = None
+            # A backup waits for ever for a file that is locked: so the file is read first, which fails at once.
+            opened.execute("BEGIN")
+            opened.execute("SELECT count(*) FROM sqlite_master").fetchone()
+            with closing(sqlite3.connect(target)) as made:
+                opened.backup(made)
+    except sqlite3.Error as error:
+        target.unlink(missing_ok=True)
+        is_served = "locked" in str(error)
+        remedy = ": while it is served, vaultdesk offline stops its server for a command" if is_served else ""
+        raise DeskError(f"{source}: {error}{remedy}") from error
+
+
+def _synced(path: Path) -> None:
+    descriptor = os.open(path, os.O_RDONLY)
+    try:
+        os.fsync(descriptor)
+    finally:
+        os.close(descriptor)
+
+
+def made(source: Path, folder: Path, program: str) -> Path:
+    """Makes a copy of a vault in a folder, audits it, and returns its path: NAME-MOMENT.vault.
+
+    It belongs to whom the vault belongs, who alone can read it. `DeskError` where it isn't sound: then it keeps
+    `.damaged` after its name."""
+    owner = owner_of(source)
+    os.umask(0o077)
+    copy = folder / f"{source.name.removesuffix('.vault')}-{stamp()}.vault"
+    trial = copy.with_name(f"{copy.name}.damaged")
+    log, trial_log = Path(f"{copy}-wal"), Path(f"{trial}-wal")
+    try:
+        if not folder.is_dir():
+            folder.mkdir(parents=True)
+            owner.give(folder)
+        if copy.exists() or trial.exists():
+            raise DeskError(f"{copy} is there already")
+        read_copy(source, trial)
+        done = subprocess.run([program, "verify", trial], stdout=subprocess.PIPE, check=False)
+        verdict = done.stdout.decode("utf-8", "replace").strip()
+        owner.give(*(it for it in (trial, trial_log) if it.exists()))
+        if verdict != "sound":
+            raise DeskError(f"{trial}: {verdict or 'no audit'}")
+        if trial_log.exists():
+            trial_log.rename(log)
+        trial.rename(copy)
+        _synced(copy)
+        _synced(folder)
+    except OSError as error:
+        raise DeskError(f"{error.filename}: {error.strerror}") from error
+    return copy
+
+
+def outdated(folder: Path, name: str, keep: int | None, coming: int = 0) -> list[Path]:
+    """The oldest copies of a vault, where more than `keep` are there, or will be; none where all are kept.
+
+    What isn't a copy of this vault isn't among them."""
+    if keep is None or not folder.is_dir():
+        return []
+    pattern = re.compile(re.escape(name) + r"-\d{8}T\d{6}Z\.vault")
+    copies = sorted(it for it in folder.iterdir() if pattern.fullmatch(it.name))
+    return copies[: max(0, len(copies) + coming - keep)]
+
+
+def remove(copies: list[Path]) -> None:
+    """Removes copies, each with what stands beside it."""
+    for it in copies:
+        for path in (it, Path(f"{it}-wal"), Path(f"{it}-shm")):
+            path.unlink(missing_ok=True)
+
+
+def _asked(words: argparse.Namespace) -> tuple[Path, Path, int | None]:
+    """The vault's file, the folder of its copies, and how many stay."""
+    if words.keep is not None and words.keep < 1:
+        raise UsageError("--keep 0 would keep nothing: give a number from 1 on")
+    is_configured = "/" not in words.vault and conf.path_of(words.vault).exists()
+    if words.folder:
+        named = units.folder() / f"{words.vault}.vault" if is_configured else config.settings().file_of(words.vault)
+        return named, Path(words.folder), words.keep
+    if not is_configured:
+        raise UsageError(f"{words.vault} has no configuration in {conf.folder()} that names a folder: give FOLDER")
+    found = conf.read(words.vault)
+    return units.folder() / f"{words.vault}.vault", found.backup(), words.keep or found.keep()
+
+
+def backup(words: argparse.Namespace) -> int:
+    """Makes a copy of a vault, audits it, and removes the oldest ones where a number is given."""
+    file, folder, keep = _asked(words)
+    if not file.is_file():
+        raise DeskError(f"{file} isn't there")
+    name = file.name.removesuffix(".vault")
+    copy = None if words.dry_run else made(file, folder, config.program())
+    old = outdated(folder, name, keep, coming=0 if copy else 1)
+    if copy:
+        remove(old)
+    if words.json:
+        print_json({"copy": str(copy) if copy else None, "removed": [str(it) for it in old]})
+    elif copy:
+        print(copy)
+    else:
+        print("\n".join([f"a copy of {file} would be made in {folder}", *(f"{it} would be removed" for it in old)]))
+    return 0
+
+
+def add(commands: argparse._SubParsersAction[argparse.ArgumentParser], common: argparse.ArgumentParser) -> None:
+    """Adds the subcommands to the desk's words."""
+    example = "Example: vaultdesk backup records.vault /srv/copies --keep 30"
+    what = "make a copy of a vault, and audit the copy"
+    it = commands.add_parser("backup", parents=[common], help=what, epilog=example)
+    it.add_argument("vault", metavar="VAULT", help="the vault's file, or its name in the settings")
+    text = "left out: BACKUP of /etc/vaultctl/VAULT.conf, whose KEEP counts then too"
+    it.add_argument("folder", nargs="?", metavar="FOLDER", help=text)
+    it.add_argument("--keep", type=int, metavar="N", help="remove all copies of the vault there but the newest N")
+    it.add_argument("--dry-run", action="store_true", help="say what would be done, and change nothing")
+    it.set_defaults(do=backup)

@@ -1,0 +1,280 @@
+"""What the page of a vault tells, read from its tables alone at one moment."""
+
+from __future__ import annotations
+
+import sqlite3
+from collections import Counter
+from collections.abc import Sequence
+from contextlib import closing
+from pathlib import Path
+from typing import Any, NamedTuple
+
+from vaultdesk import moments
+from vaultdesk.errors import DeskError
+from vaultdesk.office import BUCKETS, rights_text
+
+SCHEMA = 3
+DAY = 86_400
+CAUSES = ("request", "bypass", "rule")
+MODES = ("", "GOVERNANCE", "COMPLIANCE")
+MONTHS = 13  # that a page looks ahead: the rest of the month, and the twelve after
+
+
+class Department(NamedTuple):
+    """The sums of a department: bytes, and byte-days up to the page's moment."""
+
+    name: str
+    admitted: int
+    received: int
+    held: int
+    removed: int
+    handed: int
+    byte_days: int
+
+
+class Bucket(NamedTuple):
+    """What a bucket holds, and what later documents get."""
+
+    name: str
+    department: str
+    default: str
+    documents: int
+    bytes: int
+    markers: int
+    holds: int
+
+
+class Rule(NamedTuple):
+    """A lifecycle rule."""
+
+    bucket: str
+    rule: str
+    enabled: str
+    entries: str
+    does: str
+
+
+class Caller(NamedTuple):
+    """Who may do what."""
+
+    name: str
+    department: str
+    state: str
+    rights: str
+
+
+class Hold(NamedTuple):
+    """A legal hold that is on, by the setting that put it on."""
+
+    since: str
+    days: int
+    caller: str
+    bucket: str
+    key: str
+    version: str
+    size: int
+
+
+class Removal(NamedTuple):
+    """A row of the register of removals."""
+
+    version: str
+    bucket: str
+    key: str
+    kind: str
+    size: int
+    sha256: str
+    admitted: str
+    admitted_by: str
+    removed: str
+    cause: str
+    cause_by: str
+    days: int
+
+
+class Ending(NamedTuple):
+    """The documents whose retention ends in a month, their bytes, and how many of them have a legal hold on."""
+
+    month: str
+    documents: int
+    bytes: int
+    holds: int
+
+
+class Facts(NamedTuple):
+    """All that a page tells."""
+
+    name: str
+    at: str
+    last: str
+    departments: list[Department]
+    buckets: list[Bucket]
+    rules: list[Rule]
+    callers: list[Caller]
+    removals: list[Removal]
+    ending: list[Ending]
+    holds: list[Hold]
+
+
+def months_from(month: str, count: int) -> list[str]:
+    """That number of months from one on, as YYYY-MM."""
+    first = int(month[:4]) * 12 + int(month[5:]) - 1
+    return [f"{it // 12:04}-{it % 12 + 1:02}" for it in range(first, first + count)]
+
+
+def _departments(base: sqlite3.Connection, at: int) -> list[Department]:
+    rows = base.execute(
+        "SELECT name, admitted, received, held, removed, handed, closed, weighted FROM departments ORDER BY name"
+    )
+    return [
+        Department(name, admitted, received, held, removed, handed, closed + held * (at // DAY) - weighted)
+        for name, admitted, received, held, removed, handed, closed, weighted in rows
+    ]
+
+
+def default_text(mode: int, days: int | None, years: int | None) -> str:
+    """A default retention as `COMPLIANCE for 10 years`, or `none`."""
+    if not mode:
+        return "none"
+    count, unit = (days, "day") if days is not None else (years, "year")
+    return f"{MODES[mode]} for {count} {unit}" + ("" if count == 1 else "s")
+
+
+def _buckets(base: sqlite3.Connection) -> list[Bucket]:
+    """Of each bucket its default, what it holds, and how many legal holds are on."""
+    defaults = {name: default_text(*row) for name, *row in base.execute("SELECT name, mode, days, years FROM buckets")}
+    holds = Counter(bucket for *_, bucket, _, _, _ in base.execute(HOLDS))
+    return [
+        Bucket(name, department, defaults[name], documents, size, markers, holds[name])
+        for name, department, documents, size, markers, _ in base.execute(BUCKETS)
+    ]
+
+
+def _entries_text(prefix: str, larger: int | None, smaller: int | None) -> str:
+    """Which entries a rule is for."""
+    parts = [f"keys that begin with {prefix}" if prefix else "all keys"]
+    parts += [f"of more than {larger:,} bytes"] if larger is not None else []
+    parts += [f"of fewer than {smaller:,} bytes"] if smaller is not None else []
+    return ", ".join(parts)
+
+
+def _days(count: int) -> str:
+    return "1 day" if count == 1 else f"{count:,} days"
+
+
+def _does_text(days: int | None, lone: int, older: int | None, keep: int | None) -> str:
+    """What a rule does."""
+    parts = [f"marks what is current {_days(days)} after its admission"] if days is not None else []
+    parts += ["removes markers below which nothing is held"] if lone else []
+    if older is not None:
+        but = f", but for the newest {keep:,}" if keep else ""
+        parts += [f"removes older versions {_days(older)} after the next one came{but}"]
+    return "; ".join(parts)
+
+
+def _rules(base: sqlite3.Connection) -> list[Rule]:
+    columns = "bucket, id, enabled, prefix, larger, smaller, days, lone, nc_days, nc_keep"
+    rows = base.execute(f"SELECT {columns} FROM rules ORDER BY bucket, n")
+    return [
+        Rule(bucket, name, "yes" if on else "no", _entries_text(*those), _does_text(*action))
+        for bucket, name, on, *those, action in ((*it[:6], it[6:]) for it in rows)
+    ]
+
+
+def _callers(base: sqlite3.Connection) -> list[Caller]:
+    rows = base.execute("SELECT name, dept, closed, rights FROM callers ORDER BY closed, name")
+    return [Caller(it[0], it[1] or "none", "closed" if it[2] else "open", rights_text(it[3])) for it in rows]
+
+
+def _removals(base: sqlite3.Connection) -> list[Removal]:
+    """The rows of the register, by rising id."""
+    rows = base.execute(
+        "SELECT id, bucket, key, marker, size, digest, admitted, by_rule, admitted_by, removed, cause, cause_by"
+        " FROM entries WHERE removed IS NOT NULL ORDER BY id"
+    )
+    return [
+        Removal(
+            str(number), bucket, key, "marker" if marker else "version", size, digest.hex() if digest else "",
+            moments.of_seconds(admitted), f"rule {author}" if by_rule else author, moments.of_seconds(removed),
+            CAUSES[cause], by, removed // DAY - admitted // DAY,
+        )
+        for number, bucket, key, marker, size, digest, admitted, by_rule, author, removed, cause, by in rows
+    ]  # fmt: skip
+
+
+def _ending(base: sqlite3.Connection, at: int) -> list[Ending]:
+    """The months from that of the moment on, each with the retentions that end in it."""
+    rows = base.execute(
+        "SELECT until, size, hold FROM entries JOIN settings USING (id)"
+        " WHERE removed IS NULL AND mode > 0 AND until > ?"
+        " AND n = (SELECT max(n) FROM settings AS any WHERE any.id = entries.id)",
+        (at,),
+    )
+    months = {it: [0, 0, 0] for it in months_from(moments.of_seconds(at)[:7], MONTHS)}
+    for until, size, hold in rows:
+        counts = months.get(moments.of_seconds(until)[:7], [0, 0, 0])
+        for place, more in enumerate((1, size, hold)):
+            counts[place] += more
+    return [Ending(month, *counts) for month, counts in months.items()]
+
+
+HOLDS = (
+    "SELECT placed.moment, placed.caller, bucket, key, entries.id, size FROM entries"
+    " JOIN settings AS last ON last.id = entries.id"
+    "  AND last.n = (SELECT max(n) FROM settings AS any WHERE any.id = entries.id)"
+    " JOIN settings AS placed ON placed.id = entries.id AND placed.n = 1 +"
+    "  (SELECT coalesce(max(n), 0) FROM settings AS off WHERE off.id = entries.id AND NOT off.hold)"
+    " WHERE removed IS NULL AND last.hold ORDER BY placed.moment, entries.id"
+)
+
+
+def _holds(base: sqlite3.Connection, at: int) -> list[Hold]:
+    """The documents with a legal hold on, the oldest hold first."""
+    return [
+        Hold(moments.of_seconds(since), at // DAY - since // DAY, caller, bucket, key, str(number), size)
+        for since, caller, bucket, key, number, size in base.execute(HOLDS)
+    ]
+
+
+def _read(base: sqlite3.Connection, name: str, at: int) -> Facts:
+    schema = base.execute("SELECT schema, last FROM meta").fetchone()
+    if schema is None or schema[0] != SCHEMA:
+        raise DeskError(f"its schema is {schema and schema[0]}, and {SCHEMA} is known here")
+    last = schema[1]
+    if at < last:
+        raise DeskError(f"its last change is later, at {moments.of_seconds(last)}")
+    return Facts(
+        name, moments.of_seconds(at), moments.of_seconds(last), _departments(base, at), _buckets(base), _rules(base),
+        _callers(base), _removals(base), _ending(base, at), _holds(base, at),
+    )  # fmt: skip
+
+
+def facts_of(file: Path, at: int) -> Facts:
+    """What a vault's file tells of a moment that isn't before its last change. `DeskError` where it can't be read."""
+    try:
+        with closing(sqlite3.connect(f"{file.resolve().as_uri()}?mode=ro", uri=True, isolation_level=None)) as base:
+            base.execute("BEGIN")
+            return _read(base, file.name, at)
+    except sqlite3.Error as error:
+        raise DeskError(f"{file}: {error}: is it a vault, and does nothing else have it?") from error
+    except DeskError as error:
+        raise DeskError(f"{file}: {error}") from error
+
+
+def removed_by_month(removals: Sequence[Removal]) -> list[tuple[str, list[int], int]]:
+    """How many documents were removed in each month, by cause, and how many delete markers.
+
+    Months without any, between the first and the last, are there too."""
+    counts = Counter((it.removed[:7], "marker" if it.kind == "marker" else it.cause) for it in removals)
+    if not counts:
+        return []
+    first, last = min(counts)[0], max(counts)[0]
+    span = (int(last[:4]) - int(first[:4])) * 12 + int(last[5:]) - int(first[5:]) + 1
+    months = months_from(first, span)
+    return [(month, [counts[month, cause] for cause in CAUSES], counts[month, "marker"]) for month in months]
+
+
+def as_json(facts: Facts) -> dict[str, Any]:
+    """The facts as a value of JSON."""
+    parts = facts._asdict().items()
+    return {name: [it._asdict() for it in part] if isinstance(part, list) else part for name, part in parts}

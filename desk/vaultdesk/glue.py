@@ -1,0 +1,122 @@
+"""What the units of a vault ask of the desk as a server starts, stops or fails."""
+
+from __future__ import annotations
+
+import argparse
+import os
+import re
+import subprocess
+import time
+from pathlib import Path
+
+from vaultdesk import conf, units
+from vaultdesk.errors import DeskError
+from vaultdesk.units import Busy, Served, systemctl
+
+PROCESSES = Path("/proc")
+SOCKETS = Path("/proc/net/tcp")
+QUIET = 3_600  # seconds in which the same failure isn't reported again
+LISTENS = "0A"  # the state of a socket, as the kernel prints it
+
+
+def _sockets(process: Path) -> set[str]:
+    """The inodes of a process's sockets."""
+    found = set()
+    for it in (process / "fd").iterdir():
+        try:
+            socket = re.fullmatch(r"socket:\[(\d+)\]", os.readlink(it))
+        except OSError:
+            continue
+        if socket:
+            found.add(socket[1])
+    return found
+
+
+def _listens(process: Path, port: int) -> bool:
+    """Whether a socket of that process listens at a port of 127.0.0.1."""
+    rows = [it.split() for it in SOCKETS.read_text(encoding="ascii").splitlines()[1:]]
+    there = {row[9] for row in rows if row[1] == f"0100007F:{port:04X}" and row[3] == LISTENS}
+    return bool(there & _sockets(process))
+
+
+def started(words: argparse.Namespace) -> int:
+    """Waits until the server that systemd has just started listens. Its audit of the file may take a while.
+
+    systemd allows some starts within some minutes. Only those are to count that it made itself after a failure: so
+    where a start by hand has come to its end, the count begins anew."""
+    served = Served(words.name)
+    process = PROCESSES / os.environ["MAINPID"]
+    try:
+        while not _listens(process, served.conf.port()):
+            time.sleep(0.2)
+    except FileNotFoundError as error:
+        raise DeskError("the server ended before it listened") from error
+    if systemctl("show", "-P", "NRestarts", served.unit)[1] == "0":
+        systemctl("reset-failed", served.unit)
+    served.forget_alarm("vault-serve")
+    return 0
+
+
+def stopped(words: argparse.Namespace) -> int:
+    """Copies the log of a vault into its file after its server was stopped.
+
+    The stop kills the server, and its newest changes are in the log alone then. An audit that finds the vault sound
+    copies them into the file as it closes it. Where another job has stopped the server, that job opens the vault
+    itself; and where the server ended by itself, the next start does."""
+    if (os.environ.get("SERVICE_RESULT"), os.environ.get("EXIT_CODE")) != ("success", "killed"):
+        return 0
+    served = Served(words.name)
+    try:
+        with served.locked(patience=0):
+            verdict = served.verdict(served.file)
+    except Busy:
+        return 0
+    print(verdict)
+    return 0 if verdict == "sound" else 1
+
+
+def _told(unit: str) -> bytes:
+    """What systemd says of a unit: its state, and the end of its journal, which has what earlier tries said too."""
+    told = b""
+    for words in (
+        ["systemctl", "status", "--no-pager", "--full", "--lines", "0", f"{unit}.service"],
+        ["journalctl", "--no-pager", "--lines", "40", "--unit", f"{unit}.service"],
+    ):
+        told += subprocess.run(words, stdout=subprocess.PIPE, stderr=subprocess.STDOUT, check=False).stdout
+    return told
+
+
+def failed(words: argparse.Namespace) -> int:
+    """Reports that a unit of a vault failed, by the command ALARM, unless that was reported within the last hour."""
+    name = words.name.partition("@")[2]
+    if not conf.path_of(name).exists():
+        return 0
+    alarm = conf.read(name).alarm()
+    mark = units.locks() / f"alarm.{words.name}"
+    if not alarm or (mark.exists() and time.time() - mark.stat().st_mtime < QUIET):
+        return 0
+    environment = {**os.environ, "UNIT": words.name, "VAULT": name}
+    done = subprocess.run(["sh", "-c", alarm], input=_told(words.name), env=environment, check=False)
+    if done.returncode != 0:
+        raise DeskError(f"the command ALARM ended with status {done.returncode}")
+    mark.parent.mkdir(mode=0o700, parents=True, exist_ok=True)
+    mark.touch()
+    return 0
+
+
+KINDS = {
+    "started": (started, "wait until the server that was started listens"),
+    "stopped": (stopped, "copy the log of a vault whose server was stopped into its file"),
+    "failed": (failed, "report that a unit failed, by the command ALARM of its vault"),
+}
+
+
+def add(commands: argparse._SubParsersAction[argparse.ArgumentParser], common: argparse.ArgumentParser) -> None:
+    """Adds the subcommands to the desk's words."""
+    what = "what the units of a vault ask for: started, stopped, failed"
+    kinds = commands.add_parser("unit", help=what).add_subparsers(dest="kind", required=True, metavar="KIND")
+    for kind, (do, text) in KINDS.items():
+        named = "vault-run@records" if kind == "failed" else "records"
+        it = kinds.add_parser(kind, help=text, epilog=f"Example: vaultdesk unit {kind} {named}")
+        it.add_argument("name", metavar="UNIT" if kind == "failed" else "NAME", help="given by systemd")
+        it.set_defaults(do=do)

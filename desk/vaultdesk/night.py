@@ -1,0 +1,210 @@
+"""The night's work on a vault with units: the lifecycle rules of its buckets, and a copy that is audited."""
+
+from __future__ import annotations
+
+import argparse
+import os
+import shutil
+import subprocess
+import tempfile
+import time
+from collections.abc import Callable
+from dataclasses import dataclass, field
+from pathlib import Path
+from typing import Any
+
+from vaultdesk import backup, config, moments, reading
+from vaultdesk.config import Desk
+from vaultdesk.engine import Engine
+from vaultdesk.errors import DeskError
+from vaultdesk.output import print_json, print_rows
+from vaultdesk.units import Served, say
+
+DAY = 86_400
+COLUMNS = ("bucket", "marked", "removed", "lone")
+FORETOLD = ("what", "bucket", "version", "key")
+MEMORY = Path("/proc/meminfo")
+
+GONE = """
+SELECT 'removed for good' AS what, bucket, id, key FROM entries JOIN old.entries AS before USING (id, bucket, key)
+WHERE entries.removed IS NOT NULL AND before.removed IS NULL
+UNION ALL SELECT 'marked', bucket, id, key FROM entries WHERE id NOT IN (SELECT id FROM old.entries)
+ORDER BY bucket, key, id
+"""
+
+
+def is_synchronized() -> bool:
+    """Whether timedatectl says that something keeps the machine's clock right."""
+    try:
+        done = subprocess.run(
+            ["timedatectl", "show", "-p", "NTPSynchronized", "--value"], capture_output=True, text=True, check=False
+        )
+    except OSError:
+        return False
+    return done.stdout.strip() == "yes"
+
+
+@dataclass
+class Night:
+    """A night: the vault, the moment of its rules, and what came of it."""
+
+    served: Served
+    is_sure: bool
+    now: int = field(default_factory=lambda: int(time.time()))
+    rows: list[dict[str, Any]] = field(default_factory=list)
+    copy: Path | None = None
+    removed: list[Path] = field(default_factory=list)
+    is_whole: bool = True
+
+    def mark(self) -> Path:
+        """The file whose age says when the last night was whose clock was right."""
+        return self.served.folder / f"{self.served.name}.night"
+
+    def done(self, part: Callable[[], None]) -> bool:
+        """Whether a part of the work was done; where it wasn't, a line says why, and the other parts are tried."""
+        try:
+            part()
+            return True
+        except DeskError as error:
+            say(f"vaultdesk night: {error}")
+            self.is_whole = False
+            return False
+
+    def look_at_clock(self) -> None:
+        """`DeskError` where the clock can't be relied on: what one that is ahead removes can't be put back."""
+        [(last,)] = reading.rows(self.served.file, "SELECT last FROM meta")
+        clock = moments.of_seconds(self.now)
+        if self.now < last:
+            raise DeskError(f"the clock ({clock}) stands before the vault's last change ({moments.of_seconds(last)})")
+        if self.is_sure:
+            return
+        if not self.served.conf.trusts_clock() and not is_synchronized():
+            cause = "the clock isn't synchronized, as timedatectl says"
+            raise DeskError(f"{cause}. Where the machine has no time service, set TRUST_CLOCK=yes")
+        known = max(last, int(self.mark().stat().st_mtime)) if self.mark().exists() else last
+        days = self.served.conf.max_jump()
+        if known and self.now - known > days * DAY:
+            known_text = f"the vault's last change and the last night ({moments.of_seconds(known)})"
+            remedy = f"If it is right: vaultdesk night --clock-is-right {self.served.name}"
+            raise DeskError(f"the clock ({clock}) stands more than {days} days past {known_text}. {remedy}")
+
+    def carry_out(self, file: Path) -> None:
+        """Carries out the rules of all buckets, over one opening of the file."""
+        buckets = self.served.conf.buckets()
+        with Engine(Desk(config.program(), file, ""), moments.of_seconds(self.now)) as engine:
+            for bucket, caller in buckets:
+                try:
+                    self.rows.append({"bucket": bucket, **engine.ask("run", caller, bucket=bucket)})
+                except DeskError as error:
+                    say(f"vaultdesk night: the rules of {bucket} weren't carried out to their end: {error}")
+                    self.is_whole = False
+
+    def warn_of_memory(self) -> None:
+        """A vault is in memory as a whole as it is opened, and the kernel kills what takes too much."""
+        try:
+            found = [it.split() for it in MEMORY.read_text(encoding="ascii").splitlines()]
+        except OSError:
+            return
+        free = next((int(it[1]) * 1024 for it in found if it[0] == "MemAvailable:"), None)
+        [(held,)] = reading.rows(self.served.file, "SELECT coalesce(sum(size), 0) FROM entries WHERE removed IS NULL")
+        if free is not None and held > free // 2:
+            cause = f"warning: the vault holds {held} bytes, and {free} bytes of memory are free"
+            say(f"vaultdesk night: {cause}. Where it can't be opened for want of memory, the kernel kills the server")
+
+    def make_copy(self) -> None:
+        """Makes the night's copy."""
+        self.copy = backup.made(self.served.file, self.served.conf.backup(), config.program())
+
+    def remove_old(self) -> None:
+        """Removes the oldest copies; the one of this night always stays."""
+        found = backup.outdated(self.served.conf.backup(), self.served.name, self.served.conf.keep())
+        self.removed = [it for it in found if it != self.copy]
+        backup.remove(self.removed)
+
+    def work(self) -> int:
+        """All of it, and the status. It is done as the user whose the vaults are."""
+        is_right = self.done(self.look_at_clock)
+        if is_right:
+            self.done(lambda: self.carry_out(self.served.file))
+            self.mark().touch()
+        else:
+            say(f"vaultdesk night: no rule of the vault {self.served.name} was carried out")
+        self.done(self.warn_of_memory)
+        if self.done(self.make_copy) and is_right:
+            self.done(self.remove_old)
+        return 0 if self.is_whole else 1
+
+    def print(self, as_json: bool) -> None:
+        """What came of the night."""
+        if as_json:
+            copies = {"copy": self.copy and str(self.copy), "copies_removed": [str(it) for it in self.removed]}
+            print_json({"rules": [{it: row[it] for it in COLUMNS} for row in self.rows], **copies})
+            return
+        for row in self.rows:
+            print(f"{row['bucket']}: {row['marked']} marked, {row['removed']} removed, {row['lone']} lone markers")
+        if self.copy:
+            print(self.copy)
+
+
+def _copied(file: Path, folder: Path) -> Path:
+    """Copies of a vault's two files."""
+    for it in (file, Path(f"{file}-wal")):
+        if it.exists():
+            shutil.copyfile(it, folder / it.name)
+    return folder / file.name
+
+
+def foretold(night: Night) -> list[dict[str, Any]]:
+    """What the rules would do at this moment: they are carried out on a copy, which is laid beside the vault."""
+    with tempfile.TemporaryDirectory() as name:
+        before, after = Path(name) / "before", Path(name) / "after"
+        for it in (before, after):
+            it.mkdir()
+        old, new = _copied(night.served.file, before), _copied(night.served.file, after)
+        night.carry_out(new)
+        return [dict(zip(FORETOLD, it, strict=True)) for it in reading.of_two(new, old, GONE)]
+
+
+def _try(night: Night, as_json: bool) -> int:
+    """Prints what the night would do, and does nothing of it."""
+    night.done(night.look_at_clock)
+    rows = foretold(night)
+    old = backup.outdated(night.served.conf.backup(), night.served.name, night.served.conf.keep(), coming=1)
+    if as_json:
+        print_json({"rules": rows, "copies_removed": [str(it) for it in old]})
+    else:
+        print_rows(rows, FORETOLD)
+        for it in old:
+            print(f"{it} would be removed")
+    return 0 if night.is_whole else 1
+
+
+def _worked(night: Night, words: argparse.Namespace) -> int:
+    os.umask(0o077)
+    status = night.work()
+    night.print(words.json)
+    return status
+
+
+def night(words: argparse.Namespace) -> int:
+    """Stops the server, carries out the rules, makes a copy, and starts the server again."""
+    served = Served(words.name)
+    with served.alone(), served.standing_still():
+        it = Night(served, words.clock_is_right)
+        if words.dry_run:
+            return served.owner().carry_out(lambda: _try(it, words.json))
+        status = served.owner().carry_out(lambda: _worked(it, words))
+        if status == 0:
+            served.forget_alarm("vault-run")
+    return status
+
+
+def add(commands: argparse._SubParsersAction[argparse.ArgumentParser], common: argparse.ArgumentParser) -> None:
+    """Adds the subcommand to the desk's words."""
+    what = "the night's work on a vault that is served: its rules, and a copy"
+    it = commands.add_parser("night", parents=[common], help=what, epilog="Example: vaultdesk night records --dry-run")
+    it.add_argument("name", metavar="NAME", help="the vault /var/lib/vaultctl/NAME.vault, with /etc/vaultctl/NAME.conf")
+    text = "carry out the rules by a clock that nothing synchronizes, or that stands far ahead of all that is known"
+    it.add_argument("--clock-is-right", action="store_true", help=text)
+    it.add_argument("--dry-run", action="store_true", help="say what would be marked and removed, and change nothing")
+    it.set_defaults(do=night)

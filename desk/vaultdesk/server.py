@@ -1,0 +1,214 @@
+"""Around a vault's server: a command while it stands still, a copy that is put back, and whether it serves."""
+
+from __future__ import annotations
+
+import argparse
+import http.client
+import secrets
+import shutil
+from dataclasses import dataclass
+from pathlib import Path
+
+from vaultdesk.backup import stamp
+from vaultdesk.errors import DeskError, UsageError
+from vaultdesk.output import print_json
+from vaultdesk.units import Busy, Served, say, systemctl
+
+PATIENCE = 30  # seconds for the server's answer
+
+
+# ---- a command while it stands still
+
+
+def offline(words: argparse.Namespace) -> int:
+    """Stops the server, does a command as the user whose the vaults are, and starts the server again."""
+    if not words.given:
+        raise UsageError("which command? vaultdesk offline NAME COMMAND..")
+    served = Served(words.name)
+    with served.alone(), served.standing_still():
+        child = served.owner().start(words.given, served.folder)
+        try:
+            status = child.wait()
+        except BaseException:
+            child.terminate()
+            child.wait()
+            raise
+    return status if status >= 0 else 128 - status
+
+
+# ---- a copy that is put back
+
+
+def _bring(served: Served, copy: Path, new: Path) -> None:
+    """Puts the files of the copy beside the vault, as they are owned and may be read there."""
+    _clear(new)
+    for source, target in ((copy, new), (Path(f"{copy}-wal"), Path(f"{new}-wal"))):
+        if source.is_file():
+            shutil.copyfile(source, target)
+            served.owner().give(target)
+
+
+def _clear(new: Path) -> None:
+    for it in (new, Path(f"{new}-wal"), Path(f"{new}-shm")):
+        it.unlink(missing_ok=True)
+
+
+def _exchange(served: Served, new: Path) -> Path:
+    """Moves what stood there away, and the copy to its place. The index of the old log (-shm) fits no other."""
+    away = served.folder / f"{served.name}-{stamp()}.replaced"
+    away.mkdir()
+    served.owner().give(away)
+    log = Path(f"{served.file}-wal")
+    for it in (served.file, log):
+        if it.exists():
+            it.rename(away / it.name)
+    for it in (Path(f"{served.file}-shm"), Path(f"{new}-shm")):
+        it.unlink(missing_ok=True)
+    new_log = Path(f"{new}-wal")
+    if new_log.exists():
+        new_log.rename(log)
+    new.rename(served.file)
+    return away
+
+
+def restore(words: argparse.Namespace) -> int:
+    """Audits a copy of a vault, and puts it in the vault's place; what stood there is moved to a folder beside it."""
+    served = Served(words.name)
+    copy = Path(words.copy).resolve()
+    with served.alone():
+        if not copy.is_file():
+            raise DeskError(f"{words.copy} isn't a file")
+        new = served.folder / f"{served.file.name}.restored"
+        try:
+            _bring(served, copy, new)
+            verdict = served.verdict(new)
+            if verdict != "sound":
+                raise DeskError(f"{words.copy} isn't sound ({verdict}): nothing was changed")
+            if words.dry_run:
+                _print(words, f"{words.copy} is sound, and would be put in the place of {served.file}", None)
+                return 0
+            with served.standing_still(served.state() == "failed" or served.is_enabled()):
+                away = _exchange(served, new)
+                verdict = served.verdict(served.file)
+                if verdict != "sound":
+                    raise DeskError(f"{served.file} isn't sound ({verdict}); what stood there is in {away}")
+        except OSError as error:
+            raise DeskError(f"{error.filename}: {error.strerror}") from error
+        finally:
+            _clear(new)
+    _print(words, f"{served.file} is put back from {words.copy}; what stood there is in {away}", away)
+    return 0
+
+
+def _print(words: argparse.Namespace, text: str, away: Path | None) -> None:
+    if words.json:
+        print_json({"vault": words.name, "copy": words.copy, "replaced": str(away) if away else None})
+    else:
+        print(text)
+
+
+# ---- whether it serves
+
+
+@dataclass(frozen=True)
+class Answer:
+    """What the server answers: a status, 0 where there is no answer, and a body."""
+
+    status: int
+    body: str
+
+    def fault(self, port: int) -> str:
+        """What is wrong with a server that answers so; empty where it serves."""
+        if self.status == 200 or (self.status == 403 and '"AccessDenied"' in self.body):
+            return ""
+        if self.status == 0:
+            return f"no answer at port {port}"
+        if self.status == 500:
+            return "its file failed (500)"
+        if self.status == 503 and "ClockBack" in self.body:
+            cause = "nobody is served (503 ClockBack): the machine's clock stands before the vault's last change"
+            return f"{cause}. Set the clock right; where that change is dated ahead, it serves again after its moment"
+        if self.status == 503 and "ClockOutOfRange" in self.body:
+            return "nobody is served (503 ClockOutOfRange): the machine's clock shows no moment that a vault can keep"
+        if self.status == 503 and "Memory" in self.body:
+            return "nobody is served (503 Memory): the machine has no memory left for the server"
+        return f"what answers at port {port} isn't its server (status {self.status})"
+
+
+def asked(port: int) -> Answer:
+    """The answer to a request that looks into the vault.
+
+    `/` alone names no bucket, and is refused before that: so a bucket is named, and a caller whose name is drawn anew
+    each time, so that nobody has it. A sound server refuses that one (403)."""
+    connection = http.client.HTTPConnection("127.0.0.1", port, timeout=PATIENCE)
+    try:
+        connection.request("GET", "/vault-check?versions", headers={"x-vault-caller": f"check-{secrets.token_hex(16)}"})
+        reply = connection.getresponse()
+        return Answer(reply.status, reply.read(65_536).decode("utf-8", "replace"))
+    except (OSError, http.client.HTTPException):
+        return Answer(0, "")
+    finally:
+        connection.close()
+
+
+def _fault(served: Served) -> str:
+    """What is wrong with the server of a vault, after it was started anew where its file failed; empty: nothing."""
+    state = served.state()
+    if state in ("activating", "deactivating", "reloading"):
+        return ""
+    if state != "active":
+        if served.is_enabled():
+            return f"its server is enabled and doesn't run: see systemctl status {served.unit}"
+        return ""
+    port = served.conf.port()
+    answer = asked(port)
+    if answer.status == 500:
+        say(f"vaultdesk check: vault {served.name}: its file failed: the server is started anew")
+        systemctl("reset-failed", served.unit)
+        if systemctl("restart", served.unit)[0] != 0:
+            return f"its file failed, and its server doesn't start: see systemctl status {served.unit}"
+        answer = asked(port)
+    return answer.fault(port)
+
+
+def check(words: argparse.Namespace) -> int:
+    """Asks a vault's server whether it serves. While another job works on the vault, nothing is asked."""
+    served = Served(words.name)
+    try:
+        with served.locked(patience=0):
+            fault = _fault(served)
+    except Busy:
+        fault = ""
+    if words.json:
+        print_json({"vault": served.name, "serves": not fault, "fault": fault})
+    if fault:
+        raise DeskError(f"vault {served.name}: {fault}")
+    served.forget_alarm("vault-check")
+    return 0
+
+
+NAMED = "the vault /var/lib/vaultctl/NAME.vault, with /etc/vaultctl/NAME.conf"
+
+
+def add(commands: argparse._SubParsersAction[argparse.ArgumentParser], common: argparse.ArgumentParser) -> None:
+    """Adds the subcommands to the desk's words."""
+    example = "Example: vaultdesk offline records vaultctl verify records.vault"
+    what = "do a command on a vault that is served, while its server stands still"
+    it = commands.add_parser("offline", help=what, epilog=example)
+    it.add_argument("name", metavar="NAME", help=NAMED)
+    text = "done by the user whose the vaults are, in their folder; its status is this one's"
+    it.add_argument("given", nargs=argparse.REMAINDER, metavar="COMMAND", help=text)
+    it.set_defaults(do=offline)
+
+    example = "Example: vaultdesk restore records /var/backups/vaultctl/records-20261127T030000Z.vault"
+    what = "put a copy of a vault in the vault's place"
+    it = commands.add_parser("restore", parents=[common], help=what, epilog=example)
+    it.add_argument("name", metavar="NAME", help=NAMED)
+    it.add_argument("copy", metavar="COPY", help="a copy of a vault's file; COPY-wal goes with it, if it is there")
+    it.add_argument("--dry-run", action="store_true", help="audit the copy, and change nothing")
+    it.set_defaults(do=restore)
+
+    what = "ask a vault's server whether it serves, and start it anew where its file failed"
+    it = commands.add_parser("check", parents=[common], help=what, epilog="Example: vaultdesk check records")
+    it.add_argument("name", metavar="NAME", help=NAMED)
+    it.set_defaults(do=check)
