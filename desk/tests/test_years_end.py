@@ -6,12 +6,25 @@ import csv
 import importlib.util
 import io
 import json
+import re
 import unittest
+import zipfile
+from pathlib import Path
+from xml.etree import ElementTree
 
 from tests.office import OfficeTest
+from vaultdesk import spreadsheet
 
+CELL = "{http://schemas.openxmlformats.org/spreadsheetml/2006/main}c"
 KEY = '=1+1 "quoted"\u2028Müller'
 LATER = "2024-01-20T00:00:00Z"
+
+
+def cells_of(path: Path) -> tuple[dict[str, str], set[str | None]]:
+    """The texts of a spreadsheet's cells by their places, and the kinds of all cells."""
+    with zipfile.ZipFile(path) as book:
+        cells = list(ElementTree.fromstring(book.read("xl/worksheets/sheet1.xml")).iter(CELL))
+    return {str(it.get("r")): "".join(it.itertext()) for it in cells}, {it.get("t") for it in cells}
 
 
 class YearsEnd(OfficeTest):
@@ -36,9 +49,15 @@ class YearsEnd(OfficeTest):
         self.assertEqual((out / "certificate-0000000002.txt").read_bytes().decode(), reply["ok"]["text"])
         self.assertEqual(sorted(it.name for it in out.glob("*.txt")), [f"certificate-000000000{n}.txt" for n in (1, 2)])
         self.assertIn("Müller", (out / "certificates.html").read_text(encoding="utf-8"))
-        done = self.desk("certificates", str(out), at=LATER)
-        self.assertEqual(done.status, 1)
-        self.assertIn("--force", done.err)
+        there = {it: it.write_bytes(b"mine") for it in out.iterdir()}
+        for it in ("certificate-0000000001.txt", "certificate-0000000002.txt", "certificates.html"):
+            done = self.desk("certificates", str(out), at=LATER)
+            self.assertEqual(done.status, 1)
+            self.assertIn("--force", done.err)
+            (out / it).unlink()
+            self.assertTrue(all(path.read_bytes() == b"mine" for path in there if path.exists()), it)
+        self.done("certificates", str(out), at=LATER)
+        self.assertEqual(len(list(out.iterdir())), 3)
 
     def test_certificates_since_a_day(self) -> None:
         out = self.folder / "out"
@@ -65,15 +84,43 @@ class YearsEnd(OfficeTest):
         documents = json.loads(self.done("register", "--documents", "--json"))
         self.assertEqual([it["version"] for it in documents], ["1", "2"])
 
-    @unittest.skipUnless(importlib.util.find_spec("openpyxl"), "no openpyxl")
     def test_a_spreadsheet_has_texts_alone(self) -> None:
+        path = self.folder / "register.xlsx"
+        self.done("register", "--xlsx", str(path))
+        cells, kinds = cells_of(path)
+        self.assertEqual(kinds, {"inlineStr"})
+        table = list(csv.reader(io.StringIO(self.done("register"), newline="")))
+        places = {f"{chr(ord('A') + n)}{row}": it for row, line in enumerate(table, 1) for n, it in enumerate(line)}
+        self.assertEqual(cells, {place: it for place, it in places.items() if it})
+        self.assertEqual(cells["C3"], KEY)
+        there = path.read_bytes()
+        done = self.desk("register", "--xlsx", str(path))
+        self.assertEqual(done.status, 1)
+        self.assertIn("--force", done.err)
+        self.assertEqual(path.read_bytes(), there)
+        self.done("register", "--xlsx", str(path), "--force")
+        self.assertEqual(path.read_bytes(), there)
+
+    def test_a_cell_may_have_any_text(self) -> None:
+        path = self.folder / "any.xlsx"
+        texts = ["=1+1", "+1", "00e12", " a ", "<&>\"'", "\x01\x0b\r\n\t", "_x0041_", "\ufffe", "\U0001f600"]
+        spreadsheet.write(path, "any", [{"it": it} for it in texts], ("it",), force=False)
+        cells, _ = cells_of(path)
+        decoded = re.compile("_x([0-9A-F]{4})_")
+        told = [decoded.sub(lambda it: chr(int(it[1], 16)), cells[f"A{n}"]) for n in range(2, 2 + len(texts))]
+        self.assertEqual(told, texts)
+        self.assertEqual(cells["A2"], "=1+1")
+
+    @unittest.skipUnless(importlib.util.find_spec("openpyxl"), "no openpyxl")
+    def test_another_reader_finds_texts_alone(self) -> None:
         path = self.folder / "register.xlsx"
         self.done("register", "--xlsx", str(path))
         openpyxl = importlib.import_module("openpyxl")
         rows = openpyxl.load_workbook(path).active.iter_rows()
         cells = [cell for row in rows for cell in row if cell.value is not None]
-        self.assertEqual({cell.data_type for cell in cells}, {"s"})
-        self.assertIn('=1+1 "quoted"', {str(cell.value)[:13] for cell in cells})
+        self.assertNotIn("f", {cell.data_type for cell in cells})
+        self.assertIn(KEY, {cell.value for cell in cells})
+        self.assertEqual({cell.number_format for cell in cells}, {"@"})
 
     def test_reports_of_all_departments(self) -> None:
         self.lines({"do": "add-dept", "as": "registrar", "dept": "court"}, at=LATER)
@@ -84,3 +131,37 @@ class YearsEnd(OfficeTest):
         self.assertEqual(rows[1]["byte_days"], 17)
         table = list(csv.DictReader(io.StringIO(self.done("report", "records", "--csv", at=LATER))))
         self.assertEqual(table[0]["byte_days"], "17")
+
+    def test_a_past_report_is_what_the_engine_said_then(self) -> None:
+        moments = ["2024-02-01T00:00:00Z", "2024-02-03T12:00:00Z", "2024-02-20T00:00:00Z"]
+        then = []
+        for number, at in enumerate(moments):
+            self.lines({"do": "put", "bucket": "docs", "key": f"n{number}", "text": "x" * 10 ** number}, at=at)
+            then.append(json.loads(self.done("report", "records", "--json", at=at)))
+        for at, wanted in zip(moments[:-1], then):
+            for words in (["records"], ["--all", "--as", "registrar"]):
+                past = self.desk("report", *words, "--json", at=at)
+                self.assertEqual((past.status, json.loads(past.out)), (0, wanted), (at, words))
+                self.assertIn("report.sql", past.err)
+        done = self.desk("report", "nobody", at=moments[0])
+        self.assertEqual((done.status, done.out), (1, ""))
+
+    def test_a_refused_report_isnt_swallowed(self) -> None:
+        done = self.desk("report", "--all", "--as", "nobody", at=LATER)
+        self.assertEqual((done.status, done.out), (1, ""))
+        self.assertIn("unknown-caller", done.err)
+        self.assertEqual(self.desk("report", at=LATER).status, 2)
+
+    def test_charges_are_the_difference_of_two_reports(self) -> None:
+        self.lines({"do": "put", "bucket": "docs", "key": "n", "text": "x" * 100}, at="2024-02-01T00:00:00Z")
+        table = list(csv.DictReader(io.StringIO(
+            self.done("charges", "--since", "2024-01-17", "--before", "2024-02-03", at="2024-03-01"))))
+        # Four bytes over the midnight of the 18th, and a hundred over two.
+        self.assertEqual([(it["dept"], it["byte_days"], it["admitted"], it["removed"], it["held"]) for it in table],
+                         [("records", "204", "100", "4", "100")])
+        whole = ("--since", "2024-01-01", "--before", "2024-02-03", "--json")
+        rows = json.loads(self.done("charges", *whole, at="2024-03-01"))
+        self.assertEqual(rows[0]["byte_days"], 217)
+        for since, before in (("2024-02-03", "2024-02-03"), ("2024-02-04", "2024-02-03"), ("2024-02-01", "2024-03-02")):
+            done = self.desk("charges", "--since", since, "--before", before, at="2024-03-01")
+            self.assertEqual((done.status, done.out), (2, ""), (since, before))

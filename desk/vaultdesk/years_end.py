@@ -5,16 +5,16 @@ from __future__ import annotations
 import argparse
 import csv
 import html
-import importlib
 import io
 import subprocess
 import sys
-from collections.abc import Callable, Iterator, Sequence
+from collections.abc import Callable, Iterable, Iterator, Mapping, Sequence
 from pathlib import Path
+from typing import Any
 
-from vaultdesk import moments, reading
+from vaultdesk import moments, reading, spreadsheet
 from vaultdesk.engine import Engine
-from vaultdesk.errors import DeskError, EngineError, Refused
+from vaultdesk.errors import DeskError, EngineError, Refused, UsageError
 from vaultdesk.output import print_json, print_table
 
 Row = dict[str, str]
@@ -22,6 +22,7 @@ COLUMNS = (
     "version", "bucket", "key", "kind", "size", "sha256",
     "admitted", "admitted_by", "removed", "cause", "cause_by", "days",
 )
+CHARGED = ("dept", "since", "before", "byte_days", "admitted", "received", "removed", "handed", "held")
 SUMS = ("admitted", "received", "held", "removed", "handed", "byte_days")
 PAGE = """<!DOCTYPE html>
 <html lang="en"><head><meta charset="utf-8"><title>Certificates of destruction</title>
@@ -53,23 +54,28 @@ def _since(rows: Sequence[Row], since: str | None) -> list[Row]:
 
 def _callers(engine: Engine) -> dict[str, str]:
     """For each bucket an open caller of its department who has the right to a certificate."""
-    right = 1024  # report, in the column of rights
-    found = reading.rows(
-        engine.desk.file,
-        "SELECT b.name, min(c.name) FROM buckets AS b JOIN callers AS c ON c.dept = b.dept"
-        " WHERE NOT c.closed AND c.rights & ? GROUP BY b.name",
-        (right,),
-    )
-    return {str(bucket): str(caller) for bucket, caller in found}
+    may: dict[str, str] = {}
+    for it in reading.query(engine.desk.file, "callers"):
+        if it["state"] == "open" and "report" in it["rights"].split():
+            may.setdefault(it["department"], it["caller"])
+    buckets = reading.query(engine.desk.file, "buckets")
+    return {it["bucket"]: may[it["department"]] for it in buckets if it["department"] in may}
 
 
-def _certified(engine: Engine, rows: Sequence[Row], callers: dict[str, str]) -> Iterator[tuple[Row, str]]:
+def _certified(engine: Engine, rows: Sequence[Row], callers: Mapping[str, str]) -> Iterator[str]:
     for row in rows:
-        caller = callers.get(row["bucket"], engine.desk.caller)
+        caller = callers.get(row["bucket"])
         try:
-            yield row, engine.ask("certificate", caller, bucket=row["bucket"], id=int(row["version"]))["text"]
+            yield str(engine.ask("certificate", caller, bucket=row["bucket"], id=int(row["version"]))["text"])
         except Refused as error:
             raise DeskError(f"version {row['version']}: {error}") from error
+
+
+def _free(paths: Iterable[Path], force: bool) -> None:
+    """Says before anything is written that a file would be written over."""
+    there = next((it for it in paths if it.exists()), None)
+    if there is not None and not force:
+        raise DeskError(f"{there} is there already: give --force to write over it")
 
 
 def certificates(engine: Engine, words: argparse.Namespace) -> None:
@@ -77,17 +83,16 @@ def certificates(engine: Engine, words: argparse.Namespace) -> None:
     rows = [it for it in _since(register(engine), words.since) if it["kind"] == "version"]
     callers = _callers(engine) if words.any_caller else {}
     folder = Path(words.folder)
+    page = folder / "certificates.html"
+    paths = [folder / f"certificate-{int(it['version']):010}.txt" for it in rows]
+    _free([*paths, page], words.force)
+    texts = []
     try:
         folder.mkdir(parents=True, exist_ok=True)
-        texts = []
-        for row, text in _certified(engine, rows, callers):
-            path = folder / f"certificate-{int(row['version']):010}.txt"
-            with path.open("w" if words.force else "x", encoding="utf-8", newline="") as file:
-                file.write(text)
+        for path, text in zip(paths, _certified(engine, rows, callers), strict=True):
+            path.write_bytes(text.encode())
             texts.append(f"<pre>{html.escape(text)}</pre>")
-        (folder / "certificates.html").write_text(PAGE.format("\n".join(texts)), encoding="utf-8")
-    except FileExistsError as error:
-        raise DeskError(f"{error.filename} is there already: give --force to write over it") from error
+        page.write_text(PAGE.format("\n".join(texts)), encoding="utf-8")
     except OSError as error:
         raise DeskError(f"{error.filename}: {error.strerror}") from error
     if words.json:
@@ -96,20 +101,10 @@ def certificates(engine: Engine, words: argparse.Namespace) -> None:
         print(f"{len(rows)} certificates in {folder}")
 
 
-def _write_xlsx(path: Path, rows: Sequence[Row], columns: Sequence[str]) -> None:
-    """Writes rows as a spreadsheet in which each cell is a text, so that none is read as a number or a formula."""
-    try:
-        openpyxl = importlib.import_module("openpyxl")
-    except ModuleNotFoundError as error:
-        raise DeskError("install python3-openpyxl to have xlsx written") from error
-    book = openpyxl.Workbook(write_only=True)
-    sheet = book.create_sheet("register")
-    for line in [dict(zip(columns, columns, strict=True)), *rows]:
-        cells = [openpyxl.cell.WriteOnlyCell(sheet, value=line[it]) for it in columns]
-        for cell in cells:
-            cell.data_type = "s"
-        sheet.append(cells)
-    book.save(path)
+def _print_csv(rows: Iterable[Mapping[str, Any]], columns: Sequence[str]) -> None:
+    writer = csv.DictWriter(sys.stdout, columns, lineterminator="\n")
+    writer.writeheader()
+    writer.writerows({it: row[it] for it in columns} for row in rows)
 
 
 def print_register(engine: Engine, words: argparse.Namespace) -> None:
@@ -118,33 +113,59 @@ def print_register(engine: Engine, words: argparse.Namespace) -> None:
     if words.documents:
         rows = [it for it in rows if it["kind"] == "version"]
     if words.xlsx:
-        if Path(words.xlsx).exists() and not words.force:
-            raise DeskError(f"{words.xlsx} is there already: give --force to write over it")
-        _write_xlsx(Path(words.xlsx), rows, COLUMNS)
+        spreadsheet.write(Path(words.xlsx), "register", rows, COLUMNS, words.force)
     elif words.json:
         print_json(rows)
     else:
-        writer = csv.DictWriter(sys.stdout, COLUMNS, lineterminator="\n")
-        writer.writeheader()
-        writer.writerows(rows)
+        _print_csv(rows, COLUMNS)
+
+
+def _past_sums(engine: Engine, at: str) -> list[dict[str, Any]]:
+    """The sums of all departments at a moment before the vault's last change, of which the engine makes no report."""
+    engine.close()
+    return [{**it, "dept": it["department"]} for it in reading.query(engine.desk.file, "report", at=at)]
 
 
 def report(engine: Engine, words: argparse.Namespace) -> None:
-    """Prints the sums of a department, or of all, as a table or CSV."""
+    """Prints the sums of a department, or of all, as a table or CSV: of a past moment too."""
     if words.all == bool(words.department):
-        raise DeskError("give a department, or --all")
+        raise UsageError("give a department, or --all")
     if words.all:
-        names = [str(it) for (it,) in reading.rows(engine.desk.file, "SELECT name FROM departments ORDER BY name")]
+        names = [it["department"] for it in reading.query(engine.desk.file, "report", at=None)]
     else:
         names = [words.department]
-    rows = [engine.ask("report", dept=it) for it in names]
+    try:
+        rows = [engine.ask("report", dept=it) for it in names]
+    except Refused as error:
+        if error.code != "ClockBack" or engine.at is None:
+            raise
+        rows = [it for it in _past_sums(engine, engine.at) if it["dept"] in names]
+        if not rows:
+            raise DeskError(f"the vault has no department {words.department!r}") from error
+        print("of the past, which the engine doesn't report: by the auditor's query report.sql", file=sys.stderr)
     columns = ("dept", "at", *SUMS)
     if words.csv:
-        writer = csv.DictWriter(sys.stdout, columns, lineterminator="\n")
-        writer.writeheader()
-        writer.writerows({it: row[it] for it in columns} for row in rows)
+        _print_csv(rows, columns)
     else:
         print_table(rows, columns, words.json)
+
+
+def charges(engine: Engine, words: argparse.Namespace) -> None:
+    """Prints what each department is charged for a time: the byte-days at its end less those at its beginning."""
+    since, before, now = moments.read(words.since), moments.read(words.before), engine.at or moments.now()
+    if not since < before <= now:
+        raise UsageError(f"--since {since} has to be before --before {before}, and that not after {now}")
+    query = reading.query
+    first = {it["department"]: it for it in query(engine.desk.file, "report", at=since)}
+    rows = []
+    for last in query(engine.desk.file, "report", at=before):
+        begun = first[last["department"]]
+        grown = {it: last[it] - begun[it] for it in ("byte_days", "admitted", "received", "removed", "handed")}
+        rows.append({"dept": last["department"], "since": since, "before": before, **grown, "held": last["held"]})
+    if words.json:
+        print_json(rows)
+    else:
+        _print_csv(rows, CHARGED)
 
 
 def _subcommand(
@@ -175,8 +196,19 @@ def add(commands: argparse._SubParsersAction[argparse.ArgumentParser], common: a
     it.add_argument("--xlsx", metavar="FILE", help="a spreadsheet in which every cell is a text")
     it.add_argument("--force", action="store_true", help="write over a file that is there")
 
-    texts = ("the sums of a department, or of all", "vaultdesk report --all --csv --as registrar")
+    texts = (
+        "the sums of a department, or of all: of a past moment (--at) too",
+        "vaultdesk report --all --csv --at 2026-01-01 --as registrar",
+    )
     it = _subcommand(commands, common, "report", report, texts)
     it.add_argument("department", nargs="?")
     it.add_argument("--all", action="store_true", help="of all departments")
     it.add_argument("--csv", action="store_true", help="print CSV")
+
+    texts = (
+        "what each department is charged for a time, as CSV: bytes times days",
+        "vaultdesk charges --since 2025-01-01 --before 2026-01-01",
+    )
+    it = _subcommand(commands, common, "charges", charges, texts)
+    it.add_argument("--since", metavar="DATE", required=True, help="the beginning")
+    it.add_argument("--before", metavar="DATE", required=True, help="the end, which isn't part of it")
