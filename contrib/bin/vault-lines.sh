@@ -6,8 +6,9 @@ caller=${VAULT_CALLER-}
 moment=
 version=
 
-# Says how the program is called, and ends it.
+# TEXT [REASON]: says what is wrong with the words, where there are any, and how the program is called, and ends it.
 usage() {
+    [ $# = 1 ] || printf '%s: %s\n\n' "${0##*/}" "$2" >&2
     printf '%s\n' "$1" >&2
     exit 2
 }
@@ -23,11 +24,12 @@ own_option() {
 read_words() {
     text=$1
     shift
+    [ $# -gt 0 ] || usage "$text"
     words=0
     while [ $# -gt 0 ]; do
         case $1 in
         --as | --at | --id)
-            [ $# -gt 1 ] || usage "$text"
+            [ $# -gt 1 ] || usage "$text" "$1 needs a value behind it"
             case $1 in
             --as) caller=$2 ;;
             --at) moment=$2 ;;
@@ -41,7 +43,8 @@ read_words() {
             break
             ;;
         -?*)
-            own_option "$@" && [ $# -ge "$taken" ] || usage "$text"
+            own_option "$@" || usage "$text" "there is no option $1"
+            [ $# -ge "$taken" ] || usage "$text" "$1 needs a value behind it"
             shift "$taken"
             continue
             ;;
@@ -53,8 +56,8 @@ read_words() {
         keep_word "$1"
         shift
     done
-    [ -n "$caller" ] || usage "$text"
-    case $version in *[!0-9]* | 0*) usage "$text" ;; esac
+    [ -n "$caller" ] || usage "$text" 'nobody asks: give --as CALLER, or set VAULT_CALLER'
+    case $version in *[!0-9]* | 0*) usage "$text" "--id $version: give a version's number in digits alone, as 17" ;; esac
 }
 
 keep_word() {

@@ -10,8 +10,11 @@ pub(crate) struct CommandFault {
 
 fn words_of_reason(reason: Reason) -> &'static str {
     match reason {
-        Reason::UnknownCaller => "no open caller has the name that `--as` gives",
-        Reason::Department => "the caller is of another department than the bucket",
+        Reason::UnknownCaller =>
+            "no open caller has the name that `--as` gives; check its spelling",
+        Reason::Department => {
+            "the caller is of another department than the bucket; let a caller of that one take it in"
+        }
         _ => "the caller may not",
     }
 }
@@ -19,13 +22,19 @@ fn words_of_reason(reason: Reason) -> &'static str {
 fn words_of(refusal: Refusal) -> &'static str {
     match refusal {
         Refusal::AccessDenied(reason) => words_of_reason(reason),
-        Refusal::NoSuchBucket => "no bucket has that name",
-        Refusal::ClockBack => "the moment of the intake is before the vault's last one",
-        Refusal::InvalidArgument => "`until` doesn't lie after the moment of the intake",
+        Refusal::NoSuchBucket => "no bucket has that name; check its spelling, or add it first",
+        Refusal::ClockBack => {
+            "the moment of the intake is before the vault's last one; give a later `--at`, or wait for it"
+        }
+        Refusal::InvalidArgument => {
+            "`until` doesn't lie after the moment of the intake; correct it"
+        }
         Refusal::RetentionOutOfRange =>
-            "the bucket's default retention would end after the year 9999",
-        Refusal::QuotaExceeded => "the department would admit more bytes than its limit",
-        Refusal::VaultFull => "the vault has no number for another version",
+            "the bucket's default retention would end after the year 9999; give the row a mode and an end",
+        Refusal::QuotaExceeded => {
+            "the department would admit more bytes than its limit; take a bucket of another one"
+        }
+        Refusal::VaultFull => "the vault has no number for another version; begin another vault",
         Refusal::IntakeConflict => {
             "this row of the batch was taken in before with another key, content, retention or hold; give the changed file a row of its own at the list's end"
         }
@@ -37,7 +46,10 @@ impl Display for CommandFault {
     fn fmt<W: Write>(&self, f: &mut Formatter<W>) -> fmt::Result {
         if let Refusal::AccessDenied(Reason::Right(right)) = self.refusal {
             let right = right.name();
-            return write!(f, "the caller hasn't the right `{right}`");
+            return write!(
+                f,
+                "the caller hasn't the right `{right}`; let a caller take it in who has it"
+            );
         }
         f.write_str(words_of(self.refusal))
     }

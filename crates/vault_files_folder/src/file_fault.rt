@@ -13,11 +13,11 @@ use vault_files_intake::file_name::FileName;
 /// Why the file of a row isn't taken in.
 #[derive(Debug, Drop, Error)]
 pub enum FileFault {
-    #[error("the folder isn't there")]
+    #[error("the folder isn't there; check the path of FOLDER")]
     NoFolder,
-    #[error("FOLDER is no folder")]
+    #[error("FOLDER is no folder; give the one that has the files")]
     NotFolder,
-    #[error("no such file is in the folder")]
+    #[error("no such file is in the folder; check its name, letter by letter")]
     Missing,
     #[error("no such file is in the folder; the name in the list begins or ends with a blank")]
     Blank,
@@ -27,15 +27,15 @@ pub enum FileFault {
     Link,
     #[error("it is a folder; a row names a file")]
     Folder,
-    #[error("it is no regular file")]
+    #[error("it is no regular file; put a copy of what it gives into the folder")]
     Special,
     #[error("it has {0} bytes, and a version 1048576 at most; cut it into parts")]
     Large(u64),
-    #[error("it isn't yours to read")]
+    #[error("it isn't yours to read; have its owner let you, and give the same intake again")]
     Forbidden,
-    #[error("it can't be read: {0}")]
+    #[error("it can't be read: {0}; mend or replace it, and give the same intake again")]
     Unread(io::Error),
-    #[error("it couldn't be read, and can be by now")]
+    #[error("it couldn't be read, and can be by now; give the same intake again")]
     Once,
 }
 

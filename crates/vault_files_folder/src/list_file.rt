@@ -27,17 +27,17 @@ pub fn read_list<R: Files>(alloc: Global, files: &R, path: &str) -> Result<Vec<u
 /// Why a list can't be read.
 #[derive(Debug, Drop, Error)]
 enum UnreadList {
-    #[error("it isn't there")]
+    #[error("it isn't there; check the path of LIST")]
     Missing,
     #[error("it is a folder, and FOLDER is a file; the list is given before the folder")]
     Swapped,
     #[error("it is a folder; a list is a file")]
     Folder,
-    #[error("it isn't yours to read")]
+    #[error("it isn't yours to read; have its owner let you, or give a copy")]
     Forbidden,
-    #[error("it can't be read: {0}")]
+    #[error("it can't be read: {0}; check the disk, or give a copy")]
     Unread(io::Error),
-    #[error("it couldn't be read, and can be by now")]
+    #[error("it couldn't be read, and can be by now; give the same intake again")]
     Once,
 }
 

@@ -5,6 +5,7 @@ pub mod asked;
 pub mod carrying;
 pub mod fault;
 pub mod intake;
+pub mod line_remedies;
 pub mod outcome;
 pub mod printing;
 pub mod remedies;

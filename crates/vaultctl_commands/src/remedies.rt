@@ -22,7 +22,7 @@ fn denial(reason: Reason) -> &'static str {
             "a retention in COMPLIANCE is in force: nobody can remove the version or shorten the retention before its end"
         }
         Reason::RetentionGovernance => {
-            "a retention in GOVERNANCE is in force: wait for its end, or let a caller with the right bypass ask for the bypass"
+            "a retention in GOVERNANCE is in force: wait for its end, or let a caller with the right bypass ask for the bypass, by \"bypass\":true in a script"
         }
     }
 }
@@ -40,9 +40,10 @@ pub fn remedy(refusal: Refusal) -> &'static str {
         Refusal::NoSuchBucket => {
             "no bucket of this vault has that name: check its spelling, or add it: vaultctl bucket FILE NAME DEPT --as registrar"
         }
-        Refusal::NoSuchKey(_) => {
-            "nothing is held under that key, or a delete marker is on top: check every letter of the key"
+        Refusal::NoSuchKey(true) => {
+            "a delete marker is on top of that key: list-versions has the versions below it, which are read by their id"
         }
+        Refusal::NoSuchKey(false) => "nothing is held under that key: check every letter of it",
         Refusal::NoSuchVersion => {
             "no version with that number was ever in that bucket: check both; the register of this vault has all that were removed: vaultctl register FILE"
         }
@@ -131,7 +132,7 @@ fn taken(command: &Command) -> &'static str {
 }
 
 /// What a refusal of a command means, and what to do.
-fn refused(command: &Command, refusal: Refusal) -> &'static str {
+pub(crate) fn refused(command: &Command, refusal: Refusal) -> &'static str {
     match (refusal, command) {
         (Refusal::InvalidArgument, command) => invalid(command),
         (Refusal::NameTaken, command) => taken(command),
@@ -142,8 +143,8 @@ fn refused(command: &Command, refusal: Refusal) -> &'static str {
     }
 }
 
-/// Writes what a refusal means and what to do, which for a missing right is which one.
-fn say_refused<E: Write>(command: &Command, refusal: Refusal, err: &mut E) {
+/// Writes what a refusal means and what to do: for a missing right which one it is, else these words.
+pub(crate) fn write_refused<E: Write>(refusal: Refusal, words: &str, err: &mut E) {
     let _ = match refusal {
         Refusal::AccessDenied(Reason::Right(right)) => {
             let name = right.name();
@@ -152,12 +153,12 @@ fn say_refused<E: Write>(command: &Command, refusal: Refusal, err: &mut E) {
                 "the caller lacks the right {name}, and rights are fixed for good: let a caller ask who has it, or add one"
             )
         }
-        _ => writeln!(err, "{}", refused(command, refusal)),
+        _ => writeln!(err, "{words}"),
     };
 }
 
 /// What stopped a run, and what to do.
-fn stopped(stop: Stop) -> &'static str {
+pub(crate) fn stopped(stop: Stop) -> &'static str {
     match stop {
         Stop::Memory => {
             "the run stopped as the machine refused memory: the changes that it counts are made; stop other programs, and give the command again"
@@ -181,7 +182,9 @@ fn can_do_nothing(caller: &AddCaller) -> bool {
 /// reply says it alone.
 pub fn say_reply<E: Write>(command: &Command, reply: &Reply, err: &mut E) {
     match (reply, command) {
-        (Reply::Refused(refusal), command) => say_refused(command, *refusal, err),
+        (Reply::Refused(refusal), command) => {
+            write_refused(*refusal, refused(command, *refusal), err);
+        }
         (Reply::Stopped(_, stop), _) => {
             let _ = writeln!(err, "{}", stopped(*stop));
         }

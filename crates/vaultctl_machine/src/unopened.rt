@@ -35,7 +35,9 @@ impl Unopened {
     /// The cause in words, with what to do about it; none where the refusal says all that is known.
     pub fn words(self) -> Option<&'static str> {
         match self {
-            Unopened::Held => Some("another program has the vault's file open, if only to read"),
+            Unopened::Held => Some(
+                "another program has the vault's file open, if only to read: end it, or wait, and give the command again",
+            ),
             Unopened::Seen(cause, _) => Some(cause.words()),
             Unopened::Refused(_) => None,
         }

@@ -3,6 +3,7 @@ ghost use Rattle.std.specs.Prelude.{◌≡◌, ◌≢◌, OnOk, ⊤};
 ghost use Rattle.vaultctl_machine.specs.Places.{with_one_given};
 ghost use Rattle.vaultctl_perform.specs.Status as spec;
 
+use crate::explaining::Explainer;
 use crate::replay::fault_of;
 use crate::telling::tell_cause;
 use crate::work::Work;
@@ -18,7 +19,6 @@ use vaultctl_job::job::{RegisterJob, ReplayJob, ServeJob};
 use vaultctl_machine::terminal::terminal_beside;
 use vaultctl_machine::unopened::Unopened;
 use vaultctl_machine::vaults::{Machine, close_vault};
-use vaultctl_replay::observer::Explainer;
 use vaultctl_replay::{ReplayFault, replay_observed};
 use vaultctl_serve::{PortFault, serve};
 

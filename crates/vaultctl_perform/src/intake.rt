@@ -8,7 +8,7 @@ ghost use Rattle.vaultctl_commands.specs.declared.asked.AskedIntake.{AskedIntake
 ghost use Rattle.vaultctl_perform.specs.Told.{TellsRows, TellsTakenIn};
 
 use crate::asked::{reading, say_ahead};
-use crate::telling::{tell_fault, tell_value};
+use crate::telling::{say, tell_fault, tell_value};
 use crate::work::{Work, in_vault};
 use sqlite::Start;
 use std::io::{self, Read, Stderr, Write};
@@ -27,6 +27,7 @@ use vaultctl_commands::carrying::tell_refusal;
 use vaultctl_commands::fault::JobFault;
 use vaultctl_commands::intake::{take_in_and_tell, tell_unread_list};
 use vaultctl_commands::outcome::Outcome;
+use vaultctl_commands::remedies::remedy;
 use vaultctl_commands::slips::first_slip_of_intake;
 use vaultctl_job::job::IntakeJob;
 use vaultctl_machine::terminal::terminal;
@@ -101,7 +102,9 @@ fn take_in_read<K: Keeper, W: Write, E: Write>(
     ensures device { result ≢ Err JobFault.Device }
 {
     let Some(at) = reading(rt, asked.at) else {
-        return tell_refusal(rt.alloc(), Refusal::ClockOutOfRange, out);
+        let refused = tell_refusal(rt.alloc(), Refusal::ClockOutOfRange, out);
+        say(err, remedy(Refusal::ClockOutOfRange));
+        return refused;
     };
     take_in_at(rt, keeper, at, asked, delivery, out, err)
 }

@@ -11,6 +11,7 @@ ghost use Rattle.vaultctl_perform.specs.Told.{IsTold};
 ghost use Rattle.vaultctl_perform.specs.Values.{IsValueFault};
 
 mod asked;
+mod explaining;
 mod files;
 mod intake;
 mod migrate;

@@ -89,11 +89,19 @@ pub fn tell_unopened<E: Write>(err: &mut E, deed: &str, refusal: Refusal) -> u8
     1
 }
 
-/// Writes a cause in words on a line of its own, if there are words for it.
-pub fn tell_words<E: Write>(err: &mut E, cause: Unopened) {
-    if let Some(words) = cause.words() {
-        let _ = writeln!(err, "{words}");
+/// What a refusal of a file means whose cause the files don't show.
+fn unseen(refusal: Refusal) -> &'static str {
+    match refusal {
+        Refusal::Device => {
+            "the system doesn't let the file be looked at or opened: check the path, the length of its names, and the disk"
+        }
+        other => remedy(other),
     }
+}
+
+/// Writes a cause in words on a line of its own.
+pub fn tell_words<E: Write>(err: &mut E, cause: Unopened) {
+    say(err, cause.words().unwrap_or(unseen(cause.refusal())));
 }
 
 /// Names why a vault can't be opened or made; and on a second line says in words what the cause is and what to do.
@@ -108,6 +116,29 @@ pub fn tell_cause<E: Write>(err: &mut E, deed: &str, cause: Unopened) -> u8
 /// Says something in words, on a line of its own. Where this can't be written, what stands before it says it alone.
 pub fn say<E: Write>(err: &mut E, words: &str) {
     let _ = writeln!(err, "{words}");
+}
+
+/// What the fault of a device means to a subcommand, and what to do; the others have no such fault.
+fn device_words(subcommand: &str) -> Option<&'static str> {
+    match subcommand {
+        "serve" => Some(
+            "the port can't be had: another program has it, or it isn't for this user, as those below 1024: end that program, or take another port from 1024 on",
+        ),
+        "register" => Some(
+            "the disk failed as the register was read: mend the disk, run vaultctl verify FILE, and print the register again",
+        ),
+        _ => None,
+    }
+}
+
+/// Says in words what it means that a device ended a job, below the line that names the fault.
+pub fn say_device<E: Write>(err: &mut E, subcommand: &str, outcome: Result<Outcome, JobFault>) {
+    if outcome != Err(JobFault::Device) {
+        return;
+    }
+    if let Some(words) = device_words(subcommand) {
+        say(err, words);
+    }
 }
 
 /// Says in words which value isn't allowed; where none was found, what the refusal means.

@@ -3,7 +3,7 @@ ghost use Rattle.std.specs.Prelude.{◌≡◌, ◌≢◌, ℕ, List, Option, Ok,
 ghost use Rattle.vaultctl_commands.specs.declared.fault.JobFault.{JobFault as AnyFault};
 ghost use Rattle.vaultctl_commands.specs.declared.outcome.Outcome.{Outcome as AnyOutcome};
 
-use crate::telling::{status, tell_cause};
+use crate::telling::{say_device, status, tell_cause};
 use sqlite::Start;
 use std::io::{Read, Stderr, Write};
 use vault_core_model::keeper::Keeper;
@@ -101,7 +101,9 @@ pub fn in_vault<S: Start, T: Work, R: Read, W: Write, E: Write>(
     match open_watched(machine, file, start) {
         Ok(vault) => {
             let outcome = with_vault(rt, vault, work, reader, out, err);
-            status(err, subcommand, outcome)
+            let ended = status(err, subcommand, outcome);
+            say_device(err, subcommand, outcome);
+            ended
         }
         Err(cause) => tell_cause(err, "open", cause),
     }

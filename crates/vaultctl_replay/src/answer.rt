@@ -28,20 +28,31 @@ fn told(alloc: Global, reply: Reply) -> Result<String, AllocError>
     line
 }
 
-/// Carries out a command. Its reply is a line.
-fn carried_out<K: Keeper>(alloc: Global, keeper: &mut K, timed: Timed) -> Result<String, AllocError>
+/// Carries out a command, of whose reply the observer hears. That is a line.
+fn carried_out<K: Keeper, O: Observer>(
+    alloc: Global,
+    keeper: &mut K,
+    observer: &mut O,
+    timed: Timed,
+) -> Result<String, AllocError>
     ensures ok { IfOk result (λ text. Replied (K.is_honest keeper.new) (K.vault keeper.old) (K.count keeper.old) (Command timed) (string_bytes text) (K.vault keeper.new) (K.count keeper.new)) }
     ensures err { OnErr result (Unwritten (K.is_honest keeper.new) (K.vault keeper.old) (K.count keeper.old) (Command timed) (K.vault keeper.new) (K.count keeper.new)) }
     ensures honest { K.is_honest keeper.new → K.is_honest keeper.old }
     ensures counted { K.count keeper.old ≤ K.count keeper.new }
 {
     let reply = step(alloc, keeper, timed.at, &timed.who, &timed.command);
+    observer.reply(&timed.command, &reply);
     drop(timed);
     told(alloc, reply)
 }
 
 /// Carries out what a line asks for. Its reply is a line, or nothing where the line is empty.
-fn reply_to<K: Keeper>(alloc: Global, keeper: &mut K, asked: Line) -> Result<String, AllocError>
+fn reply_to<K: Keeper, O: Observer>(
+    alloc: Global,
+    keeper: &mut K,
+    observer: &mut O,
+    asked: Line,
+) -> Result<String, AllocError>
     ensures ok { IfOk result (λ reply. Replied (K.is_honest keeper.new) (K.vault keeper.old) (K.count keeper.old) asked (string_bytes reply) (K.vault keeper.new) (K.count keeper.new)) }
     ensures err { OnErr result (Unwritten (K.is_honest keeper.new) (K.vault keeper.old) (K.count keeper.old) asked (K.vault keeper.new) (K.count keeper.new)) }
     ensures honest { K.is_honest keeper.new → K.is_honest keeper.old }
@@ -50,15 +61,16 @@ fn reply_to<K: Keeper>(alloc: Global, keeper: &mut K, asked: Line) -> Result<Str
     match asked {
         Line::Skip => Ok(String::new(alloc)),
         Line::Refused(refusal) => told(alloc, Reply::Refused(refusal)),
-        Line::Command(timed) => carried_out(alloc, keeper, timed),
+        Line::Command(timed) => carried_out(alloc, keeper, observer, timed),
     }
 }
 
 /// Carries out what a line asks for, and then writes its reply.
-fn answer<K: Keeper, W: Write>(
+fn answer<K: Keeper, W: Write, O: Observer>(
     alloc: Global,
     keeper: &mut K,
     writer: &mut W,
+    observer: &mut O,
     asked: Line,
 ) -> Result<(), ReplayFault>
     ensures ok { OnOk result (Finished (K.is_honest keeper.new) (K.vault keeper.old) (K.count keeper.old) (W.contents writer.old) (asked ∷ []) (K.vault keeper.new) (K.count keeper.new) (W.contents writer.new)) }
@@ -67,7 +79,7 @@ fn answer<K: Keeper, W: Write>(
     ensures honest { K.is_honest keeper.new → K.is_honest keeper.old }
     ensures counted { K.count keeper.old ≤ K.count keeper.new }
 {
-    let Ok(reply) = reply_to(alloc, keeper, asked) else {
+    let Ok(reply) = reply_to(alloc, keeper, observer, asked) else {
         return Err(ReplayFault::Memory);
     };
     write_bytes(writer, reply.as_bytes())
@@ -91,7 +103,7 @@ pub fn answer_line<K: Keeper, W: Write, O: Observer>(
         return Err(ReplayFault::Memory);
     };
     observer.line(alloc, line, &asked);
-    answer(alloc, keeper, writer, asked)
+    answer(alloc, keeper, writer, observer, asked)
 }
 
 /// Carries out a last line that lacks its LF, and writes its reply.
@@ -111,7 +123,7 @@ pub fn answer_unended<K: Keeper, W: Write, O: Observer>(
     if line.len() == 1 && line[0] == b'\r' {
         let asked = Line::Refused(Refusal::MalformedBody);
         observer.line(alloc, line, &asked);
-        answer(alloc, keeper, writer, asked)
+        answer(alloc, keeper, writer, observer, asked)
     } else {
         answer_line(alloc, keeper, writer, observer, line)
     }
