@@ -87,7 +87,7 @@ impl Cause {
             Cause::Damaged => "the file is damaged: put the last sound backup back",
             Cause::Full => "the disk has no room: make room, and give the command again",
             Cause::Failed =>
-                "reading or writing the file failed: look into the system's log, and check the disk",
+                "reading or writing the file failed, as on a disk that is full or broken: look at its free space, and into the system's log",
         }
     }
 }
