@@ -60,7 +60,8 @@ impl Cause {
             }
             Cause::NoFolder =>
                 "the folder of the file isn't there: check the path, or make the folder",
-            Cause::ClosedFolder => "this user may not read or make files in the folder of the file",
+            Cause::ClosedFolder =>
+                "this user may not read or make files in the folder of the file: run as the folder's owner, or change its mode",
             Cause::NoLog => {
                 "no log can be made beside the file: let this user make files in its folder, or make room on the disk"
             }
