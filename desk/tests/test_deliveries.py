@@ -97,6 +97,38 @@ class Deliveries(OfficeTest):
         self.done(*self.deliver("--inventory", listed, "--leave-out"))
         self.assertEqual([it["key"] for it in json.loads(self.done("ls", "docs", "--json"))], ["a", "c"])
 
+    def test_what_was_left_out_may_be_mended_and_given_again(self) -> None:
+        listed = "file,key\nscan 0.pdf,a\n{},b\nscan 1.pdf,c\n"
+        first = self.listed(listed.format("missing.pdf"))
+        self.done(*self.deliver("--inventory", first, "--leave-out"))
+        mended = self.listed(listed.format("scan 2.pdf"))
+        done = json.loads(self.desk(*self.deliver("--inventory", mended, "--json")).out)
+        self.assertEqual([(it["row"], it["result"]) for it in done["rows"]],
+                         [(1, "again"), (2, "admitted"), (3, "again")])
+        self.assertEqual([it["key"] for it in json.loads(self.done("ls", "docs", "--json"))], ["a", "b", "c"])
+
+    def test_each_refused_row_has_its_file_and_cause(self) -> None:
+        self.done(*self.deliver("--inventory", self.listed("file,key\nmissing.pdf,m\nscan 1.pdf,b\n"), "--leave-out"))
+        listed = self.listed("file,key\nscan 0.pdf,a\nscan 1.pdf,other\nscan 2.pdf,c\n")
+        done = self.desk(*self.deliver("--inventory", listed))
+        self.assertEqual(done.status, 1)
+        row = done.out.splitlines()[-2]
+        self.assertRegex(row, r"^ *2  scan 1.pdf  other  IntakeConflict  this row of the batch was taken in before")
+        self.assertIn("2 of 3 rows are in the vault, 2 of them with the digest of their file", done.out)
+        told = json.loads(self.desk(*self.deliver("--inventory", listed, "--json")).out)
+        self.assertEqual([(it["row"], it["value"]) for it in told["refused"]], [(2, "IntakeConflict")])
+
+    def test_keys_are_taken_letter_by_letter(self) -> None:
+        apart = unicodedata.normalize("NFD", "M\u00fcller")
+        keys = [" a ", "100%25 b", apart, "=1+1"]
+        listed = self.listed("file,key\n" + "".join(f'scan {n}.pdf,"{it}"\n' for n, it in enumerate(keys)))
+        done = self.desk(*self.deliver("--inventory", listed))
+        self.assertEqual(done.status, 0, done.err)
+        self.assertIn("composed form", done.out)
+        self.assertIn("blank", done.out)
+        found = json.loads(self.done("find", "--json", at=None))
+        self.assertEqual([it["key"] for it in found], keys)
+
     def test_a_name_in_another_unicode_form_is_found(self) -> None:
         apart = unicodedata.normalize("NFD", "Müller.pdf")
         (self.scans / apart).write_bytes(b"Miller")
@@ -121,6 +153,32 @@ class Deliveries(OfficeTest):
             self.assertEqual(done.status, 2, lock)
             self.assertIn("--yes", done.err)
         self.assertEqual(self.done("ls", "docs"), "")
+
+    def test_the_same_content_in_another_batch_is_asked_for(self) -> None:
+        self.done(*self.deliver())
+        again = ("deliver", str(self.scans), "--bucket", "docs", "--batch", "b2")
+        done = self.desk(*again)
+        self.assertEqual(done.status, 2)
+        self.assertIn("4 documents", done.err)
+        self.assertEqual(len(json.loads(self.done("ls", "docs", "--json"))), 4)
+        self.assertEqual(self.desk(*again, "--yes").status, 0)
+        self.assertEqual(len(json.loads(self.done("ls", "docs", "--json"))), 8)
+
+    def test_dates_of_an_inventory_are_dates(self) -> None:
+        classes = self.written("classes.csv", b"class,years,mode\ndeed,10,GOVERNANCE\n")
+        for date in ("31.12.2020", "2020-02-30", "20201231", "2020-W10-1"):
+            listed = self.listed(f"file,key,class,date\nscan 0.pdf,a,deed,{date}\n")
+            done = self.desk(*self.deliver("--inventory", listed, "--classes", classes))
+            self.assertEqual(done.status, 1, date)
+            self.assertRegex(done.out, "is no date", date)
+
+    def test_findings_are_json_too(self) -> None:
+        listed = self.listed("file,key\nscan 0.pdf,a\nmissing.pdf,b\n")
+        ways: list[list[str]] = [[], ["--dry-run"]]
+        for more in ways:
+            told = json.loads(self.desk(*self.deliver("--inventory", listed, "--json", *more)).out)
+            self.assertEqual(told["taken_in"], 0)
+            self.assertEqual([(it["row"], it["file"]) for it in told["findings"]], [(2, "missing.pdf")])
 
     def test_a_caller_without_a_department_is_noticed(self) -> None:
         self.lines({"do": "add-caller", "as": "registrar", "caller": "bob", "rights": ["put"]})

@@ -40,6 +40,8 @@ NAMES = {
     "jahre": "years",
 }
 
+AS_WRITTEN = ("file", "key")  # in which a blank counts
+
 
 def _decoded(content: bytes) -> str:
     """The text of a file: by its byte order mark, else UTF-8 where it is that, else Windows-1252."""
@@ -113,5 +115,6 @@ def read(path: Path, wanted: Iterable[str]) -> list[Row]:
             continue
         if len(row) != len(names):
             raise DeskError(f"{path}: record {number} has {len(row)} cells, and the first one {len(names)}")
-        found.append({name: cell.strip() for name, cell in zip(names, row, strict=True) if name})
+        cells = zip(names, row, strict=True)
+        found.append({name: cell if name in AS_WRITTEN else cell.strip() for name, cell in cells if name})
     return found

@@ -62,24 +62,6 @@ def query(file: Path, name: str, **values: Any) -> list[Row]:
         return [dict(it) for it in opened.execute(statement, values)]
 
 
-def held_digests(file: Path) -> Iterator[str]:
-    """The SHA-256 of each held version, in hex digits."""
-    for (digest,) in rows(file, "SELECT DISTINCT digest FROM entries WHERE removed IS NULL AND NOT marker"):
-        yield digest.hex()
-
-
-def batch_size(file: Path, bucket: str, batch: str) -> int:
-    """How many lines of a batch were taken into a bucket."""
-    [(count,)] = rows(file, "SELECT count(*) FROM intake WHERE bucket = ? AND batch = ?", (bucket, batch))
-    return int(count)
-
-
-def department_of(file: Path, caller: str) -> str | None:
-    """A caller's department; none where the caller has none, or isn't there."""
-    found = rows(file, "SELECT dept FROM callers WHERE name = ?", (caller,))
-    return str(found[0][0]) if found and found[0][0] is not None else None
-
-
 def of_two(file: Path, old: Path, statement: str) -> list[tuple[Any, ...]]:
     """The rows of a query over two vaults, of which the other one's tables are named `old`."""
     try:

@@ -1,0 +1,159 @@
+"""What a delivery brings: its rows, and what is found of each before anything is taken in."""
+
+from __future__ import annotations
+
+import datetime as dt
+import hashlib
+import unicodedata
+from collections import Counter
+from collections.abc import Mapping, Sequence
+from dataclasses import dataclass, field
+from pathlib import Path
+
+from vaultdesk import inventory, moments
+from vaultdesk.documents import MOST
+from vaultdesk.errors import DeskError, UsageError
+
+LONGEST_KEY = 1_024  # bytes of UTF-8
+FAR = 30  # years after which an end is asked about
+MOST_YEARS = 1_000  # of a class
+MODES = ("", "GOVERNANCE", "COMPLIANCE")
+HOLDS = ("", "ON", "OFF")
+
+
+@dataclass
+class Item:
+    """A row of a delivery, and what was found of it: what is wrong has it left out, a note doesn't.
+
+    `is_far`: its retention ends in more than thirty years; `is_doubled`: the vault holds its content already."""
+
+    number: int
+    file: str
+    key: str
+    mode: str
+    until: str
+    hold: str
+    digest: str = ""
+    is_far: bool = False
+    is_doubled: bool = False
+    wrong: list[str] = field(default_factory=list)
+    notes: list[str] = field(default_factory=list)
+
+
+@dataclass(frozen=True)
+class Class:
+    """How long documents of a class are kept: up to the first January after that many whole years."""
+
+    years: int
+    mode: str
+
+
+def read_classes(path: Path) -> dict[str, Class]:
+    """The classes of a file with the columns class, years and mode. `DeskError` where a cell isn't right."""
+    found = {}
+    for row in inventory.read(path, ("class", "years", "mode")):
+        is_number = row["years"].isascii() and row["years"].isdecimal() and int(row["years"]) <= MOST_YEARS
+        if not is_number or row["mode"] not in MODES[1:]:
+            why = f"years is a number up to {MOST_YEARS:,}, mode GOVERNANCE or COMPLIANCE"
+            raise DeskError(f"{path}: class {row['class']!r}: {why}")
+        found[row["class"]] = Class(int(row["years"]), row["mode"])
+    return found
+
+
+def end_of(kept: Class, begun: dt.date) -> str:
+    """The end of a class's retention: 1 January after `years` whole years from the year of that day."""
+    return f"{begun.year + kept.years + 1:04}-01-01T00:00:00Z"
+
+
+def _dated(row: Mapping[str, str], today: dt.date) -> dt.date:
+    return dt.date.fromisoformat(moments.read(row["date"])[:10]) if row.get("date") else today
+
+
+def _lock(row: Mapping[str, str], classes: Mapping[str, Class], today: dt.date) -> tuple[str, str]:
+    """The mode and the end of a row's retention: its own, or that of its class."""
+    if row.get("until"):
+        return row.get("mode") or "GOVERNANCE", moments.read(row["until"])
+    if row.get("class"):
+        if row["class"] not in classes:
+            raise UsageError(f"no class {row['class']!r} in the file of classes")
+        kept = classes[row["class"]]
+        return kept.mode, end_of(kept, _dated(row, today))
+    return "", ""
+
+
+def item_of(number: int, row: Mapping[str, str], classes: Mapping[str, Class], today: dt.date) -> Item:
+    """A row of the inventory as an item."""
+    it = Item(number, row["file"], row.get("key") or row["file"], "", "", row.get("hold", "").upper())
+    try:
+        it.mode, it.until = _lock(row, classes, today)
+    except UsageError as error:
+        it.wrong.append(str(error))
+    return it
+
+
+def look_at_words(it: Item, now: str) -> None:
+    """What is wrong with the key and the lock of an item by themselves."""
+    if not it.key or len(it.key.encode()) > LONGEST_KEY or any(ord(c) < 32 or ord(c) == 127 for c in it.key):
+        it.wrong.append("a key has 1 to 1,024 bytes, none of them a control character")
+    if it.key != it.key.strip():
+        it.notes.append("the key begins or ends with a blank, which is kept")
+    if it.key != unicodedata.normalize("NFC", it.key):
+        it.notes.append("the key isn't in the composed form (NFC), and is kept so: who types it finds another one")
+    if it.mode not in MODES or it.hold not in HOLDS:
+        it.wrong.append("mode is GOVERNANCE or COMPLIANCE, hold is ON or OFF")
+    if it.until and it.until <= now:
+        it.wrong.append(f"the retention ended already: {it.until}")
+    # A class of thirty years ends with a year, so up to a year later.
+    it.is_far = bool(it.until) and int(it.until[:4]) > int(now[:4]) + FAR + 1
+    if it.is_far:
+        it.notes.append(f"the retention ends in more than {FAR} years: {it.until}")
+
+
+def look_at_file(it: Item, folder: Path, names: Mapping[str, str]) -> None:
+    """What is wrong with an item's file; its digest where nothing is."""
+    if "/" in it.file or it.file in ("", ".", ".."):
+        it.wrong.append("a file's name is that of a file of the folder itself")
+        return
+    if it.file not in names.values():
+        other = names.get(unicodedata.normalize("NFC", it.file))
+        if other is None:
+            it.wrong.append("no such file in the folder")
+            return
+        it.notes.append("the file's name is written in another Unicode form in the folder")
+        it.file = other
+    path = folder / it.file
+    if path.is_symlink() or not path.is_file():
+        it.wrong.append("it is no file: a link, a folder or a device isn't taken in")
+        return
+    try:
+        with path.open("rb") as file:
+            content = file.read(MOST + 1)
+    except OSError as error:
+        it.wrong.append(f"it can't be read: {error.strerror}")
+        return
+    if len(content) > MOST:
+        it.wrong.append(f"it has more than {MOST:,} bytes: cut it into parts")
+        return
+    it.digest = hashlib.sha256(content).hexdigest()
+
+
+def look_at_doubles(items: Sequence[Item], held: frozenset[str]) -> None:
+    """What stands twice: within the delivery, or in the vault already."""
+    keys = Counter(it.key for it in items)
+    digests = Counter(it.digest for it in items if it.digest)
+    for it in items:
+        if keys[it.key] > 1:
+            it.notes.append("the key stands more than once in this delivery")
+        if it.digest and digests[it.digest] > 1:
+            it.notes.append("the same content stands more than once in this delivery")
+        if it.digest in held:
+            it.is_doubled = True
+            it.notes.append("the vault holds the same content already")
+
+
+def names_of(folder: Path) -> dict[str, str]:
+    """The names in the folder, by their composed form."""
+    try:
+        return {unicodedata.normalize("NFC", it.name): it.name for it in folder.iterdir()}
+    except OSError as error:
+        raise DeskError(f"{folder}: {error.strerror}") from error
