@@ -7,9 +7,11 @@ import json
 import os
 import unicodedata
 from pathlib import Path
+from typing import Any
+from unittest import mock
 
 from tests.office import OfficeTest
-from vaultdesk import inventory
+from vaultdesk import deliveries, inventory
 from vaultdesk.errors import DeskError
 
 
@@ -117,6 +119,19 @@ class Deliveries(OfficeTest):
         self.assertIn("2 of 3 rows are in the vault, 2 of them with the digest of their file", done.out)
         told = json.loads(self.desk(*self.deliver("--inventory", listed, "--json")).out)
         self.assertEqual([(it["row"], it["value"]) for it in told["refused"]], [(2, "IntakeConflict")])
+
+    def test_content_that_changes_meanwhile_is_found(self) -> None:
+        taken_in = deliveries._taken_in
+
+        def changed(*given: Any) -> Any:
+            (self.scans / "scan 2.pdf").write_bytes(b"another")
+            return taken_in(*given)
+
+        with mock.patch("vaultdesk.deliveries._taken_in", changed):
+            done = self.desk(*self.deliver())
+        self.assertEqual(done.status, 1)
+        self.assertIn("other content than the folder has now: scan 2.pdf", done.err)
+        self.assertIn("4 of 4 rows are in the vault, 3 of them with the digest", done.out)
 
     def test_keys_are_taken_letter_by_letter(self) -> None:
         apart = unicodedata.normalize("NFD", "M\u00fcller")

@@ -2,6 +2,7 @@
 
 from __future__ import annotations
 
+import csv
 import json
 import unittest
 from pathlib import Path
@@ -68,6 +69,53 @@ class Listing(OfficeTest):
         self.lines(put, put, {"do": "delete", "bucket": "docs", "key": "b"})
         found = json.loads(self.done("ls", "docs", "--json"))
         self.assertEqual([(it["version"], it["kind"]) for it in found], [(2, "current"), (1, "older"), (3, "marker")])
+
+
+class Export(OfficeTest):
+    KEYS = {"a/b.pdf": b"one", "100%25 M\u00fcller": b"\x00two", "..": b"three", "x" * 300 + ".tif": b"four"}
+
+    def setUp(self) -> None:
+        super().setUp()
+        put = {"do": "put", "bucket": "docs"}
+        self.lines(*({**put, "key": key, "hex": it.hex()} for key, it in self.KEYS.items()))
+        self.lines({**put, "key": "a/b.pdf", "text": "newer"}, {**put, "key": "gone", "text": "x"},
+                   {"do": "delete", "bucket": "docs", "key": "gone"})
+        self.out = self.folder / "out"
+
+    def listed(self) -> dict[str, bytes]:
+        """The content of each file by the key that the list gives it."""
+        with (self.out / "documents.csv").open(encoding="utf-8", newline="") as file:
+            return {it["key"]: (self.out / it["file"]).read_bytes() for it in csv.DictReader(file)}
+
+    def test_each_current_document_has_its_file(self) -> None:
+        self.assertIn("4 documents", self.done("export", "docs", str(self.out)))
+        self.assertEqual(self.listed(), {**self.KEYS, "a/b.pdf": b"newer"})
+        names = sorted(it.name for it in self.out.iterdir())
+        self.assertEqual(names, ["2", "3", "4.tif", "5.pdf", "documents.csv"])
+
+    def test_older_versions_and_a_prefix(self) -> None:
+        self.done("export", "docs", str(self.out), "--prefix", "a/", "--all-versions")
+        self.assertEqual({it.name for it in self.out.iterdir()}, {"1.pdf", "5.pdf", "documents.csv"})
+        self.assertEqual((self.out / "1.pdf").read_bytes(), b"one")
+
+    def test_nothing_is_written_over_unasked(self) -> None:
+        self.out.mkdir()
+        (self.out / "3").write_bytes(b"mine")
+        done = self.desk("export", "docs", str(self.out))
+        self.assertEqual(done.status, 1)
+        self.assertIn("--force", done.err)
+        self.assertEqual((self.out / "3").read_bytes(), b"mine")
+        self.done("export", "docs", str(self.out), "--force")
+        self.assertEqual((self.out / "3").read_bytes(), b"three")
+
+    def test_the_list_is_an_inventory(self) -> None:
+        self.done("export", "docs", str(self.out))
+        self.lines({"do": "add-bucket", "as": "registrar", "bucket": "again", "dept": "records"})
+        listed = str(self.out / "documents.csv")
+        done = self.desk("deliver", str(self.out), "--bucket", "again", "--batch", "b", "--inventory", listed, "--yes")
+        self.assertEqual(done.status, 0, done.err)
+        keys = {it["key"] for it in json.loads(self.done("ls", "again", "--json"))}
+        self.assertEqual(keys, set(self.KEYS))
 
 
 class Engines(OfficeTest):

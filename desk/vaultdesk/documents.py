@@ -1,11 +1,17 @@
-"""Documents of a bucket: put, get, ls."""
+"""Documents of a bucket: put, get, ls, export."""
 
 from __future__ import annotations
 
 import argparse
+import csv
+import hashlib
+import io
 import os
+import re
 import sys
+from collections.abc import Callable, Mapping
 from pathlib import Path
+from typing import Any
 
 from vaultdesk import moments
 from vaultdesk.engine import Engine
@@ -99,41 +105,87 @@ def ls(engine: Engine, words: argparse.Namespace) -> None:
     print_table(rows, ("version", "size", "admitted", "kind", "key"), words.json)
 
 
+LISTED = ("file", "key", "version", "size", "sha256", "admitted")
+ENDING = re.compile(r"\.[A-Za-z0-9]{1,8}$")
+
+
+def file_name(version: int, key: str) -> str:
+    """The name of a version's file: its number, as a key may have what no file's name can, and the key's ending."""
+    ending = ENDING.search(key)
+    return f"{version}{ending[0] if ending else ''}"
+
+
+def _exported(engine: Engine, words: argparse.Namespace, entry: Mapping[str, Any]) -> dict[str, Any]:
+    """Writes a version to its file, and gives its row of the list."""
+    version, key = entry["version_id"], entry["key"]
+    found = engine.ask("get", bucket=words.bucket, key=key, id=version)
+    content = bytes.fromhex(found["hex"])
+    if hashlib.sha256(content).hexdigest() != found["sha256"]:
+        raise DeskError(f"version {version}: its content has another digest: look at the vault by vaultctl verify")
+    name = file_name(version, key)
+    write_content(Path(words.folder) / name, content, words.force)
+    row = {"file": name, "key": key, "version": version, "size": len(content)}
+    return {**row, "sha256": found["sha256"], "admitted": found["admitted"]}
+
+
+def export(engine: Engine, words: argparse.Namespace) -> None:
+    """Writes the documents of a bucket to a folder, with a list that says which is which."""
+    listed = Path(words.folder) / "documents.csv"
+    if listed.exists() and not words.force:
+        raise DeskError(f"{listed} is there already: name another folder, or give --force to write over it")
+    entries = [it for it in engine.entries(words.bucket, words.prefix) if not it["delete_marker"]]
+    try:
+        Path(words.folder).mkdir(parents=True, exist_ok=True)
+    except OSError as error:
+        raise DeskError(f"{words.folder}: {error.strerror}") from error
+    rows = [_exported(engine, words, it) for it in entries if it["current"] or words.all_versions]
+    text = io.StringIO()
+    writer = csv.DictWriter(text, LISTED, lineterminator="\n")
+    writer.writeheader()
+    writer.writerows(rows)
+    write_content(listed, text.getvalue().encode(), words.force)
+    if words.json:
+        print_json(rows)
+    else:
+        print(f"{len(rows)} documents in {words.folder}; documents.csv says which is which")
+
+
+def _subcommand(
+    commands: argparse._SubParsersAction[argparse.ArgumentParser],
+    common: argparse.ArgumentParser,
+    run: Callable[[Engine, argparse.Namespace], None],
+    what: str,
+    example: str,
+) -> argparse.ArgumentParser:
+    it = commands.add_parser(run.__name__, parents=[common], help=what, epilog=f"Example: vaultdesk {example}")
+    it.add_argument("bucket")
+    it.set_defaults(run=run)
+    return it
+
+
 def add(commands: argparse._SubParsersAction[argparse.ArgumentParser], common: argparse.ArgumentParser) -> None:
     """Adds the subcommands to the desk's words."""
-    it = commands.add_parser(
-        "put",
-        parents=[common],
-        help="put a file's content as a new version",
-        epilog='Example: vaultdesk put letters "2025/002 Miller" letter.pdf --until 2035-01-01',
-    )
-    it.add_argument("bucket")
+    example = 'put letters "2025/002 Miller" letter.pdf --until 2035-01-01'
+    it = _subcommand(commands, common, put, "put a file's content as a new version", example)
     it.add_argument("key")
     it.add_argument("path", help="the file; - is standard input")
     it.add_argument("--until", metavar="DATE", help="a retention that ends then")
     it.add_argument("--mode", choices=("GOVERNANCE", "COMPLIANCE"), default="GOVERNANCE", help="its mode (GOVERNANCE)")
     it.add_argument("--hold", action="store_true", help="with a legal hold")
-    it.set_defaults(run=put)
 
-    it = commands.add_parser(
-        "get",
-        parents=[common],
-        help="write a version's content to a file",
-        epilog='Example: vaultdesk get letters "2025/002 Miller" letter.pdf',
-    )
-    it.add_argument("bucket")
+    example = 'get letters "2025/002 Miller" letter.pdf'
+    it = _subcommand(commands, common, get, "write a version's content to a file", example)
     it.add_argument("key")
     it.add_argument("path", nargs="?", help="left out: to standard output")
     it.add_argument("--version", type=int, metavar="N", help="that version, and not the current one")
     it.add_argument("--force", action="store_true", help="write over a file that is there")
-    it.set_defaults(run=get)
 
-    it = commands.add_parser(
-        "ls",
-        parents=[common],
-        help="list what a bucket holds",
-        epilog="Example: vaultdesk ls letters 2025/",
-    )
-    it.add_argument("bucket")
+    what = "write all documents of a bucket to a folder, with a list that says which is which"
+    it = _subcommand(commands, common, export, what, "export letters out --prefix 2025/")
+    it.add_argument("folder", help="gets a file for each, named by its number, and documents.csv, an inventory of them")
+    it.add_argument("--prefix", metavar="P", help="only keys that begin so")
+    it.add_argument("--all-versions", action="store_true", help="older versions too")
+    it.add_argument("--force", action="store_true", help="write over files that are there")
+
+    it = _subcommand(commands, common, ls, "list what a bucket holds", "ls letters 2025/")
     it.add_argument("prefix", nargs="?", help="only keys that begin so")
-    it.set_defaults(run=ls)

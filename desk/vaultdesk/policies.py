@@ -142,19 +142,7 @@ def _add_rule_words(it: argparse.ArgumentParser, id_needed: bool) -> None:
     it.add_argument("--disabled", action="store_true", help="not carried out")
 
 
-def add(commands: argparse._SubParsersAction[argparse.ArgumentParser], common: argparse.ArgumentParser) -> None:
-    """Adds the subcommands to the desk's words."""
-    example = "Example: vaultdesk default letters --years 10 --mode COMPLIANCE"
-    what = "set, clear or print a bucket's default retention"
-    it = commands.add_parser("default", parents=[common], help=what, epilog=example)
-    it.add_argument("bucket")
-    period = it.add_mutually_exclusive_group()
-    period.add_argument("--years", type=int, metavar="N")
-    period.add_argument("--days", type=int, metavar="N")
-    period.add_argument("--none", action="store_true", help="none from now on")
-    it.add_argument("--mode", choices=("GOVERNANCE", "COMPLIANCE"), default="GOVERNANCE", help="its mode (GOVERNANCE)")
-    it.set_defaults(run=default)
-
+def _add_rules(commands: argparse._SubParsersAction[argparse.ArgumentParser], common: argparse.ArgumentParser) -> None:
     rules = commands.add_parser("rules", help="lifecycle rules of a bucket: list, add, remove, try")
     kinds = rules.add_subparsers(dest="kind", required=True, metavar="KIND")
     it = kinds.add_parser("list", parents=[common], help="print them", epilog="Example: vaultdesk rules list drafts")
@@ -180,6 +168,22 @@ def add(commands: argparse._SubParsersAction[argparse.ArgumentParser], common: a
     it.add_argument("--until", metavar="DATE", required=True, help="the last night that is tried")
     _add_rule_words(it, id_needed=False)
     it.set_defaults(run=try_rules)
+
+
+def add(commands: argparse._SubParsersAction[argparse.ArgumentParser], common: argparse.ArgumentParser) -> None:
+    """Adds the subcommands to the desk's words."""
+    example = "Example: vaultdesk default letters --years 10 --mode COMPLIANCE"
+    what = "set, clear or print a bucket's default retention"
+    it = commands.add_parser("default", parents=[common], help=what, epilog=example)
+    it.add_argument("bucket")
+    period = it.add_mutually_exclusive_group()
+    period.add_argument("--years", type=int, metavar="N")
+    period.add_argument("--days", type=int, metavar="N")
+    period.add_argument("--none", action="store_true", help="none from now on")
+    it.add_argument("--mode", choices=("GOVERNANCE", "COMPLIANCE"), default="GOVERNANCE", help="its mode (GOVERNANCE)")
+    it.set_defaults(run=default)
+
+    _add_rules(commands, common)
 
     example = "Example: vaultdesk expire records --until 2026-02-01"
     what = "carry out the rules of a department's buckets, after saying what goes and when"
