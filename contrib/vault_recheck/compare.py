@@ -188,11 +188,20 @@ def meta_differences(old: sqlite3.Connection, new: sqlite3.Connection) -> Differ
         yield f"the last moment was {moment_text(before.last)}, and is {moment_text(after.last)}"
     if after.moves < before.moves:
         yield f"{before.moves} moves were made, and {after.moves} are"
+    yield from owner_differences(old, new, after.moves - before.moves)
+
+
+def owner_differences(old: sqlite3.Connection, new: sqlite3.Connection, moves: int) -> Differences:
+    """Each bucket that is another department's took a move, and a single move makes one another department's."""
     query = "SELECT name, dept FROM buckets ORDER BY name"
-    depts = dict(new.execute(query).fetchall())
-    for name, dept in old.execute(query):
-        if after.moves == before.moves and depts.get(name, dept) != dept:
-            yield f"bucket {name} was of {dept}, and is of {depts[name]}, by no move"
+    before, after = dict(old.execute(query)), dict(new.execute(query))
+    moved = [name for name, dept in before.items() if after.get(name, dept) != dept]
+    if len(moved) > moves:
+        made = "no move was" if moves < 1 else f"{moves} moves were"
+        for name in moved:
+            yield f"bucket {name} was of {before[name]}, and is of {after[name]}, and {made} made since"
+    if moves == 1 and not moved and before.keys() >= after.keys():
+        yield "a move was made since, and each bucket is of the department that it was of"
 
 
 def differences(old: sqlite3.Connection, new: sqlite3.Connection) -> Differences:

@@ -9,6 +9,7 @@ import sys
 from typing import Callable, Iterator, Optional, Sequence
 
 from vault_recheck.audit import audit
+from vault_recheck.coherent import contradictions
 from vault_recheck.compare import differences
 from vault_recheck.events import TooLate, check_seals, seals_of, write_events
 from vault_recheck.lawful import first_breach
@@ -54,6 +55,17 @@ def audited(name: str, immutable: bool) -> Iterator[sqlite3.Connection]:
         raise Refused(f"{name}: damaged {damage.table}: {damage.why}") from damage
 
 
+def say_differences(found: Iterator[str], none: str) -> int:
+    """Prints a line for each, or that there is none; the status."""
+    status = 0
+    for it in found:
+        status = 1
+        print(it)
+    if status == 0:
+        print(none)
+    return status
+
+
 # ---- the subcommands: each prints its answer, and returns the status
 
 
@@ -78,6 +90,11 @@ def do_lawful(words: argparse.Namespace) -> int:
     print(f"unlawful {breach.id} {breach.rule}", flush=True)
     say(f"entry {breach.id}: {breach.why}")
     return 1
+
+
+def do_coherent(words: argparse.Namespace) -> int:
+    with audited(words.file, words.immutable) as base:
+        return say_differences(contradictions(base), "coherent")
 
 
 def do_events(words: argparse.Namespace) -> int:
@@ -111,18 +128,13 @@ def do_check_seals(words: argparse.Namespace) -> int:
 
 def do_compare(words: argparse.Namespace) -> int:
     with audited(words.old, words.immutable) as old, audited(words.new, words.immutable) as new:
-        found = 0
-        for it in differences(old, new):
-            found += 1
-            print(it)
-    if not found:
-        print("unaltered")
-    return 1 if found else 0
+        return say_differences(differences(old, new), "unaltered")
 
 
 TEXTS = {
     "audit": "prints `sound`, or `damaged TABLE` with the first table that isn't a vault's",
     "lawful": "prints `lawful`, or `unlawful ID RULE` with the first rule that an entry's history breaks",
+    "coherent": "prints `coherent`, or a line for each contradiction between an entry and the rest of the file",
     "events": "prints all that ever happened to each entry, as CSV",
     "seal": "prints the seal of the events before a moment; left out, it is the vault's last one",
     "check-seals": "prints `as sealed`, or a line for each seal that doesn't come out of the file",
@@ -150,6 +162,7 @@ def parser() -> argparse.ArgumentParser:
     commands = whole.add_subparsers(metavar="COMMAND", required=True)
     add_command(commands, "audit", do_audit, "file")
     add_command(commands, "lawful", do_lawful, "file")
+    add_command(commands, "coherent", do_coherent, "file")
     events = add_command(commands, "events", do_events, "file")
     events.add_argument("--before", type=moment, metavar="MOMENT", help="leaves out what is of that moment or later")
     seal = add_command(commands, "seal", do_seal, "file")
