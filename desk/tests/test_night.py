@@ -122,6 +122,28 @@ class Night(MachineTest):
         self.assertEqual(told["copies_removed"], [str(old)])
         self.assertEqual((self.file.read_bytes(), self.made()), (before, [old]))
 
+    def test_each_night_seals_what_was_before(self) -> None:
+        seals = self.folder / "records.seals"
+        told = json.loads(self.done("night", "records", "--json", at=None))["seal"]
+        first = [f"{it}: {told[it]}" for it in ("before", "entries", "events", "sha256")]
+        self.assertEqual(seals.read_text(encoding="utf-8").splitlines(), first)
+        self.assertEqual((told["entries"], seals.stat().st_mode & 0o777), (2, 0o600))
+        self.lines({"do": "put", "bucket": "docs", "key": "b", "text": "b"}, at=ago(-1))
+        self.desk("night", "records", at=None)
+        text = seals.read_text(encoding="utf-8").splitlines()
+        self.assertEqual((text[:4], len(text)), (first, 8))
+        self.assertIn("as sealed: 2 seals", self.done("check-seals", at=None))
+
+    def test_a_night_that_finds_another_seal_says_so(self) -> None:
+        self.done("night", "records", at=None)
+        with closing(sqlite3.connect(self.file)) as base:
+            base.execute("UPDATE entries SET admitted_by = 'registrar' WHERE id = 1")
+            base.commit()
+        self.configure(BUCKETS="")
+        done = self.desk("night", "records", at=None)
+        self.assertEqual(done.status, 1)
+        self.assertIn("has another seal of that moment", done.err)
+
     def test_the_newest_copies_stay(self) -> None:
         self.copies.mkdir()
         others = ["records-2-20200101T000000Z.vault", "records-20200101T000000Z.vault.damaged", "records-old.vault"]
@@ -129,7 +151,7 @@ class Night(MachineTest):
         for it in [*others, *old, f"{old[0]}-wal"]:
             (self.copies / it).touch()
         self.configure(KEEP="2")
-        copy = Path(self.done("night", "records", at=None).strip())
+        copy = Path(self.done("night", "records", at=None).splitlines()[0])
         there = {it.name for it in self.made() if it.name != f"{copy.name}-wal"}
         self.assertEqual(there, {*others, old[2], copy.name})
 

@@ -74,7 +74,7 @@ def seal_of(file: Path, before: str | None) -> Seal:
     return found
 
 
-def _append(path: Path, seal: Seal) -> bool:
+def append(path: Path, seal: Seal) -> bool:
     """Puts a seal behind those of a file, in one piece; false where it stands there already.
 
     `DeskError` where the file has another seal of that moment, or can't be written."""
@@ -101,7 +101,7 @@ def seal(engine: Engine, words: argparse.Namespace) -> None:
         print(found.text(), end="")
     if words.append is not None:
         path = Path(words.append) if words.append else seals_beside(file)
-        done = "is appended to" if _append(path, found) else "stood already in"
+        done = "is appended to" if append(path, found) else "stood already in"
         say(f"the seal {done} {path}: keep a copy of that file where the office can't write")
     if not words.json:
         say(f"sealed by {recheck.WHO}")

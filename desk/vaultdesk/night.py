@@ -1,4 +1,4 @@
-"""The night's work on a vault with units: the lifecycle rules of its buckets, and a copy that is audited."""
+"""The night's work on a vault with units: the rules of its buckets, a copy that is audited, and a seal."""
 
 from __future__ import annotations
 
@@ -13,7 +13,7 @@ from dataclasses import dataclass, field
 from pathlib import Path
 from typing import Any
 
-from vaultdesk import backup, config, moments, reading
+from vaultdesk import backup, config, evidence, moments, reading
 from vaultdesk.config import Desk
 from vaultdesk.engine import Engine
 from vaultdesk.errors import DeskError
@@ -53,6 +53,7 @@ class Night:
     now: int = field(default_factory=lambda: int(time.time()))
     rows: list[dict[str, Any]] = field(default_factory=list)
     copy: Path | None = None
+    seal: evidence.Seal | None = None
     removed: list[Path] = field(default_factory=list)
     is_whole: bool = True
 
@@ -115,6 +116,11 @@ class Night:
         """Makes the night's copy."""
         self.copy = backup.made(self.served.file, self.served.conf.backup(), config.program())
 
+    def make_seal(self) -> None:
+        """Puts the seal of all that was before the last moment behind those of earlier nights."""
+        self.seal = evidence.seal_of(self.served.file, None)
+        evidence.append(evidence.seals_beside(self.served.file), self.seal)
+
     def remove_old(self) -> None:
         """Removes the oldest copies; the one of this night always stays."""
         found = backup.outdated(self.served.conf.backup(), self.served.name, self.served.conf.keep())
@@ -132,18 +138,22 @@ class Night:
         self.done(self.warn_of_memory)
         if self.done(self.make_copy) and is_right:
             self.done(self.remove_old)
+        self.done(self.make_seal)
         return 0 if self.is_whole else 1
 
     def print(self, as_json: bool) -> None:
         """What came of the night."""
         if as_json:
             copies = {"copy": self.copy and str(self.copy), "copies_removed": [str(it) for it in self.removed]}
-            print_json({"rules": [{it: row[it] for it in COLUMNS} for row in self.rows], **copies})
+            seal = {"seal": self.seal and evidence.seal_json(self.seal)}
+            print_json({"rules": [{it: row[it] for it in COLUMNS} for row in self.rows], **copies, **seal})
             return
         for row in self.rows:
             print(f"{row['bucket']}: {row['marked']} marked, {row['removed']} removed, {row['lone']} lone markers")
         if self.copy:
             print(self.copy)
+        if self.seal:
+            print(self.seal.text(), end="")
 
 
 def _copied(file: Path, folder: Path) -> Path:
@@ -187,7 +197,7 @@ def _worked(night: Night, words: argparse.Namespace) -> int:
 
 
 def night(words: argparse.Namespace) -> int:
-    """Stops the server, carries out the rules, makes a copy, and starts the server again."""
+    """Stops the server, carries out the rules, makes a copy and a seal, and starts the server again."""
     served = Served(words.name)
     with served.alone(), served.standing_still():
         it = Night(served, words.clock_is_right)
@@ -201,7 +211,7 @@ def night(words: argparse.Namespace) -> int:
 
 def add(commands: argparse._SubParsersAction[argparse.ArgumentParser], common: argparse.ArgumentParser) -> None:
     """Adds the subcommand to the desk's words."""
-    what = "the night's work on a vault that is served: its rules, and a copy"
+    what = "the night's work on a vault that is served: its rules, a copy, and a seal"
     it = commands.add_parser("night", parents=[common], help=what, epilog="Example: vaultdesk night records --dry-run")
     it.add_argument("name", metavar="NAME", help="the vault /var/lib/vaultctl/NAME.vault, with /etc/vaultctl/NAME.conf")
     text = "carry out the rules by a clock that nothing synchronizes, or that stands far ahead of all that is known"
