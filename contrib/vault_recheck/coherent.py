@@ -141,12 +141,11 @@ class Span(NamedTuple):
 
 
 def excludes(one: Span, other: Span) -> bool:
-    """Whether two spans of one bucket can't both have been: a move may fall on an end, and not within."""
-    if one.begin == one.end:
-        return other.begin < one.begin < other.end
+    """Whether two spans of one bucket can't both have been, of which the one begins no later than the other: a move may
+    fall on an end, and not within."""
     if other.begin == other.end:
         return one.begin < other.begin < one.end
-    return max(one.begin, other.begin) < min(one.end, other.end)
+    return other.begin < min(one.end, other.end)
 
 
 def spans_of(base: sqlite3.Connection, last: int) -> Iterator[Span]:
