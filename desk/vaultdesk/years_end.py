@@ -62,11 +62,11 @@ def _callers(engine: Engine) -> dict[str, str]:
     return {it["bucket"]: may[it["department"]] for it in buckets if it["department"] in may}
 
 
-def _certified(engine: Engine, rows: Sequence[Row], callers: Mapping[str, str]) -> Iterator[str]:
+def _certified(engine: Engine, rows: Sequence[reading.Row], callers: Mapping[str, str]) -> Iterator[str]:
     for row in rows:
         caller = callers.get(row["bucket"])
         try:
-            yield str(engine.ask("certificate", caller, bucket=row["bucket"], id=int(row["version"]))["text"])
+            yield str(engine.ask("certificate", caller, bucket=row["bucket"], id=row["version"])["text"])
         except Refused as error:
             raise DeskError(f"version {row['version']}: {error}") from error
 
@@ -80,11 +80,12 @@ def _free(paths: Iterable[Path], force: bool) -> None:
 
 def certificates(engine: Engine, words: argparse.Namespace) -> None:
     """Writes the certificate of each removed document to a file of its own, and all of them to one page."""
-    rows = [it for it in _since(register(engine), words.since) if it["kind"] == "version"]
+    since = moments.read(words.since) if words.since else None
+    rows = reading.query(engine.desk.file, "removed", since=since, before=None)
     callers = _callers(engine) if words.any_caller else {}
     folder = Path(words.folder)
     page = folder / "certificates.html"
-    paths = [folder / f"certificate-{int(it['version']):010}.txt" for it in rows]
+    paths = [folder / f"certificate-{it['version']:010}.txt" for it in rows]
     _free([*paths, page], words.force)
     texts = []
     try:
@@ -96,7 +97,7 @@ def certificates(engine: Engine, words: argparse.Namespace) -> None:
     except OSError as error:
         raise DeskError(f"{error.filename}: {error.strerror}") from error
     if words.json:
-        print_json([int(it["version"]) for it in rows])
+        print_json([it["version"] for it in rows])
     else:
         print(f"{len(rows)} certificates in {folder}")
 
