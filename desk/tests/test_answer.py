@@ -56,6 +56,15 @@ class Answer(Evidence):
         self.assertIn("had ended at 2034-01-01", self.guarded(6, "2034-01-01"))
         self.assertIn("this is so if nothing was changed after it", self.guarded(6, "2034-01-01"))
 
+    def test_a_hold_that_is_on_again_counts_from_then(self) -> None:
+        days = {"ON": "2024-03-07T00:00:00Z", "OFF": "2024-03-08T00:00:00Z"}
+        hold: dict[str, Any] = {"do": "set-hold", "as": "gov", "bucket": "docs", "key": "k5", "id": 6}
+        self.lines(*({**hold, "at": at, "hold": it} for it, at in days.items()))
+        self.lines({**hold, "hold": "ON"}, at="2024-03-09T00:00:00Z")
+        self.assertIn("put on at 2024-03-07T00:00:00Z", self.guarded(6, "2024-03-07"))
+        self.assertIn("lifted at 2024-03-08T00:00:00Z", self.guarded(6, "2024-03-08"))
+        self.assertIn("put on at 2024-03-09T00:00:00Z", self.guarded(6, "2024-03-10"))
+
     def test_a_marker_has_no_lock(self) -> None:
         self.assertIn("delete marker", self.guarded(14, "2024-03-07"))
         self.assertNotIn("retention in", self.guarded(14, "2024-03-07"))
