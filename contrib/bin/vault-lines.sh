@@ -29,7 +29,7 @@ read_words() {
     while [ $# -gt 0 ]; do
         case $1 in
         --as | --at | --id)
-            [ $# -gt 1 ] || usage "$text" "$1 needs a value behind it"
+            [ $# -gt 1 ] || usage "$text" "$1 needs a value after it"
             case $1 in
             --as) caller=$2 ;;
             --at) moment=$2 ;;
@@ -44,7 +44,7 @@ read_words() {
             ;;
         -?*)
             own_option "$@" || usage "$text" "there is no option $1"
-            [ $# -ge "$taken" ] || usage "$text" "$1 needs a value behind it"
+            [ $# -ge "$taken" ] || usage "$text" "$1 needs a value after it"
             shift "$taken"
             continue
             ;;
