@@ -161,6 +161,11 @@ class Deliveries(OfficeTest):
         self.assertEqual(done.out.count("the vault holds the same content"), 1)
         self.assertEqual(len(json.loads(self.done("ls", "docs", "--json"))), 1)
 
+    def test_no_delivery_is_dated_ahead_of_the_clock(self) -> None:
+        done = self.desk(*self.deliver(), at="2206-01-15T10:00:00Z")
+        self.assertEqual((done.status, done.out), (2, ""))
+        self.done(*self.deliver())
+
     def test_compliance_and_a_far_end_are_asked_for(self) -> None:
         for lock in ("COMPLIANCE,2030-01-01", "GOVERNANCE,2300-01-01"):
             listed = self.listed(f"file,key,mode,until\nscan 0.pdf,a,{lock}\n")

@@ -50,6 +50,26 @@ class PutAndGet(OfficeTest):
         self.assertIn("NoSuchBucket", done.err)
         self.assertEqual(self.done("ls", "docs"), "")
 
+    def test_a_far_end_is_asked_for(self) -> None:
+        path = self.written("a.txt", b"hello")
+        for mode in ("COMPLIANCE", "GOVERNANCE"):
+            done = self.desk("put", "docs", "a", path, "--until", "2337-01-01", "--mode", mode)
+            self.assertEqual(done.status, 2, mode)
+            self.assertIn("2337", done.err)
+        self.assertEqual(self.done("ls", "docs"), "")
+        self.done("put", "docs", "a", path, "--until", "2055-01-01", "--mode", "COMPLIANCE")
+        self.done("put", "docs", "a", path, "--until", "2056-01-01", "--yes")
+
+    def test_no_change_is_dated_ahead_of_the_clock(self) -> None:
+        path = self.written("a.txt", b"hello")
+        bucket = ["buckets", "--add", "mail", "--department", "records", "--as", "registrar"]
+        for words in (["put", "docs", "a", path], bucket):
+            done = self.desk(*words, at="2206-01-15T10:00:00Z")
+            self.assertEqual((done.status, done.out), (2, ""), words)
+            self.assertIn("ahead of this machine's clock", done.err)
+        self.assertEqual(self.done("ls", "docs", at="2206-01-15T10:00:00Z"), "")
+        self.done("put", "docs", "a", path)
+
     def test_a_date_that_is_none_is_refused(self) -> None:
         path = self.written("a.txt", b"hello")
         for date in ("01.01.2034", "2034-02-30", "2034", "2034-01-01T00:00:00"):

@@ -99,6 +99,12 @@ class Locks(OfficeTest):
         found = json.loads(self.done("ls", "docs", "--json"))
         self.assertEqual([it["version"] for it in found], [1, 2, 3])
 
+    def test_a_far_end_is_asked_for(self) -> None:
+        done = self.desk("retain", "docs", "2024/a", "--until", "2337-01-01")
+        self.assertEqual(done.status, 2)
+        self.assertIn("2337", done.err)
+        self.done("retain", "docs", "2024/a", "--until", "2055-01-01")
+
     def test_compliance_is_asked_for(self) -> None:
         done = self.desk("retain", "docs", "2024/a", "--until", "2034-01-01", "--mode", "COMPLIANCE")
         self.assertEqual(done.status, 2)

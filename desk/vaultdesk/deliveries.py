@@ -18,9 +18,7 @@ from vaultdesk import inventory, moments, reading
 from vaultdesk.asking import add_yes, confirm
 from vaultdesk.engine import Engine
 from vaultdesk.errors import DeskError, EngineError
-from vaultdesk.items import (
-    FAR, Item, item_of, look_at_doubles, look_at_file, look_at_words, names_of, read_classes,
-)
+from vaultdesk.items import Item, item_of, look_at_doubles, look_at_file, look_at_words, names_of, read_classes
 from vaultdesk.output import print_json, print_table
 
 ROW = re.compile(r"(\d+) (admitted|again|refused) (\S+)")
@@ -87,7 +85,7 @@ def _questions(items: Sequence[Item], known: bool) -> str:
     """What has to be asked before these are taken in."""
     counts = {
         "can't be removed by anybody before their end (COMPLIANCE)": sum(it.mode == "COMPLIANCE" for it in items),
-        f"retentions end in more than {FAR} years": sum(it.is_far for it in items),
+        f"retentions end in more than {moments.FAR} years": sum(it.is_far for it in items),
         "documents are in the vault already, of another batch": 0 if known else sum(it.is_doubled for it in items),
     }
     return "; ".join(f"{count} {what}" for what, count in counts.items() if count)
@@ -121,6 +119,7 @@ def _cause(items: Sequence[Item], number: int, words: str) -> str:
 
 def _taken_in(engine: Engine, words: argparse.Namespace, items: Sequence[Item]) -> Intake:
     """Has the engine take in these items."""
+    engine.look_at_date()
     engine.close()
     with tempfile.TemporaryDirectory() as scratch:
         listed = Path(scratch) / "list.csv"

@@ -14,6 +14,7 @@ from pathlib import Path
 from typing import Any
 
 from vaultdesk import moments
+from vaultdesk.asking import confirm
 from vaultdesk.engine import Engine
 from vaultdesk.errors import DeskError
 from vaultdesk.output import print_json, print_table
@@ -53,6 +54,8 @@ def put(engine: Engine, words: argparse.Namespace) -> None:
     content = read_content(words.path)
     until = moments.read(words.until) if words.until else None
     mode = words.mode if until else None
+    if until and moments.is_far(until, engine.at or moments.now()):
+        confirm(words, f"the retention ends in more than {moments.FAR} years, at {until}")
     done = engine.ask(
         "put",
         bucket=words.bucket,
@@ -172,6 +175,7 @@ def add(commands: argparse._SubParsersAction[argparse.ArgumentParser], common: a
     it.add_argument("--until", metavar="DATE", help="a retention that ends then")
     it.add_argument("--mode", choices=("GOVERNANCE", "COMPLIANCE"), default="GOVERNANCE", help="its mode (GOVERNANCE)")
     it.add_argument("--hold", action="store_true", help="with a legal hold")
+    it.add_argument("--yes", action="store_true", help="don't ask")
 
     example = 'get letters "2025/002 Miller" letter.pdf'
     it = _subcommand(commands, common, get, "write a version's content to a file", example)

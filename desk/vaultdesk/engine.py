@@ -12,9 +12,12 @@ from typing import IO, Any
 
 from vaultdesk import moments
 from vaultdesk.config import Desk
-from vaultdesk.errors import EngineError
+from vaultdesk.errors import EngineError, UsageError
 from vaultdesk.refusals import refused
 
+READS = (
+    "get", "head", "get-retention", "get-hold", "get-default", "get-rules", "list-versions", "report", "certificate",
+)  # fmt: skip
 PAGE = 1_000  # entries in one reply of a listing, at most
 
 
@@ -22,12 +25,14 @@ class Engine:
     """A vault that is open from the first line on to the end of the `with` block.
 
     It decides nothing: each answer is the engine's. `at` is the reading of all its lines; without one, each line
-    has the machine's clock, which is never handed in earlier than before.
+    has the machine's clock, which is never handed in earlier than before. No change is asked for that is dated ahead
+    of the clock, unless `is_copy`: the vault would refuse whatever is dated before it.
     """
 
-    def __init__(self, desk: Desk, at: str | None = None) -> None:
+    def __init__(self, desk: Desk, at: str | None = None, is_copy: bool = False) -> None:
         self.desk = desk
         self.at = at
+        self.is_copy = is_copy
         self._latest = ""
         self._child: subprocess.Popen[str] | None = None
         self._said: IO[str] | None = None
@@ -50,6 +55,8 @@ class Engine:
         """The value of `ok` in the reply to a line by the desk's caller, or by `asker`; members of None are left out.
 
         `Refused` where the line is refused or a run was stopped, `EngineError` where no reply comes."""
+        if do not in READS:
+            self.look_at_date()
         given = {name: value for name, value in members.items() if value is not None}
         line = {"at": self._reading(), "as": asker or self.desk.caller, "do": do, **given}
         reply = self._exchange(json.dumps(line, ensure_ascii=False))
@@ -59,6 +66,12 @@ class Engine:
             raise refused(reply["error"])
         stopped = reply["stopped"]
         raise EngineError(f"the run stopped after {stopped['changes']} changes, which stand: {stopped['fault']}")
+
+    def look_at_date(self) -> None:
+        """`UsageError` where a change would be dated more than a day ahead of the machine's clock."""
+        if self.at and self.at > moments.tomorrow() and not self.is_copy:
+            why = "nothing that is dated before a change is carried out after it, so the vault would be shut until then"
+            raise UsageError(f"--at {self.at} is more than a day ahead of this machine's clock: {why}")
 
     def entries(self, bucket: str, prefix: str | None = None) -> Iterator[Mapping[str, Any]]:
         """The held entries of a bucket whose key begins with the prefix: by key, within a key newest first."""

@@ -88,7 +88,7 @@ def foreseen(engine: Engine, buckets: Sequence[str], last: str, more: Sequence[R
     engine.close()
     with tempfile.TemporaryDirectory() as folder:
         desk = replace(engine.desk, vault=_copied(engine.desk.file, folder))
-        with Engine(desk, first) as trial:
+        with Engine(desk, first, is_copy=True) as trial:
             for bucket in buckets if more else ():
                 set_rules(trial, bucket, [*rules_of(trial, bucket), *more])
             looked_at = [_Bucket(trial, it) for it in buckets]

@@ -15,7 +15,6 @@ from vaultdesk.documents import MOST
 from vaultdesk.errors import DeskError, UsageError
 
 LONGEST_KEY = 1_024  # bytes of UTF-8
-FAR = 30  # years after which an end is asked about
 MOST_YEARS = 1_000  # of a class
 MODES = ("", "GOVERNANCE", "COMPLIANCE")
 HOLDS = ("", "ON", "OFF")
@@ -103,10 +102,9 @@ def look_at_words(it: Item, now: str) -> None:
         it.wrong.append("mode is GOVERNANCE or COMPLIANCE, hold is ON or OFF")
     if it.until and it.until <= now:
         it.wrong.append(f"the retention ended already: {it.until}")
-    # A class of thirty years ends with a year, so up to a year later.
-    it.is_far = bool(it.until) and int(it.until[:4]) > int(now[:4]) + FAR + 1
+    it.is_far = bool(it.until) and moments.is_far(it.until, now)
     if it.is_far:
-        it.notes.append(f"the retention ends in more than {FAR} years: {it.until}")
+        it.notes.append(f"the retention ends in more than {moments.FAR} years: {it.until}")
 
 
 def look_at_file(it: Item, folder: Path, names: Mapping[str, str]) -> None:

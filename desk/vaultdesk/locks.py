@@ -155,8 +155,10 @@ def retain(engine: Engine, words: argparse.Namespace) -> None:
     """Sets a retention on each version that is meant."""
     until = moments.read(words.until)
     found = targets(engine, words)
-    if words.mode == "COMPLIANCE" and not words.dry_run:
-        confirm(words, f"{len(found)} versions can't be removed by anybody before {until}")
+    far = moments.is_far(until, engine.at or moments.now())
+    if (words.mode == "COMPLIANCE" or far) and not words.dry_run:
+        who = "anybody" if words.mode == "COMPLIANCE" else "whoever has no right to bypass"
+        confirm(words, f"{len(found)} versions can't be removed by {who} before {until}")
 
     def change(it: Target) -> Row:
         head = engine.ask("head", **it.place)

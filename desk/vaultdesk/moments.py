@@ -8,6 +8,7 @@ from collections.abc import Iterator
 
 from vaultdesk.errors import UsageError
 
+FAR = 30  # years after which an end is asked about
 DATE = re.compile(r"\d{4}-\d{2}-\d{2}")
 MOMENT = re.compile(r"\d{4}-\d{2}-\d{2}T\d{2}:\d{2}:\d{2}(Z|[+-]\d{2}:\d{2})")
 
@@ -30,6 +31,18 @@ def seconds_of(moment: str) -> int:
 def now() -> str:
     """The machine's clock, in the engine's form."""
     return text_of(dt.datetime.now(dt.timezone.utc))
+
+
+def tomorrow() -> str:
+    """The moment a day after the machine's clock."""
+    return text_of(dt.datetime.now(dt.timezone.utc) + dt.timedelta(days=1))
+
+
+def is_far(end: str, at: str) -> bool:
+    """Whether an end lies more than thirty years after a moment, as one with a mistyped year does.
+
+    A class of thirty years ends with a year, so up to a year later."""
+    return int(end[:4]) > int(at[:4]) + FAR + 1
 
 
 def read(text: str) -> str:
