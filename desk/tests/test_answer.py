@@ -71,8 +71,8 @@ class Answer(Evidence):
 
     def test_the_page_says_who_and_what_it_shows(self) -> None:
         text = self.done("answer", "13", at="2024-03-07")
-        for it in ("legal hold put on", "gov", "sound", "lawful", "shares no code", "none were given", "No seal",
-                   "What this doesn't show", "neither refused commands nor reads"):
+        for it in ("legal hold put on", "gov", "sound", "lawful", "coherent", "shares no code", "none were given",
+                   "No seal", "What this doesn't show", "neither refused commands nor reads"):
             self.assertIn(it.lower(), text.lower())
         people = json.loads(self.done("answer", "13", "--json"))["people"]
         self.assertEqual([it["caller"] for it in people], ["ann", "gov"])
@@ -96,6 +96,16 @@ class Answer(Evidence):
         self.assertEqual(done.status, 1)
         self.assertIn("unlawful 13 setter", done.out)
         self.assertNotIn("That the file has this history", done.out)
+
+    def test_histories_that_contradict_each_other_are_said(self) -> None:
+        copy = self.forged("UPDATE callers SET dept = NULL WHERE name = 'ann'")
+        done = self.desk("answer", "13", "--vault", str(copy), "--json")
+        told = json.loads(done.out)
+        self.assertEqual((done.status, told["good"]), (1, False))
+        checked = " ".join(told["checked"])
+        self.assertIn("Rules: lawful", checked)
+        self.assertIn("Together: not coherent. Entry 1 was admitted by ann of no department", checked)
+        self.assertIn("admitted by ann of no department", done.err)
 
     def test_the_page_for_print_has_the_same_and_escapes_keys(self) -> None:
         page = self.folder / "answer.html"

@@ -19,6 +19,7 @@ from vaultdesk.history import document_of, life_of, number
 from vaultdesk.output import print_json, shown, table_lines
 
 WIDTH = 100
+MOST_CONTRADICTIONS = 10
 WHAT = ("what", "is")
 STYLE = (
     "body{font:11pt/1.4 Georgia,serif;max-width:50em;margin:2em auto;padding:0 1em}h1{font-size:16pt}h2{font-size:12pt}"
@@ -53,6 +54,7 @@ class Checked:
 
     last: str
     breach: str
+    contradictions: Sequence[str] = ()
     seals: Path | None = None
     count: int = 0
     differing: Sequence[str] = field(default_factory=list)
@@ -61,7 +63,12 @@ class Checked:
     @property
     def is_good(self) -> bool:
         """Whether nothing was found that speaks against the history."""
-        return not self.breach and not self.differing
+        return not self.against
+
+    @property
+    def against(self) -> Sequence[str]:
+        """What speaks against the history."""
+        return [*filter(None, [self.breach]), *self.contradictions, *self.differing]
 
 
 # ---- what guarded it
@@ -127,11 +134,12 @@ def _checked(file: Path, given: str | None) -> Checked:
     with recheck.audited(file) as base:
         last = recheck.vault.moment_text(recheck.vault.meta_of(base).last)
         breach = recheck.lawful.first_breach(base)
+        contradictions = list(recheck.coherent.contradictions(base))
         differing = list(recheck.events.differing_seals(base, seals))
     said = f"unlawful {breach.id} {breach.rule}: {breach.why}" if breach else ""
     texts = sorted(recheck.vault.moment_text(it.before) for it in seals)
     good = [it for it in texts if not any(line.startswith(it) for line in differing)]
-    return Checked(last, said, path, len(seals), differing, good[-1] if good else "")
+    return Checked(last, said, contradictions, path, len(seals), differing, good[-1] if good else "")
 
 
 def _checked_sentences(checked: Checked, found: Sequence[Event]) -> Iterator[str]:
@@ -141,6 +149,10 @@ def _checked_sentences(checked: Checked, found: Sequence[Event]) -> Iterator[str
         yield f"Rules: {checked.breach}. No commands of the vault can have made this history."
     else:
         yield "Rules: lawful. Each lock and each removal keeps the rules, and its caller had the right to it."
+    for it in checked.contradictions[:MOST_CONTRADICTIONS]:
+        yield f"Together: not coherent. {it[0].upper()}{it[1:]}."
+    if not checked.contradictions:
+        yield "Together: coherent. Histories agree with each other, and with callers, buckets, moves and deliveries."
     if checked.seals is None:
         yield "Seals: none were given (--seals FILE), so nothing from before is compared."
         return
@@ -270,7 +282,7 @@ def answer(engine: Engine, words: argparse.Namespace) -> None:
     elif not words.html:
         print(as_text(title, parts), end="")
     if not checked.is_good:
-        raise DeskError(f"the checks found what speaks against this history: {checked.breach or checked.differing[0]}")
+        raise DeskError(f"the checks found what speaks against this history: {checked.against[0]}")
 
 
 def add(commands: argparse._SubParsersAction[argparse.ArgumentParser], common: argparse.ArgumentParser) -> None:

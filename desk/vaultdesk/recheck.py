@@ -13,10 +13,10 @@ from vaultdesk.errors import DeskError, EngineError
 
 sys.path.append(str(beside.place_of("vault_recheck").parent))
 
-from vault_recheck import compare, events, lawful, vault  # noqa: E402
+from vault_recheck import coherent, compare, events, lawful, vault  # noqa: E402
 from vault_recheck.audit import audit  # noqa: E402
 
-__all__ = ["WHO", "audited", "compare", "events", "lawful", "vault"]
+__all__ = ["WHO", "audited", "coherent", "compare", "events", "lawful", "vault"]
 
 WHO = "vault-recheck, which shares no code with the program that writes the vault"
 
