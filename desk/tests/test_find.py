@@ -7,6 +7,7 @@ import hashlib
 import io
 import json
 import unicodedata
+from typing import Any
 
 from tests.office import OfficeTest
 
@@ -91,3 +92,38 @@ class Find(OfficeTest):
             done = self.desk("find", "x", "--vault", name)
             self.assertEqual((done.status, done.out), (1, ""), name)
             self.assertIn(name, done.err)
+
+
+class Held(OfficeTest):
+    def setUp(self) -> None:
+        super().setUp()
+        it: dict[str, Any] = {"do": "put", "bucket": "docs"}
+        first = {**it, "key": "a", "text": "x", "mode": "GOVERNANCE", "until": "2024-03-01T00:00:00Z"}
+        self.lines(first, {**it, "key": "b%", "text": "xy", "hold": "ON"}, {**it, "key": "c", "text": "z"},
+                   at="2024-02-01T00:00:00Z")
+        self.lines({"do": "set-hold", "bucket": "docs", "key": "b%", "hold": "OFF"},
+                   {"do": "delete-version", "bucket": "docs", "key": "c", "id": 3}, at="2024-02-10T00:00:00Z")
+
+    def told(self, *words: str, at: str) -> list[tuple[Any, ...]]:
+        rows = json.loads(self.done("held", *words, "--json", at=at))
+        return [(it["version"], it["retention"], it["hold"]) for it in rows]
+
+    def test_each_moment_has_its_locks(self) -> None:
+        before = [(1, "GOVERNANCE", "OFF"), (2, "-", "ON"), (3, "-", "OFF")]
+        self.assertEqual(self.told(at="2024-02-09"), before)
+        self.assertEqual(self.told(at="2024-03-01"), [(1, "ended", "OFF"), (2, "-", "OFF")])
+        self.assertEqual(self.told(at="2024-01-31"), [])
+
+    def test_what_is_asked_for_alone_is_listed(self) -> None:
+        day = "2024-02-09"
+        self.assertEqual([it[0] for it in self.told("--on-hold", at=day)], [2])
+        self.assertEqual([it[0] for it in self.told("--prefix", "b%", at=day)], [2])
+        self.assertEqual([it[0] for it in self.told("--ends-before", "2024-03-01T00:00:01Z", at=day)], [1, 2, 3])
+        self.assertEqual([it[0] for it in self.told("--ends-before", "2024-03-01", at=day)], [2, 3])
+        self.assertEqual(self.told("--bucket", "nowhere", at=day), [])
+        self.assertEqual(len(self.told("--department", "records", at=day)), 3)
+
+    def test_it_is_a_list_for_holds(self) -> None:
+        listed = self.written("held.csv", self.done("held", "--csv", at="2024-03-01").encode())
+        rows = json.loads(self.done("hold", "docs", "--from", listed, "--json", at="2024-03-01"))
+        self.assertEqual([it["version"] for it in rows], [1, 2])

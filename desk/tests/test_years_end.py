@@ -63,6 +63,17 @@ class YearsEnd(OfficeTest):
         out = self.folder / "out"
         self.done("certificates", str(out), "--since", "2024-01-17", at=LATER)
         self.assertEqual([it.name for it in out.glob("*.txt")], ["certificate-0000000002.txt"])
+        self.done("certificates", str(self.folder / "first"), "--before", "2024-01-18", at=LATER)
+        self.assertEqual([it.name for it in (self.folder / "first").glob("*.txt")], ["certificate-0000000001.txt"])
+
+    def test_the_register_of_a_time(self) -> None:
+        for words, wanted in (
+            (["--since", "2024-01-16", "--before", "2024-01-18"], [1]),
+            (["--since", "2024-01-16T00:00:01Z"], [2, 3]),
+            (["--before", "2024-01-18T00:00:01Z"], [1, 2, 3]),
+        ):
+            rows = json.loads(self.done("register", *words, "--json"))
+            self.assertEqual([int(it["version"]) for it in rows], wanted, words)
 
     def test_certificates_of_every_department(self) -> None:
         self.lines({"do": "add-dept", "as": "registrar", "dept": "court"}, at=LATER)

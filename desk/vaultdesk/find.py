@@ -1,4 +1,4 @@
-"""Documents by what one knows of them: find."""
+"""Documents by what one knows of them, and what was held at a moment: find, held."""
 
 from __future__ import annotations
 
@@ -8,14 +8,19 @@ import hashlib
 import re
 import sys
 import unicodedata
+from collections.abc import Sequence
 from pathlib import Path
 
 from vaultdesk import moments, reading
 from vaultdesk.engine import Engine
 from vaultdesk.errors import DeskError, UsageError
-from vaultdesk.output import print_json, print_rows
+from vaultdesk.output import print_json, print_rows, print_table
 
 COLUMNS = ("version", "bucket", "size", "admitted", "by", "state", "key")
+FOUND = (
+    "version", "bucket", "key", "kind", "size", "sha256", "admitted", "admitted_by", "removed", "cause", "cause_by",
+)  # fmt: skip
+HELD = ("department", "bucket", "version", "size", "retention", "until", "hold", "key")
 DIGEST = re.compile(r"[0-9a-fA-F]{8,64}")
 
 
@@ -59,6 +64,12 @@ def found_by(engine: Engine, words: argparse.Namespace) -> list[reading.Row]:
     return [it for it in rows if words.markers or it["kind"] == "version"]
 
 
+def _print_csv(rows: Sequence[reading.Row], columns: Sequence[str]) -> None:
+    writer = csv.DictWriter(sys.stdout, columns, lineterminator="\n")
+    writer.writeheader()
+    writer.writerows(rows)
+
+
 def _state(row: reading.Row) -> str:
     state = f"removed {row['removed']}" if row["removed"] else "held"
     return state if row["kind"] == "version" else f"marker, {state}"
@@ -70,11 +81,40 @@ def find(engine: Engine, words: argparse.Namespace) -> None:
     if words.json:
         print_json(rows)
     elif words.csv:
-        writer = csv.DictWriter(sys.stdout, rows[0] if rows else ("key", "version"), lineterminator="\n")
-        writer.writeheader()
-        writer.writerows(rows)
+        _print_csv(rows, FOUND)
     else:
         print_rows([{**it, "by": it["admitted_by"], "state": _state(it)} for it in rows], COLUMNS)
+
+
+def held(engine: Engine, words: argparse.Namespace) -> None:
+    """Prints what was held at a moment, with its retention and its legal hold of then."""
+    at = engine.at or moments.now()
+    rows = [
+        it
+        for it in reading.query(engine.desk.file, "held", at=at)
+        if (words.bucket in (None, it["bucket"]))
+        and (words.department in (None, it["department"]))
+        and (not words.on_hold or it["hold"] == "ON")
+        and (words.ends_before is None or it["until"] < moments.read(words.ends_before))
+        and it["key"].startswith(words.prefix)
+    ]
+    if words.csv:
+        _print_csv(rows, HELD)
+    else:
+        print_table(rows, HELD, words.json)
+
+
+def _add_held(commands: argparse._SubParsersAction[argparse.ArgumentParser], common: argparse.ArgumentParser) -> None:
+    what = "what is held, or was at a past moment (--at), with retention and legal hold: whose end has passed is ended"
+    example = "Example: vaultdesk held --on-hold --at 2025-01-01"
+    it = commands.add_parser("held", parents=[common], help=what, epilog=example)
+    it.add_argument("--bucket", metavar="B")
+    it.add_argument("--department", metavar="D")
+    it.add_argument("--prefix", metavar="P", default="", help="only keys that begin so")
+    it.add_argument("--on-hold", action="store_true", help="only what is under a legal hold")
+    it.add_argument("--ends-before", metavar="DATE", help="only what has no retention, or one that ends before that")
+    it.add_argument("--csv", action="store_true", help="print CSV, as hold --from takes it")
+    it.set_defaults(run=held)
 
 
 def add(commands: argparse._SubParsersAction[argparse.ArgumentParser], common: argparse.ArgumentParser) -> None:
@@ -101,3 +141,4 @@ def add(commands: argparse._SubParsersAction[argparse.ArgumentParser], common: a
     it.add_argument("--markers", action="store_true", help="delete markers too")
     it.add_argument("--csv", action="store_true", help="print CSV, as hold --from takes it")
     it.set_defaults(run=find)
+    _add_held(commands, common)

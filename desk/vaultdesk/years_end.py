@@ -47,9 +47,14 @@ def register(engine: Engine) -> list[Row]:
     return list(csv.DictReader(io.StringIO(done.stdout.decode("utf-8"), newline="")))
 
 
-def _since(rows: Sequence[Row], since: str | None) -> list[Row]:
-    start = moments.read(since) if since else ""
-    return [it for it in rows if it["removed"] >= start]
+def _span(words: argparse.Namespace) -> tuple[str | None, str | None]:
+    """The first moment of the removals that are asked for, and the one before which they end."""
+    since, before = (moments.read(it) if it else None for it in (words.since, words.before))
+    return since, before
+
+
+def _within(rows: Sequence[Row], since: str | None, before: str | None) -> list[Row]:
+    return [it for it in rows if (since or "") <= it["removed"] and (before is None or it["removed"] < before)]
 
 
 def _callers(engine: Engine) -> dict[str, str]:
@@ -80,8 +85,8 @@ def _free(paths: Iterable[Path], force: bool) -> None:
 
 def certificates(engine: Engine, words: argparse.Namespace) -> None:
     """Writes the certificate of each removed document to a file of its own, and all of them to one page."""
-    since = moments.read(words.since) if words.since else None
-    rows = reading.query(engine.desk.file, "removed", since=since, before=None)
+    since, before = _span(words)
+    rows = reading.query(engine.desk.file, "removed", since=since, before=before)
     callers = _callers(engine) if words.any_caller else {}
     folder = Path(words.folder)
     page = folder / "certificates.html"
@@ -110,7 +115,7 @@ def _print_csv(rows: Iterable[Mapping[str, Any]], columns: Sequence[str]) -> Non
 
 def print_register(engine: Engine, words: argparse.Namespace) -> None:
     """Prints the register of removals, or writes it as a spreadsheet."""
-    rows = _since(register(engine), words.since)
+    rows = _within(register(engine), *_span(words))
     if words.documents:
         rows = [it for it in rows if it["kind"] == "version"]
     if words.xlsx:
@@ -187,12 +192,14 @@ def add(commands: argparse._SubParsersAction[argparse.ArgumentParser], common: a
     it = _subcommand(commands, common, "certificates", certificates, texts)
     it.add_argument("folder")
     it.add_argument("--since", metavar="DATE", help="of what was removed from then on")
+    it.add_argument("--before", metavar="DATE", help="of what was removed earlier than that")
     it.add_argument("--any-caller", action="store_true", help="ask as a caller of each bucket's own department")
     it.add_argument("--force", action="store_true", help="write over files that are there")
 
     texts = ("the register of removals, also as a spreadsheet", "vaultdesk register --xlsx register.xlsx")
     it = _subcommand(commands, common, "register", print_register, texts)
     it.add_argument("--since", metavar="DATE", help="of what was removed from then on")
+    it.add_argument("--before", metavar="DATE", help="of what was removed earlier than that")
     it.add_argument("--documents", action="store_true", help="without delete markers")
     it.add_argument("--xlsx", metavar="FILE", help="a spreadsheet in which every cell is a text")
     it.add_argument("--force", action="store_true", help="write over a file that is there")
