@@ -1,1 +1,5 @@
 pub mod Events
+pub mod Lawful
+pub mod Moves
+pub mod Breaches
+pub mod Walk

@@ -1,0 +1,12 @@
+pub mod Past
+pub mod LawfulRuns
+pub mod LawfulMeans
+pub mod Tests
+pub mod Settings
+pub mod OneEntry
+pub mod BreachLaws
+pub mod MoveTests
+pub mod MovesRuns
+pub mod FirstBreach
+pub mod ByIds
+pub mod Samples

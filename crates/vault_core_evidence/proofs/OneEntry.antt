@@ -1,0 +1,121 @@
+-- What is found of one entry: its settings, its tenures, and what they break together.
+use Rattle.std.proofs.Common.{◌≡◌, ◌∙◌, ℕ, List, [], ◌∷◌, ◌++◌, Bool, true, false, Option, Some, None, Result, Ok, Err, refl, sym, ap, subst}
+use Rattle.std.specs.Prelude.{IfOk, find, is_some, option_map, unwrap_or, if◌then◌else◌, ◌==◌}
+use Rattle.std.specs.List.{AllByRecursion}
+use Rattle.vault_lock.specs.declared.lock.Lock.{Lock}
+use Rattle.vault_core_model.specs.declared.halt.Fault.{Fault}
+use Rattle.vault_core_model.specs.declared.records.Entry.{Entry}
+use Rattle.vault_core_model.specs.declared.records.History.{History}
+use Rattle.vault_core_model.specs.declared.records.Setting.{Setting}
+use Rattle.vault_core_model.specs.declared.records.Tenure.{Tenure}
+use Rattle.vault_core_model.specs.Reads.{entry_of, settings_of, tenures_of}
+use Rattle.vault_core_model.specs.Sound.{HasTenures, HasTenuresAs, IsWhole, IsWholeAs, Sound}
+use Rattle.vault_core_model.specs.Vault.{Vault, history_of, last_lock}
+use Rattle.vault_core_evidence.specs.declared.breach.Law.{Law}
+use Rattle.vault_core_evidence.specs.declared.breach.Law.TheVariants as law
+use Rattle.vault_core_evidence.specs.declared.seen_moves.SeenMoves.{SeenMoves}
+use Rattle.vault_core_evidence.specs.Moves.{Sees, seen_of}
+use Rattle.vault_core_evidence.specs.Lawful.{last_at}
+use Rattle.vault_core_evidence.specs.Breaches.{Test, broken, end_tests, is_admitter, move_tests, rule_tests, settings_tests, test}
+use Rattle.vault_core_evidence.specs.Walk.{Finds, FindsMoves}
+use Rattle.vault_core_evidence.proofs.Tests.{stops, goes_on}
+
+-- ---- a marker has no settings and no tenures
+
+if_found : (P : History → Type 0) (g h : History) (b : Bool) (rest : Option History) → P g → (rest ≡ Some h → P h) → (if b then Some g else rest) ≡ Some h → P h
+if_found P g h true rest one later e = let same : g ≡ h = cc e in subst P same one
+if_found P g h false rest one later e = later e
+
+All-found : (P : History → Type 0) (id : ℕ) (hs : List History) (h : History) → AllByRecursion P hs → find (λ g. g.entry.id == id) hs ≡ Some h → P h
+All-found P id [] h all is = absurd (cc is)
+All-found P id (g ∷ gs) h all is =
+    if_found P g h (g.entry.id == id) (find (λ g. g.entry.id == id) gs) all.0 (λ e. All-found P id gs h all.1 e) is
+
+whole_marker : (b : Bool) (h : History) → b ≡ true → IsWholeAs b h.entry h.content h.settings → h.settings ≡ []
+whole_marker true h e whole = whole.3
+whole_marker false h e whole = absurd (cc e)
+
+tenured_marker : (b : Bool) (v : Vault) (h : History) → b ≡ true → HasTenuresAs b v h → h.tenures ≡ []
+tenured_marker true v h e has = has
+tenured_marker false v h e has = absurd (cc e)
+
+its_marker : (v : Vault) (id : ℕ) (e : Entry) (h : History) → history_of v id ≡ Some h → entry_of v id ≡ Some e → e.marker ≡ true → h.entry.marker ≡ true
+its_marker v id e h is its marker =
+    let same : Some h.entry ≡ Some e = sym (ap (λ (o : Option History). option_map (λ g. g.entry) o) is) ∙ its in
+    let entry : h.entry ≡ e = cc same in
+    ap (λ (x : Entry). x.marker) entry ∙ marker
+
+pub marker_settings : (v : Vault) (id : ℕ) (e : Entry) → Sound v → entry_of v id ≡ Some e → e.marker ≡ true → settings_of v id ≡ []
+marker_settings v id e sound its marker = by (history_of v id) refl
+  where
+    by : (o : Option History) → history_of v id ≡ o → settings_of v id ≡ []
+    by None is = ap (λ (o : Option History). unwrap_or (option_map (λ h. h.settings) o) []) is
+    by (Some h) is =
+        ap (λ (o : Option History). unwrap_or (option_map (λ h. h.settings) o) []) is
+        ∙ whole_marker h.entry.marker h (its_marker v id e h is its marker) (All-found IsWhole id v.histories h sound.whole is)
+
+pub marker_tenures : (v : Vault) (id : ℕ) (e : Entry) → Sound v → entry_of v id ≡ Some e → e.marker ≡ true → tenures_of v id ≡ []
+marker_tenures v id e sound its marker = by (history_of v id) refl
+  where
+    by : (o : Option History) → history_of v id ≡ o → tenures_of v id ≡ []
+    by None is = ap (λ (o : Option History). unwrap_or (option_map (λ h. h.tenures) o) []) is
+    by (Some h) is =
+        ap (λ (o : Option History). unwrap_or (option_map (λ h. h.tenures) o) []) is
+        ∙ tenured_marker h.entry.marker v h (its_marker v id e h is its marker) (All-found (HasTenures v) id v.histories h sound.tenured is)
+
+-- ---- its tenures
+
+pub no_tenures : (s : SeenMoves) (bucket : List ℕ) (ts : List Tenure) → ts ≡ [] → FindsMoves s bucket ts None s
+no_tenures s bucket ts empty = let P : List Tenure → Type 0 = λ us. FindsMoves s bucket us None s in subst P (sym empty) (refl, λ e n. refl)
+
+pub tenures_pass : (s after : SeenMoves) (bucket : List ℕ) (ts : List Tenure) (passes : Bool) → Sees s bucket ts passes after → passes ≡ true → FindsMoves s bucket ts None after
+tenures_pass s after bucket ts passes sees passed =
+    (sym (ap (λ b. broken (test b law.Move ∷ [])) (sym sees.0 ∙ passed)), λ e n. sees.1 passed n)
+
+pub tenures_fail : (s after : SeenMoves) (bucket : List ℕ) (ts : List Tenure) (passes : Bool) → Sees s bucket ts passes after → passes ≡ false → FindsMoves s bucket ts (Some law.Move) after
+tenures_fail s after bucket ts passes sees failed =
+    (sym (ap (λ b. broken (test b law.Move ∷ [])) (sym sees.0 ∙ failed)), λ e. absurd (cc e))
+
+-- ---- all of it
+
+after_admission : (b : Bool) (ts : List Test) → b ≡ true → broken (test b law.Admission ∷ ts) ≡ broken ts
+after_admission b ts e = rw e refl
+
+pub rule_stops : (v mid : Vault) (e : Entry) (ss : List Setting) (found : Option Law) → mid ≡ v → is_admitter v e.marker e.by ≡ true → found ≡ broken (settings_tests mid e.admitted e.by ss) → is_some found ≡ true → found ≡ broken (rule_tests v e ss)
+rule_stops v mid e ss found same may one some =
+    let its : found ≡ broken (settings_tests v e.admitted e.by ss) = one ∙ ap (λ w. broken (settings_tests w e.admitted e.by ss)) same in
+    stops (settings_tests v e.admitted e.by ss) (end_tests v (last_at e.admitted ss) (last_lock ss) e.removal) found its some
+    ∙ sym (after_admission (is_admitter v e.marker e.by) (settings_tests v e.admitted e.by ss ++ end_tests v (last_at e.admitted ss) (last_lock ss) e.removal) may)
+
+rule_goes_on : (v mid last : Vault) (e : Entry) (ss : List Setting) (found rest : Option Law) → mid ≡ v → last ≡ v → is_admitter v e.marker e.by ≡ true → found ≡ broken (settings_tests mid e.admitted e.by ss) → is_some found ≡ false → rest ≡ broken (end_tests last (last_at e.admitted ss) (last_lock ss) e.removal) → rest ≡ broken (rule_tests v e ss)
+rule_goes_on v mid last e ss found rest same same_last may one none end =
+    let its : found ≡ broken (settings_tests v e.admitted e.by ss) = one ∙ ap (λ w. broken (settings_tests w e.admitted e.by ss)) same in
+    let ends : rest ≡ broken (end_tests v (last_at e.admitted ss) (last_lock ss) e.removal) = end ∙ ap (λ w. broken (end_tests w (last_at e.admitted ss) (last_lock ss) e.removal)) same_last in
+    goes_on (settings_tests v e.admitted e.by ss) (end_tests v (last_at e.admitted ss) (last_lock ss) e.removal) found rest its none ends
+    ∙ sym (after_admission (is_admitter v e.marker e.by) (settings_tests v e.admitted e.by ss ++ end_tests v (last_at e.admitted ss) (last_lock ss) e.removal) may)
+
+pub rule_ends : (v mid last : Vault) (e : Entry) (ss : List Setting) (found : Option Law) (from : ℕ) (lock : Lock) (r : Result (Option Law) Fault) → mid ≡ v → last ≡ v → is_admitter v e.marker e.by ≡ true → found ≡ broken (settings_tests mid e.admitted e.by ss) → is_some found ≡ false → from ≡ last_at e.admitted ss → lock ≡ last_lock ss → IfOk r (λ rest. rest ≡ broken (end_tests last from lock e.removal)) → IfOk r (λ rest. rest ≡ broken (rule_tests v e ss))
+rule_ends v mid last e ss found from lock (Ok rest) same same_last may one none at_last locked end =
+    rule_goes_on v mid last e ss found rest same same_last may one none
+    (end ∙ (ap (λ t. broken (end_tests last t lock e.removal)) at_last ∙ ap (λ (l : Lock). broken (end_tests last (last_at e.admitted ss) l e.removal)) locked))
+rule_ends v mid last e ss found from lock (Err f) same same_last may one none at_last locked end = tt
+
+-- what an entry breaks, where it is there and has these settings
+pub finds_rule : (v mid : Vault) (s after : SeenMoves) (o : Option Entry) (e : Entry) (slice ss : List Setting) (ts : List Tenure) (found : Option Law) → mid ≡ v → o ≡ Some e → slice ≡ ss → found ≡ broken (rule_tests mid e slice) → is_some found ≡ true → Finds v s o ss ts found after
+finds_rule v mid s after o e slice ss ts found same its is one some =
+    let P : Option Entry → Type 0 = λ p. Finds v s p ss ts found after in
+    let Q : Option Law → Type 0 = λ l. is_some l ≡ true in
+    let own : found ≡ broken (rule_tests v e ss) = one ∙ (ap (λ w. broken (rule_tests w e slice)) same ∙ ap (λ xs. broken (rule_tests v e xs)) is) in
+    subst P (sym its) (stops (rule_tests v e ss) (move_tests (seen_of s) e.bucket ts) found own some, λ none. absurd (cc (subst Q none some)))
+
+finds_moves : (v : Vault) (s after : SeenMoves) (o : Option Entry) (e : Entry) (ss : List Setting) (ts : List Tenure) (found rest : Option Law) → o ≡ Some e → found ≡ broken (rule_tests v e ss) → is_some found ≡ false → FindsMoves s e.bucket ts rest after → Finds v s o ss ts rest after
+finds_moves v s after o e ss ts found rest its one none moves =
+    let P : Option Entry → Type 0 = λ p. Finds v s p ss ts rest after in
+    subst P (sym its) (goes_on (rule_tests v e ss) (move_tests (seen_of s) e.bucket ts) found rest one none moves.0, moves.1)
+
+pub finds_all : (v mid : Vault) (s after : SeenMoves) (o : Option Entry) (e : Entry) (slice ss : List Setting) (us ts : List Tenure) (found : Option Law) (r : Result (Option Law) Fault) → mid ≡ v → o ≡ Some e → slice ≡ ss → us ≡ ts → found ≡ broken (rule_tests mid e slice) → is_some found ≡ false → IfOk r (λ rest. FindsMoves s e.bucket us rest after) → IfOk r (λ rest. Finds v s o ss ts rest after)
+finds_all v mid s after o e slice ss us ts found (Ok rest) same its is tenures one none moves =
+    let own : found ≡ broken (rule_tests v e ss) = one ∙ (ap (λ w. broken (rule_tests w e slice)) same ∙ ap (λ xs. broken (rule_tests v e xs)) is) in
+    let P : List Tenure → Type 0 = λ xs. FindsMoves s e.bucket xs rest after in
+    finds_moves v s after o e ss ts found rest its own none (subst P tenures moves)
+finds_all v mid s after o e slice ss us ts found (Err f) same its is tenures one none moves = tt

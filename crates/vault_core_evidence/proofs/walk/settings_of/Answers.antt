@@ -1,0 +1,7 @@
+use Rattle.std.proofs.Common.{sym, ◌∙◌}
+use Rattle.vault_core_evidence.proofs.OneEntry.{marker_settings}
+use Rattle.vault_core_evidence.proofs.walk.settings_of.Goals as goal
+
+pub returns-then-entry-clause-value : goal.returns-then-entry-clause-value
+returns-then-entry-clause-value g c clean =
+    c.new.ensures ∙ sym (marker_settings (g.K.Keeper.vault c.args.keeper.now) c.args.id c.args.entry.now (c.requires.sound clean) (c.requires.its clean) c.if-entry.true)

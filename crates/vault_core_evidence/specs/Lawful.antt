@@ -1,0 +1,54 @@
+-- A history that commands can have made: every setting and every removal keeps the lock rules.
+use Rattle.std.specs.Prelude.{◌≡◌, ◌≤◌, ℕ, false, List, [], ◌∷◌, Option, Some, None}
+use Rattle.std.specs.List.{AllByRecursion}
+use Rattle.vault_lock.specs.declared.lock.Lock.{Lock}
+use Rattle.vault_lock.specs.Lock.{guards}
+use Rattle.vault_core_model.specs.declared.records.Author.{Author}
+use Rattle.vault_core_model.specs.declared.records.History.{History}
+use Rattle.vault_core_model.specs.declared.records.Removal.{Removal}
+use Rattle.vault_core_model.specs.declared.records.Setting.{Setting}
+use Rattle.vault_core_model.specs.Vault.{Vault, last_lock}
+use Rattle.vault_core_worm_laws.specs.Entitled.{IsAdmitter, IsFirstBy, IsSetByRight, IsCausedByRight}
+use Rattle.vault_core_worm_laws.specs.Permits.{IsPermittedSetting}
+use Rattle.vault_core_worm_laws.specs.Removals.{IsPermittedUnder}
+
+-- the first setting is of the admission, by who admitted the version, and by no bypass
+pub record IsLawfulFirst (v : Vault) (admitted : ℕ) (by : Author) (s : Setting) : Type 0 where
+  pub now : s.at ≡ admitted
+  pub free : s.bypass ≡ false
+  pub first_by : IsFirstBy v by (s ∷ [])
+
+-- a setting after another one: not before it in time, permitted over its lock, by a caller with the right to it
+pub record IsLawfulNext (v : Vault) (s n : Setting) : Type 0 where
+  pub in_order : s.at ≤ n.at
+  pub permitted : IsPermittedSetting v n.at n.by s.lock n
+  pub by : IsSetByRight v n.at s.lock n
+
+abbrev pub AreLawfulAfter : Vault → Setting → List Setting → Type 0
+AreLawfulAfter v s [] = Unit {0}
+AreLawfulAfter v s (n ∷ ns) = IsLawfulNext v s n × AreLawfulAfter v n ns
+
+-- the settings of an entry that was admitted then, by that author; a marker has none
+abbrev pub AreLawful : Vault → ℕ → Author → List Setting → Type 0
+AreLawful v admitted by [] = Unit {0}
+AreLawful v admitted by (s ∷ ss) = IsLawfulFirst v admitted by s × AreLawfulAfter v s ss
+
+-- the moment of the last of these settings; that one where there is none
+abbrev pub last_at : ℕ → List Setting → ℕ
+last_at from [] = from
+last_at from (s ∷ ss) = last_at s.at ss
+
+-- the removal, where there is one, is not before the last setting, and under nothing that guards or by an allowed bypass, by a caller with the right to it; nothing is past the last moment
+abbrev pub IsLawfulEnd : Vault → ℕ → Lock → Option Removal → Type 0
+IsLawfulEnd v from lock None = from ≤ v.last
+IsLawfulEnd v from lock (Some r) =
+    (from ≤ r.at) × (r.at ≤ v.last) × IsPermittedUnder v (guards lock r.at) r.cause × IsCausedByRight v r.cause
+
+pub record IsLawful (v : Vault) (h : History) : Type 0 where
+  pub admitter : IsAdmitter v h.entry.marker h.entry.by
+  pub settings : AreLawful v h.entry.admitted h.entry.by h.settings
+  pub end : IsLawfulEnd v (last_at h.entry.admitted h.settings) (last_lock h.settings) h.entry.removal
+
+-- every history of the vault
+abbrev pub Lawful : Vault → Type 0
+Lawful v = AllByRecursion (IsLawful v) v.histories

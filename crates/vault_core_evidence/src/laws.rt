@@ -1,0 +1,56 @@
+//! Laws of histories. Each is the contract of a public function that does nothing.
+ghost use Rattle.std.specs.Prelude.{◌≡◌, ◌≤◌, ◌≡◌, ℕ, List, Option, None, true};
+ghost use Rattle.vault_core_model.specs.declared.change.Change.{Change};
+ghost use Rattle.vault_core_model.specs.declared.command.Timed.{Timed};
+ghost use Rattle.vault_core_model.specs.declared.records.History.{History};
+ghost use Rattle.vault_core_model.specs.declared.reply.Reply.{Reply};
+ghost use Rattle.vault_core_model.specs.Allowed.{Allows};
+ghost use Rattle.vault_core_model.specs.Change.{changed};
+ghost use Rattle.vault_core_model.specs.Sound.{Sound};
+ghost use Rattle.vault_core_model.specs.Step.{IsRun, Reached};
+ghost use Rattle.vault_core_model.specs.Vault.{Vault};
+ghost use Rattle.vault_core_worm_laws.specs.Removals.{RemovalsWerePermitted};
+ghost use Rattle.vault_core_worm_laws.specs.Worm.{Worm};
+ghost use Rattle.vault_core_evidence.specs.declared.seen_moves.Move.{Move};
+ghost use Rattle.vault_core_evidence.specs.Breaches.{breach, first_breach};
+ghost use Rattle.vault_core_evidence.specs.Events.{events_before};
+ghost use Rattle.vault_core_evidence.specs.Lawful.{IsLawful, Lawful};
+ghost use Rattle.vault_core_evidence.specs.Moves.{MovesAgree, are_as_seen};
+
+/// Over any run from a sound vault, what happened before a moment that isn't past its last one stays what it
+/// was. So it does over each change that a vault allows, permitted or not.
+pub fn the_past_stays()
+    ensures events { (v after : Vault) (commands : List Timed) (replies : List Reply) (m : ℕ) →
+        Sound v → m ≤ v.last → IsRun v commands replies after → events_before m after ≡ events_before m v }
+    ensures changes { (m : ℕ) (v : Vault) (t : ℕ) (c : Change) →
+        Sound v → m ≤ t → Allows v t c → events_before m (changed v t c) ≡ events_before m v }
+{}
+
+/// In every vault that is reached, each setting and each removal keeps the lock rules, by a caller who had the
+/// right to it.
+pub fn reached_vaults_are_lawful()
+    ensures { (v : Vault) → Reached v → Lawful v }
+{}
+
+/// In every vault that is reached, tenures of one number are of one bucket, one department and one moment.
+pub fn moves_agree()
+    ensures { (v : Vault) → Reached v → MovesAgree v }
+{}
+
+/// In a lawful vault each removal was permitted by the lock, and each retention and hold was kept, whoever
+/// wrote its rows.
+pub fn lawful_vaults_kept_the_rules()
+    ensures removals { (v : Vault) → Lawful v → RemovalsWerePermitted v }
+    ensures worm { (v : Vault) → Lawful v → Worm v }
+{}
+
+/// The tests find no breach exactly where every history is lawful and tenures of one number agree. So they find
+/// none in a vault that is reached.
+pub fn breaches_are_decided()
+    ensures one { (v : Vault) (seen : ℕ → Option Move) (h : History) →
+        breach v seen h ≡ None → IsLawful v h × (are_as_seen seen h.entry.bucket h.tenures ≡ true) }
+    ensures lawful { (v : Vault) → first_breach v ≡ None → Lawful v }
+    ensures moves { (v : Vault) → first_breach v ≡ None → MovesAgree v }
+    ensures none { (v : Vault) → Lawful v → MovesAgree v → first_breach v ≡ None }
+    ensures reached { (v : Vault) → Reached v → first_breach v ≡ None }
+{}

@@ -1,0 +1,125 @@
+//! Who may do what.
+ghost use Rattle.std.specs.Prelude.{◌≡◌, ◌≤◌, ℕ, List, IfOk, Err, false};
+ghost use Rattle.vault_base.specs.declared.right.Right.TheVariants as right;
+ghost use Rattle.vault_core_model.specs.Halts.{is_device_given, RoseOrIsFull};
+ghost use Rattle.vault_core_model.specs.Vault.{Vault, caller_of};
+ghost use Rattle.vault_core_worm_laws.specs.Bypass.{has_bypass};
+ghost use Rattle.vault_core_worm_laws.specs.Entitled.{has_right};
+ghost use Rattle.vault_core_model.specs.declared.records.Author.TheVariants as authors;
+ghost use Rattle.vault_core_evidence.specs.Breaches as spec;
+
+use vault_base::name::CallerName;
+use vault_core_model::halt::Fault;
+use vault_core_model::keeper::Keeper;
+use vault_core_model::records::{Author, Caller, Cause};
+
+/// Whether the caller may bypass governance.
+pub(crate) fn may_bypass(caller: &Option<Caller>) -> bool
+    ensures { result ≡ has_bypass caller.now }
+{
+    match caller {
+        Some(caller) => caller.rights.bypass,
+        None => false,
+    }
+}
+
+/// Whether the caller may set a retention.
+pub(crate) fn may_retain(caller: &Option<Caller>) -> bool
+    ensures { result ≡ has_right right.Retain caller.now }
+{
+    match caller {
+        Some(caller) => caller.rights.retain,
+        None => false,
+    }
+}
+
+/// Whether the caller may set a legal hold.
+pub(crate) fn may_hold(caller: &Option<Caller>) -> bool
+    ensures { result ≡ has_right right.Hold caller.now }
+{
+    match caller {
+        Some(caller) => caller.rights.hold,
+        None => false,
+    }
+}
+
+fn may_remove(caller: &Option<Caller>) -> bool
+    ensures { result ≡ has_right right.DeleteVersion caller.now }
+{
+    match caller {
+        Some(caller) => caller.rights.delete_version,
+        None => false,
+    }
+}
+
+fn may_admit(caller: &Option<Caller>, marker: bool) -> bool
+    ensures { (v : Vault) (name : List ℕ) → caller.now ≡ caller_of v name → result ≡ spec.is_admitter v marker (authors.Caller name) }
+{
+    match caller {
+        Some(caller) => {
+            if marker {
+                caller.rights.delete
+            } else {
+                caller.rights.put
+            }
+        }
+        None => false,
+    }
+}
+
+/// Whether the author may admit a version, or a marker.
+pub(crate) fn is_admitter<K: Keeper>(
+    keeper: &mut K,
+    marker: bool,
+    by: &Author,
+) -> Result<bool, Fault>
+    ensures value { K.is_honest keeper.new → IfOk result (λ may. may ≡ spec.is_admitter (K.vault keeper.old) marker by.now) }
+    ensures same { K.vault keeper.new ≡ K.vault keeper.old }
+    ensures honest { K.is_honest keeper.new → K.is_honest keeper.old }
+    ensures counted { K.count keeper.old ≤ K.count keeper.new }
+    ensures device { result ≡ Err Fault.Device → RoseOrIsFull (K.count keeper.old) (K.count keeper.new) }
+    ensures steady { is_device_given result ≡ false → K.count keeper.new ≡ K.count keeper.old }
+{
+    let Author::Caller(name) = by else {
+        return Ok(marker);
+    };
+    let caller = keeper.caller(name)?;
+    Ok(may_admit(&caller, marker))
+}
+
+/// Whether the author is the caller of that name.
+pub(crate) fn is_author(by: &Author, who: &CallerName) -> bool
+    ensures { result ≡ spec.is_author by.now who.now }
+{
+    match by {
+        Author::Caller(name) => *name == *who,
+        Author::Rule(_) => false,
+    }
+}
+
+/// The caller who removed; none where a rule did.
+pub(crate) fn remover<K: Keeper>(keeper: &mut K, cause: &Cause) -> Result<Option<Caller>, Fault>
+    ensures value { K.is_honest keeper.new → IfOk result (λ found. found ≡ spec.remover_of (K.vault keeper.old) cause.now) }
+    ensures same { K.vault keeper.new ≡ K.vault keeper.old }
+    ensures honest { K.is_honest keeper.new → K.is_honest keeper.old }
+    ensures counted { K.count keeper.old ≤ K.count keeper.new }
+    ensures device { result ≡ Err Fault.Device → RoseOrIsFull (K.count keeper.old) (K.count keeper.new) }
+    ensures steady { is_device_given result ≡ false → K.count keeper.new ≡ K.count keeper.old }
+{
+    match cause {
+        Cause::Request(name) => keeper.caller(name),
+        Cause::Bypass(name) => keeper.caller(name),
+        Cause::Rule(_) => Ok(None),
+    }
+}
+
+/// Whether it was removed by a caller who may remove versions, or by a rule.
+pub(crate) fn is_remover(caller: &Option<Caller>, cause: &Cause) -> bool
+    ensures { (v : Vault) → caller.now ≡ spec.remover_of v cause.now → result ≡ spec.is_remover v cause.now }
+{
+    match cause {
+        Cause::Request(_) => may_remove(caller),
+        Cause::Bypass(_) => may_remove(caller),
+        Cause::Rule(_) => true,
+    }
+}

@@ -1,0 +1,155 @@
+//! The first entry that breaks a law: a walk over all ids.
+ghost use Rattle.std.specs.Prelude.{◌≡◌, ◌≤◌, IfOk, Err, Some, false, length};
+ghost use Rattle.vault_core_model.specs.Halts.{is_device_given, RoseOrIsFull};
+ghost use Rattle.vault_core_model.specs.Reads.{entry_of, settings_of, tenures_of};
+ghost use Rattle.vault_core_model.specs.Sound.{Sound};
+ghost use Rattle.vault_core_evidence.specs.Breaches.{first_breach};
+ghost use Rattle.vault_core_evidence.specs.Walk.{Finds, FindsMoves};
+
+use crate::breach::{Breach, Law};
+use crate::history::rule_breach;
+use crate::seen_moves::SeenMoves;
+use std::alloc::Global;
+use vault_base::moment::Moment;
+use vault_base::name::VersionId;
+use vault_core_model::halt::Fault;
+use vault_core_model::keeper::Keeper;
+use vault_core_model::records::{Entry, Settings};
+
+/// The settings of the entry of that id. A marker has none, which needs no look.
+fn settings_of<K: Keeper>(
+    alloc: Global,
+    keeper: &mut K,
+    id: VersionId,
+    entry: &Entry,
+) -> Result<Settings, Fault>
+    requires sound { K.is_honest keeper.old → Sound (K.vault keeper.old) }
+    requires its { K.is_honest keeper.old → entry_of (K.vault keeper.old) id ≡ Some entry.now }
+    ensures value { K.is_honest keeper.new → IfOk result (λ found. found ≡ settings_of (K.vault keeper.old) id) }
+    ensures same { K.vault keeper.new ≡ K.vault keeper.old }
+    ensures honest { K.is_honest keeper.new → K.is_honest keeper.old }
+    ensures counted { K.count keeper.old ≤ K.count keeper.new }
+    ensures device { result ≡ Err Fault.Device → RoseOrIsFull (K.count keeper.old) (K.count keeper.new) }
+    ensures steady { is_device_given result ≡ false → K.count keeper.new ≡ K.count keeper.old }
+{
+    if entry.marker {
+        return Ok(Settings::new(alloc));
+    }
+    keeper.settings(id)
+}
+
+/// What the tenures of the entry of that id break, after those that were seen. A marker has none, which needs no look.
+fn move_breach<K: Keeper>(
+    keeper: &mut K,
+    seen: &mut SeenMoves,
+    id: VersionId,
+    entry: &Entry,
+) -> Result<Option<Law>, Fault>
+    requires sound { K.is_honest keeper.old → Sound (K.vault keeper.old) }
+    requires its { K.is_honest keeper.old → entry_of (K.vault keeper.old) id ≡ Some entry.now }
+    ensures value { K.is_honest keeper.new → IfOk result (λ found. FindsMoves seen.old entry.now.bucket (tenures_of (K.vault keeper.old) id) found seen.new) }
+    ensures same { K.vault keeper.new ≡ K.vault keeper.old }
+    ensures honest { K.is_honest keeper.new → K.is_honest keeper.old }
+    ensures counted { K.count keeper.old ≤ K.count keeper.new }
+    ensures device { result ≡ Err Fault.Device → RoseOrIsFull (K.count keeper.old) (K.count keeper.new) }
+    ensures steady { is_device_given result ≡ false → K.count keeper.new ≡ K.count keeper.old }
+{
+    if entry.marker {
+        return Ok(None);
+    }
+    let tenures = keeper.tenures(id)?;
+    if seen.see_all(&entry.bucket, tenures.as_slice())? {
+        Ok(None)
+    } else {
+        Ok(Some(Law::Move))
+    }
+}
+
+/// The first law that the entry of that id breaks, after the moves that were seen. `now` is the last moment.
+fn breach_of<K: Keeper>(
+    alloc: Global,
+    keeper: &mut K,
+    seen: &mut SeenMoves,
+    now: Moment,
+    id: VersionId,
+) -> Result<Option<Law>, Fault>
+    requires sound { K.is_honest keeper.old → Sound (K.vault keeper.old) }
+    requires now { K.is_honest keeper.old → now ≡ (K.vault keeper.old).last }
+    ensures value { K.is_honest keeper.new → IfOk result (λ found. Finds (K.vault keeper.old) seen.old (entry_of (K.vault keeper.old) id) (settings_of (K.vault keeper.old) id) (tenures_of (K.vault keeper.old) id) found seen.new) }
+    ensures same { K.vault keeper.new ≡ K.vault keeper.old }
+    ensures honest { K.is_honest keeper.new → K.is_honest keeper.old }
+    ensures counted { K.count keeper.old ≤ K.count keeper.new }
+    ensures device { result ≡ Err Fault.Device → RoseOrIsFull (K.count keeper.old) (K.count keeper.new) }
+    ensures steady { is_device_given result ≡ false → K.count keeper.new ≡ K.count keeper.old }
+{
+    let Some(entry) = keeper.entry(id)? else {
+        return Ok(None);
+    };
+    let settings = settings_of(alloc, keeper, id, &entry)?;
+    let found = rule_breach(keeper, now, &entry, settings.as_slice())?;
+    if found.is_some() {
+        return Ok(found);
+    }
+    move_breach(keeper, seen, id, &entry)
+}
+
+/// How many entries there are, held or removed.
+fn count_entries<K: Keeper>(keeper: &mut K) -> Result<u32, Fault>
+    requires { K.is_honest keeper.old → Sound (K.vault keeper.old) }
+    ensures value { K.is_honest keeper.new → IfOk result (λ n. n ≡ length (K.vault keeper.old).histories) }
+    ensures same { K.vault keeper.new ≡ K.vault keeper.old }
+    ensures honest { K.is_honest keeper.new → K.is_honest keeper.old }
+    ensures counted { K.count keeper.old ≤ K.count keeper.new }
+    ensures device { result ≡ Err Fault.Device → RoseOrIsFull (K.count keeper.old) (K.count keeper.new) }
+    ensures steady { is_device_given result ≡ false → K.count keeper.new ≡ K.count keeper.old }
+{
+    let next = keeper.next_id()?;
+    Ok(u32::try_from(next.saturating_sub(1)).unwrap_or(u32::MAX))
+}
+
+/// The first of so many entries that breaks a law. `now` is the last moment.
+fn find_breach<K: Keeper>(
+    alloc: Global,
+    keeper: &mut K,
+    now: Moment,
+    entries: u32,
+) -> Result<Option<Breach>, Fault>
+    requires sound { K.is_honest keeper.old → Sound (K.vault keeper.old) }
+    requires now { K.is_honest keeper.old → now ≡ (K.vault keeper.old).last }
+    requires entries { K.is_honest keeper.old → entries ≡ length (K.vault keeper.old).histories }
+    ensures value { K.is_honest keeper.new → IfOk result (λ found. found ≡ first_breach (K.vault keeper.old)) }
+    ensures same { K.vault keeper.new ≡ K.vault keeper.old }
+    ensures honest { K.is_honest keeper.new → K.is_honest keeper.old }
+    ensures counted { K.count keeper.old ≤ K.count keeper.new }
+    ensures device { result ≡ Err Fault.Device → RoseOrIsFull (K.count keeper.old) (K.count keeper.new) }
+    ensures steady { is_device_given result ≡ false → K.count keeper.new ≡ K.count keeper.old }
+{
+    let mut seen = SeenMoves::new(alloc);
+    for place in 0..entries {
+        let Some(id) = VersionId::new(place + 1) else {
+            return Ok(None);
+        };
+        if let Some(law) = breach_of(alloc, keeper, &mut seen, now, id)? {
+            return Ok(Some(Breach { id, law }));
+        }
+    }
+    Ok(None)
+}
+
+/// The first entry that breaks a law, and the first law that it breaks; none where the history is one that
+/// commands can have made, as far as its settings, its removals and its tenures show.
+///
+/// It goes over the entries by rising id and has one of them in memory, beside a record of each move of a
+/// bucket.
+pub fn lawful<K: Keeper>(alloc: Global, keeper: &mut K) -> Result<Option<Breach>, Fault>
+    ensures value { K.is_honest keeper.new → IfOk result (λ found. found ≡ first_breach (K.vault keeper.old)) }
+    ensures same { K.vault keeper.new ≡ K.vault keeper.old }
+    ensures honest { K.is_honest keeper.new → K.is_honest keeper.old }
+    ensures counted { K.count keeper.old ≤ K.count keeper.new }
+    ensures device { result ≡ Err Fault.Device → RoseOrIsFull (K.count keeper.old) (K.count keeper.new) }
+    ensures steady { is_device_given result ≡ false → K.count keeper.new ≡ K.count keeper.old }
+{
+    let now = keeper.last()?;
+    let entries = count_entries(keeper)?;
+    find_breach(alloc, keeper, now, entries)
+}
