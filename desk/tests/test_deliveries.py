@@ -152,6 +152,15 @@ class Deliveries(OfficeTest):
         self.assertEqual(done.status, 0, done.err)
         self.assertEqual(self.done("get", "docs", "Müller"), "Miller")
 
+    def test_names_that_differ_in_their_form_alone_are_two_files(self) -> None:
+        both = [unicodedata.normalize(it, "M\u00fcller.pdf") for it in ("NFC", "NFD")]
+        for name in both:
+            (self.scans / name).write_bytes(name.encode())
+        done = self.desk(*self.deliver("--json"))
+        self.assertEqual(done.status, 0, done.err)
+        for name in both:
+            self.assertEqual(self.done("get", "docs", name), name)
+
     def test_doubled_content_is_noted(self) -> None:
         (self.scans / "scan 4.pdf").write_bytes(b"scan 0")
         self.lines({"do": "put", "bucket": "docs", "key": "old", "text": "scan 1"})

@@ -65,7 +65,7 @@ def look(engine: Engine, words: argparse.Namespace) -> list[Item]:
     if words.inventory:
         rows = inventory.read(Path(words.inventory), ("file",))
     else:
-        rows = [{"file": it} for it in sorted(names.values()) if (folder / it).is_file()]
+        rows = [{"file": it} for it in sorted({*names.values()}) if (folder / it).is_file()]
     items = [item_of(number, row, classes, today) for number, row in enumerate(rows, start=1)]
     for it in items:
         look_at_words(it, now)

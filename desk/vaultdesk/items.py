@@ -112,13 +112,13 @@ def look_at_file(it: Item, folder: Path, names: Mapping[str, str]) -> None:
     if "/" in it.file or it.file in ("", ".", ".."):
         it.wrong.append("a file's name is that of a file of the folder itself")
         return
-    if it.file not in names.values():
-        other = names.get(unicodedata.normalize("NFC", it.file))
-        if other is None:
-            it.wrong.append("no such file in the folder")
-            return
+    name = names.get(it.file) or names.get(unicodedata.normalize("NFC", it.file))
+    if name is None:
+        it.wrong.append("no such file in the folder")
+        return
+    if name != it.file:
         it.notes.append("the file's name is written in another Unicode form in the folder")
-        it.file = other
+        it.file = name
     path = folder / it.file
     if path.is_symlink() or not path.is_file():
         it.wrong.append("it is no file: a link, a folder or a device isn't taken in")
@@ -150,8 +150,9 @@ def look_at_doubles(items: Sequence[Item], held: frozenset[str]) -> None:
 
 
 def names_of(folder: Path) -> dict[str, str]:
-    """The names in the folder, by their composed form."""
+    """The names in the folder, by themselves and by their composed form."""
     try:
-        return {unicodedata.normalize("NFC", it.name): it.name for it in folder.iterdir()}
+        names = [it.name for it in folder.iterdir()]
     except OSError as error:
         raise DeskError(f"{folder}: {error.strerror}") from error
+    return {unicodedata.normalize("NFC", it): it for it in names} | {it: it for it in names}
