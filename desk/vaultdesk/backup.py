@@ -16,6 +16,11 @@ from vaultdesk.errors import DeskError, UsageError
 from vaultdesk.output import print_json
 from vaultdesk.owner import owner_of
 
+ABOUT = """Makes a copy of a vault by SQLite's online backup, audits the copy, and prints its path,
+FOLDER/NAME-MOMENT.vault. The copy belongs to whom the vault belongs, who alone can read it. While a server has the
+vault none is made. A copy that isn't sound keeps .damaged after its name, and the status is 1; then no older copy is
+removed."""
+
 
 def stamp() -> str:
     """This moment, as it stands in the names of copies."""
@@ -134,7 +139,7 @@ def add(commands: argparse._SubParsersAction[argparse.ArgumentParser], common: a
     """Adds the subcommands to the desk's words."""
     example = "Example: vaultdesk backup records.vault /srv/copies --keep 30"
     what = "make a copy of a vault, and audit the copy"
-    it = commands.add_parser("backup", parents=[common], help=what, epilog=example)
+    it = commands.add_parser("backup", parents=[common], help=what, description=ABOUT, epilog=example)
     it.add_argument("vault", metavar="VAULT", help="the vault's file, or its name in the settings")
     text = "left out: BACKUP of /etc/vaultctl/VAULT.conf, whose KEEP counts then too"
     it.add_argument("folder", nargs="?", metavar="FOLDER", help=text)

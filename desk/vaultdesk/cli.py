@@ -18,6 +18,9 @@ from vaultdesk.errors import DeskError
 # Those that ask about a vault, and those that look after files, servers and users.
 FAMILIES = (documents, find, history, locks, cases, policies, deliveries, years_end, evidence, answer, office)
 MACHINE = (page, backup, night, server, offices, users, glue)
+ABOUT = """The office's desk: documents, deliveries, locks, rules, evidence, the year's end and the office itself, in
+words and without JSON. vaultdesk COMMAND --help has the words of each. Status: 0 done; 1 refused or a fault; 2 the
+words aren't understood."""
 
 
 def common_words() -> argparse.ArgumentParser:
@@ -32,7 +35,7 @@ def common_words() -> argparse.ArgumentParser:
 
 def words() -> argparse.ArgumentParser:
     """All words of the desk."""
-    it = argparse.ArgumentParser(prog="vaultdesk", description=__doc__)
+    it = argparse.ArgumentParser(prog="vaultdesk", description=ABOUT)
     it.add_argument("--version", action="version", version=f"vaultdesk {__version__}")
     commands = it.add_subparsers(dest="command", required=True, metavar="COMMAND")
     common = common_words()

@@ -86,7 +86,14 @@ def settings() -> Settings:
     if named:
         return read_settings(Path(named))
     there = (it.expanduser() for it in PLACES)
-    return next((read_settings(it) for it in there if it.is_file()), Settings())
+    return next((read_settings(it) for it in there if _is_there(it)), Settings())
+
+
+def _is_there(path: Path) -> bool:
+    try:
+        return path.is_file()
+    except PermissionError:  # in the home of another user, as root's
+        return False
 
 
 def program() -> str:

@@ -114,7 +114,9 @@ KINDS = {
 def add(commands: argparse._SubParsersAction[argparse.ArgumentParser], common: argparse.ArgumentParser) -> None:
     """Adds the subcommands to the desk's words."""
     what = "what the units of a vault ask for: started, stopped, failed"
-    kinds = commands.add_parser("unit", help=what).add_subparsers(dest="kind", required=True, metavar="KIND")
+    about = "Done by the units of a vault as its server starts, stops or fails, and by nobody else."
+    made = commands.add_parser("unit", help=what, description=about)
+    kinds = made.add_subparsers(dest="kind", required=True, metavar="KIND")
     for kind, (do, text) in KINDS.items():
         named = "vault-run@records" if kind == "failed" else "records"
         it = kinds.add_parser(kind, help=text, epilog=f"Example: vaultdesk unit {kind} {named}")

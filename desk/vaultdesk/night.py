@@ -21,6 +21,12 @@ from vaultdesk.output import print_json, print_rows
 from vaultdesk.units import Served, say
 
 DAY = 86_400
+ABOUT = """Stops the server of a vault, as one program at a time has it, carries out the lifecycle rules of its
+buckets, makes a copy, audits the copy, puts a seal after those of earlier nights, and starts the server again. /etc/vaultctl/NAME.conf says which buckets
+(BUCKETS), by which callers (BUCKET:CALLER, or NIGHT), where the copies go (BACKUP) and how many are kept (KEEP). No
+rule is carried out while the machine's clock isn't synchronized, unless TRUST_CLOCK is yes; nor where it stands more
+than MAX_JUMP days past the vault's last change and the last night: what a clock that is ahead removes can't be put
+back. The copy is made all the same. The status is 1 where one of these wasn't done to its end."""
 COLUMNS = ("bucket", "marked", "removed", "lone")
 FORETOLD = ("what", "bucket", "version", "key")
 MEMORY = Path("/proc/meminfo")
@@ -212,7 +218,8 @@ def night(words: argparse.Namespace) -> int:
 def add(commands: argparse._SubParsersAction[argparse.ArgumentParser], common: argparse.ArgumentParser) -> None:
     """Adds the subcommand to the desk's words."""
     what = "the night's work on a vault that is served: its rules, a copy, and a seal"
-    it = commands.add_parser("night", parents=[common], help=what, epilog="Example: vaultdesk night records --dry-run")
+    example = "Example: vaultdesk night records --dry-run"
+    it = commands.add_parser("night", parents=[common], help=what, description=ABOUT, epilog=example)
     it.add_argument("name", metavar="NAME", help="the vault /var/lib/vaultctl/NAME.vault, with /etc/vaultctl/NAME.conf")
     text = "carry out the rules by a clock that nothing synchronizes, or that stands far ahead of all that is known"
     it.add_argument("--clock-is-right", action="store_true", help=text)

@@ -20,6 +20,9 @@ from vaultdesk.output import print_json, print_table
 from vaultdesk.units import Served, say
 
 Row = dict[str, Any]
+ABOUT = """Several vaults on one machine: nginx gives each request at one port to the vault that has its bucket, and
+what each tells is brought together. While a server has a vault its file can't be read: give the night's copies, or
+stop it."""
 SUMS = ("admitted", "received", "held", "removed", "handed", "byte_days")
 LISTED = ("vault", "port", "state", "file", "copy")
 MAP = """\
@@ -234,7 +237,8 @@ def _add_gathering(
 def add(commands: argparse._SubParsersAction[argparse.ArgumentParser], common: argparse.ArgumentParser) -> None:
     """Adds the subcommands to the desk's words."""
     what = "several vaults: list, map, registers, reports, backup"
-    kinds = commands.add_parser("offices", help=what).add_subparsers(dest="kind", required=True, metavar="KIND")
+    made = commands.add_parser("offices", help=what, description=ABOUT)
+    kinds = made.add_subparsers(dest="kind", required=True, metavar="KIND")
     what = "the vaults of this machine, with their ports, states and newest copies"
     it = kinds.add_parser("list", parents=[common], help=what, epilog="Example: vaultdesk offices list")
     it.set_defaults(do=offices_list)

@@ -3,6 +3,7 @@
 from __future__ import annotations
 
 import os
+import pwd
 import signal
 import subprocess
 import sys
@@ -70,10 +71,18 @@ class Owner:
             if not self.is_other():
                 return subprocess.Popen(command, cwd=folder, **how)  # type: ignore[call-overload,no-any-return]
             return subprocess.Popen(  # type: ignore[call-overload,no-any-return]
-                command, cwd=folder, user=self.uid, group=self.gid, extra_groups=[], umask=0o077, **how
+                command, cwd=folder, user=self.uid, group=self.gid, extra_groups=[], env=self._environment(), **how
             )
         except OSError as error:
             raise DeskError(f"{command[0]}: {error.strerror}") from error
+
+    def _environment(self) -> dict[str, str]:
+        """This process's environment, with the user's own home."""
+        try:
+            found = pwd.getpwuid(self.uid)
+        except KeyError:
+            return dict(os.environ)
+        return {**os.environ, "HOME": found.pw_dir, "USER": found.pw_name, "LOGNAME": found.pw_name}
 
     def says(self, command: Sequence[str], folder: Path) -> str:
         """What a program that this user starts prints on standard output; what it ends with doesn't matter."""

@@ -15,6 +15,16 @@ from vaultdesk.output import print_json
 from vaultdesk.units import Busy, Served, say, systemctl
 
 PATIENCE = 30  # seconds for the server's answer
+OFFLINE = """Stops the server of a vault, does a command as the user whose the vaults are, in their folder, and starts
+the server again, also where the command fails. Standard input, output and error are the caller's, and the status is
+the command's; where the server doesn't start again, the status is never 0. A server that didn't run isn't started.
+While another job works on the vault, this one waits."""
+RESTORE = """Puts a copy of a vault in the vault's place, and starts its server. The copy is audited before anything
+else is done: where it isn't sound, all stays as it is, and the server isn't stopped. The files that stood there are
+moved to a folder NAME-MOMENT.replaced beside them: remove it yourself."""
+CHECK = """The status is 0 where the server answers, where it is about to start, where it isn't to run, and where
+another job has stopped it for its work. It is 1, with a line that says why, in all other cases: no answer, nobody is
+served, or a server that is enabled and doesn't run. A server whose file failed is started anew first."""
 
 
 # ---- a command while it stands still
@@ -194,7 +204,7 @@ def add(commands: argparse._SubParsersAction[argparse.ArgumentParser], common: a
     """Adds the subcommands to the desk's words."""
     example = "Example: vaultdesk offline records vaultctl verify records.vault"
     what = "do a command on a vault that is served, while its server stands still"
-    it = commands.add_parser("offline", help=what, epilog=example)
+    it = commands.add_parser("offline", help=what, description=OFFLINE, epilog=example)
     it.add_argument("name", metavar="NAME", help=NAMED)
     text = "done by the user whose the vaults are, in their folder; its status is this one's"
     it.add_argument("given", nargs=argparse.REMAINDER, metavar="COMMAND", help=text)
@@ -202,13 +212,14 @@ def add(commands: argparse._SubParsersAction[argparse.ArgumentParser], common: a
 
     example = "Example: vaultdesk restore records /var/backups/vaultctl/records-20261127T030000Z.vault"
     what = "put a copy of a vault in the vault's place"
-    it = commands.add_parser("restore", parents=[common], help=what, epilog=example)
+    it = commands.add_parser("restore", parents=[common], help=what, description=RESTORE, epilog=example)
     it.add_argument("name", metavar="NAME", help=NAMED)
     it.add_argument("copy", metavar="COPY", help="a copy of a vault's file; COPY-wal goes with it, if it is there")
     it.add_argument("--dry-run", action="store_true", help="audit the copy, and change nothing")
     it.set_defaults(do=restore)
 
     what = "ask a vault's server whether it serves, and start it anew where its file failed"
-    it = commands.add_parser("check", parents=[common], help=what, epilog="Example: vaultdesk check records")
+    example = "Example: vaultdesk check records"
+    it = commands.add_parser("check", parents=[common], help=what, description=CHECK, epilog=example)
     it.add_argument("name", metavar="NAME", help=NAMED)
     it.set_defaults(do=check)

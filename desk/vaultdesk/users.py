@@ -21,6 +21,8 @@ from vaultdesk.output import print_table
 from vaultdesk.owner import Owner, owner_of
 
 NGINX = "www-data"  # the group as which Debian's nginx reads
+ABOUT = """Looks after the file of users whom nginx lets in, which it names in auth_basic_user_file: a name in each
+line, which has to be a caller's, and the digest of a password. The passwords themselves stand nowhere."""
 SHORTEST = 8  # characters of a password
 
 
@@ -155,7 +157,8 @@ def users_remove(words: argparse.Namespace) -> int:
 def add(commands: argparse._SubParsersAction[argparse.ArgumentParser], common: argparse.ArgumentParser) -> None:
     """Adds the subcommands to the desk's words."""
     what = "the users whom nginx lets in: list, add, password, remove"
-    kinds = commands.add_parser("users", help=what).add_subparsers(dest="kind", required=True, metavar="KIND")
+    made = commands.add_parser("users", help=what, description=ABOUT)
+    kinds = made.add_subparsers(dest="kind", required=True, metavar="KIND")
     text = "the file that nginx names in auth_basic_user_file"
     place = "/etc/nginx/vault.users"
 
