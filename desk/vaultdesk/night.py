@@ -22,11 +22,12 @@ from vaultdesk.units import Served, say
 
 DAY = 86_400
 ABOUT = """Stops the server of a vault, as one program at a time has it, carries out the lifecycle rules of its
-buckets, makes a copy, audits the copy, puts a seal after those of earlier nights, and starts the server again. /etc/vaultctl/NAME.conf says which buckets
-(BUCKETS), by which callers (BUCKET:CALLER, or NIGHT), where the copies go (BACKUP) and how many are kept (KEEP). No
-rule is carried out while the machine's clock isn't synchronized, unless TRUST_CLOCK is yes; nor where it stands more
-than MAX_JUMP days past the vault's last change and the last night: what a clock that is ahead removes can't be put
-back. The copy is made all the same. The status is 1 where one of these wasn't done to its end."""
+buckets, makes a copy, audits the copy, puts a seal after those of earlier nights, and starts the server again.
+/etc/vaultctl/NAME.conf says which buckets (BUCKETS), by which callers (BUCKET:CALLER, or NIGHT), where the copies
+go (BACKUP) and how many are kept (KEEP). No rule is carried out while the machine's clock isn't synchronized,
+unless TRUST_CLOCK is yes; nor where it stands more than MAX_JUMP days past the vault's last change and the last
+night: what a clock that is ahead removes can't be put back. The copy is made all the same. The status is 1 where
+one of these wasn't done to its end."""
 COLUMNS = ("bucket", "marked", "removed", "lone")
 FORETOLD = ("what", "bucket", "version", "key")
 MEMORY = Path("/proc/meminfo")
