@@ -1,0 +1,9 @@
+pub mod EventsText
+pub mod Counts
+pub mod Asked
+pub mod Adds
+pub mod Past
+pub mod Taking
+pub mod Takers
+pub mod Faults
+pub mod Seal

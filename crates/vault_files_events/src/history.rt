@@ -1,0 +1,39 @@
+//! What a vault's keeper reads of one entry.
+ghost use Rattle.std.specs.Prelude.{◌≡◌, ◌≤◌, IfOk, Err, false};
+ghost use Rattle.vault_core_model.specs.Halts.{is_device_given, RoseOrIsFull};
+ghost use Rattle.vault_core_model.specs.Vault.{history_of};
+ghost use Rattle.vault_files_events.specs.Past.{past_of};
+
+use vault_base::name::VersionId;
+use vault_core_model::halt::Fault;
+use vault_core_model::keeper::Keeper;
+use vault_core_model::records::{Entry, Settings, Tenures};
+
+/// An entry with its settings and its tenures.
+#[derive(Drop)]
+pub(crate) struct Past {
+    pub(crate) entry: Entry,
+    pub(crate) settings: Settings,
+    pub(crate) tenures: Tenures,
+}
+
+/// Reads what the vault has of the entry of an id.
+pub(crate) fn read_past<K: Keeper>(keeper: &mut K, id: VersionId) -> Result<Option<Past>, Fault>
+    ensures value { K.is_honest keeper.new → IfOk result (λ found. found ≡ past_of (history_of (K.vault keeper.old) id)) }
+    ensures same { K.vault keeper.new ≡ K.vault keeper.old }
+    ensures honest { K.is_honest keeper.new → K.is_honest keeper.old }
+    ensures counted { K.count keeper.old ≤ K.count keeper.new }
+    ensures device { result ≡ Err Fault.Device → RoseOrIsFull (K.count keeper.old) (K.count keeper.new) }
+    ensures steady { is_device_given result ≡ false → K.count keeper.new ≡ K.count keeper.old }
+{
+    let Some(entry) = keeper.entry(id)? else {
+        return Ok(None);
+    };
+    let settings = keeper.settings(id)?;
+    let tenures = keeper.tenures(id)?;
+    Ok(Some(Past {
+        entry,
+        settings,
+        tenures,
+    }))
+}

@@ -1,0 +1,20 @@
+//! The text of all that happened to each entry of a vault, and the seal over what happened before a moment.
+#![tactic(auto)]
+
+mod cells;
+mod counted;
+mod export;
+mod history;
+pub mod laws;
+mod record;
+mod rows;
+mod seal_lines;
+mod sealing;
+mod taker;
+mod takers;
+mod walk;
+
+pub use crate::counted::Counted;
+pub use crate::export::export_events;
+pub use crate::seal_lines::{Seal, seal_text};
+pub use crate::sealing::seal;

@@ -1,0 +1,78 @@
+//! The seal over what happened in a vault before a moment.
+ghost use Rattle.std.specs.Prelude.{◌≡◌, ◌≤◌, ◌<◌, IfOk, IsTrue, Err, Some, None, false, unwrap_or, MatchOption};
+ghost use Rattle.vault_core_model.specs.Halts.{is_device, is_device_given, RoseOrIsFull};
+ghost use Rattle.vault_files_events.specs.Faults.{keeper_fault_of};
+ghost use Rattle.vault_files_events.specs.Seal.{SealsAs, seal_of};
+
+use crate::seal_lines::Seal;
+use crate::takers::Digesting;
+use crate::walk::take_events;
+use std::alloc::Global;
+use vault_base::moment::Moment;
+use vault_base::refusal::Refusal;
+use vault_core_model::halt::{Fault, Halt};
+use vault_core_model::keeper::Keeper;
+use vault_files_texts::ExportFault;
+
+/// A digest takes whatever it is given, so there is no `Write`.
+fn keeper_fault(fault: ExportFault) -> Fault
+    ensures { result ≡ keeper_fault_of fault }
+{
+    match fault {
+        ExportFault::Write | ExportFault::Memory => Fault::Memory,
+        ExportFault::Device => Fault::Device,
+    }
+}
+
+/// The seal of what was before a moment.
+fn seal_before<K: Keeper>(alloc: Global, keeper: &mut K, before: Moment) -> Result<Seal, Fault>
+    ensures value { K.is_honest keeper.new → IfOk result (λ s. s ≡ seal_of before (K.vault keeper.old)) }
+    ensures same { K.vault keeper.new ≡ K.vault keeper.old }
+    ensures honest { K.is_honest keeper.new → K.is_honest keeper.old }
+    ensures counted { K.count keeper.old ≤ K.count keeper.new }
+    ensures device { result ≡ Err Fault.Device → RoseOrIsFull (K.count keeper.old) (K.count keeper.new) }
+    ensures steady { is_device_given result ≡ false → K.count keeper.new ≡ K.count keeper.old }
+{
+    let mut digesting = Digesting::new();
+    match take_events(alloc, keeper, &mut digesting, &Some(before)) {
+        Ok(counted) => Ok(Seal {
+            before,
+            entries: counted.entries,
+            events: counted.events,
+            digest: digesting.digest(),
+        }),
+        Err(fault) => Err(keeper_fault(fault)),
+    }
+}
+
+/// The moment of a seal, which a vault whose last moment is this one has reached.
+fn reached(before: Option<Moment>, last: Moment) -> Option<Moment>
+    ensures { MatchOption result (last < unwrap_or before last) (λ m. (m ≡ unwrap_or before last) × (m ≤ last)) }
+{
+    match before {
+        None => Some(last),
+        Some(before) => (before <= last).then_some(before),
+    }
+}
+
+/// The seal of what happened in a vault before a moment, and without one, before the last moment of the vault. What was
+/// done at the moment itself isn't part of it: more may still be done at the last moment, and so only what is before it is
+/// settled.
+///
+/// `InvalidArgument` comes where the vault hasn't reached the moment, and no other refusal. `Memory` comes where room for
+/// an entry's records was refused, and `Device` where the vault's device failed, and there always. The vault is never
+/// changed.
+pub fn seal<K: Keeper>(alloc: Global, keeper: &mut K, before: Option<Moment>) -> Result<Seal, Halt>
+    ensures sealed { K.is_honest keeper.new → SealsAs result before (K.vault keeper.old) }
+    ensures same { K.vault keeper.new ≡ K.vault keeper.old }
+    ensures honest { K.is_honest keeper.new → K.is_honest keeper.old }
+    ensures counted { K.count keeper.old ≤ K.count keeper.new }
+    ensures device { IsTrue (is_device result) → RoseOrIsFull (K.count keeper.old) (K.count keeper.new) }
+    ensures steady { is_device result ≡ false → K.count keeper.new ≡ K.count keeper.old }
+{
+    let last = keeper.last()?;
+    let Some(before) = reached(before, last) else {
+        return Err(Halt::Refused(Refusal::InvalidArgument));
+    };
+    Ok(seal_before(alloc, keeper, before)?)
+}

@@ -1,0 +1,144 @@
+//! A walk over all entries of a vault, one at a time, that has the text of their events taken.
+ghost use Rattle.std.specs.Prelude.{◌≡◌, ◌≤◌, ◌+◌, IfOk, OnOk, OnErr, Err, false, length};
+ghost use Rattle.vault_core_evidence.specs.Events.{events_asked};
+ghost use Rattle.vault_core_model.specs.Halts.{RoseOrIsFull};
+ghost use Rattle.vault_core_model.specs.Sound.{Sound};
+ghost use Rattle.vault_core_model.specs.Vault.{history_of};
+ghost use Rattle.vault_files_events.specs.Counts.{counts};
+ghost use Rattle.vault_files_events.specs.EventsText.{asked_found, event_rows, events_text};
+ghost use Rattle.vault_files_events.specs.Past.{asked_past};
+ghost use Rattle.vault_files_events.specs.Taking.{TookSome};
+ghost use Rattle.vault_files_texts.specs.Faults.{is_device_met};
+
+use crate::counted::Counted;
+use crate::history::{Past, read_past};
+use crate::rows::rows_of;
+use crate::taker::Taker;
+use std::alloc::Global;
+use vault_base::moment::Moment;
+use vault_base::name::VersionId;
+use vault_core_model::keeper::Keeper;
+use vault_files_texts::ExportFault;
+
+/// The names of the columns.
+const HEADER: &[u8] =
+    b"version,event,moment,by,bucket,key,kind,size,sha256,mode,until,hold,bypass,cause,department,move\n";
+
+/// Has the records of one entry taken, and lets go of it.
+fn take_past<T: Taker>(
+    alloc: Global,
+    taker: &mut T,
+    before: &Option<Moment>,
+    past: Past,
+) -> Result<Counted, ExportFault>
+    ensures ok { IfOk result (λ n. T.took taker.old (event_rows (asked_past before.now past)) taker.new × (n ≡ counts (asked_past before.now past))) }
+    ensures err { OnErr result (TookSome T.took taker.old (event_rows (asked_past before.now past)) taker.new) }
+    ensures kind { is_device_met result ≡ false }
+{
+    let Past {
+        entry,
+        settings,
+        tenures,
+    } = past;
+    let rows = rows_of(
+        alloc,
+        before,
+        &entry,
+        settings.as_slice(),
+        tenures.as_slice(),
+    )?;
+    taker.take(rows.text.as_slice())?;
+    Ok(rows.counted)
+}
+
+/// Has the records of the entry of an id taken.
+fn take_entry<K: Keeper, T: Taker>(
+    alloc: Global,
+    keeper: &mut K,
+    taker: &mut T,
+    before: &Option<Moment>,
+    id: VersionId,
+) -> Result<Counted, ExportFault>
+    ensures ok { K.is_honest keeper.new → IfOk result (λ n. T.took taker.old (event_rows (asked_found before.now (history_of (K.vault keeper.old) id))) taker.new × (n ≡ counts (asked_found before.now (history_of (K.vault keeper.old) id)))) }
+    ensures err { K.is_honest keeper.new → OnErr result (TookSome T.took taker.old (event_rows (asked_found before.now (history_of (K.vault keeper.old) id))) taker.new) }
+    ensures same { K.vault keeper.new ≡ K.vault keeper.old }
+    ensures honest { K.is_honest keeper.new → K.is_honest keeper.old }
+    ensures counted { K.count keeper.old ≤ K.count keeper.new }
+    ensures device { result ≡ Err ExportFault.Device → RoseOrIsFull (K.count keeper.old) (K.count keeper.new) }
+    ensures steady { is_device_met result ≡ false → K.count keeper.new ≡ K.count keeper.old }
+{
+    let Some(past) = read_past(keeper, id)? else {
+        return Ok(Counted::none());
+    };
+    take_past(alloc, taker, before, past)
+}
+
+/// Has the records of each entry taken, by rising id.
+fn take_each<K: Keeper, T: Taker>(
+    alloc: Global,
+    keeper: &mut K,
+    taker: &mut T,
+    before: &Option<Moment>,
+    entries: u32,
+) -> Result<Counted, ExportFault>
+    requires sound { K.is_honest keeper.old → Sound (K.vault keeper.old) }
+    requires entries { K.is_honest keeper.old → entries ≡ length (K.vault keeper.old).histories }
+    ensures ok { K.is_honest keeper.new → IfOk result (λ n. T.took taker.old (event_rows (events_asked before.now (K.vault keeper.old))) taker.new × (n ≡ counts (events_asked before.now (K.vault keeper.old)))) }
+    ensures err { K.is_honest keeper.new → OnErr result (TookSome T.took taker.old (event_rows (events_asked before.now (K.vault keeper.old))) taker.new) }
+    ensures same { K.vault keeper.new ≡ K.vault keeper.old }
+    ensures honest { K.is_honest keeper.new → K.is_honest keeper.old }
+    ensures counted { K.count keeper.old ≤ K.count keeper.new }
+    ensures device { result ≡ Err ExportFault.Device → RoseOrIsFull (K.count keeper.old) (K.count keeper.new) }
+    ensures steady { is_device_met result ≡ false → K.count keeper.new ≡ K.count keeper.old }
+{
+    let mut counted = Counted::none();
+    for place in 0..entries {
+        let Some(id) = VersionId::new(place + 1) else {
+            return Err(ExportFault::Memory);
+        };
+        let more = take_entry(alloc, keeper, taker, before, id)?;
+        let Some(sum) = counted.and(more) else {
+            return Err(ExportFault::Memory);
+        };
+        counted = sum;
+    }
+    Ok(counted)
+}
+
+/// How many entries a vault has, and that it is sound, as every vault is that is kept.
+fn count_entries<K: Keeper>(keeper: &mut K) -> Result<u32, ExportFault>
+    ensures value { K.is_honest keeper.new → IfOk result (λ n. n ≡ length (K.vault keeper.old).histories) }
+    ensures sound { K.is_honest keeper.new → OnOk result (Sound (K.vault keeper.old)) }
+    ensures same { K.vault keeper.new ≡ K.vault keeper.old }
+    ensures honest { K.is_honest keeper.new → K.is_honest keeper.old }
+    ensures counted { K.count keeper.old ≤ K.count keeper.new }
+    ensures device { result ≡ Err ExportFault.Device → RoseOrIsFull (K.count keeper.old) (K.count keeper.new) }
+    ensures steady { is_device_met result ≡ false → K.count keeper.new ≡ K.count keeper.old }
+{
+    keeper.last()?;
+    let next = keeper.next_id()?;
+    match u32::try_from(next.saturating_sub(1)) {
+        Ok(entries) => Ok(entries),
+        Err(_) => Err(ExportFault::Memory),
+    }
+}
+
+/// Has the text of all events taken: the header, and the record of each, one entry after another.
+pub(crate) fn take_events<K: Keeper, T: Taker>(
+    alloc: Global,
+    keeper: &mut K,
+    taker: &mut T,
+    before: &Option<Moment>,
+) -> Result<Counted, ExportFault>
+    ensures ok { K.is_honest keeper.new → IfOk result (λ n. T.took taker.old (events_text (events_asked before.now (K.vault keeper.old))) taker.new × (n ≡ counts (events_asked before.now (K.vault keeper.old)))) }
+    ensures err { K.is_honest keeper.new → OnErr result (TookSome T.took taker.old (events_text (events_asked before.now (K.vault keeper.old))) taker.new) }
+    ensures same { K.vault keeper.new ≡ K.vault keeper.old }
+    ensures honest { K.is_honest keeper.new → K.is_honest keeper.old }
+    ensures counted { K.count keeper.old ≤ K.count keeper.new }
+    ensures device { result ≡ Err ExportFault.Device → RoseOrIsFull (K.count keeper.old) (K.count keeper.new) }
+    ensures steady { is_device_met result ≡ false → K.count keeper.new ≡ K.count keeper.old }
+{
+    taker.take(HEADER)?;
+    let entries = count_entries(keeper)?;
+    take_each(alloc, keeper, taker, before, entries)
+}
