@@ -6,8 +6,10 @@ import csv
 import hashlib
 import io
 import json
+import shutil
 import unicodedata
 from typing import Any
+from unittest import mock
 
 from tests.office import OfficeTest
 
@@ -86,6 +88,19 @@ class Find(OfficeTest):
             done = self.desk("find", "x")
             self.assertEqual(done.status, 2)
             self.assertIn("--vault", done.err)
+
+    def test_a_file_on_a_medium_that_cant_be_written_is_read(self) -> None:
+        medium = self.folder / "medium"
+        medium.mkdir()
+        copy = medium / "records.vault"
+        shutil.copyfile(self.file, copy)
+        with mock.patch("vault_recheck.vault.is_read_only", return_value=True):
+            self.assertEqual(self.found("--removed", "--vault", str(copy)), [2])
+            self.assertEqual([it.name for it in medium.iterdir()], ["records.vault"])
+            (medium / "records.vault-wal").write_bytes(b"some changes")
+            done = self.desk("find", "--removed", "--vault", str(copy))
+        self.assertEqual(done.status, 0)
+        self.assertIn("the log alone is left out", done.err)
 
     def test_a_file_that_is_no_vault_or_isnt_there_is_said(self) -> None:
         for name in (str(self.folder / "none"), self.written("text", b"no vault, but a text of some bytes")):

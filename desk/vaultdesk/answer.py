@@ -16,7 +16,7 @@ from vaultdesk.engine import Engine
 from vaultdesk.errors import DeskError
 from vaultdesk.events import Event, Guards
 from vaultdesk.history import document_of, life_of, number
-from vaultdesk.output import print_json, shown, table_lines
+from vaultdesk.output import print_json, say_while_long, shown, table_lines
 
 WIDTH = 100
 MOST_CONTRADICTIONS = 10
@@ -130,7 +130,7 @@ def _checked(file: Path, given: str | None) -> Checked:
     beside = evidence.seals_beside(file)
     path = Path(given) if given else beside if beside.is_file() else None
     seals = evidence.read_seals(path) if path else []
-    evidence.say_while_long(f"{recheck.WHO}, audits the file first")
+    say_while_long(f"{recheck.WHO}, audits the file first")
     with recheck.audited(file) as base:
         last = recheck.vault.moment_text(recheck.vault.meta_of(base).last)
         breach = recheck.lawful.first_breach(base)

@@ -15,7 +15,7 @@ from typing import Any
 from vaultdesk import moments, recheck
 from vaultdesk.engine import Engine
 from vaultdesk.errors import DeskError, UsageError
-from vaultdesk.output import print_json
+from vaultdesk.output import print_json, say_while_long
 
 Seal = recheck.events.Seal
 
@@ -47,12 +47,6 @@ def counted(number: int, what: str) -> str:
 def say(text: str) -> None:
     """A line for people, who see it beside what is printed for programs."""
     print(text, file=sys.stderr)
-
-
-def say_while_long(text: str) -> None:
-    """A line for a person at a terminal, before what may take long."""
-    if sys.stderr.isatty():
-        say(text)
 
 
 def _seconds_of(moment: str) -> int:

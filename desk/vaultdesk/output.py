@@ -45,3 +45,9 @@ def print_table(rows: Sequence[Mapping[str, Any]], columns: Sequence[str], as_js
         print_json([{it: row.get(it) for it in columns} for row in rows])
     else:
         print_rows(rows, columns)
+
+
+def say_while_long(text: str) -> None:
+    """A line for a person at a terminal, before what may take long."""
+    if sys.stderr.isatty():
+        print(text, file=sys.stderr)

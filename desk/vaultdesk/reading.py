@@ -8,15 +8,15 @@ from __future__ import annotations
 
 import re
 import sqlite3
+import sys
 import urllib.parse
 from collections.abc import Iterator, Mapping, Sequence
 from contextlib import closing, contextmanager
 from pathlib import Path
 from typing import Any
 
-from vaultdesk import beside
+from vaultdesk import beside, recheck
 from vaultdesk.errors import DeskError, EngineError
-
 
 Values = Sequence[Any] | Mapping[str, Any]
 Row = dict[str, Any]
@@ -33,12 +33,23 @@ def _error(file: Path, error: sqlite3.Error) -> DeskError:
     return EngineError(f"{file}: {error}{why}")
 
 
+def _immutable(file: Path) -> str:
+    """How a file on a read-only medium is opened: by itself, as SQLite can't make the index of a log there."""
+    if not recheck.vault.is_read_only(file.resolve().parent):
+        return ""
+    log = Path(f"{file.resolve()}-wal")
+    if log.is_file() and log.stat().st_size:
+        why = "what stands in the log alone is left out. Copy both files elsewhere to have it read."
+        print(f"{log} isn't read, as nothing can be written there: {why}", file=sys.stderr)
+    return "&immutable=1"
+
+
 @contextmanager
 def _opened(file: Path) -> Iterator[sqlite3.Connection]:
     """The file for reading alone. `EngineError` where it can't be read, or a program has it."""
     if not file.is_file():
         raise EngineError(f"{file}: there is no such file: --vault or $VAULT names the vault")
-    place = f"file:{urllib.parse.quote(str(file.resolve()))}?mode=ro"
+    place = f"file:{urllib.parse.quote(str(file.resolve()))}?mode=ro{_immutable(file)}"
     try:
         with closing(sqlite3.connect(place, uri=True, timeout=2)) as opened:
             yield opened
