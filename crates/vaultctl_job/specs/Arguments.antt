@@ -36,6 +36,10 @@ asker = record (option (codes "as")) { required = true }
 abbrev pub moment : Rule
 moment = option (codes "at")
 
+-- --before MOMENT
+abbrev pub before : Rule
+before = option (codes "before")
+
 -- --dept DEPT
 abbrev pub home : Rule
 home = option (codes "dept")

@@ -17,6 +17,9 @@ use Rattle.vaultctl_job.specs.declared.job.ReportJob.{ReportJob}
 use Rattle.vaultctl_job.specs.declared.job.CertificateJob.{CertificateJob}
 use Rattle.vaultctl_job.specs.declared.job.RegisterJob.{RegisterJob}
 use Rattle.vaultctl_job.specs.declared.job.VerifyJob.{VerifyJob}
+use Rattle.vaultctl_job.specs.declared.job.EventsJob.{EventsJob}
+use Rattle.vaultctl_job.specs.declared.job.SealJob.{SealJob}
+use Rattle.vaultctl_job.specs.declared.job.LawfulJob.{LawfulJob}
 use Rattle.vaultctl_job.specs.declared.job.ReplayJob.{ReplayJob}
 use Rattle.vaultctl_job.specs.declared.job.ServeJob.{ServeJob}
 use Rattle.vaultctl_job.specs.declared.job.MigrateJob.{MigrateJob}
@@ -103,6 +106,15 @@ register_of rows = record { file = file_of rows }
 unfoldable pub verify_of : List Row → VerifyJob
 verify_of rows = record { file = file_of rows }
 
+unfoldable pub events_of : List Row → EventsJob
+events_of rows = record { file = file_of rows; before = first_of (codes "before") rows }
+
+unfoldable pub seal_of : List Row → SealJob
+seal_of rows = record { file = file_of rows; before = first_of (codes "before") rows }
+
+unfoldable pub lawful_of : List Row → LawfulJob
+lawful_of rows = record { file = file_of rows }
+
 unfoldable pub replay_of : List Row → ReplayJob
 replay_of rows = record { file = first_of (codes "FILE") rows }
 
@@ -126,6 +138,9 @@ job_named name rows =
     else if bytes_eq name (codes "certificate") then Some (job.Certificate (certificate_of rows))
     else if bytes_eq name (codes "register") then Some (job.Register (register_of rows))
     else if bytes_eq name (codes "verify") then Some (job.Verify (verify_of rows))
+    else if bytes_eq name (codes "events") then Some (job.Events (events_of rows))
+    else if bytes_eq name (codes "seal") then Some (job.Seal (seal_of rows))
+    else if bytes_eq name (codes "lawful") then Some (job.Lawful (lawful_of rows))
     else if bytes_eq name (codes "replay") then Some (job.Replay (replay_of rows))
     else if bytes_eq name (codes "serve") then Some (job.Serve (serve_of rows))
     else if bytes_eq name (codes "migrate") then Some (job.Migrate (migrate_of rows))

@@ -56,6 +56,17 @@ register_app = on_file (codes "register")
 abbrev pub verify_app : App
 verify_app = on_file (codes "verify")
 
+-- events FILE [--before MOMENT]
+abbrev pub events_app : App
+events_app = with_rule (on_file (codes "events")) arg.before
+
+-- seal FILE [--before MOMENT]
+abbrev pub seal_app : App
+seal_app = with_rule (on_file (codes "seal")) arg.before
+
+abbrev pub lawful_app : App
+lawful_app = on_file (codes "lawful")
+
 -- replay [FILE]
 abbrev pub replay_app : App
 replay_app = with_rule (new_app (codes "replay")) (arg.optional_place (codes "FILE"))
@@ -77,7 +88,8 @@ abbrev pub subcommands : List Shape
 subcommands =
     init_app.top ∷ dept_app.top ∷ caller_app.top ∷ bucket_app.top ∷ move_app.top
     ∷ intake_app.top ∷ run_app.top ∷ report_app.top ∷ certificate_app.top
-    ∷ register_app.top ∷ verify_app.top ∷ replay_app.top ∷ serve_app.top ∷ migrate_app.top ∷ []
+    ∷ register_app.top ∷ verify_app.top ∷ events_app.top ∷ seal_app.top ∷ lawful_app.top
+    ∷ replay_app.top ∷ serve_app.top ∷ migrate_app.top ∷ []
 
 unfoldable pub vaultctl : App
 vaultctl = fold with_subcommand (needing_subcommand (new_app (codes "vaultctl"))) subcommands

@@ -31,6 +31,10 @@ pub(crate) enum Argument {
     Asker,
     /// The moment at which it is asked.
     Moment,
+    /// A moment: what isn't before it is left out.
+    Before {
+        help: &'static str,
+    },
     /// The department of a new caller.
     Home,
     /// A caller is closed.
@@ -107,6 +111,16 @@ fn moment<'a>(alloc: Global) -> Arg<'a>
     )
 }
 
+fn before<'a>(alloc: Global, help: &'a str) -> Arg<'a>
+    ensures rule { rule_of result ≡ spec.before }
+    ensures local { result.global ≡ false }
+{
+    Arg::new(alloc, "before")
+        .long("before")
+        .value_name("MOMENT")
+        .help(help)
+}
+
 fn home<'a>(alloc: Global) -> Arg<'a>
     ensures rule { rule_of result ≡ spec.home }
     ensures local { result.global ≡ false }
@@ -140,6 +154,7 @@ fn made<'a>(alloc: Global, argument: Argument) -> Arg<'a>
         Argument::Count => count(alloc),
         Argument::Asker => asker(alloc),
         Argument::Moment => moment(alloc),
+        Argument::Before { help } => before(alloc, help),
         Argument::Home => home(alloc),
         Argument::Close => close(alloc),
     }

@@ -100,6 +100,28 @@ pub struct VerifyJob {
     pub file: Word,
 }
 
+/// `events FILE [--before MOMENT]`
+#[derive(Drop)]
+pub struct EventsJob {
+    pub file: Word,
+    /// What isn't before this moment is left out; without one, nothing is.
+    pub before: Option<Word>,
+}
+
+/// `seal FILE [--before MOMENT]`
+#[derive(Drop)]
+pub struct SealJob {
+    pub file: Word,
+    /// What isn't before this moment is left out; without one, the moment of the vault's last change.
+    pub before: Option<Word>,
+}
+
+/// `lawful FILE`
+#[derive(Drop)]
+pub struct LawfulJob {
+    pub file: Word,
+}
+
 /// `replay [FILE]`: without a file over a new vault in memory.
 #[derive(Drop)]
 pub struct ReplayJob {
@@ -138,6 +160,9 @@ pub enum Job {
     Certificate(CertificateJob),
     Register(RegisterJob),
     Verify(VerifyJob),
+    Events(EventsJob),
+    Seal(SealJob),
+    Lawful(LawfulJob),
     Replay(ReplayJob),
     Serve(ServeJob),
     Migrate(MigrateJob),

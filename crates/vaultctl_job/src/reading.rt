@@ -4,8 +4,9 @@ ghost use Rattle.clap.specs.Words.{all_of, found_of, rows_of, first_of};
 ghost use Rattle.vaultctl_job.specs.Jobs as spec;
 
 use crate::job::{
-    Asking, BucketJob, CallerJob, CertificateJob, DeptJob, InitJob, IntakeJob, Job, MigrateJob,
-    MoveJob, RegisterJob, ReplayJob, ReportJob, RunJob, ServeJob, VerifyJob,
+    Asking, BucketJob, CallerJob, CertificateJob, DeptJob, EventsJob, InitJob, IntakeJob, Job,
+    LawfulJob, MigrateJob, MoveJob, RegisterJob, ReplayJob, ReportJob, RunJob, SealJob, ServeJob,
+    VerifyJob,
 };
 use crate::word::{Word, Words};
 use clap::ArgMatches;
@@ -253,6 +254,35 @@ fn verify(alloc: Global, matches: &ArgMatches<'_>) -> Result<VerifyJob, AllocErr
     })
 }
 
+#[tactic(auto, unfolding(crate::specs::Jobs::events_of))]
+fn events(alloc: Global, matches: &ArgMatches<'_>) -> Result<EventsJob, AllocError>
+    ensures { IfOk result (λ job. job ≡ spec.events_of (rows_of (found_of matches.now))) }
+{
+    Ok(EventsJob {
+        file: word(alloc, matches, "FILE")?,
+        before: optional_word(alloc, matches, "before")?,
+    })
+}
+
+#[tactic(auto, unfolding(crate::specs::Jobs::seal_of))]
+fn seal(alloc: Global, matches: &ArgMatches<'_>) -> Result<SealJob, AllocError>
+    ensures { IfOk result (λ job. job ≡ spec.seal_of (rows_of (found_of matches.now))) }
+{
+    Ok(SealJob {
+        file: word(alloc, matches, "FILE")?,
+        before: optional_word(alloc, matches, "before")?,
+    })
+}
+
+#[tactic(auto, unfolding(crate::specs::Jobs::lawful_of))]
+fn lawful(alloc: Global, matches: &ArgMatches<'_>) -> Result<LawfulJob, AllocError>
+    ensures { IfOk result (λ job. job ≡ spec.lawful_of (rows_of (found_of matches.now))) }
+{
+    Ok(LawfulJob {
+        file: word(alloc, matches, "FILE")?,
+    })
+}
+
 #[tactic(auto, unfolding(crate::specs::Jobs::replay_of))]
 fn replay(alloc: Global, matches: &ArgMatches<'_>) -> Result<ReplayJob, AllocError>
     ensures { IfOk result (λ job. job ≡ spec.replay_of (rows_of (found_of matches.now))) }
@@ -301,6 +331,9 @@ pub fn job_named(
         "certificate" => Ok(Some(Job::Certificate(certificate(alloc, matches)?))),
         "register" => Ok(Some(Job::Register(register(alloc, matches)?))),
         "verify" => Ok(Some(Job::Verify(verify(alloc, matches)?))),
+        "events" => Ok(Some(Job::Events(events(alloc, matches)?))),
+        "seal" => Ok(Some(Job::Seal(seal(alloc, matches)?))),
+        "lawful" => Ok(Some(Job::Lawful(lawful(alloc, matches)?))),
         "replay" => Ok(Some(Job::Replay(replay(alloc, matches)?))),
         "serve" => Ok(Some(Job::Serve(serve(alloc, matches)?))),
         "migrate" => Ok(Some(Job::Migrate(migrate(alloc, matches)?))),

@@ -6,11 +6,13 @@ ghost use Rattle.vaultctl_job.specs.Words as spec;
 use super::Subcommand;
 use crate::arguments::{Argument, FILE};
 
-static ALL: [Subcommand; 5] = [REGISTER, VERIFY, REPLAY, SERVE, MIGRATE];
+static ALL: [Subcommand; 8] = [
+    REGISTER, VERIFY, EVENTS, SEAL, LAWFUL, REPLAY, SERVE, MIGRATE,
+];
 
 /// All of them, in the order in which help shows them.
 pub(super) fn all() -> &'static [Subcommand]
-    ensures { map shape_for result.now ≡ spec.register_app.top ∷ spec.verify_app.top ∷ spec.replay_app.top ∷ spec.serve_app.top ∷ spec.migrate_app.top ∷ [] }
+    ensures { map shape_for result.now ≡ spec.register_app.top ∷ spec.verify_app.top ∷ spec.events_app.top ∷ spec.seal_app.top ∷ spec.lawful_app.top ∷ spec.replay_app.top ∷ spec.serve_app.top ∷ spec.migrate_app.top ∷ [] }
 {
     &ALL
 }
@@ -34,6 +36,52 @@ const VERIFY: Subcommand = Subcommand {
         "verify",
         "Prints 'sound', or 'damaged TABLE' with the first table that isn't.\n\nExample:\n  vaultctl verify records.vault",
         "0 sound; 1 damaged, or a fault, named on standard error, as\n'open: Device'; 2 the words aren't understood, or ask for help."
+    ),
+    usage: None,
+    arguments: &[FILE],
+};
+
+const EVENTS: Subcommand = Subcommand {
+    name: "events",
+    about: "Prints all that ever happened to each entry as CSV",
+    below: below!(
+        "events",
+        "Each version and delete marker has a row for its admission, one for each\nretention and hold that was set, one for each move to another department, and\none for its removal.\n\nExample:\n  vaultctl events records.vault > events.csv",
+        "0 done; 1 refused, with a line of JSON on standard output, as\n{\"error\":{\"code\":\"InvalidArgument\",\"n\":10}}, or a fault, named on standard\nerror, as 'open: Device'; 2 the words aren't understood, or ask for help."
+    ),
+    usage: None,
+    arguments: &[
+        FILE,
+        Argument::Before {
+            help: "Leaves out what isn't before this moment, as\n2024-01-15T10:30:00Z; left out: prints all",
+        },
+    ],
+};
+
+const SEAL: Subcommand = Subcommand {
+    name: "seal",
+    about: "Prints what to deposit elsewhere, to see that nothing earlier changes",
+    below: below!(
+        "seal",
+        "Prints the moment, how many entries and events were before it, and the SHA-256\nof what 'events' prints for that moment. From then on 'seal' with that moment\nhas to print the same four lines.\n\nExample:\n  vaultctl seal records.vault --before 2024-02-01T00:00:00Z",
+        "0 done; 1 refused, with a line of JSON on standard output, as\n{\"error\":{\"code\":\"InvalidArgument\",\"n\":10}} of a moment after the last change,\nor a fault, named on standard error, as 'open: Device'; 2 the words aren't\nunderstood, or ask for help."
+    ),
+    usage: None,
+    arguments: &[
+        FILE,
+        Argument::Before {
+            help: "Leaves out what isn't before this moment, as\n2024-01-15T10:30:00Z; left out: the last change's",
+        },
+    ],
+};
+
+const LAWFUL: Subcommand = Subcommand {
+    name: "lawful",
+    about: "Checks that each setting and each removal keeps the lock rules",
+    below: below!(
+        "lawful",
+        "Prints 'lawful', or 'unlawful ID RULE' with the first entry that breaks a rule\nand which one. What was made up within the rules it can't tell: for that compare\na seal of before.\n\nExample:\n  vaultctl lawful records.vault",
+        "0 lawful; 1 unlawful, or a fault, named on standard error, as\n'open: Device'; 2 the words aren't understood, or ask for help."
     ),
     usage: None,
     arguments: &[FILE],
