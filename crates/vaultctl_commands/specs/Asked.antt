@@ -11,13 +11,17 @@ use Rattle.vaultctl_job.specs.declared.job.BucketJob.{BucketJob}
 use Rattle.vaultctl_job.specs.declared.job.CallerJob.{CallerJob}
 use Rattle.vaultctl_job.specs.declared.job.CertificateJob.{CertificateJob}
 use Rattle.vaultctl_job.specs.declared.job.DeptJob.{DeptJob}
+use Rattle.vaultctl_job.specs.declared.job.EventsJob.{EventsJob}
 use Rattle.vaultctl_job.specs.declared.job.IntakeJob.{IntakeJob}
 use Rattle.vaultctl_job.specs.declared.job.MoveJob.{MoveJob}
 use Rattle.vaultctl_job.specs.declared.job.ReportJob.{ReportJob}
 use Rattle.vaultctl_job.specs.declared.job.RunJob.{RunJob}
-use Rattle.vaultctl_commands.specs.Words.{optional_reading, optional_dept, version_named}
+use Rattle.vaultctl_job.specs.declared.job.SealJob.{SealJob}
+use Rattle.vaultctl_commands.specs.Words.{optional_moment, optional_reading, optional_dept, version_named}
 use Rattle.vaultctl_commands.specs.declared.asked.Asked.{Asked}
+use Rattle.vaultctl_commands.specs.declared.asked.AskedEvents.{AskedEvents}
 use Rattle.vaultctl_commands.specs.declared.asked.AskedIntake.{AskedIntake}
+use Rattle.vaultctl_commands.specs.declared.asked.AskedSeal.{AskedSeal}
 
 unfoldable pub dept_of : DeptJob → Result Asked Refusal
 dept_of job = do
@@ -94,3 +98,13 @@ intake_of job = do
   bucket ← bucket_named job.bucket
   batch ← name_of job.batch
   Ok (record { at = at; who = who; bucket = bucket; batch = batch })
+
+unfoldable pub events_of : EventsJob → Result AskedEvents Refusal
+events_of job = do
+  before ← optional_moment job.before
+  Ok (record { before = before })
+
+unfoldable pub seal_of : SealJob → Result AskedSeal Refusal
+seal_of job = do
+  before ← optional_moment job.before
+  Ok (record { before = before })

@@ -3,3 +3,4 @@ pub mod Words
 pub mod Told
 pub mod Printed
 pub mod Faults
+pub mod Evidence

@@ -2,7 +2,7 @@
 ghost use Rattle.vault_values.specs.Fault.{Gives};
 ghost use Rattle.vaultctl_commands.specs.Asked as spec;
 
-use crate::words::{optional_dept, optional_reading, rights_named, version_named};
+use crate::words::{optional_dept, optional_moment, optional_reading, rights_named, version_named};
 use std::alloc::Global;
 use vault_base::moment::Moment;
 use vault_base::name::{BatchName, BucketName, CallerName};
@@ -28,6 +28,18 @@ pub struct AskedIntake {
     pub who: CallerName,
     pub bucket: BucketName,
     pub batch: BatchName,
+}
+
+/// The events that are asked for: those before a moment, or all.
+#[derive(Clone, Copy)]
+pub struct AskedEvents {
+    pub before: Option<Moment>,
+}
+
+/// The seal that is asked for: the one of a moment, or of the vault's last one.
+#[derive(Clone, Copy)]
+pub struct AskedSeal {
+    pub before: Option<Moment>,
 }
 
 /// The department to be added.
@@ -184,4 +196,22 @@ pub fn intake(alloc: Global, job: &job::IntakeJob) -> Result<AskedIntake, LineFa
         bucket,
         batch,
     })
+}
+
+/// The events before a moment, or all.
+#[tactic(auto, unfolding(crate::specs::Asked::events_of))]
+pub fn events(job: &job::EventsJob) -> Result<AskedEvents, LineFault>
+    ensures { Gives (λ x. x) result (spec.events_of job.now) }
+{
+    let before = optional_moment(&job.before)?;
+    Ok(AskedEvents { before })
+}
+
+/// The seal of a moment, or of the vault's last one.
+#[tactic(auto, unfolding(crate::specs::Asked::seal_of))]
+pub fn seal(job: &job::SealJob) -> Result<AskedSeal, LineFault>
+    ensures { Gives (λ x. x) result (spec.seal_of job.now) }
+{
+    let before = optional_moment(&job.before)?;
+    Ok(AskedSeal { before })
 }

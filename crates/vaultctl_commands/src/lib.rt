@@ -3,6 +3,7 @@
 
 pub mod asked;
 pub mod carrying;
+pub mod evidence;
 pub mod fault;
 pub mod intake;
 pub mod line_remedies;

@@ -5,6 +5,7 @@ use vault_base::moment::{Moment, MomentFault};
 use vault_base::name::{BucketName, CallerName, VersionId};
 use vault_base::right::Right;
 use vaultctl_job::job::{Asking, CallerJob, IntakeJob, Job};
+use vaultctl_job::word::Word;
 
 /// What a word has to spell.
 #[derive(Clone, Copy, Debug, PartialEq, Eq)]
@@ -55,6 +56,14 @@ fn first<'a>(alloc: Global, values: &[Value<'a>]) -> Result<Option<Value<'a>>, A
         }
     }
     Ok(None)
+}
+
+/// The same of a moment before which something was.
+fn first_before(alloc: Global, before: &Option<Word>) -> Result<Option<Value<'_>>, AllocError> {
+    let Some(before) = before else {
+        return Ok(None);
+    };
+    first(alloc, &[given("--before", Kind::Moment, before.as_str())])
 }
 
 /// The same of the reading, the caller who asks, and these values after them.
@@ -142,6 +151,8 @@ pub fn first_slip(alloc: Global, job: &Job) -> Result<Option<Value<'_>>, AllocEr
             let version = given("VERSION", Kind::Version, job.version.as_str());
             first_asked(alloc, &job.asking, &[bucket, version])
         }
+        Job::Events(job) => first_before(alloc, &job.before),
+        Job::Seal(job) => first_before(alloc, &job.before),
         _ => Ok(None),
     }
 }

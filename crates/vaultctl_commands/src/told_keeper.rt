@@ -1,4 +1,4 @@
-//! How far a run has come, told on a terminal while it goes on.
+//! How far a long job has come, told on a terminal while it goes on.
 use std::io::Stderr;
 use vault_base::content::Content;
 use vault_base::moment::Moment;
@@ -16,8 +16,10 @@ use vault_rules::plan::Held;
 use vault_rules::rule_set::RuleSet;
 use vault_tally::row::Row;
 
-/// A keeper of which a line is written after each thousand keys whose entries were asked for, as `1000 keys`. A run asks
-/// for those of each key of its bucket. A listing asks for those of several keys too, but no job that has a terminal lists.
+/// A keeper of which a line is written after each thousand keys whose entries were asked for, as `1000 keys`, and after
+/// each thousand entries that were asked for by their ids, as `1000 entries`. A run asks for those of each key of its
+/// bucket, and a seal for each entry of the vault. A listing asks for those of several keys too, but no job that has a
+/// terminal lists.
 ///
 /// What it keeps is what the keeper within it keeps. That a line can't be written is no failure of it, and is told to
 /// nobody; without a terminal nothing is written.
@@ -25,22 +27,25 @@ use vault_tally::row::Row;
 pub struct ToldKeeper<K> {
     keeper: K,
     terminal: Option<Stderr>,
-    asked: u64,
+    keys: u64,
+    entries: u64,
 }
 
 impl<K> ToldKeeper<K> {
     ghost use Rattle.std.specs.Prelude.{◌≡◌};
 
-    /// A keeper over another one, of which no key was asked for yet, and the terminal that is told.
+    /// A keeper over another one, of which nothing was asked for yet, and the terminal that is told.
     pub fn new(keeper: K, terminal: Option<Stderr>) -> ToldKeeper<K>
         ensures below { result.keeper ≡ keeper }
         ensures terminal { result.terminal ≡ terminal }
-        ensures asked { result.asked ≡ 0 }
+        ensures keys { result.keys ≡ 0 }
+        ensures entries { result.entries ≡ 0 }
     {
         ToldKeeper {
             keeper,
             terminal,
-            asked: 0,
+            keys: 0,
+            entries: 0,
         }
     }
 
@@ -51,7 +56,8 @@ impl<K> ToldKeeper<K> {
         let ToldKeeper {
             keeper,
             terminal: _,
-            asked: _,
+            keys: _,
+            entries: _,
         } = self;
         keeper
     }
@@ -97,14 +103,18 @@ impl<K: Keeper> Keeper for ToldKeeper<K> {
     }
 
     fn entries(&mut self, bucket: &BucketName, key: &ObjectKey) -> Result<Vec<Held>, Fault> {
-        self.asked = self.asked.saturating_add(1);
+        self.keys = self.keys.saturating_add(1);
         if let Some(terminal) = &mut self.terminal {
-            tell(terminal, self.asked, "keys");
+            tell(terminal, self.keys, "keys");
         }
         self.keeper.entries(bucket, key)
     }
 
     fn entry(&mut self, id: VersionId) -> Result<Option<Entry>, Fault> {
+        self.entries = self.entries.saturating_add(1);
+        if let Some(terminal) = &mut self.terminal {
+            tell(terminal, self.entries, "entries");
+        }
         self.keeper.entry(id)
     }
 

@@ -1,4 +1,4 @@
-//! How many rows of a register were written, told on a terminal while it goes on.
+//! How many rows of a register or of events were written, told on a terminal while it goes on.
 use std::io::{self, Stderr, Write};
 use vault_files::progress::tell;
 

@@ -25,6 +25,27 @@ pub fn optional_reading(word: &Option<Word>) -> Result<Option<Moment>, LineFault
     Ok(Some(reading_named(word.as_str())?))
 }
 
+/// The moment of that text; else InvalidArgument.
+fn moment_named(text: &str) -> Result<Moment, LineFault>
+    ensures { Gives (λ x. x) result (spec.moment_named text.now) }
+{
+    match Moment::read(text) {
+        Ok(moment) => Ok(moment),
+        Err(_) => Err(LineFault::Refused(Refusal::InvalidArgument)),
+    }
+}
+
+/// The moment before which something was, where one is given.
+#[tactic(auto, unfolding(crate::specs::Words::optional_moment))]
+pub fn optional_moment(word: &Option<Word>) -> Result<Option<Moment>, LineFault>
+    ensures { Gives (λ x. x) result (spec.optional_moment word.now) }
+{
+    let Some(word) = word else {
+        return Ok(None);
+    };
+    Ok(Some(moment_named(word.as_str())?))
+}
+
 /// The name of a department, where one is given.
 #[tactic(auto, unfolding(crate::specs::Words::optional_dept))]
 pub fn optional_dept(alloc: Global, word: &Option<Word>) -> Result<Option<DeptName>, LineFault>

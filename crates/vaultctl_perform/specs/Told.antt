@@ -3,6 +3,7 @@ use Rattle.std.specs.Prelude.{ℕ, ◌≡◌, ◌≢◌, ◌⊎◌, ◌∷◌, �
 use Rattle.std.specs.Io.KnownBytes.{Appends}
 use Rattle.vault_base.specs.Refusal.{table_name}
 use Rattle.vault_base.specs.declared.refusal.Table.{Table}
+use Rattle.vaultctl_commands.specs.Evidence.{TellsLawful, TellsSeal, lawful_line}
 use Rattle.vaultctl_commands.specs.Printed.{TellsReply}
 use Rattle.vaultctl_commands.specs.Told.{TellsIntake}
 use Rattle.vaultctl_commands.specs.declared.fault.JobFault.{JobFault}
@@ -38,8 +39,17 @@ abbrev pub TellsTakenIn : Result Outcome JobFault → Option (List ℕ) → Opti
 TellsTakenIn outcome before after =
     IfOk outcome (λ told. TellsRows told before after) × (outcome ≢ Err fault.Read) × (outcome ≢ Err fault.Device)
 
+-- the four lines of a seal were printed, or the reply that refuses one
+abbrev pub TellsSealed : Result Outcome JobFault → Option (List ℕ) → Option (List ℕ) → Type 0
+TellsSealed outcome before after = IfOk outcome (λ told. TellsSeal told before after)
+
+-- the line that says whether a vault is lawful was printed
+abbrev pub TellsJudged : Result Outcome JobFault → Option (List ℕ) → Option (List ℕ) → Type 0
+TellsJudged outcome before after = IfOk outcome (λ told. TellsLawful told before after)
+
 -- a command was done and its reply printed, or each row of an intake was taken in and its line printed, or a vault
--- is sound or was copied; of registers and scripts other clauses speak, and init and serve print nothing
+-- is sound or lawful or was copied, or the lines of a seal were printed; of registers, events and scripts other clauses
+-- speak, and init and serve print nothing
 abbrev pub IsTold : Job → Option (List ℕ) → Option (List ℕ) → Type 0
 IsTold (job.Init j) before after = ⊤
 IsTold (job.Dept j) before after = TellsReply Done before after
@@ -52,6 +62,9 @@ IsTold (job.Report j) before after = TellsReply Done before after
 IsTold (job.Certificate j) before after = TellsReply Done before after
 IsTold (job.Register j) before after = ⊤
 IsTold (job.Verify j) before after = Appends before after sound_line
+IsTold (job.Events j) before after = ⊤
+IsTold (job.Seal j) before after = TellsSeal Done before after
+IsTold (job.Lawful j) before after = Appends before after lawful_line
 IsTold (job.Replay j) before after = ⊤
 IsTold (job.Serve j) before after = ⊤
 IsTold (job.Migrate j) before after = Appends before after migrated_line

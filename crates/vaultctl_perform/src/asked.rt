@@ -1,5 +1,5 @@
 //! Jobs that ask one thing of the vault in a file: their values, then the file, then the reading, then the step.
-ghost use Rattle.std.specs.Prelude.{◌≡◌, ◌≢◌, ◌≤◌, ℕ, IfOk, Result, Err, Some};
+ghost use Rattle.std.specs.Prelude.{◌≡◌, ◌≢◌, ◌≤◌, ℕ, IfOk, Result, Ok, Err, Some};
 ghost use Rattle.vault_base.specs.declared.refusal.Refusal.{Refusal as AnyRefusal};
 ghost use Rattle.vault_core_model.specs.Halts.{RoseOrIsFull};
 ghost use Rattle.vault_core_model.specs.Step.{Reached};
@@ -123,17 +123,18 @@ pub struct Call<'a> {
     pub job: &'a Job,
 }
 
-/// The same as `ask`, of what was read by another.
-fn ask_read<S: Start, W: Write, E: Write>(
+/// Carries out what a job's words ask of the vault in a file, where their values are such; else prints the refusal of the
+/// first that isn't, and looks for no file.
+pub fn ask_read<S: Start, T: Work, W: Write, E: Write>(
     machine: &mut Machine<'_>,
     call: Call<'_>,
     start: S,
-    asked: &Result<Asked, LineFault>,
+    asked: &Result<T, LineFault>,
     out: &mut W,
     err: &mut E,
 ) -> u8
-    ensures values { (said : Result AskedOf AnyRefusal) (r : AnyRefusal) → Gives (λ x. x) asked.now said → said ≡ Err r → (machine.new ≡ machine.old) × (result ≡ 1) }
-    ensures told { result ≡ 0 → TellsReply Outcome.Done (W.contents out.old) (W.contents out.new) }
+    ensures values { (said : Result T AnyRefusal) (r : AnyRefusal) → Gives (λ x. x) asked.now said → said ≡ Err r → (machine.new ≡ machine.old) × (result ≡ 1) }
+    ensures told { result ≡ 0 → T.tells (Ok Outcome.Done) (W.contents out.old) (W.contents out.new) }
     ensures status { result ≢ 2 }
 {
     let alloc = machine.runtime().alloc();
@@ -156,8 +157,7 @@ fn ask_read<S: Start, W: Write, E: Write>(
     }
 }
 
-/// Carries out what a job's words ask of the vault in a file, where their values are such; else prints the
-/// refusal of the first that isn't, and looks for no file.
+/// The same of a command, which is dropped.
 pub fn ask<S: Start, W: Write, E: Write>(
     machine: &mut Machine<'_>,
     call: Call<'_>,

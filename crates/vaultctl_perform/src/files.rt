@@ -55,9 +55,7 @@ fn done_or_fault(written: Result<(), ExportFault>) -> Result<Outcome, JobFault>
 {
     match written {
         Ok(()) => Ok(Outcome::Done),
-        Err(ExportFault::Write) => Err(JobFault::Write),
-        Err(ExportFault::Memory) => Err(JobFault::Memory),
-        Err(ExportFault::Device) => Err(JobFault::Device),
+        Err(fault) => Err(JobFault::from(fault)),
     }
 }
 

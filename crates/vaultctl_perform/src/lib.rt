@@ -11,6 +11,7 @@ ghost use Rattle.vaultctl_perform.specs.Told.{IsTold};
 ghost use Rattle.vaultctl_perform.specs.Values.{IsValueFault};
 
 mod asked;
+mod evidence;
 mod explaining;
 mod files;
 mod intake;
@@ -191,6 +192,38 @@ fn carry_out<A: Start, B: Start, R: Read, W: Write, E: Write>(
             err,
         ),
         Job::Verify(job) => verify::verify(machine, job.file.as_str(), start, out, err),
+        Job::Events(job) => {
+            let asked = values::events(job);
+            asked::ask_read(
+                machine,
+                called("events", &job.file, whole),
+                start,
+                &asked,
+                out,
+                err,
+            )
+        }
+        Job::Seal(job) => {
+            let asked = values::seal(job);
+            asked::ask_read(
+                machine,
+                called("seal", &job.file, whole),
+                start,
+                &asked,
+                out,
+                err,
+            )
+        }
+        Job::Lawful(job) => in_vault(
+            machine,
+            "lawful",
+            job.file.as_str(),
+            start,
+            job,
+            reader,
+            out,
+            err,
+        ),
         Job::Replay(job) => replay_script(machine, start, job, reader, out, err),
         Job::Serve(job) => in_vault(
             machine,

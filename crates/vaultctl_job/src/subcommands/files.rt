@@ -60,7 +60,7 @@ const EVENTS: Subcommand = Subcommand {
 
 const SEAL: Subcommand = Subcommand {
     name: "seal",
-    about: "Prints what to deposit elsewhere, to see that nothing earlier changes",
+    about: "Prints a seal over all that was before a moment, to be deposited",
     below: below!(
         "seal",
         "Prints the moment, how many entries and events were before it, and the SHA-256\nof what 'events' prints for that moment. From then on 'seal' with that moment\nhas to print the same four lines.\n\nExample:\n  vaultctl seal records.vault --before 2024-02-01T00:00:00Z",

@@ -1,0 +1,192 @@
+//! What a vault shows to somebody who doesn't trust the machine that it is kept on, printed.
+ghost use Rattle.std.specs.Prelude.{◌≡◌, ◌≢◌, ◌≤◌, IfOk, OnErr, Err, false, string_bytes};
+ghost use Rattle.std.specs.Io.KnownBytes.{Appends};
+ghost use Rattle.vault_core_evidence.specs.Breaches.{first_breach};
+ghost use Rattle.vault_core_evidence.specs.Events.{events_asked};
+ghost use Rattle.vault_core_model.specs.Halts.{RoseOrIsFull};
+ghost use Rattle.vault_files.specs.EventsText.{events_text};
+ghost use Rattle.vault_files.specs.Sealed.{seal_text as seal_lines};
+ghost use Rattle.vault_io.specs.Begins.{Begins};
+ghost use Rattle.vaultctl_commands.specs.Evidence as spec;
+
+use crate::asked::{AskedEvents, AskedSeal};
+use crate::carrying::tell_refusal;
+use crate::fault::JobFault;
+use crate::outcome::Outcome;
+use crate::printing::print;
+use std::alloc::{AllocError, Global};
+use std::io::Write;
+use vault_core_evidence::breach::{Breach, Law};
+use vault_core_evidence::walk::lawful;
+use vault_core_model::halt::Halt;
+use vault_core_model::keeper::Keeper;
+use vault_files::{Seal, export_events, seal, seal_text};
+
+/// Prints all that happened to each entry of a vault, or what of it was before a moment.
+///
+/// `Write` comes where the text can't be written, `Memory` where there is no room for an entry's rows, and `Device` where
+/// the vault's device failed.
+pub fn tell_events<K: Keeper, W: Write>(
+    alloc: Global,
+    keeper: &mut K,
+    asked: &AskedEvents,
+    out: &mut W,
+) -> Result<Outcome, JobFault>
+    ensures ok { K.is_honest keeper.new → IfOk result (λ told. (told ≡ Outcome.Done) × Appends (W.contents out.old) (W.contents out.new) (events_text (events_asked asked.now.before (K.vault keeper.old)))) }
+    ensures err { K.is_honest keeper.new → OnErr result (Begins (W.contents out.old) (W.contents out.new) (events_text (events_asked asked.now.before (K.vault keeper.old)))) }
+    ensures same { K.vault keeper.new ≡ K.vault keeper.old }
+    ensures honest { K.is_honest keeper.new → K.is_honest keeper.old }
+    ensures counted { K.count keeper.old ≤ K.count keeper.new }
+    ensures device { result ≡ Err JobFault.Device → RoseOrIsFull (K.count keeper.old) (K.count keeper.new) }
+    ensures steady { result ≢ Err JobFault.Device → K.count keeper.new ≡ K.count keeper.old }
+    ensures reader { result ≢ Err JobFault.Read }
+{
+    match export_events(alloc, keeper, out, asked.before) {
+        Ok(_) => Ok(Outcome::Done),
+        Err(fault) => Err(JobFault::from(fault)),
+    }
+}
+
+/// Prints the lines of a seal.
+fn print_seal<W: Write>(alloc: Global, seal: &Seal, out: &mut W) -> Result<Outcome, JobFault>
+    ensures ok { IfOk result (λ told. (told ≡ Outcome.Done) × Appends (W.contents out.old) (W.contents out.new) (seal_lines seal.now)) }
+    ensures reader { result ≢ Err JobFault.Read }
+    ensures device { result ≢ Err JobFault.Device }
+{
+    let Ok(text) = seal_text(alloc, seal) else {
+        return Err(JobFault::Memory);
+    };
+    print(out, text.as_str())?;
+    Ok(Outcome::Done)
+}
+
+/// What is said of a moment after the vault's last change.
+const UNREACHED: &str =
+    "--before lies after the vault's last change, so more may still be done before it: leave it out, or give a moment up to that change";
+
+/// Prints the seal of what was before a moment; or the refusal of a moment after the vault's last change, and says in
+/// words on `err` which one it may be.
+pub fn tell_seal<K: Keeper, W: Write, E: Write>(
+    alloc: Global,
+    keeper: &mut K,
+    asked: &AskedSeal,
+    out: &mut W,
+    err: &mut E,
+) -> Result<Outcome, JobFault>
+    // What is printed is the seal of the moment that is asked for, or of the last one; refused is one after that alone.
+    ensures ok { K.is_honest keeper.new → IfOk result (λ told. spec.IsSealed asked.now.before (K.vault keeper.old) told (W.contents out.old) (W.contents out.new)) }
+    // Whatever the device does, what is answered is what was printed.
+    ensures told { IfOk result (λ told. spec.TellsSeal told (W.contents out.old) (W.contents out.new)) }
+    ensures same { K.vault keeper.new ≡ K.vault keeper.old }
+    ensures honest { K.is_honest keeper.new → K.is_honest keeper.old }
+    ensures counted { K.count keeper.old ≤ K.count keeper.new }
+    ensures device { result ≡ Err JobFault.Device → RoseOrIsFull (K.count keeper.old) (K.count keeper.new) }
+    ensures steady { result ≢ Err JobFault.Device → K.count keeper.new ≡ K.count keeper.old }
+    ensures reader { result ≢ Err JobFault.Read }
+{
+    match seal(alloc, keeper, asked.before) {
+        Ok(seal) => print_seal(alloc, &seal, out),
+        Err(Halt::Fault(fault)) => Err(JobFault::from(fault)),
+        Err(Halt::Refused(refusal)) => {
+            let refused = tell_refusal(alloc, refusal, out);
+            let _ = writeln!(err, "{UNREACHED}");
+            refused
+        }
+    }
+}
+
+/// The line that names an entry and the law that it breaks. The error is want of memory.
+fn breach_line(alloc: Global, breach: &Breach) -> Result<String, AllocError>
+    ensures { IfOk result (λ line. string_bytes line ≡ spec.unlawful_line breach.now) }
+{
+    let id = breach.id.number().to_string(alloc)?;
+    let mut line = String::new(alloc);
+    line.push_str("unlawful ")?;
+    line.push_str(id.as_str())?;
+    line.push_str(" ")?;
+    line.push_str(breach.law.name())?;
+    line.push_str("\n")?;
+    Ok(line)
+}
+
+/// Prints that each setting and each removal keeps the rules.
+fn print_lawful<W: Write>(out: &mut W) -> Result<Outcome, JobFault>
+    ensures ok { IfOk result (λ told. (told ≡ Outcome.Done) × Appends (W.contents out.old) (W.contents out.new) spec.lawful_line) }
+    ensures reader { result ≢ Err JobFault.Read }
+    ensures device { result ≢ Err JobFault.Device }
+{
+    print(out, "lawful\n")?;
+    Ok(Outcome::Done)
+}
+
+/// Prints which entry breaks which rule.
+fn print_breach<W: Write>(alloc: Global, breach: &Breach, out: &mut W) -> Result<Outcome, JobFault>
+    ensures ok { IfOk result (λ told. (told ≡ Outcome.Refused) × Appends (W.contents out.old) (W.contents out.new) (spec.unlawful_line breach.now)) }
+    ensures reader { result ≢ Err JobFault.Read }
+    ensures device { result ≢ Err JobFault.Device }
+{
+    let Ok(line) = breach_line(alloc, breach) else {
+        return Err(JobFault::Memory);
+    };
+    print(out, line.as_str())?;
+    Ok(Outcome::Refused)
+}
+
+/// What an entry that breaks a law shows.
+fn shown(law: Law) -> &'static str {
+    match law {
+        Law::Admission => "who admitted it is no caller who may admit such an entry",
+        Law::FirstSetting => {
+            "its first setting is of another moment or another caller than its admission, or by a bypass"
+        }
+        Law::Order => {
+            "a setting is before the one before it, or something is after its removal or after the vault's last change"
+        }
+        Law::Setting => "a retention or a hold was set that the lock before it doesn't permit",
+        Law::Setter => "who set a retention or a hold is no caller with the right to it",
+        Law::Removal => "it was removed while its lock didn't permit that",
+        Law::Remover => "who removed it is no caller who may remove versions",
+        Law::Move => {
+            "a move of its bucket has another moment or another department than other entries show"
+        }
+    }
+}
+
+/// Says in words what an entry that breaks a law shows. Where this can't be written, the line says it alone.
+fn say_breach<E: Write>(breach: &Breach, err: &mut E) {
+    let id = breach.id.number();
+    let shown = shown(breach.law);
+    let _ = writeln!(
+        err,
+        "entry {id}: {shown}; no command does that, so something else wrote to the file"
+    );
+}
+
+/// Prints `lawful` of a vault of which each setting and each removal keeps the rules; else `unlawful` with the first entry
+/// that breaks one and which, and says on `err` in words what the entry shows.
+pub fn tell_lawful<K: Keeper, W: Write, E: Write>(
+    alloc: Global,
+    keeper: &mut K,
+    out: &mut W,
+    err: &mut E,
+) -> Result<Outcome, JobFault>
+    ensures ok { K.is_honest keeper.new → IfOk result (λ told. spec.IsJudged (first_breach (K.vault keeper.old)) told (W.contents out.old) (W.contents out.new)) }
+    // Whatever the device does, what is answered is what was printed.
+    ensures told { IfOk result (λ told. spec.TellsLawful told (W.contents out.old) (W.contents out.new)) }
+    ensures same { K.vault keeper.new ≡ K.vault keeper.old }
+    ensures honest { K.is_honest keeper.new → K.is_honest keeper.old }
+    ensures counted { K.count keeper.old ≤ K.count keeper.new }
+    ensures device { result ≡ Err JobFault.Device → RoseOrIsFull (K.count keeper.old) (K.count keeper.new) }
+    ensures steady { result ≢ Err JobFault.Device → K.count keeper.new ≡ K.count keeper.old }
+    ensures reader { result ≢ Err JobFault.Read }
+{
+    match lawful(alloc, keeper) {
+        Ok(None) => print_lawful(out),
+        Ok(Some(breach)) => {
+            let printed = print_breach(alloc, &breach, out);
+            say_breach(&breach, err);
+            printed
+        }
+        Err(fault) => Err(JobFault::from(fault)),
+    }
+}
