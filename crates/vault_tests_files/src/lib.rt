@@ -1,12 +1,14 @@
 //! Tests of what is read from files and written into them: lines that are no command; intakes over a folder in memory,
 //! also where that folder, a device, a writer or memory fails; folders on a disk, and what a terminal is told of a long
-//! job; registers of removals whose writer fails.
+//! job; registers of removals and events whose writer fails.
 #![tactic(auto)]
 
 #[cfg(test)]
 mod batch;
 #[cfg(test)]
 mod disk_folder;
+#[cfg(test)]
+mod events;
 #[cfg(test)]
 mod faults;
 #[cfg(test)]

@@ -1,7 +1,9 @@
 //! Tests over both kinds of keeper, the list and tables in memory: rows, runs that a device stops, and what is told of
-//! buckets that were moved and of removed entries.
+//! buckets that were moved, of removed entries and of what happened to each.
 #![tactic(auto)]
 
+#[cfg(test)]
+mod evidence;
 #[cfg(test)]
 mod moves;
 #[cfg(test)]

@@ -2,8 +2,10 @@
 use std::alloc::Global;
 use std::test::Fail;
 use vault_base::name::{DeptName, VersionId};
+use vault_core_evidence::walk::lawful;
 use vault_core_model::keeper::Keeper;
 use vault_core_model::records::Tenure;
+use vault_files::export_events;
 use vault_files::register::export_register;
 use vault_tally::row::Row;
 use vault_transcript::transcript::replies;
@@ -39,7 +41,7 @@ const QUERIES: &str =
 "#;
 
 /// The last moment, the next id and the number of moves, the sums of both departments, the tenures of each version, the
-/// replies to the queries, and the register of removals.
+/// replies to the queries, the register of removals, the events of each entry, and that these are lawful.
 pub fn told<K: Keeper>(alloc: Global, keeper: &mut K) -> Result<String, Fail> {
     let mut text = String::new(alloc);
     push_told(alloc, keeper, &mut text)?;
@@ -53,7 +55,9 @@ fn push_told<K: Keeper>(alloc: Global, keeper: &mut K, text: &mut String) -> Res
     push_sums(alloc, keeper, "court", text)?;
     push_each_tenures(alloc, keeper, text)?;
     push_replies(alloc, keeper, text)?;
-    push_register(alloc, keeper, text)
+    push_register(alloc, keeper, text)?;
+    push_events(alloc, keeper, text)?;
+    push_lawful(alloc, keeper, text)
 }
 
 fn next_id<K: Keeper>(keeper: &mut K) -> Result<u64, Fail> {
@@ -148,6 +152,25 @@ fn register<K: Keeper>(alloc: Global, keeper: &mut K) -> Result<String, Fail> {
 
 fn push_register<K: Keeper>(alloc: Global, keeper: &mut K, text: &mut String) -> Result<(), Fail> {
     push(text, register(alloc, keeper)?)
+}
+
+fn events<K: Keeper>(alloc: Global, keeper: &mut K) -> Result<String, Fail> {
+    let mut written = Vec::new(alloc);
+    export_events(alloc, keeper, &mut written, None)?;
+    Ok(String::from_utf8(written)?)
+}
+
+fn push_events<K: Keeper>(alloc: Global, keeper: &mut K, text: &mut String) -> Result<(), Fail> {
+    push(text, events(alloc, keeper)?)
+}
+
+/// Fails unless each setting and each removal keeps the rules.
+fn push_lawful<K: Keeper>(alloc: Global, keeper: &mut K, text: &mut String) -> Result<(), Fail> {
+    if !matches!(lawful(alloc, keeper), Ok(None)) {
+        return Err(Fail::new("the vault isn't lawful"));
+    }
+    text.push_str("lawful\n")?;
+    Ok(())
 }
 
 /// Fails unless the bytes that each department admitted and received are those it holds, those removed and those handed
