@@ -12,7 +12,6 @@ use crate::asked::Asked;
 use crate::fault::JobFault;
 use crate::outcome::Outcome;
 use crate::printing::print;
-use crate::remedies::say_reply;
 use crate::text::{outcome, reply_text};
 use std::alloc::Global;
 use std::io::Write;
@@ -22,6 +21,7 @@ use vault_core::step::step;
 use vault_core_model::command::Command;
 use vault_core_model::keeper::Keeper;
 use vault_core_model::reply::Reply;
+use vaultctl_remedies::remedies::say_reply;
 
 /// Prints a reply, and answers what came of it.
 fn tell_lent<W: Write>(alloc: Global, reply: &Reply, out: &mut W) -> Result<Outcome, JobFault>

@@ -4,10 +4,12 @@ ghost use Rattle.std.specs.Io.KnownBytes.{Appends};
 ghost use Rattle.vault_core_evidence.specs.Breaches.{first_breach};
 ghost use Rattle.vault_core_evidence.specs.Events.{events_asked};
 ghost use Rattle.vault_core_model.specs.Halts.{RoseOrIsFull};
+ghost use Rattle.vault_core_model.specs.declared.reply.Reply.TheVariants.{Refused};
 ghost use Rattle.vault_files.specs.EventsText.{events_text};
 ghost use Rattle.vault_files.specs.Sealed.{seal_text as seal_lines};
 ghost use Rattle.vault_io.specs.Begins.{Begins};
 ghost use Rattle.vaultctl_commands.specs.Evidence as spec;
+ghost use Rattle.vaultctl_commands.specs.Printed.{printed};
 
 use crate::asked::{AskedEvents, AskedSeal};
 use crate::carrying::tell_refusal;
@@ -16,11 +18,12 @@ use crate::outcome::Outcome;
 use crate::printing::print;
 use std::alloc::{AllocError, Global};
 use std::io::Write;
+use vault_base::refusal::Refusal;
 use vault_core_evidence::breach::{Breach, Law};
 use vault_core_evidence::walk::lawful;
-use vault_core_model::halt::Halt;
+use vault_core_model::halt::{Fault, Halt};
 use vault_core_model::keeper::Keeper;
-use vault_files::{Seal, export_events, seal, seal_text};
+use vault_files::{ExportFault, Seal, export_events, seal, seal_text};
 
 /// Prints all that happened to each entry of a vault, or what of it was before a moment.
 ///
@@ -43,7 +46,9 @@ pub fn tell_events<K: Keeper, W: Write>(
 {
     match export_events(alloc, keeper, out, asked.before) {
         Ok(_) => Ok(Outcome::Done),
-        Err(fault) => Err(JobFault::from(fault)),
+        Err(ExportFault::Write) => Err(JobFault::Write),
+        Err(ExportFault::Memory) => Err(JobFault::Memory),
+        Err(ExportFault::Device) => Err(JobFault::Device),
     }
 }
 
@@ -58,6 +63,22 @@ fn print_seal<W: Write>(alloc: Global, seal: &Seal, out: &mut W) -> Result<Outco
     };
     print(out, text.as_str())?;
     Ok(Outcome::Done)
+}
+
+/// Prints the refusal of a moment that the vault hasn't reached, and says in words on `err` which one it may be.
+fn tell_unreached<W: Write, E: Write>(
+    alloc: Global,
+    refusal: Refusal,
+    out: &mut W,
+    err: &mut E,
+) -> Result<Outcome, JobFault>
+    ensures ok { IfOk result (λ told. (told ≡ Outcome.Refused) × Appends (W.contents out.old) (W.contents out.new) (printed (Refused refusal))) }
+    ensures reader { result ≢ Err JobFault.Read }
+    ensures device { result ≢ Err JobFault.Device }
+{
+    let told = tell_refusal(alloc, refusal, out);
+    let _ = writeln!(err, "{UNREACHED}");
+    told
 }
 
 /// What is said of a moment after the vault's last change.
@@ -86,12 +107,9 @@ pub fn tell_seal<K: Keeper, W: Write, E: Write>(
 {
     match seal(alloc, keeper, asked.before) {
         Ok(seal) => print_seal(alloc, &seal, out),
-        Err(Halt::Fault(fault)) => Err(JobFault::from(fault)),
-        Err(Halt::Refused(refusal)) => {
-            let refused = tell_refusal(alloc, refusal, out);
-            let _ = writeln!(err, "{UNREACHED}");
-            refused
-        }
+        Err(Halt::Fault(Fault::Memory)) => Err(JobFault::Memory),
+        Err(Halt::Fault(Fault::Device)) => Err(JobFault::Device),
+        Err(Halt::Refused(refusal)) => tell_unreached(alloc, refusal, out, err),
     }
 }
 
@@ -187,6 +205,7 @@ pub fn tell_lawful<K: Keeper, W: Write, E: Write>(
             say_breach(&breach, err);
             printed
         }
-        Err(fault) => Err(JobFault::from(fault)),
+        Err(Fault::Memory) => Err(JobFault::Memory),
+        Err(Fault::Device) => Err(JobFault::Device),
     }
 }

@@ -1,10 +1,5 @@
 //! Why a job was not done to its end.
-ghost use Rattle.std.specs.Prelude.{◌≡◌};
-ghost use Rattle.vaultctl_commands.specs.Faults.{export_fault, keeper_fault};
-
 use thiserror::Error;
-use vault_core_model::halt::Fault;
-use vault_files::ExportFault;
 
 /// Why a job was not done to its end.
 #[derive(Clone, Copy, Debug, PartialEq, Eq, Error)]
@@ -51,29 +46,6 @@ impl JobFault {
             JobFault::Memory =>
                 "the machine refused memory: stop other programs, and look what was done before you give it again\n",
             JobFault::Device => "",
-        }
-    }
-}
-
-impl From<Fault> for JobFault {
-    ghost from_gives = { λ f e. e ≡ keeper_fault f };
-
-    fn from(fault: Fault) -> JobFault {
-        match fault {
-            Fault::Memory => JobFault::Memory,
-            Fault::Device => JobFault::Device,
-        }
-    }
-}
-
-impl From<ExportFault> for JobFault {
-    ghost from_gives = { λ f e. e ≡ export_fault f };
-
-    fn from(fault: ExportFault) -> JobFault {
-        match fault {
-            ExportFault::Write => JobFault::Write,
-            ExportFault::Memory => JobFault::Memory,
-            ExportFault::Device => JobFault::Device,
         }
     }
 }

@@ -1,11 +1,22 @@
--- On the reading at which a thing was done.
-use Rattle.std.proofs.Common.{◌≡◌, ℕ, List, Option, None, Some, Result, inl, inr, refl, subst}
+-- On values that aren't such, and on the reading at which a thing was done.
+use Rattle.std.proofs.Common.{◌≡◌, ℕ, List, Option, None, Some, Result, Ok, Err, ap, inl, inr, refl, subst}
 use Rattle.std.specs.Prelude.{MatchOption, ⊤}
+use Rattle.vault_base.specs.declared.refusal.Refusal.{Refusal}
 use Rattle.vault_core_model.specs.Vault.{Vault}
+use Rattle.vault_values.specs.Fault.{Gives}
+use Rattle.vault_values.specs.declared.fault.LineFault.{LineFault}
+use Rattle.vault_values.specs.declared.fault.LineFault.TheVariants.{Memory, Refused}
 use Rattle.vaultctl_commands.specs.declared.fault.JobFault.{JobFault}
 use Rattle.vaultctl_commands.specs.declared.outcome.Outcome.{Outcome}
 use Rattle.vaultctl_commands.specs.declared.asked.Asked.{Asked}
 use Rattle.vaultctl_perform.specs.Asked.{IsDone, IsUnread, IsDoneAt, IsSteady, IsUnreadSteady, IsSteadyAt}
+
+-- a value that isn't such is refused, whatever would be made of the others
+pub refused_anyway : {X Y : Type 0} (view : X → Y) (asked : Result X LineFault) (said : Result Y Refusal) (r : Refusal)
+    → Gives view asked said → said ≡ Err r → Gives (λ (x : X). x) asked (Err r)
+refused_anyway view (Ok x) said r gives is = absurd (cc gives is)
+refused_anyway view (Err Memory) said r gives is = tt
+refused_anyway view (Err (Refused f)) said r gives is = let same : r ≡ f = cc gives is in ap Err same
 
 module _ (Failed : Type 0) (asked : Asked) (v v' : Vault) (told : Outcome) (before after : Option (List ℕ)) where
   -- the reading that is given is the one that was taken

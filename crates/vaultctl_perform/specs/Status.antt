@@ -1,7 +1,7 @@
 -- Exit statuses, and what came of a job.
 use Rattle.std.specs.Prelude.{ℕ, Result, Ok, Err}
 use Rattle.vault_files.specs.ExportFault.{ExportFault}
-use Rattle.vaultctl_commands.specs.Faults.{export_fault}
+use Rattle.vault_files.specs.ExportFault.TheVariants as export
 use Rattle.vaultctl_commands.specs.declared.fault.JobFault.{JobFault}
 use Rattle.vaultctl_commands.specs.declared.fault.JobFault.TheVariants as fault
 use Rattle.vaultctl_commands.specs.declared.outcome.Outcome.{Outcome}
@@ -26,7 +26,9 @@ made_status (Err cause) = 1
 -- a register is written or a fault is told, by its name
 abbrev pub exported : Result (Unit {0}) ExportFault → Result Outcome JobFault
 exported (Ok t) = Ok Done
-exported (Err fault) = Err (export_fault fault)
+exported (Err export.Write) = Err fault.Write
+exported (Err export.Memory) = Err fault.Memory
+exported (Err export.Device) = Err fault.Device
 
 -- a fault of a script, by its name
 abbrev pub replay_fault : ReplayFault → JobFault

@@ -23,11 +23,11 @@ use vaultctl_commands::asked::Asked;
 use vaultctl_commands::carrying::{carry_out, tell_refusal};
 use vaultctl_commands::fault::JobFault;
 use vaultctl_commands::outcome::Outcome;
-use vaultctl_commands::remedies::remedy;
-use vaultctl_commands::slips::first_slip;
 use vaultctl_job::job::Job;
 use vaultctl_machine::terminal::terminal;
 use vaultctl_machine::vaults::Machine;
+use vaultctl_remedies::remedies::remedy;
+use vaultctl_remedies::slips::first_slip;
 use vaultctl_serve::clock::now;
 
 /// The reading that is given, or else the machine's clock.

@@ -3,7 +3,6 @@ ghost use Rattle.std.specs.Prelude.{◌≡◌, ◌≢◌, OnOk, ⊤};
 ghost use Rattle.vaultctl_machine.specs.Places.{with_one_given};
 ghost use Rattle.vaultctl_perform.specs.Status as spec;
 
-use crate::explaining::Explainer;
 use crate::replay::fault_of;
 use crate::telling::tell_cause;
 use crate::work::Work;
@@ -19,6 +18,7 @@ use vaultctl_job::job::{RegisterJob, ReplayJob, ServeJob};
 use vaultctl_machine::terminal::terminal_beside;
 use vaultctl_machine::unopened::Unopened;
 use vaultctl_machine::vaults::{Machine, close_vault};
+use vaultctl_remedies::explaining::Explainer;
 use vaultctl_replay::{ReplayFault, replay_observed};
 use vaultctl_serve::{PortFault, serve};
 
@@ -55,7 +55,9 @@ fn done_or_fault(written: Result<(), ExportFault>) -> Result<Outcome, JobFault>
 {
     match written {
         Ok(()) => Ok(Outcome::Done),
-        Err(fault) => Err(JobFault::from(fault)),
+        Err(ExportFault::Write) => Err(JobFault::Write),
+        Err(ExportFault::Memory) => Err(JobFault::Memory),
+        Err(ExportFault::Device) => Err(JobFault::Device),
     }
 }
 

@@ -3,15 +3,17 @@ ghost use Rattle.std.specs.Prelude.{◌≡◌, ◌≢◌, IfOk, Result, Err};
 ghost use Rattle.vault_base.specs.declared.refusal.Refusal.{Refusal as AnyRefusal};
 ghost use Rattle.vault_core_model.specs.Step.{Reached};
 ghost use Rattle.vault_values.specs.Fault.{Gives};
+ghost use Rattle.vaultctl_commands.specs.Asked.{intake_of};
 ghost use Rattle.vaultctl_commands.specs.Told.{IsIntakeSteady, TellsIntake};
 ghost use Rattle.vaultctl_commands.specs.declared.asked.AskedIntake.{AskedIntake as AskedOf};
 ghost use Rattle.vaultctl_perform.specs.Told.{TellsRows, TellsTakenIn};
 
-use crate::asked::{reading, say_ahead};
-use crate::telling::{say, tell_fault, tell_value};
-use crate::work::{Work, in_vault};
+use crate::asked::{Call, ask_read, reading, say_ahead};
+use crate::telling::say;
+use crate::work::Work;
 use sqlite::Start;
-use std::io::{self, Read, Stderr, Write};
+use std::alloc::Global;
+use std::io::{Read, Stderr, Write};
 use vault_base::moment::Moment;
 use vault_base::refusal::Refusal;
 use vault_core_model::halt::Fault;
@@ -22,16 +24,15 @@ use vault_files::list_file::{explain_unread_list, read_list};
 use vault_files::progress::ToldFolder;
 use vault_files::second_look::{TakenList, explain};
 use vault_values::fault::LineFault;
-use vaultctl_commands::asked::AskedIntake;
+use vaultctl_commands::asked::{AskedIntake, intake};
 use vaultctl_commands::carrying::tell_refusal;
 use vaultctl_commands::fault::JobFault;
 use vaultctl_commands::intake::{take_in_and_tell, tell_unread_list};
 use vaultctl_commands::outcome::Outcome;
-use vaultctl_commands::remedies::remedy;
-use vaultctl_commands::slips::first_slip_of_intake;
 use vaultctl_job::job::IntakeJob;
 use vaultctl_machine::terminal::terminal;
 use vaultctl_machine::vaults::Machine;
+use vaultctl_remedies::remedies::remedy;
 
 /// A list whose bytes were read, and the path of the folder that its files lie in.
 #[derive(Clone, Copy)]
@@ -155,9 +156,9 @@ fn take_in_list<K: Keeper, W: Write, E: Write>(
 }
 
 /// The intake of a list, by the values of its words.
-#[derive(Clone, Copy)]
-struct Intake<'a> {
-    asked: &'a AskedIntake,
+#[derive(Drop)]
+pub struct Intake<'a> {
+    asked: AskedIntake,
     job: &'a IntakeJob,
 }
 
@@ -177,57 +178,32 @@ impl Work for Intake<'_> {
         err: &mut E,
     ) -> Result<Outcome, JobFault> {
         say_ahead(rt, self.asked.at, err);
-        take_in_list(rt, keeper, self.asked, self.job, out, err)
+        take_in_list(rt, keeper, &self.asked, self.job, out, err)
     }
 }
 
-/// The same as `take_in`, of what was read by another.
-fn take_in_asked<S: Start, W: Write, E: Write>(
-    machine: &mut Machine<'_>,
-    start: S,
-    asked: &Result<AskedIntake, LineFault>,
-    job: &IntakeJob,
-    out: &mut W,
-    err: &mut E,
-) -> u8
-    ensures values { (said : Result AskedOf AnyRefusal) (r : AnyRefusal) → Gives (λ x. x) asked.now said → said ≡ Err r → (machine.new ≡ machine.old) × (result ≡ 1) }
-    ensures told { result ≡ 0 → TellsIntake Outcome.Done (W.contents out.old) (W.contents out.new) }
-    ensures status { result ≢ 2 }
+/// The intake that a job's words ask for.
+pub fn asked(alloc: Global, job: &IntakeJob) -> Result<Intake<'_>, LineFault>
+    ensures { Gives (λ i. i.asked) result (intake_of job.now) }
 {
-    let alloc = machine.runtime().alloc();
-    match asked {
-        Ok(asked) => in_vault(
-            machine,
-            "intake",
-            job.file.as_str(),
-            start,
-            &Intake { asked, job },
-            &mut io::empty(),
-            out,
-            err,
-        ),
-        Err(LineFault::Memory) => tell_fault(err, "intake", JobFault::Memory),
-        Err(LineFault::Refused(refusal)) => {
-            let slip = first_slip_of_intake(alloc, job).unwrap_or(None);
-            tell_value(alloc, "intake", *refusal, slip, out, err)
-        }
-    }
+    let asked = intake(alloc, job)?;
+    Ok(Intake { asked, job })
 }
 
 /// Takes in files of a folder by a list, where the values of the job's words are such; else prints the refusal
 /// of the first that isn't, and looks for no file.
 pub fn take_in<S: Start, W: Write, E: Write>(
     machine: &mut Machine<'_>,
+    call: Call<'_>,
     start: S,
-    asked: Result<AskedIntake, LineFault>,
-    job: &IntakeJob,
+    asked: Result<Intake<'_>, LineFault>,
     out: &mut W,
     err: &mut E,
 ) -> u8
-    ensures values { (said : Result AskedOf AnyRefusal) (r : AnyRefusal) → Gives (λ x. x) asked said → said ≡ Err r → (machine.new ≡ machine.old) × (result ≡ 1) }
+    ensures values { (said : Result AskedOf AnyRefusal) (r : AnyRefusal) → Gives (λ i. i.asked) asked said → said ≡ Err r → (machine.new ≡ machine.old) × (result ≡ 1) }
     // Status 0 says that each row was taken in, and that the lines which say so were printed.
     ensures told { result ≡ 0 → TellsIntake Outcome.Done (W.contents out.old) (W.contents out.new) }
     ensures status { result ≢ 2 }
 {
-    take_in_asked(machine, start, &asked, job, out, err)
+    ask_read(machine, call, start, &asked, out, err)
 }

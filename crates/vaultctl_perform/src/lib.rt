@@ -12,7 +12,6 @@ ghost use Rattle.vaultctl_perform.specs.Values.{IsValueFault};
 
 mod asked;
 mod evidence;
-mod explaining;
 mod files;
 mod intake;
 mod migrate;
@@ -140,14 +139,17 @@ fn carry_out<A: Start, B: Start, R: Read, W: Write, E: Write>(
                 err,
             )
         }
-        Job::Intake(job) => intake::take_in(
-            machine,
-            start,
-            values::intake(alloc, job),
-            job,
-            out,
-            err,
-        ),
+        Job::Intake(job) => {
+            let asked = intake::asked(alloc, job);
+            intake::take_in(
+                machine,
+                called("intake", &job.file, whole),
+                start,
+                asked,
+                out,
+                err,
+            )
+        }
         Job::Run(job) => {
             let asked = values::run(alloc, job);
             asked::ask(

@@ -3,12 +3,12 @@ ghost use Rattle.std.specs.Prelude.{◌≡◌, ◌≢◌, OnOk};
 ghost use Rattle.vaultctl_perform.specs.Replay.{AnswersFromNew};
 ghost use Rattle.vaultctl_perform.specs.Status.{replay_fault};
 
-use crate::explaining::Explainer;
 use crate::telling::tell_fault;
 use std::alloc::Global;
 use std::io::{Read, Write};
 use vault_core_list::list_keeper::ListKeeper;
 use vaultctl_commands::fault::JobFault;
+use vaultctl_remedies::explaining::Explainer;
 use vaultctl_replay::{ReplayFault, replay_observed};
 
 /// What a fault of a script is told as.

@@ -12,9 +12,9 @@ use vault_io::writing::write_bytes;
 use vaultctl_commands::carrying::tell_refusal;
 use vaultctl_commands::fault::JobFault;
 use vaultctl_commands::outcome::Outcome;
-use vaultctl_commands::remedies::remedy;
-use vaultctl_commands::slips::{Value, say_slip};
 use vaultctl_machine::unopened::Unopened;
+use vaultctl_remedies::remedies::remedy;
+use vaultctl_remedies::slips::{Value, say_slip};
 
 /// Writes two texts, one behind the other.
 fn write_both<E: Write>(err: &mut E, first: &str, second: &str) -> io::Result<()>

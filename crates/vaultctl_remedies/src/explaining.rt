@@ -1,11 +1,11 @@
 //! What standard error says of the lines of a script.
+use crate::line_remedies::say_line;
 use std::alloc::Global;
 use std::io::Write;
 use vault_core_model::command::Command;
 use vault_core_model::reply::Reply;
 use vault_http::explain_line;
 use vault_http::read_line::Line;
-use vaultctl_commands::line_remedies::say_line;
 use vaultctl_replay::observer::Observer;
 
 /// Writes one line of words for each line that is refused, as it is read or by the vault, and for each run that stops, as

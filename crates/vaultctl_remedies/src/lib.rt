@@ -1,0 +1,8 @@
+//! What standard error says of what is refused: which value of a job's words isn't allowed, why the vault refuses a command
+//! or a script's line, and what to do. No clause speaks of these texts.
+#![tactic(auto)]
+
+pub mod explaining;
+pub mod line_remedies;
+pub mod remedies;
+pub mod slips;
