@@ -1,5 +1,7 @@
 //! The seal over what happened in a vault before a moment.
 ghost use Rattle.std.specs.Prelude.{◌≡◌, ◌≤◌, ◌<◌, IfOk, IsTrue, Err, Some, None, false, unwrap_or, MatchOption};
+ghost use Rattle.vault_base.specs.declared.refusal.Refusal.{Refusal as AnyRefusal};
+ghost use Rattle.vault_base.specs.declared.refusal.Refusal.TheVariants.{InvalidArgument};
 ghost use Rattle.vault_core_model.specs.Halts.{is_device, is_device_given, RoseOrIsFull};
 ghost use Rattle.vault_files_events.specs.Faults.{keeper_fault_of};
 ghost use Rattle.vault_files_events.specs.Seal.{SealsAs, seal_of};
@@ -69,6 +71,8 @@ pub fn seal<K: Keeper>(alloc: Global, keeper: &mut K, before: Option<Moment>) ->
     ensures counted { K.count keeper.old ≤ K.count keeper.new }
     ensures device { IsTrue (is_device result) → RoseOrIsFull (K.count keeper.old) (K.count keeper.new) }
     ensures steady { is_device result ≡ false → K.count keeper.new ≡ K.count keeper.old }
+    // Whatever the device does, nothing else is refused.
+    ensures refused { (r : AnyRefusal) → result ≡ Err (Halt.Refused r) → r ≡ InvalidArgument }
 {
     let last = keeper.last()?;
     let Some(before) = reached(before, last) else {
