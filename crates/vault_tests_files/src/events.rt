@@ -10,7 +10,7 @@ use vault_transcript::trial::{Trial, compare, try_behind};
 
 /// A version under governance and a hold, which is lifted; its bucket moves there and back; it is removed by a bypass.
 /// And a marker.
-const EVENTS: &str = r#"
+const HISTORY: &str = r#"
 {"at":"2024-01-15T10:30:00Z","as":"registrar","do":"add-dept","dept":"court"}
   {"ok":{}}
 {"at":"2024-01-15T10:30:00Z","as":"ann","do":"put","bucket":"docs","key":"a","text":"hello","mode":"GOVERNANCE","until":"2030-01-01T00:00:00Z","hold":"ON"}
@@ -122,7 +122,7 @@ impl Trial for Events<'_> {
 
 #[test]
 fn events_are_cut_after_each_write(rt: HostRuntime) -> Result<(), Fail> {
-    for (transcript, whole, writes) in [("", OF_NOTHING, 1), (EVENTS, OF_EVENTS, 3)] {
+    for (transcript, whole, writes) in [("", OF_NOTHING, 1), (HISTORY, OF_EVENTS, 3)] {
         try_behind(rt.alloc(), transcript, &Events { whole, writes })?;
     }
     Ok(())
@@ -151,5 +151,5 @@ impl Trial for HeldBack {
 /// What is held back is handed on before the events count as written, and a fault of that is reported.
 #[test]
 fn events_that_are_held_back_fail_at_their_end(rt: HostRuntime) -> Result<(), Fail> {
-    try_behind(rt.alloc(), EVENTS, &HeldBack)
+    try_behind(rt.alloc(), HISTORY, &HeldBack)
 }

@@ -14,7 +14,7 @@ use vault_transcript::trial::compare;
 
 /// A version under governance and a hold, which is lifted; its bucket moves there and back; it is removed by a bypass.
 /// And a marker.
-const HISTORY: &str = r#"
+const DAYS: &str = r#"
 {"at":"2024-01-15T10:30:00Z","as":"registrar","do":"add-dept","dept":"court"}
   {"ok":{}}
 {"at":"2024-01-15T10:30:00Z","as":"ann","do":"put","bucket":"docs","key":"a","text":"hello","mode":"GOVERNANCE","until":"2030-01-01T00:00:00Z","hold":"ON"}
@@ -31,7 +31,7 @@ const HISTORY: &str = r#"
   {"ok":{"cause":"bypass","delete_marker":false,"version_id":1}}
 "#;
 
-const EVENTS: &str =
+const TEXT: &str =
     "version,event,moment,by,bucket,key,kind,size,sha256,mode,until,hold,bypass,cause,department,move
 1,admitted,2024-01-15T10:30:00Z,ann,docs,a,version,5,2cf24dba5fb0a30e26e83b2ac5b9e29e1b161e5c1fa7425e73043362938b9824,,,,,,records,
 1,locked,2024-01-15T10:30:00Z,ann,docs,a,version,5,2cf24dba5fb0a30e26e83b2ac5b9e29e1b161e5c1fa7425e73043362938b9824,GOVERNANCE,2030-01-01T00:00:00Z,ON,false,,,
@@ -99,9 +99,9 @@ fn compare_seals<K: Keeper>(alloc: Global, keeper: &mut K) -> Result<(), Fail> {
 
 fn tell_history<K: Keeper>(alloc: Global, keeper: &mut K) -> Result<(), Fail> {
     play(alloc, keeper, OPENING)?;
-    play(alloc, keeper, HISTORY)?;
+    play(alloc, keeper, DAYS)?;
     let given = events(alloc, keeper)?;
-    compare("the events", given.as_str(), EVENTS)?;
+    compare("the events", given.as_str(), TEXT)?;
     compare_seals(alloc, keeper)?;
     if is_lawful(alloc, keeper) {
         return Ok(());
