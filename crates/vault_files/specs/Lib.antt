@@ -12,6 +12,3 @@ pub use Rattle.vault_files_texts.specs.Removed
 pub use Rattle.vault_files_texts.specs.ReportText
 pub use Rattle.vault_files_texts.specs.Register
 pub use Rattle.vault_files_texts.specs.declared.fault.ExportFault
-pub use Rattle.vault_files_events.specs.EventsText
-pub use Rattle.vault_files_events.specs.Seal as Sealed
-pub use Rattle.vault_files_events.specs.declared.seal_lines.Seal

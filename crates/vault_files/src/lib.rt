@@ -4,7 +4,6 @@
 
 pub mod laws;
 
-pub use vault_files_events::{Counted, Seal, export_events, seal, seal_text};
 pub use vault_files_folder::{disk_folder, list_file, progress, second_look};
 pub use vault_files_intake::{file_name, folder, intake, lines, list_folder, report};
 pub use vault_files_texts::{ExportFault, certificate, register, report_text};

@@ -4,7 +4,8 @@ use std::io::{BufWriter, Write};
 use std::test::Fail;
 use vault_core_model::keeper::Keeper;
 use vault_failing::streams::FailingWriter;
-use vault_files::{ExportFault, export_events};
+use vault_files::ExportFault;
+use vault_files_events::export_events;
 use vault_transcript::telling::{tells_still, told};
 use vault_transcript::trial::{Trial, compare, try_behind};
 

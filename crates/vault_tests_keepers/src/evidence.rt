@@ -8,7 +8,7 @@ use vault_base::moment::Moment;
 use vault_core::fuse_keeper::FuseKeeper;
 use vault_core_evidence::walk::lawful;
 use vault_core_model::keeper::Keeper;
-use vault_files::{export_events, seal, seal_text};
+use vault_files_events::{export_events, seal, seal_text};
 use vault_transcript::transcript::play;
 use vault_transcript::trial::compare;
 

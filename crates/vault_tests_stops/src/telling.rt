@@ -5,8 +5,8 @@ use vault_base::name::{DeptName, VersionId};
 use vault_core_evidence::walk::lawful;
 use vault_core_model::keeper::Keeper;
 use vault_core_model::records::Tenure;
-use vault_files::export_events;
 use vault_files::register::export_register;
+use vault_files_events::export_events;
 use vault_tally::row::Row;
 use vault_transcript::transcript::replies;
 

@@ -7,8 +7,8 @@ use Rattle.vault_core_evidence.specs.declared.breach.Breach.{Breach}
 use Rattle.vault_base.specs.declared.refusal.Refusal.TheVariants.{InvalidArgument}
 use Rattle.vault_core_model.specs.Vault.{Vault}
 use Rattle.vault_core_model.specs.declared.reply.Reply.TheVariants as reply
-use Rattle.vault_files.specs.Sealed.{IsAhead, moment_asked, seal_of, seal_text}
-use Rattle.vault_files.specs.Seal.{Seal}
+use Rattle.vault_files_events.specs.Seal.{IsAhead, moment_asked, seal_of, seal_text}
+use Rattle.vault_files_events.specs.declared.seal_lines.Seal.{Seal}
 use Rattle.vaultctl_commands.specs.Printed.{TellsReply, printed}
 use Rattle.vaultctl_commands.specs.declared.outcome.Outcome.{Outcome}
 use Rattle.vaultctl_commands.specs.declared.outcome.Outcome.TheVariants.{Done, Refused}

@@ -5,8 +5,8 @@ ghost use Rattle.vault_core_evidence.specs.Breaches.{first_breach};
 ghost use Rattle.vault_core_evidence.specs.Events.{events_asked};
 ghost use Rattle.vault_core_model.specs.Halts.{RoseOrIsFull};
 ghost use Rattle.vault_core_model.specs.declared.reply.Reply.TheVariants.{Refused};
-ghost use Rattle.vault_files.specs.EventsText.{events_text};
-ghost use Rattle.vault_files.specs.Sealed.{seal_text as seal_lines};
+ghost use Rattle.vault_files_events.specs.EventsText.{events_text};
+ghost use Rattle.vault_files_events.specs.Seal.{seal_text as seal_lines};
 ghost use Rattle.vault_io.specs.Begins.{Begins};
 ghost use Rattle.vaultctl_commands.specs.Evidence as spec;
 ghost use Rattle.vaultctl_commands.specs.Printed.{printed};
@@ -23,7 +23,8 @@ use vault_core_evidence::breach::{Breach, Law};
 use vault_core_evidence::walk::lawful;
 use vault_core_model::halt::{Fault, Halt};
 use vault_core_model::keeper::Keeper;
-use vault_files::{ExportFault, Seal, export_events, seal, seal_text};
+use vault_files::ExportFault;
+use vault_files_events::{Seal, export_events, seal, seal_text};
 
 /// Prints all that happened to each entry of a vault, or what of it was before a moment.
 ///
