@@ -14,6 +14,7 @@ from vaultdesk import backup, glue, night, offices, page, server, users
 from vaultdesk.config import desk
 from vaultdesk.engine import Engine
 from vaultdesk.errors import DeskError
+from vaultdesk.output import say
 
 # Those that ask about a vault, and those that look after files, servers and users.
 FAMILIES = (documents, find, history, locks, cases, policies, deliveries, years_end, evidence, answer, office)
@@ -64,7 +65,7 @@ def main(given: Sequence[str] | None = None) -> int:
     try:
         return carried_out(asked)
     except DeskError as error:
-        print(f"vaultdesk {asked.command}: {error}", file=sys.stderr)
+        say(f"vaultdesk {asked.command}: {error}")
         return error.status
     except BrokenPipeError:
         # Whoever reads the output has enough of it.

@@ -9,12 +9,12 @@ from __future__ import annotations
 import os
 import re
 import shlex
-import sys
 from collections.abc import Mapping
 from dataclasses import dataclass
 from pathlib import Path
 
 from vaultdesk.errors import DeskError
+from vaultdesk.output import say
 
 KNOWN = ("PORT", "BUCKETS", "NIGHT", "BACKUP", "KEEP", "ALARM", "TRUST_CLOCK", "MAX_JUMP")
 NAME = re.compile(r"[A-Za-z0-9_][A-Za-z0-9_.-]*")  # of a vault: a file's name, and a unit's
@@ -117,7 +117,7 @@ def read(name: str) -> Configuration:
         except ValueError as error:
             raise DeskError(f"{path}: line {number}: {error}") from error
         if member not in KNOWN:
-            print(f"{path}: line {number}: {member} isn't asked for by anything: is it misspelt?", file=sys.stderr)
+            say(f"{path}: line {number}: {member} isn't asked for by anything: is it misspelt?")
     return Configuration(name, path, values)
 
 

@@ -7,7 +7,6 @@ import csv
 import datetime as dt
 import re
 import subprocess
-import sys
 import tempfile
 from collections.abc import Iterator, Mapping, Sequence
 from dataclasses import dataclass
@@ -19,7 +18,7 @@ from vaultdesk.asking import add_yes, confirm
 from vaultdesk.engine import Engine
 from vaultdesk.errors import DeskError, EngineError
 from vaultdesk.items import Item, item_of, look_at_doubles, look_at_file, look_at_words, names_of, read_classes
-from vaultdesk.output import print_json, print_table, say_while_long
+from vaultdesk.output import print_json, print_table, say, say_while_long
 
 ROW = re.compile(r"(\d+) (admitted|again|refused) (\S+)")
 CAUSE = re.compile(r"row (\d+): (.*)")
@@ -37,14 +36,14 @@ def _look_at_vault(engine: Engine, words: argparse.Namespace, items: Sequence[It
         batches = reading.query(file, "batches")
         callers = {it["caller"]: it for it in reading.query(file, "callers")}
     except EngineError as error:
-        print(f"not looked at: what the vault holds already: {error}", file=sys.stderr)
+        say(f"not looked at: what the vault holds already: {error}")
         look_at_doubles(items, frozenset())
         return False
     if caller not in callers or callers[caller]["department"] == "-":
         raise DeskError(f"caller {caller!r} has no department, or isn't there: it can put nothing")
     known = [it["lines"] for it in batches if (it["bucket"], it["batch"]) == (words.bucket, words.batch)]
     if known:
-        print(f"batch {words.batch!r} is known: {known[0]} of its lines were taken in before", file=sys.stderr)
+        say(f"batch {words.batch!r} is known: {known[0]} of its lines were taken in before")
     look_at_doubles(items, frozenset(held))
     return bool(known)
 
@@ -138,7 +137,7 @@ def _taken_in(engine: Engine, words: argparse.Namespace, items: Sequence[Item]) 
         if found:
             causes[int(found[1])] = _cause(items, int(found[1]), found[2])
         elif line:
-            print(line, file=sys.stderr)
+            say(line)
     if done.returncode not in (0, 1):
         raise EngineError(f"the intake wasn't begun: status {done.returncode}")
     return Intake(done.stdout.split("\n")[:-1], causes)
@@ -196,7 +195,7 @@ def deliver(engine: Engine, words: argparse.Namespace) -> None:
     elif words.dry_run or is_refused:
         print_json({"taken_in": 0, "findings": _findings(items)})
     if words.dry_run:
-        print(f"{len(right)} of {len(items)} rows would be taken in", file=sys.stderr)
+        say(f"{len(right)} of {len(items)} rows would be taken in")
         return
     if is_refused:
         raise DeskError(f"{len(items) - len(right)} of {len(items)} rows are wrong: mend them, or give --leave-out")

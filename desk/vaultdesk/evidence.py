@@ -7,7 +7,6 @@ from __future__ import annotations
 
 import argparse
 import os
-import sys
 from collections.abc import Iterable, Sequence
 from pathlib import Path
 from typing import Any
@@ -15,7 +14,7 @@ from typing import Any
 from vaultdesk import moments, recheck
 from vaultdesk.engine import Engine
 from vaultdesk.errors import DeskError, UsageError
-from vaultdesk.output import print_json, say_while_long
+from vaultdesk.output import print_json, say, say_while_long
 
 Seal = recheck.events.Seal
 
@@ -42,11 +41,6 @@ def seal_json(seal: Seal) -> dict[str, Any]:
 def counted(number: int, what: str) -> str:
     """A number with what it counts: `1 seal`, `12 seals`."""
     return f"{number} {what}{'' if number == 1 else 's'}"
-
-
-def say(text: str) -> None:
-    """A line for people, who see it beside what is printed for programs."""
-    print(text, file=sys.stderr)
 
 
 def _seconds_of(moment: str) -> int:

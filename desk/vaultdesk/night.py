@@ -17,8 +17,8 @@ from vaultdesk import backup, config, evidence, moments, reading
 from vaultdesk.config import Desk
 from vaultdesk.engine import Engine
 from vaultdesk.errors import DeskError
-from vaultdesk.output import print_json, print_rows
-from vaultdesk.units import Served, say
+from vaultdesk.output import print_json, print_rows, say
+from vaultdesk.units import Served
 
 DAY = 86_400
 ABOUT = """Stops the server of a vault, as one program at a time has it, carries out the lifecycle rules of its

@@ -16,8 +16,8 @@ from vaultdesk import backup, conf, config, moments, reading
 from vaultdesk.config import Desk
 from vaultdesk.engine import Engine
 from vaultdesk.errors import DeskError, EngineError
-from vaultdesk.output import print_json, print_table
-from vaultdesk.units import Served, say
+from vaultdesk.output import print_json, print_table, say
+from vaultdesk.units import Served
 
 Row = dict[str, Any]
 ABOUT = """Several vaults on one machine: nginx gives each request at one port to the vault that has its bucket, and

@@ -13,6 +13,12 @@ def shown(text: str) -> str:
     return "".join(it if it.isprintable() else it.encode("unicode_escape").decode() for it in text)
 
 
+def say(text: str) -> None:
+    """Prints a line on standard error, after what was printed on standard output until then."""
+    sys.stdout.flush()
+    print(text, file=sys.stderr, flush=True)
+
+
 def print_json(value: Any) -> None:
     """Prints one JSON value and a line's end."""
     json.dump(value, sys.stdout, ensure_ascii=False, indent=2)
@@ -50,4 +56,4 @@ def print_table(rows: Sequence[Mapping[str, Any]], columns: Sequence[str], as_js
 def say_while_long(text: str) -> None:
     """A line for a person at a terminal, before what may take long."""
     if sys.stderr.isatty():
-        print(text, file=sys.stderr)
+        say(text)

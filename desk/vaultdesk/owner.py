@@ -15,6 +15,7 @@ from pathlib import Path
 from types import FrameType
 
 from vaultdesk.errors import DeskError
+from vaultdesk.output import say
 
 SIGNALS = (signal.SIGHUP, signal.SIGINT, signal.SIGTERM)
 
@@ -116,7 +117,7 @@ class Owner:
             os.setuid(self.uid)
             status = work()
         except DeskError as error:
-            print(f"vaultdesk: {error}", file=sys.stderr)
+            say(f"vaultdesk: {error}")
             status = error.status
         except BaseException:
             traceback.print_exc()

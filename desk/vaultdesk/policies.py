@@ -3,7 +3,6 @@
 from __future__ import annotations
 
 import argparse
-import sys
 from typing import Any
 
 from vaultdesk import moments, reading
@@ -12,7 +11,7 @@ from vaultdesk.engine import Engine
 from vaultdesk.errors import DeskError, UsageError
 from vaultdesk.forecast import COLUMNS as FORESEEN
 from vaultdesk.forecast import Rule, foreseen, rules_of, set_rules
-from vaultdesk.output import print_json, print_table
+from vaultdesk.output import print_json, print_table, say
 
 COLUMNS = ("id", "enabled", "prefix", "above", "below", "expires", "noncurrent", "keeps", "lone markers")
 
@@ -127,7 +126,7 @@ def expire(engine: Engine, words: argparse.Namespace) -> None:
     confirm(words, f"the rules of {len(buckets)} buckets are carried out as of this moment")
     for it in buckets:
         done = engine.ask("run", bucket=it)
-        print(f"{it}: {done['marked']} marked, {done['removed']} removed, {done['lone']} lone markers", file=sys.stderr)
+        say(f"{it}: {done['marked']} marked, {done['removed']} removed, {done['lone']} lone markers")
 
 
 def _add_rule_words(it: argparse.ArgumentParser, id_needed: bool) -> None:

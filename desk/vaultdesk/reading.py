@@ -8,7 +8,6 @@ from __future__ import annotations
 
 import re
 import sqlite3
-import sys
 import urllib.parse
 from collections.abc import Iterator, Mapping, Sequence
 from contextlib import closing, contextmanager
@@ -17,6 +16,7 @@ from typing import Any
 
 from vaultdesk import beside, recheck
 from vaultdesk.errors import DeskError, EngineError
+from vaultdesk.output import say
 
 Values = Sequence[Any] | Mapping[str, Any]
 Row = dict[str, Any]
@@ -40,7 +40,7 @@ def _immutable(file: Path) -> str:
     log = Path(f"{file.resolve()}-wal")
     if log.is_file() and log.stat().st_size:
         why = "what stands in the log alone is left out. Copy both files elsewhere to have it read."
-        print(f"{log} isn't read, as nothing can be written there: {why}", file=sys.stderr)
+        say(f"{log} isn't read, as nothing can be written there: {why}")
     return "&immutable=1"
 
 

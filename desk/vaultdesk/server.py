@@ -11,8 +11,8 @@ from pathlib import Path
 
 from vaultdesk.backup import stamp
 from vaultdesk.errors import DeskError, UsageError
-from vaultdesk.output import print_json
-from vaultdesk.units import Busy, Served, say, systemctl
+from vaultdesk.output import print_json, say
+from vaultdesk.units import Busy, Served, systemctl
 
 PATIENCE = 30  # seconds for the server's answer
 OFFLINE = """Stops the server of a vault, does a command as the user whose the vaults are, in their folder, and starts

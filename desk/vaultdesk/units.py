@@ -13,6 +13,7 @@ from pathlib import Path
 
 from vaultdesk import conf, config
 from vaultdesk.errors import DeskError
+from vaultdesk.output import say
 from vaultdesk.owner import Owner, owner_of, signals_raise, signals_wait
 
 RUNNING = ("active", "activating", "reloading", "deactivating")
@@ -31,11 +32,6 @@ def folder() -> Path:
 def locks() -> Path:
     """Where locks and marks of alarms are, until the machine is started anew."""
     return Path(os.environ.get("VAULT_LOCKS", "/run/vaultctl"))
-
-
-def say(text: str) -> None:
-    """A line on standard error, at once."""
-    print(text, file=sys.stderr, flush=True)
 
 
 def systemctl(*words: str) -> tuple[int, str]:

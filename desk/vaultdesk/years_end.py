@@ -15,7 +15,7 @@ from typing import Any
 from vaultdesk import moments, reading, spreadsheet
 from vaultdesk.engine import Engine
 from vaultdesk.errors import DeskError, EngineError, Refused, UsageError
-from vaultdesk.output import print_json, print_table
+from vaultdesk.output import print_json, print_table, say
 
 Row = dict[str, str]
 COLUMNS = (
@@ -148,7 +148,7 @@ def report(engine: Engine, words: argparse.Namespace) -> None:
         rows = [it for it in _past_sums(engine, engine.at) if it["dept"] in names]
         if not rows:
             raise DeskError(f"the vault has no department {words.department!r}") from error
-        print("of the past, which the engine doesn't report: by the auditor's query report.sql", file=sys.stderr)
+        say("of the past, which the engine doesn't report: by the auditor's query report.sql")
     columns = ("dept", "at", *SUMS)
     if words.csv:
         _print_csv(rows, columns)
