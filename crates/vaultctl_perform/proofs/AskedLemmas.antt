@@ -14,9 +14,9 @@ use Rattle.vaultctl_perform.specs.Asked.{IsDone, IsUnread, IsDoneAt, IsSteady, I
 -- a value that isn't such is refused, whatever would be made of the others
 pub refused_anyway : {X Y : Type 0} (view : X → Y) (asked : Result X LineFault) (said : Result Y Refusal) (r : Refusal)
     → Gives view asked said → said ≡ Err r → Gives (λ (x : X). x) asked (Err r)
-refused_anyway view (Ok x) said r gives is = absurd (cc gives is)
+refused_anyway view (Ok x) said r gives is = let no : ⊥ = cc in absurd no
 refused_anyway view (Err Memory) said r gives is = tt
-refused_anyway view (Err (Refused f)) said r gives is = let same : r ≡ f = cc gives is in ap Err same
+refused_anyway view (Err (Refused f)) said r gives is = let same : r ≡ f = cc in ap Err same
 
 module _ (Failed : Type 0) (asked : Asked) (v v' : Vault) (told : Outcome) (before after : Option (List ℕ)) where
   -- the reading that is given is the one that was taken

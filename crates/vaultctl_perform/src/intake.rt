@@ -200,7 +200,7 @@ pub fn take_in<S: Start, W: Write, E: Write>(
     out: &mut W,
     err: &mut E,
 ) -> u8
-    ensures values { (said : Result AskedOf AnyRefusal) (r : AnyRefusal) → Gives (λ i. i.asked) asked said → said ≡ Err r → (machine.new ≡ machine.old) × (result ≡ 1) }
+    ensures values { (said : Result AskedOf AnyRefusal) (r : AnyRefusal) → Gives (λ i. i.asked) asked.entry said → said ≡ Err r → (machine.new ≡ machine.old) × (result ≡ 1) }
     // Status 0 says that each row was taken in, and that the lines which say so were printed.
     ensures told { result ≡ 0 → TellsIntake Outcome.Done (W.contents out.old) (W.contents out.new) }
     ensures status { result ≢ 2 }

@@ -1,4 +1,5 @@
 use Rattle.std.proofs.Common.{Err, refl}
+use Rattle.vaultctl_perform.specs.declared.intake.Intake.{Intake}
 use Rattle.vaultctl_perform.proofs.AskedLemmas.{refused_anyway}
 use Rattle.vaultctl_perform.proofs.IntakeLemmas.{done_told}
 use Rattle.vaultctl_perform.proofs.intake.take_in.Goals as goal
@@ -7,4 +8,5 @@ pub returns-clause-told : goal.returns-clause-told
 returns-clause-told g c = λ z. done_told _ _ (c.ask_read.ensures.told z).0
 
 pub returns-clause-values : goal.returns-clause-values
-returns-clause-values g c = λ said r gives is. c.ask_read.ensures.values (Err r) r (refused_anyway _ c.args.asked said r gives is) refl
+returns-clause-values g c = λ said r gives is.
+    c.ask_read.ensures.values (Err r) r (refused_anyway (λ (i : Intake). i.asked) c.args.asked said r gives is) refl
