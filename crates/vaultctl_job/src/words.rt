@@ -139,7 +139,7 @@ pub fn hint(words: &[String]) -> Option<&'static str> {
         | "set-retention"
         | "set-rules"
         | "set-default" => Some(
-            "that is a command of a script, a line of JSON: vaultctl replay FILE < SCRIPT; the manual, docs/MANUAL.md, has an example of each, and vault-put, vault-get, vault-ls and vault-hold do some",
+            "that is a command of a script, a line of JSON: vaultctl replay FILE < SCRIPT; docs/formats/LINES.md has an example of each, and vaultdesk does most of them",
         ),
         _ => None,
     }
