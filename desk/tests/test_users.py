@@ -71,6 +71,15 @@ class Users(OfficeTest):
         self.done(*remove, "--yes", at=None)
         self.assertEqual(self.users.read_text(), "")
 
+    def test_json_says_what_was_done(self) -> None:
+        file, told = str(self.users), []
+        for words in (("add", file, "ann"), ("password", file, "ann")):
+            told.append(json.loads(self.given("a long one", *words, "--json").out))
+        for more in ("--dry-run", "--yes"):
+            told.append(json.loads(self.done("users", "remove", file, "ann", more, "--json", at=None)))
+        did = ("added", "password", "would be removed", "removed")
+        self.assertEqual(told, [{"file": file, "user": "ann", "done": it} for it in did])
+
     def test_users_and_callers_beside_each_other(self) -> None:
         self.users.write_text("ann:x\nbob:y\n")
         told = json.loads(self.done("users", "list", str(self.users), "--vault", str(self.file), "--json", at=None))

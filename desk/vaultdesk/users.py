@@ -17,7 +17,7 @@ from pathlib import Path
 from vaultdesk import conf, config, reading
 from vaultdesk.asking import add_yes, confirm
 from vaultdesk.errors import DeskError, UsageError
-from vaultdesk.output import print_table
+from vaultdesk.output import print_json, print_table
 from vaultdesk.owner import Owner, owner_of
 
 NGINX = "www-data"  # the group as which Debian's nginx reads
@@ -116,6 +116,12 @@ def users_list(words: argparse.Namespace) -> int:
     return 0
 
 
+def _tell(words: argparse.Namespace, what: str) -> None:
+    """Prints what was done with a user, where JSON is asked for."""
+    if words.json:
+        print_json({"file": words.file, "user": words.name, "done": what})
+
+
 def users_add(words: argparse.Namespace) -> int:
     """Adds a user, whose password is asked for."""
     path = Path(words.file)
@@ -128,6 +134,7 @@ def users_add(words: argparse.Namespace) -> int:
         raise DeskError(f"{words.name} is no open caller of {words.vault}: vaultdesk callers --add makes one")
     users[words.name] = digest_of(ask_password(words.name))
     write_users(path, users)
+    _tell(words, "added")
     return 0
 
 
@@ -138,6 +145,7 @@ def users_password(words: argparse.Namespace) -> int:
         raise DeskError(f"{words.name} isn't in {words.file}: vaultdesk users add adds one")
     users[words.name] = digest_of(ask_password(words.name))
     write_users(Path(words.file), users)
+    _tell(words, "password")
     return 0
 
 
@@ -147,10 +155,13 @@ def users_remove(words: argparse.Namespace) -> int:
     if users.pop(words.name, None) is None:
         raise DeskError(f"{words.name} isn't in {words.file}")
     if words.dry_run:
-        print(f"{words.name} would be let in no more")
+        if not words.json:
+            print(f"{words.name} would be let in no more")
+        _tell(words, "would be removed")
         return 0
     confirm(words, f"{words.name} is let in no more")
     write_users(Path(words.file), users)
+    _tell(words, "removed")
     return 0
 
 
@@ -171,19 +182,20 @@ def add(commands: argparse._SubParsersAction[argparse.ArgumentParser], common: a
 
     example = f"Example: vaultdesk users add {place} ann"
     what = "add one: its password is asked for, or is the first line of standard input"
-    it = kinds.add_parser("add", help=what, epilog=example)
+    it = kinds.add_parser("add", parents=[common], help=what, epilog=example)
     it.add_argument("file", metavar="FILE", help=f"{text}; it is made where it isn't there")
     it.add_argument("name", metavar="NAME", help="the name of a caller")
     it.add_argument("--vault", metavar="V", help="look first whether that caller is there")
     it.set_defaults(do=users_add)
 
     example = f"Example: vaultdesk users password {place} ann"
-    it = kinds.add_parser("password", help="give one another password", epilog=example)
+    it = kinds.add_parser("password", parents=[common], help="give one another password", epilog=example)
     it.add_argument("file", metavar="FILE", help=text)
     it.add_argument("name", metavar="NAME")
     it.set_defaults(do=users_password)
 
-    it = kinds.add_parser("remove", help="remove one", epilog=f"Example: vaultdesk users remove {place} ann")
+    example = f"Example: vaultdesk users remove {place} ann"
+    it = kinds.add_parser("remove", parents=[common], help="remove one", epilog=example)
     it.add_argument("file", metavar="FILE", help=text)
     it.add_argument("name", metavar="NAME")
     add_yes(it)
