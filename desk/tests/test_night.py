@@ -4,6 +4,7 @@ from __future__ import annotations
 
 import datetime as dt
 import json
+import os
 import sqlite3
 import subprocess
 import time
@@ -108,6 +109,8 @@ class Night(MachineTest):
         self.configure(BUCKETS="docs", MAX_JUMP="0")
         mark = self.folder / "records.night"
         mark.touch()
+        # A second may pass before the night looks at it.
+        os.utime(mark, (time.time() + 30, time.time() + 30))
         self.done("night", "records", at=None)
         self.assertLess(time.time() - mark.stat().st_mtime, 60)
 
@@ -204,6 +207,12 @@ class Backup(MachineTest):
         self.assertEqual({it.name.removesuffix("-wal") for it in self.made()}, {copy.name})
         self.assertEqual(self.desk("backup", "other", at=None).status, 2)
         self.assertEqual(self.desk("backup", "records", "--keep", "0", at=None).status, 2)
+
+    def test_two_copies_of_one_second(self) -> None:
+        stamps = ["20261127T030000Z", "20261127T030000Z", "20261127T030001Z"]
+        with mock.patch("vaultdesk.backup.stamp", side_effect=stamps), mock.patch("time.sleep"):
+            copies = [Path(self.done("backup", "records", at=None).strip()).name for _ in range(2)]
+        self.assertEqual(copies, [f"records-{it}.vault" for it in stamps[1:]])
 
     def test_nothing_is_written_over(self) -> None:
         with mock.patch("vaultdesk.backup.stamp", return_value="20261127T030000Z"):

@@ -8,6 +8,7 @@ import os
 import re
 import sqlite3
 import subprocess
+import time
 from contextlib import closing
 from pathlib import Path
 
@@ -52,6 +53,16 @@ def _synced(path: Path) -> None:
         os.close(descriptor)
 
 
+def _unused(folder: Path, name: str) -> Path:
+    """The path of a copy that isn't there: of this second, or where a copy of it is there, of a later one."""
+    for wait in (0.0, 1.1):
+        time.sleep(wait)
+        copy = folder / f"{name}-{stamp()}.vault"
+        if not copy.exists() and not copy.with_name(f"{copy.name}.damaged").exists():
+            return copy
+    raise DeskError(f"{copy} is there already")
+
+
 def made(source: Path, folder: Path, program: str) -> Path:
     """Makes a copy of a vault in a folder, audits it, and returns its path: NAME-MOMENT.vault.
 
@@ -59,15 +70,13 @@ def made(source: Path, folder: Path, program: str) -> Path:
     `.damaged` after its name."""
     owner = owner_of(source)
     os.umask(0o077)
-    copy = folder / f"{source.name.removesuffix('.vault')}-{stamp()}.vault"
+    copy = _unused(folder, source.name.removesuffix(".vault"))
     trial = copy.with_name(f"{copy.name}.damaged")
     log, trial_log = Path(f"{copy}-wal"), Path(f"{trial}-wal")
     try:
         if not folder.is_dir():
             folder.mkdir(parents=True)
             owner.give(folder)
-        if copy.exists() or trial.exists():
-            raise DeskError(f"{copy} is there already")
         read_copy(source, trial)
         done = subprocess.run([program, "verify", trial], stdout=subprocess.PIPE, check=False)
         verdict = done.stdout.decode("utf-8", "replace").strip()
