@@ -143,8 +143,8 @@ def aim(rows, of_our_pages):
     sizes = sorted({size for found in times.values() for size in found})
     lines = [f"{'':42}" + "".join(f"{it:>10,}" for it in sizes)]
     for what, found in times.items():
-        told = ((what, found), (f"{what}, our pages", others.get(what, {})), ("aimed at, at most", AIMS[what]))
-        for name, numbers in told:
+        rows = ((what, found), (f"{what}, our pages", others.get(what, {})), ("aimed at, at most", AIMS[what]))
+        for name, numbers in rows:
             lines.append(f"{name:42}" + "".join(f"{shown(numbers.get(it), 2):>10}" for it in sizes))
     every = [it > AIMS[what][size] for what, found in times.items() for size, it in found.items() if size in AIMS[what]]
     lines.append(f"above what is aimed at: {sum(every)} of {len(every)}")

@@ -143,7 +143,7 @@ NO_KEY = [{"ID": "none", "Prefix": "1999/", "Status": "Enabled", "Expiration": {
 
 
 def rule(wanted, vaults, results):
-    """Lifecycle runs of a bucket whose one rule fits no key; what a whole run takes is told."""
+    """Lifecycle runs of a bucket whose one rule fits no key. The time is that of a whole run."""
     for size in wanted.sizes:
         pair = Pair(vaults.program, vaults.of(fixture.Shape(size)), vaults.folder, both=False)
         given = itertools.repeat(lines.line("set-rules", bucket="docs", rules=NO_KEY))

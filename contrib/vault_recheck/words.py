@@ -56,7 +56,7 @@ def audited(name: str, immutable: bool) -> Iterator[sqlite3.Connection]:
 
 
 def say_differences(found: Iterator[str], none: str) -> int:
-    """Prints a line for each, or that there is none; the status."""
+    """Prints a line for each difference, or `none` if there is no difference, and returns the status."""
     status = 0
     for it in found:
         status = 1

@@ -1,7 +1,6 @@
 //! What both keepers show of what happened to each entry: the events, the seal over those before a moment, and whether each
 //! setting and each removal keeps the rules.
 use crate::over_keepers::{KeeperTrial, try_over_both};
-use crate::rows_texts::OPENING;
 use std::alloc::Global;
 use std::test::Fail;
 use vault_base::moment::Moment;
@@ -9,6 +8,7 @@ use vault_core::fuse_keeper::FuseKeeper;
 use vault_core_evidence::walk::lawful;
 use vault_core_model::keeper::Keeper;
 use vault_files_events::{export_events, seal, seal_text};
+use vault_tests_keepers_rows::texts::OPENING;
 use vault_transcript::transcript::play;
 use vault_transcript::trial::compare;
 

@@ -13,6 +13,4 @@ mod removed;
 #[cfg(test)]
 mod rows;
 #[cfg(test)]
-mod rows_texts;
-#[cfg(test)]
 mod stopped;

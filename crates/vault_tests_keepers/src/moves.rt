@@ -1,12 +1,12 @@
 //! What both keepers tell of buckets that were moved: how often, what each holds, and whose its versions were.
 use crate::over_keepers::{KeeperTrial, failed_so_often, try_over_both};
-use crate::rows_texts::OPENING;
 use std::alloc::Global;
 use std::test::Fail;
 use vault_base::name::{BucketName, VersionId};
 use vault_core::fuse_keeper::FuseKeeper;
 use vault_core_model::keeper::Keeper;
 use vault_core_model::records::Tenure;
+use vault_tests_keepers_rows::texts::OPENING;
 use vault_transcript::transcript::play;
 use vault_transcript::trial::compare;
 

@@ -1,6 +1,5 @@
 //! What both keepers tell of removed entries, and which rule they name.
 use crate::over_keepers::{KeeperTrial, try_over_both};
-use crate::rows_texts::OPENING;
 use std::alloc::{AllocError, Global};
 use std::test::Fail;
 use vault_base::name::VersionId;
@@ -8,6 +7,7 @@ use vault_core::fuse_keeper::FuseKeeper;
 use vault_core_model::halt::Fault;
 use vault_core_model::keeper::{Keeper, Sink};
 use vault_core_model::records::{Author, Cause, Entry};
+use vault_tests_keepers_rows::texts::OPENING;
 use vault_transcript::transcript::play;
 use vault_transcript::trial::compare;
 

@@ -1,9 +1,9 @@
 //! Rows over tables in memory, whose device doesn't fail.
 use crate::over_keepers::try_in_tables;
-use crate::rows_texts::{LOCKS, MOVES, RUNS, SUMS};
 use crate::stopped::Stopped;
 use std::alloc::Global;
 use std::test::Fail;
+use vault_tests_keepers_rows::texts::{LOCKS, MOVES, RUNS, SUMS};
 
 /// Each row holds on a vault of its own, behind the opening lines.
 fn all_hold(alloc: Global, texts: &[&str]) -> Result<(), Fail> {

@@ -1,11 +1,11 @@
 //! Runs that a failing device stops after each change of their plan in turn, and a move that it stops, each given
 //! again, over the list and over tables in memory.
 use crate::over_keepers::{KeeperTrial, failed_so_often, try_over_both, unfailing};
-use crate::rows_texts::OPENING;
 use std::alloc::Global;
 use std::test::Fail;
 use vault_core::fuse_keeper::FuseKeeper;
 use vault_core_model::keeper::Keeper;
+use vault_tests_keepers_rows::texts::OPENING;
 use vault_transcript::transcript::play;
 
 /// A run over a device that refuses the change behind so many.
