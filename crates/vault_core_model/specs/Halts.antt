@@ -1,5 +1,5 @@
 -- What a check or a command of the code gives, beside what its definition gives.
-use Rattle.std.specs.Prelude.{ℕ, ◌≡◌, ◌<◌, Bool, true, false, Result, Ok, Err}
+use Rattle.std.specs.Prelude.{◌≡◌, Bool, true, false, Result, Ok, Err}
 use Rattle.vault_base.specs.declared.refusal.Refusal.{Refusal}
 use Rattle.vault_base.specs.declared.refusal.Refusal.TheVariants as refusal
 use Rattle.vault_core_model.specs.declared.halt.Fault.{Fault}
@@ -63,11 +63,3 @@ abbrev pub is_device_reply : Reply → Bool
 is_device_reply (reply.Done a) = false
 is_device_reply (reply.Refused r) = is_device_refusal r
 is_device_reply (reply.Stopped n s) = is_device_stop s
-
--- 2^64 - 1, the greatest value of a count
-abbrev pub largest_count : ℕ
-largest_count = 18446744073709551615
-
--- a count of failures rose, or stands at its greatest value
-abbrev pub RoseOrIsFull : ℕ → ℕ → Type 0
-RoseOrIsFull old new = old < largest_count → old < new

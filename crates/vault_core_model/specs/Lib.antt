@@ -5,6 +5,7 @@ pub mod EntryOutcomes
 pub mod Halts
 pub mod Handing
 pub mod IntakeOutcome
+pub mod Leaves
 pub mod ListingOutcome
 pub mod LockOutcomes
 pub mod Order

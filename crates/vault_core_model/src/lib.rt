@@ -7,6 +7,7 @@ pub mod command;
 pub mod halt;
 pub mod held;
 pub mod keeper;
+pub mod kept;
 pub mod limits;
 pub mod records;
 pub mod reply;
