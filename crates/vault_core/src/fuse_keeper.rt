@@ -7,6 +7,7 @@ use vault_base::name::{
 use vault_core_model::change::Change;
 use vault_core_model::halt::Fault;
 use vault_core_model::keeper::{Keeper, Sink};
+use vault_core_model::kept::Kept;
 use vault_core_model::records::{
     BucketConfig, Caller, Entry, Head, LastSetting, Note, Settings, Tenures,
 };
@@ -52,15 +53,20 @@ impl<K> FuseKeeper<K> {
     }
 }
 
-impl<K: Keeper> Keeper for FuseKeeper<K> {
-    ghost use Rattle.vault_core.specs.FuseKeeper.{failures};
+impl<K: Kept> Kept for FuseKeeper<K> {
+    ghost use Rattle.vault_core_model.specs.Leaves.{count_after};
 
     ghost is_honest = { λ k. K.is_honest k.keeper };
 
     ghost vault = { λ k. K.vault k.keeper };
 
-    ghost count = { λ k. failures k.blown (K.count k.keeper) };
+    ghost count = { λ k. count_after (K.count k.keeper) k.blown };
 
+    ghost sound = { λ k honest. K.sound k.keeper honest };
+}
+
+#[tactic(auto, using(vault_core_model::proofs::Counts::count_swaps))]
+impl<K: Keeper> Keeper for FuseKeeper<K> {
     fn faults(&self) -> u64 {
         let below = self.keeper.faults();
         if self.blown {

@@ -1,8 +1,6 @@
 //! A run of the history machine.
-ghost use Rattle.std.specs.Prelude.{◌≡◌, ◌≤◌, ◌+◌, ℕ, List, IsTrue, IfOk, OnErr, false};
-ghost use Rattle.std.specs.List.{list_any};
-ghost use Rattle.vault_core_model.specs.Halts.{is_device_reply, RoseOrIsFull};
-ghost use Rattle.vault_core_model.specs.Sound.{Sound};
+ghost use Rattle.std.specs.Prelude.{◌≡◌, ◌≤◌, ◌+◌, ℕ, List, IfOk, OnErr};
+ghost use Rattle.vault_core_model.specs.Leaves.{count_after_all};
 ghost use Rattle.vault_core_model.specs.Step.{IsRun, Reached};
 ghost use Rattle.vault_core_worm_laws.specs.Once.{Extends};
 ghost use Rattle.vault_core_worm_laws.specs.Removals.{RemovalsWerePermitted};
@@ -35,32 +33,30 @@ pub fn run<K: Keeper>(
     ensures permitted { K.is_honest keeper.new → Reached (K.vault keeper.old) → RemovalsWerePermitted (K.vault keeper.new) }
     ensures worm { K.is_honest keeper.new → Reached (K.vault keeper.old) → Worm (K.vault keeper.new) }
     // What was admitted is neither lost nor altered, and its bytes stand in the held content or were removed.
-    ensures once { K.is_honest keeper.new → Sound (K.vault keeper.old) → Extends (K.vault keeper.old).histories (K.vault keeper.new).histories }
-    ensures stored { K.is_honest keeper.new → Sound (K.vault keeper.old) → EachStandsOnce (K.vault keeper.new) }
-    ensures total { K.is_honest keeper.new → Sound (K.vault keeper.old) → (dept : List ℕ) →
+    ensures once { K.is_honest keeper.new → Extends (K.vault keeper.old).histories (K.vault keeper.new).histories }
+    ensures stored { K.is_honest keeper.new → EachStandsOnce (K.vault keeper.new) }
+    ensures total { K.is_honest keeper.new → (dept : List ℕ) →
         admitted_bytes (K.vault keeper.new) dept + received_bytes (K.vault keeper.new) dept
         ≡ stored_bytes (K.vault keeper.new) dept + (removed_bytes (K.vault keeper.new) dept + handed_bytes (K.vault keeper.new) dept) }
     // Over all departments, what was received was handed over, and what was admitted is held, so stands, or was removed; the byte-days charged are each version's size times its whole days held.
-    ensures moved { K.is_honest keeper.new → Sound (K.vault keeper.old) →
+    ensures moved { K.is_honest keeper.new →
         over_departments (K.vault keeper.new) (received_bytes (K.vault keeper.new)) ≡ over_departments (K.vault keeper.new) (handed_bytes (K.vault keeper.new)) }
-    ensures balanced { K.is_honest keeper.new → Sound (K.vault keeper.old) →
+    ensures balanced { K.is_honest keeper.new →
         over_departments (K.vault keeper.new) (admitted_bytes (K.vault keeper.new)) ≡ over_departments (K.vault keeper.new) (held_bytes (K.vault keeper.new)) + over_departments (K.vault keeper.new) (removed_bytes (K.vault keeper.new)) }
-    ensures whole { K.is_honest keeper.new → Sound (K.vault keeper.old) →
+    ensures whole { K.is_honest keeper.new →
         over_departments (K.vault keeper.new) (admitted_bytes (K.vault keeper.new)) ≡ all_stored_bytes (K.vault keeper.new) + over_departments (K.vault keeper.new) (removed_bytes (K.vault keeper.new)) }
-    ensures days { K.is_honest keeper.new → Sound (K.vault keeper.old) → (t : ℕ) → (K.vault keeper.new).last ≤ t →
+    ensures days { K.is_honest keeper.new → (t : ℕ) → (K.vault keeper.new).last ≤ t →
         over_departments (K.vault keeper.new) (λ dept. byte_days_at (K.vault keeper.new) dept t) ≡ vault_byte_days (K.vault keeper.new) t }
     // Lifecycle runs that were cut are the beginning of one run, and a last one that is done completes it.
-    ensures begun { K.is_honest keeper.new → Sound (K.vault keeper.old) → IfOk result (λ replies. BeginRun (K.vault keeper.old) commands.now replies.items (K.vault keeper.new)) }
-    ensures completed { K.is_honest keeper.new → Sound (K.vault keeper.old) → IfOk result (λ replies. CompleteRun (K.vault keeper.old) commands.now replies.items (K.vault keeper.new)) }
+    ensures begun { K.is_honest keeper.new → IfOk result (λ replies. BeginRun (K.vault keeper.old) commands.now replies.items (K.vault keeper.new)) }
+    ensures completed { K.is_honest keeper.new → IfOk result (λ replies. CompleteRun (K.vault keeper.old) commands.now replies.items (K.vault keeper.new)) }
     // These are the numbers that a department's row has.
     ensures conserved { (dept : List ℕ) →
         admitted_bytes (K.vault keeper.new) dept + received_bytes (K.vault keeper.new) dept
         ≡ held_bytes (K.vault keeper.new) dept + (removed_bytes (K.vault keeper.new) dept + handed_bytes (K.vault keeper.new) dept) }
     ensures honest { K.is_honest keeper.new → K.is_honest keeper.old }
-    ensures counted { K.count keeper.old ≤ K.count keeper.new }
-    // That the device failed is told only where its count of failures rose, or stands at its greatest value; where no reply tells it, the count is as it was.
-    ensures device { IfOk result (λ replies. IsTrue (list_any is_device_reply replies.items) → RoseOrIsFull (K.count keeper.old) (K.count keeper.new)) }
-    ensures steady { IfOk result (λ replies. list_any is_device_reply replies.items ≡ false → K.count keeper.new ≡ K.count keeper.old) }
+    // The count of failures rises by one for each reply that reports that the device failed, up to its greatest value.
+    ensures counted { IfOk result (λ replies. K.count keeper.new ≡ count_after_all (K.count keeper.old) replies.items) }
 {
     let mut replies = Vec::with_capacity(alloc, commands.len())?;
     for timed in commands {

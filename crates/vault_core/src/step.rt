@@ -1,9 +1,9 @@
 //! One step of the history machine.
-ghost use Rattle.std.specs.Prelude.{◌≡◌, ◌≤◌, ◌∷◌, [], IsTrue, Result, false};
+ghost use Rattle.std.specs.Prelude.{◌≡◌, ◌∷◌, [], Result};
 ghost use Rattle.vault_base.specs.declared.refusal.Refusal.{Refusal};
+ghost use Rattle.vault_core_model.specs.Leaves.{Leaves};
 ghost use Rattle.vault_core_model.specs.declared.reply.Answer.{Answer};
-ghost use Rattle.vault_core_model.specs.Halts.{AnswersAs, is_device, is_device_reply, RoseOrIsFull};
-ghost use Rattle.vault_core_model.specs.Sound.{Sound};
+ghost use Rattle.vault_core_model.specs.Halts.{AnswersAs, is_device, is_device_reply};
 ghost use Rattle.vault_core_model.specs.Step.{Answers, IsStep, Reached};
 ghost use Rattle.vault_core_model.specs.Vault.{Vault};
 ghost use Rattle.vault_core_worm_laws.specs.Once.{Extends};
@@ -49,14 +49,11 @@ pub fn step<K: Keeper>(
     ensures reached { K.is_honest keeper.new → Reached (K.vault keeper.old) → Reached (K.vault keeper.new) }
     ensures permitted { K.is_honest keeper.new → Reached (K.vault keeper.old) → RemovalsWerePermitted (K.vault keeper.new) }
     ensures worm { K.is_honest keeper.new → Reached (K.vault keeper.old) → Worm (K.vault keeper.new) }
-    ensures once { K.is_honest keeper.new → Sound (K.vault keeper.old) → Extends (K.vault keeper.old).histories (K.vault keeper.new).histories }
+    ensures once { K.is_honest keeper.new → Extends (K.vault keeper.old).histories (K.vault keeper.new).histories }
     // A lifecycle run that a fault cut has begun its plan, and the rest of it is left to do; one that is done leaves nothing.
-    ensures begun { K.is_honest keeper.new → Sound (K.vault keeper.old) → BeginRun (K.vault keeper.old) (one_command at who.now command.now) (result ∷ []) (K.vault keeper.new) }
-    ensures completed { K.is_honest keeper.new → Sound (K.vault keeper.old) → CompleteRun (K.vault keeper.old) (one_command at who.now command.now) (result ∷ []) (K.vault keeper.new) }
-    ensures honest { K.is_honest keeper.new → K.is_honest keeper.old }
-    ensures counted { K.count keeper.old ≤ K.count keeper.new }
-    ensures device { IsTrue (is_device_reply result) → RoseOrIsFull (K.count keeper.old) (K.count keeper.new) }
-    ensures steady { is_device_reply result ≡ false → K.count keeper.new ≡ K.count keeper.old }
+    ensures begun { K.is_honest keeper.new → BeginRun (K.vault keeper.old) (one_command at who.now command.now) (result ∷ []) (K.vault keeper.new) }
+    ensures completed { K.is_honest keeper.new → CompleteRun (K.vault keeper.old) (one_command at who.now command.now) (result ∷ []) (K.vault keeper.new) }
+    ensures leaves { Leaves K.Kept keeper.old keeper.new (is_device_reply result) }
 {
     carry_out(alloc, keeper, at, who, command)
 }
@@ -70,10 +67,7 @@ fn carry_out<K: Keeper>(
     command: &Command,
 ) -> Reply
     ensures step { K.is_honest keeper.new → IsStep (K.vault keeper.old) at who.now command.now result (K.vault keeper.new) }
-    ensures honest { K.is_honest keeper.new → K.is_honest keeper.old }
-    ensures counted { K.count keeper.old ≤ K.count keeper.new }
-    ensures device { IsTrue (is_device_reply result) → RoseOrIsFull (K.count keeper.old) (K.count keeper.new) }
-    ensures steady { is_device_reply result ≡ false → K.count keeper.new ≡ K.count keeper.old }
+    ensures leaves { Leaves K.Kept keeper.old keeper.new (is_device_reply result) }
 {
     match command {
         Command::AddDept(command) => reply_to(add_dept(keeper, at, who, command)),

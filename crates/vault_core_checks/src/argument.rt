@@ -1,7 +1,8 @@
 //! The arguments of commands.
 ghost use Rattle.std.specs.Prelude.{◌≡◌, ◌≤◌, IsTrue, IfErr, OnOk, false, length};
 ghost use Rattle.std.specs.Str.{bytes_eq};
-ghost use Rattle.vault_core_model.specs.Halts.{ChecksAs, is_device, is_device_refusal, RoseOrIsFull};
+ghost use Rattle.vault_core_model.specs.Leaves.{LeavesSame};
+ghost use Rattle.vault_core_model.specs.Halts.{ChecksAs, is_device, is_device_refusal};
 ghost use Rattle.vault_core_model.specs.Vault.{has_department};
 ghost use Rattle.vault_rules.specs.Rules.{passes_if_given};
 ghost use Rattle.vault_core_model.specs.Checks.{small_enough, ends_later_if_given, known_department, known_department_if_given, other_department, allowed_default, has_period};
@@ -45,11 +46,7 @@ pub fn check_end(at: Moment, retention: Option<Retention>) -> Result<(), Refusal
 pub fn check_dept<K: Keeper>(keeper: &mut K, dept: &DeptName) -> Result<(), Halt>
     ensures found { K.is_honest keeper.new → ChecksAs result (known_department (K.vault keeper.old) dept.now) }
     ensures there { K.is_honest keeper.new → OnOk result (IsTrue (has_department (K.vault keeper.old) dept.now)) }
-    ensures same { K.vault keeper.new ≡ K.vault keeper.old }
-    ensures honest { K.is_honest keeper.new → K.is_honest keeper.old }
-    ensures counted { K.count keeper.old ≤ K.count keeper.new }
-    ensures device { IsTrue (is_device result) → RoseOrIsFull (K.count keeper.old) (K.count keeper.new) }
-    ensures steady { is_device result ≡ false → K.count keeper.new ≡ K.count keeper.old }
+    ensures leaves { LeavesSame K.Kept keeper.old keeper.new (is_device result) }
 {
     if keeper.dept(dept)? {
         Ok(())
@@ -62,11 +59,7 @@ pub fn check_dept<K: Keeper>(keeper: &mut K, dept: &DeptName) -> Result<(), Halt
 pub fn check_dept_if_given<K: Keeper>(keeper: &mut K, dept: &Option<DeptName>) -> Result<(), Halt>
     ensures found { K.is_honest keeper.new → ChecksAs result (known_department_if_given (K.vault keeper.old) dept.now) }
     ensures there { K.is_honest keeper.new → OnOk result (IsTrue (passes_if_given (has_department (K.vault keeper.old)) dept.now)) }
-    ensures same { K.vault keeper.new ≡ K.vault keeper.old }
-    ensures honest { K.is_honest keeper.new → K.is_honest keeper.old }
-    ensures counted { K.count keeper.old ≤ K.count keeper.new }
-    ensures device { IsTrue (is_device result) → RoseOrIsFull (K.count keeper.old) (K.count keeper.new) }
-    ensures steady { is_device result ≡ false → K.count keeper.new ≡ K.count keeper.old }
+    ensures leaves { LeavesSame K.Kept keeper.old keeper.new (is_device result) }
 {
     match dept {
         None => Ok(()),
@@ -83,11 +76,7 @@ pub fn check_other<K: Keeper>(
     ensures found { K.is_honest keeper.new → ChecksAs result (other_department (K.vault keeper.old) bucket.now dept.now) }
     ensures there { K.is_honest keeper.new → OnOk result (IsTrue (has_department (K.vault keeper.old) dept.now)) }
     ensures other { OnOk result (bytes_eq bucket.now.dept dept.now ≡ false) }
-    ensures same { K.vault keeper.new ≡ K.vault keeper.old }
-    ensures honest { K.is_honest keeper.new → K.is_honest keeper.old }
-    ensures counted { K.count keeper.old ≤ K.count keeper.new }
-    ensures device { IsTrue (is_device result) → RoseOrIsFull (K.count keeper.old) (K.count keeper.new) }
-    ensures steady { is_device result ≡ false → K.count keeper.new ≡ K.count keeper.old }
+    ensures leaves { LeavesSame K.Kept keeper.old keeper.new (is_device result) }
 {
     check_dept(keeper, dept)?;
     if bucket.dept == *dept {

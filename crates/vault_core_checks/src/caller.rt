@@ -1,7 +1,7 @@
 //! The clock, the caller, and what the caller may do.
-ghost use Rattle.std.specs.Prelude.{◌≡◌, ◌≤◌, IsTrue, OnOk, IfOk, IfErr, Some, false};
-ghost use Rattle.vault_core_model.specs.Halts.{ChecksAs, is_device, is_device_refusal, RoseOrIsFull};
-ghost use Rattle.vault_core_model.specs.Sound.{Sound};
+ghost use Rattle.std.specs.Prelude.{◌≡◌, ◌≤◌, OnOk, IfOk, IfErr, Some, false};
+ghost use Rattle.vault_core_model.specs.Leaves.{LeavesSame};
+ghost use Rattle.vault_core_model.specs.Halts.{ChecksAs, is_device, is_device_refusal};
 ghost use Rattle.vault_core_model.specs.Vault.{config_of};
 ghost use Rattle.vault_core_model.specs.Checks.{in_time, asking, administrator, needs, needs_if, is_own, access, may_report};
 
@@ -24,12 +24,7 @@ fn denied(reason: Reason) -> Halt
 fn check_clock<K: Keeper>(keeper: &mut K, at: Moment) -> Result<(), Halt>
     ensures found { K.is_honest keeper.new → ChecksAs result (in_time (K.vault keeper.old) at) }
     ensures in_time { K.is_honest keeper.new → OnOk result ((K.vault keeper.old).last ≤ at) }
-    ensures sound { K.is_honest keeper.new → Sound (K.vault keeper.old) }
-    ensures same { K.vault keeper.new ≡ K.vault keeper.old }
-    ensures honest { K.is_honest keeper.new → K.is_honest keeper.old }
-    ensures counted { K.count keeper.old ≤ K.count keeper.new }
-    ensures device { IsTrue (is_device result) → RoseOrIsFull (K.count keeper.old) (K.count keeper.new) }
-    ensures steady { is_device result ≡ false → K.count keeper.new ≡ K.count keeper.old }
+    ensures leaves { LeavesSame K.Kept keeper.old keeper.new (is_device result) }
 {
     let last = keeper.last()?;
     if last <= at {
@@ -45,12 +40,7 @@ fn check_clock<K: Keeper>(keeper: &mut K, at: Moment) -> Result<(), Halt>
 pub fn find_caller<K: Keeper>(keeper: &mut K, at: Moment, who: &CallerName) -> Result<Caller, Halt>
     ensures found { K.is_honest keeper.new → ChecksAs result (asking (K.vault keeper.old) at who.now) }
     ensures in_time { K.is_honest keeper.new → OnOk result ((K.vault keeper.old).last ≤ at) }
-    ensures sound { K.is_honest keeper.new → Sound (K.vault keeper.old) }
-    ensures same { K.vault keeper.new ≡ K.vault keeper.old }
-    ensures honest { K.is_honest keeper.new → K.is_honest keeper.old }
-    ensures counted { K.count keeper.old ≤ K.count keeper.new }
-    ensures device { IsTrue (is_device result) → RoseOrIsFull (K.count keeper.old) (K.count keeper.new) }
-    ensures steady { is_device result ≡ false → K.count keeper.new ≡ K.count keeper.old }
+    ensures leaves { LeavesSame K.Kept keeper.old keeper.new (is_device result) }
 {
     check_clock(keeper, at)?;
     let Some(caller) = keeper.caller(who)? else {
@@ -97,11 +87,7 @@ pub fn find_administrator<K: Keeper>(
 ) -> Result<Caller, Halt>
     ensures found { K.is_honest keeper.new → ChecksAs result (administrator (K.vault keeper.old) at who.now) }
     ensures in_time { K.is_honest keeper.new → OnOk result ((K.vault keeper.old).last ≤ at) }
-    ensures same { K.vault keeper.new ≡ K.vault keeper.old }
-    ensures honest { K.is_honest keeper.new → K.is_honest keeper.old }
-    ensures counted { K.count keeper.old ≤ K.count keeper.new }
-    ensures device { IsTrue (is_device result) → RoseOrIsFull (K.count keeper.old) (K.count keeper.new) }
-    ensures steady { is_device result ≡ false → K.count keeper.new ≡ K.count keeper.old }
+    ensures leaves { LeavesSame K.Kept keeper.old keeper.new (is_device result) }
 {
     let caller = find_caller(keeper, at, who)?;
     check_right(&caller, Right::Admin)?;
@@ -131,12 +117,7 @@ pub fn find_access<K: Keeper>(
     ensures found { K.is_honest keeper.new → ChecksAs result (access (K.vault keeper.old) at who.now bucket.now right) }
     ensures in_time { K.is_honest keeper.new → OnOk result ((K.vault keeper.old).last ≤ at) }
     ensures there { K.is_honest keeper.new → IfOk result (λ access. config_of (K.vault keeper.old) bucket.now ≡ Some access.bucket) }
-    ensures sound { K.is_honest keeper.new → Sound (K.vault keeper.old) }
-    ensures same { K.vault keeper.new ≡ K.vault keeper.old }
-    ensures honest { K.is_honest keeper.new → K.is_honest keeper.old }
-    ensures counted { K.count keeper.old ≤ K.count keeper.new }
-    ensures device { IsTrue (is_device result) → RoseOrIsFull (K.count keeper.old) (K.count keeper.new) }
-    ensures steady { is_device result ≡ false → K.count keeper.new ≡ K.count keeper.old }
+    ensures leaves { LeavesSame K.Kept keeper.old keeper.new (is_device result) }
 {
     let caller = find_caller(keeper, at, who)?;
     let Some(bucket) = keeper.bucket(bucket)? else {

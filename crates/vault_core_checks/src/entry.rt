@@ -1,9 +1,9 @@
 //! Which entry is meant, and whether its lock permits its removal.
-ghost use Rattle.std.specs.Prelude.{◌≡◌, ◌≤◌, IsTrue, IfOk, IfErr, IfSome, false, Some, None, Err, option_map};
-ghost use Rattle.vault_core_model.specs.Halts.{ChecksAs, is_device, is_device_refusal, is_refused, is_device_given, RoseOrIsFull};
+ghost use Rattle.std.specs.Prelude.{◌≡◌, IfOk, IfErr, IfSome, false, Some, None, Err, option_map};
+ghost use Rattle.vault_core_model.specs.Leaves.{LeavesSame, ReadsAs};
+ghost use Rattle.vault_core_model.specs.Halts.{ChecksAs, is_device, is_device_refusal, is_refused};
 ghost use Rattle.vault_core_model.specs.Places.{current};
 ghost use Rattle.vault_core_model.specs.Reads.{entry_of, lock_of, setting_of, count_of_settings};
-ghost use Rattle.vault_core_model.specs.Sound.{Sound};
 ghost use Rattle.vault_core_model.specs.Checks.{content_on_top, held_entry, content_version, version_meant, permitted, refusal_of, lock_at_admission};
 ghost use Rattle.vault_lock.specs.Lock.{removable, retainable};
 
@@ -21,11 +21,7 @@ use vault_lock::retention::Retention;
 fn read_entry<K: Keeper>(keeper: &mut K, id: VersionId) -> Result<Option<Entry>, Fault>
     ensures value { K.is_honest keeper.new → IfOk result (λ found. found ≡ entry_of (K.vault keeper.old) id) }
     ensures own { K.is_honest keeper.new → IfOk result (λ found. IfSome found (λ entry. entry_of (K.vault keeper.old) entry.id ≡ Some entry)) }
-    ensures same { K.vault keeper.new ≡ K.vault keeper.old }
-    ensures honest { K.is_honest keeper.new → K.is_honest keeper.old }
-    ensures counted { K.count keeper.old ≤ K.count keeper.new }
-    ensures device { result ≡ Err Fault.Device → RoseOrIsFull (K.count keeper.old) (K.count keeper.new) }
-    ensures steady { is_device_given result ≡ false → K.count keeper.new ≡ K.count keeper.old }
+    ensures leaves { ReadsAs K.Kept keeper.old keeper.new result }
 {
     keeper.entry(id)
 }
@@ -41,11 +37,7 @@ pub fn find_held<K: Keeper>(
     ensures there { K.is_honest keeper.new → IfOk result (λ entry. entry_of (K.vault keeper.old) id ≡ Some entry) }
     ensures own { K.is_honest keeper.new → IfOk result (λ entry. entry_of (K.vault keeper.old) entry.id ≡ Some entry) }
     ensures held { IfOk result (λ entry. entry.removal ≡ None) }
-    ensures same { K.vault keeper.new ≡ K.vault keeper.old }
-    ensures honest { K.is_honest keeper.new → K.is_honest keeper.old }
-    ensures counted { K.count keeper.old ≤ K.count keeper.new }
-    ensures device { IsTrue (is_device result) → RoseOrIsFull (K.count keeper.old) (K.count keeper.new) }
-    ensures steady { is_device result ≡ false → K.count keeper.new ≡ K.count keeper.old }
+    ensures leaves { LeavesSame K.Kept keeper.old keeper.new (is_device result) }
 {
     let Some(entry) = read_entry(keeper, id)? else {
         return Err(Halt::Refused(Refusal::NoSuchVersion));
@@ -78,15 +70,10 @@ fn find_newest<K: Keeper>(
     bucket: &BucketName,
     key: &ObjectKey,
 ) -> Result<Option<Entry>, Fault>
-    requires { K.is_honest keeper.old → Sound (K.vault keeper.old) }
     ensures value { K.is_honest keeper.new → IfOk result (λ found. found ≡ option_map (λ h. h.entry) (current (K.vault keeper.old) bucket.now key.now)) }
     ensures own { K.is_honest keeper.new → IfOk result (λ found. IfSome found (λ entry. entry_of (K.vault keeper.old) entry.id ≡ Some entry)) }
     ensures held { K.is_honest keeper.new → IfOk result (λ found. IfSome found (λ entry. entry.removal ≡ None)) }
-    ensures same { K.vault keeper.new ≡ K.vault keeper.old }
-    ensures honest { K.is_honest keeper.new → K.is_honest keeper.old }
-    ensures counted { K.count keeper.old ≤ K.count keeper.new }
-    ensures device { result ≡ Err Fault.Device → RoseOrIsFull (K.count keeper.old) (K.count keeper.new) }
-    ensures steady { is_device_given result ≡ false → K.count keeper.new ≡ K.count keeper.old }
+    ensures leaves { ReadsAs K.Kept keeper.old keeper.new result }
 {
     let Some(head) = keeper.head(bucket, key)? else {
         return Ok(None);
@@ -100,16 +87,11 @@ fn find_current<K: Keeper>(
     bucket: &BucketName,
     key: &ObjectKey,
 ) -> Result<Entry, Halt>
-    requires { K.is_honest keeper.old → Sound (K.vault keeper.old) }
     ensures found { K.is_honest keeper.new → ChecksAs result (content_on_top (current (K.vault keeper.old) bucket.now key.now)) }
     ensures own { K.is_honest keeper.new → IfOk result (λ entry. entry_of (K.vault keeper.old) entry.id ≡ Some entry) }
     ensures held { K.is_honest keeper.new → IfOk result (λ entry. entry.removal ≡ None) }
     ensures version { IfOk result (λ entry. entry.marker ≡ false) }
-    ensures same { K.vault keeper.new ≡ K.vault keeper.old }
-    ensures honest { K.is_honest keeper.new → K.is_honest keeper.old }
-    ensures counted { K.count keeper.old ≤ K.count keeper.new }
-    ensures device { IsTrue (is_device result) → RoseOrIsFull (K.count keeper.old) (K.count keeper.new) }
-    ensures steady { is_device result ≡ false → K.count keeper.new ≡ K.count keeper.old }
+    ensures leaves { LeavesSame K.Kept keeper.old keeper.new (is_device result) }
 {
     let Some(entry) = find_newest(keeper, bucket, key)? else {
         return Err(Halt::Refused(Refusal::NoSuchKey(false)));
@@ -132,16 +114,11 @@ pub fn find_version<K: Keeper>(
     key: &ObjectKey,
     id: Option<VersionId>,
 ) -> Result<Entry, Halt>
-    requires { K.is_honest keeper.old → Sound (K.vault keeper.old) }
     ensures found { K.is_honest keeper.new → ChecksAs result (version_meant (K.vault keeper.old) bucket.now key.now id) }
     ensures own { K.is_honest keeper.new → IfOk result (λ entry. entry_of (K.vault keeper.old) entry.id ≡ Some entry) }
     ensures held { K.is_honest keeper.new → IfOk result (λ entry. entry.removal ≡ None) }
     ensures version { IfOk result (λ entry. entry.marker ≡ false) }
-    ensures same { K.vault keeper.new ≡ K.vault keeper.old }
-    ensures honest { K.is_honest keeper.new → K.is_honest keeper.old }
-    ensures counted { K.count keeper.old ≤ K.count keeper.new }
-    ensures device { IsTrue (is_device result) → RoseOrIsFull (K.count keeper.old) (K.count keeper.new) }
-    ensures steady { is_device result ≡ false → K.count keeper.new ≡ K.count keeper.old }
+    ensures leaves { LeavesSame K.Kept keeper.old keeper.new (is_device result) }
 {
     let Some(id) = id else {
         return find_current(keeper, bucket, key);
@@ -155,11 +132,7 @@ pub fn find_setting<K: Keeper>(keeper: &mut K, id: VersionId) -> Result<LastSett
     ensures lock { K.is_honest keeper.new → IfOk result (λ last. last.lock ≡ lock_of (K.vault keeper.old) id) }
     ensures settings { K.is_honest keeper.new → IfOk result (λ last. last.count ≡ count_of_settings (setting_of (K.vault keeper.old) id)) }
     ensures refused { is_refused result ≡ false }
-    ensures same { K.vault keeper.new ≡ K.vault keeper.old }
-    ensures honest { K.is_honest keeper.new → K.is_honest keeper.old }
-    ensures counted { K.count keeper.old ≤ K.count keeper.new }
-    ensures device { IsTrue (is_device result) → RoseOrIsFull (K.count keeper.old) (K.count keeper.new) }
-    ensures steady { is_device result ≡ false → K.count keeper.new ≡ K.count keeper.old }
+    ensures leaves { LeavesSame K.Kept keeper.old keeper.new (is_device result) }
 {
     match keeper.setting(id)? {
         None => Ok(LastSetting {

@@ -1,7 +1,8 @@
 //! The quota of a department, and the numbers that the vault gives.
-ghost use Rattle.std.specs.Prelude.{◌≡◌, ◌≤◌, ◌+◌, IsTrue, IfOk, IfErr, OnOk, nat_lt, ◌<◌, false, Some, None, if◌then◌else◌};
+ghost use Rattle.std.specs.Prelude.{◌≡◌, ◌≤◌, ◌+◌, IfOk, IfErr, OnOk, nat_lt, ◌<◌, false, Some, None};
 ghost use Rattle.vault_base.specs.Name.{is_version_id};
-ghost use Rattle.vault_core_model.specs.Halts.{ChecksAs, is_device, is_device_refusal, RoseOrIsFull};
+ghost use Rattle.vault_core_model.specs.Leaves.{LeavesSame};
+ghost use Rattle.vault_core_model.specs.Halts.{ChecksAs, is_device, is_device_refusal};
 ghost use Rattle.vault_core_model.specs.Vault.{next_id};
 ghost use Rattle.vault_core_model.specs.Totals.{admitted_bytes, received_bytes};
 ghost use Rattle.vault_core_model.specs.Checks.{check, within_quota, free_id, free_move, most_ids, most_moves, most_settings};
@@ -18,11 +19,7 @@ use vault_core_model::limits::{MOST_MOVES, MOST_SETTINGS};
 pub fn check_quota<K: Keeper>(keeper: &mut K, dept: &DeptName, size: u64) -> Result<(), Halt>
     ensures found { K.is_honest keeper.new → ChecksAs result (within_quota (K.vault keeper.old) dept.now size) }
     ensures fits { K.is_honest keeper.new → OnOk result (admitted_bytes (K.vault keeper.old) dept.now + received_bytes (K.vault keeper.old) dept.now + size ≤ quota) }
-    ensures same { K.vault keeper.new ≡ K.vault keeper.old }
-    ensures honest { K.is_honest keeper.new → K.is_honest keeper.old }
-    ensures counted { K.count keeper.old ≤ K.count keeper.new }
-    ensures device { IsTrue (is_device result) → RoseOrIsFull (K.count keeper.old) (K.count keeper.new) }
-    ensures steady { is_device result ≡ false → K.count keeper.new ≡ K.count keeper.old }
+    ensures leaves { LeavesSame K.Kept keeper.old keeper.new (is_device result) }
 {
     let row = keeper.totals(dept)?;
     if row.fits(size) {
@@ -37,11 +34,7 @@ pub fn find_id<K: Keeper>(keeper: &mut K) -> Result<VersionId, Halt>
     ensures found { K.is_honest keeper.new → ChecksAs result (free_id (K.vault keeper.old)) }
     ensures few { K.is_honest keeper.new → OnOk result (next_id (K.vault keeper.old) ≤ most_ids) }
     ensures next { K.is_honest keeper.new → IfOk result (λ id. id ≡ next_id (K.vault keeper.old)) }
-    ensures same { K.vault keeper.new ≡ K.vault keeper.old }
-    ensures honest { K.is_honest keeper.new → K.is_honest keeper.old }
-    ensures counted { K.count keeper.old ≤ K.count keeper.new }
-    ensures device { IsTrue (is_device result) → RoseOrIsFull (K.count keeper.old) (K.count keeper.new) }
-    ensures steady { is_device result ≡ false → K.count keeper.new ≡ K.count keeper.old }
+    ensures leaves { LeavesSame K.Kept keeper.old keeper.new (is_device result) }
 {
     let next = keeper.next_id()?;
     match id_of(next) {
@@ -64,11 +57,7 @@ fn id_of(number: u64) -> Option<VersionId>
 pub fn check_moves<K: Keeper>(keeper: &mut K) -> Result<(), Halt>
     ensures found { K.is_honest keeper.new → ChecksAs result (free_move (K.vault keeper.old)) }
     ensures left { K.is_honest keeper.new → OnOk result ((K.vault keeper.old).moves < most_moves) }
-    ensures same { K.vault keeper.new ≡ K.vault keeper.old }
-    ensures honest { K.is_honest keeper.new → K.is_honest keeper.old }
-    ensures counted { K.count keeper.old ≤ K.count keeper.new }
-    ensures device { IsTrue (is_device result) → RoseOrIsFull (K.count keeper.old) (K.count keeper.new) }
-    ensures steady { is_device result ≡ false → K.count keeper.new ≡ K.count keeper.old }
+    ensures leaves { LeavesSame K.Kept keeper.old keeper.new (is_device result) }
 {
     let made = keeper.moves()?;
     if made < MOST_MOVES {

@@ -1,6 +1,7 @@
 //! What a put and a line of an intake batch have in common.
-ghost use Rattle.std.specs.Prelude.{◌≡◌, ◌≤◌, ◌+◌, length, [], ◌∷◌, IsTrue, IfOk, OnOk, Some, false};
-ghost use Rattle.vault_core_model.specs.Halts.{ChecksAs, is_device, RoseOrIsFull};
+ghost use Rattle.std.specs.Prelude.{◌≡◌, ◌≤◌, ◌+◌, length, [], ◌∷◌, IfOk, OnOk, Some, false};
+ghost use Rattle.vault_core_model.specs.Leaves.{LeavesSame};
+ghost use Rattle.vault_core_model.specs.Halts.{ChecksAs, is_device};
 ghost use Rattle.vault_core_model.specs.EntryOutcomes as outcome;
 ghost use Rattle.vault_core_model.specs.Totals.{admitted_bytes, received_bytes};
 ghost use Rattle.vault_core_model.specs.Vault.{config_of};
@@ -31,11 +32,7 @@ pub(crate) fn find_access_to_put<K: Keeper>(
     ensures found { K.is_honest keeper.new → ChecksAs result (outcome.access_to_put (K.vault keeper.old) at who.now command.now) }
     ensures in_time { K.is_honest keeper.new → OnOk result ((K.vault keeper.old).last ≤ at) }
     ensures there { K.is_honest keeper.new → IfOk result (λ access. config_of (K.vault keeper.old) command.now.bucket ≡ Some access.bucket) }
-    ensures same { K.vault keeper.new ≡ K.vault keeper.old }
-    ensures honest { K.is_honest keeper.new → K.is_honest keeper.old }
-    ensures counted { K.count keeper.old ≤ K.count keeper.new }
-    ensures device { IsTrue (is_device result) → RoseOrIsFull (K.count keeper.old) (K.count keeper.new) }
-    ensures steady { is_device result ≡ false → K.count keeper.new ≡ K.count keeper.old }
+    ensures leaves { LeavesSame K.Kept keeper.old keeper.new (is_device result) }
 {
     let access = find_access(keeper, at, who, &command.bucket, Right::Put)?;
     let may_retain = check_right_if(command.retention.is_some(), &access.caller, Right::Retain);
@@ -61,11 +58,7 @@ pub(crate) fn find_lock_to_admit<K: Keeper>(
     ensures found { K.is_honest keeper.new → ChecksAs result (outcome.lock_to_admit (K.vault keeper.old) at command.now access.now) }
     ensures small { OnOk result (length command.now.content ≤ 1048576) }
     ensures fits { K.is_honest keeper.new → OnOk result (admitted_bytes (K.vault keeper.old) access.now.bucket.dept + received_bytes (K.vault keeper.old) access.now.bucket.dept + length command.now.content ≤ quota) }
-    ensures same { K.vault keeper.new ≡ K.vault keeper.old }
-    ensures honest { K.is_honest keeper.new → K.is_honest keeper.old }
-    ensures counted { K.count keeper.old ≤ K.count keeper.new }
-    ensures device { IsTrue (is_device result) → RoseOrIsFull (K.count keeper.old) (K.count keeper.new) }
-    ensures steady { is_device result ≡ false → K.count keeper.new ≡ K.count keeper.old }
+    ensures leaves { LeavesSame K.Kept keeper.old keeper.new (is_device result) }
 {
     check_size(&command.content)?;
     check_end(at, command.retention)?;

@@ -1,6 +1,7 @@
 //! Delete markers, and entries that are removed for good.
-ghost use Rattle.std.specs.Prelude.{◌≡◌, ◌≤◌, IsTrue, IfOk, OnOk, None, false};
-ghost use Rattle.vault_core_model.specs.Halts.{ChecksAs, AnswersAs, is_device, RoseOrIsFull};
+ghost use Rattle.std.specs.Prelude.{◌≡◌, ◌≤◌, IfOk, OnOk, None};
+ghost use Rattle.vault_core_model.specs.Leaves.{Leaves, LeavesSame};
+ghost use Rattle.vault_core_model.specs.Halts.{ChecksAs, AnswersAs, is_device};
 ghost use Rattle.vault_core_model.specs.declared.records.Author.TheVariants as author;
 ghost use Rattle.vault_core_model.specs.Allowed.{IsAdmission, IsHeldId};
 ghost use Rattle.vault_core_model.specs.EntryOutcomes as outcome;
@@ -30,10 +31,7 @@ pub fn delete<K: Keeper>(
     command: &Delete,
 ) -> Result<Answer, Halt>
     ensures meets { K.is_honest keeper.new → AnswersAs result (K.vault keeper.old) (K.vault keeper.new) (outcome.delete (K.vault keeper.old) at who.now command.now) }
-    ensures honest { K.is_honest keeper.new → K.is_honest keeper.old }
-    ensures counted { K.count keeper.old ≤ K.count keeper.new }
-    ensures device { IsTrue (is_device result) → RoseOrIsFull (K.count keeper.old) (K.count keeper.new) }
-    ensures steady { is_device result ≡ false → K.count keeper.new ≡ K.count keeper.old }
+    ensures leaves { Leaves K.Kept keeper.old keeper.new (is_device result) }
 {
     let id = find_marker_id(keeper, at, who, command)?;
     let marker = Admission {
@@ -54,11 +52,7 @@ fn find_marker_id<K: Keeper>(
     ensures found { K.is_honest keeper.new → ChecksAs result (outcome.marker_id (K.vault keeper.old) at who.now command.now) }
     ensures in_time { K.is_honest keeper.new → OnOk result ((K.vault keeper.old).last ≤ at) }
     ensures allowed { K.is_honest keeper.new → IfOk result (λ id. IsAdmission (K.vault keeper.old) at (record { history = outcome.new_marker id command.now.bucket command.now.key at (author.Caller who.now); note = None })) }
-    ensures same { K.vault keeper.new ≡ K.vault keeper.old }
-    ensures honest { K.is_honest keeper.new → K.is_honest keeper.old }
-    ensures counted { K.count keeper.old ≤ K.count keeper.new }
-    ensures device { IsTrue (is_device result) → RoseOrIsFull (K.count keeper.old) (K.count keeper.new) }
-    ensures steady { is_device result ≡ false → K.count keeper.new ≡ K.count keeper.old }
+    ensures leaves { LeavesSame K.Kept keeper.old keeper.new (is_device result) }
 {
     drop(find_access(keeper, at, who, &command.bucket, Right::Delete)?);
     find_id(keeper)
@@ -101,10 +95,7 @@ pub fn delete_version<K: Keeper>(
     command: &DeleteVersion,
 ) -> Result<Answer, Halt>
     ensures meets { K.is_honest keeper.new → AnswersAs result (K.vault keeper.old) (K.vault keeper.new) (outcome.delete_version (K.vault keeper.old) at who.now command.now) }
-    ensures honest { K.is_honest keeper.new → K.is_honest keeper.old }
-    ensures counted { K.count keeper.old ≤ K.count keeper.new }
-    ensures device { IsTrue (is_device result) → RoseOrIsFull (K.count keeper.old) (K.count keeper.new) }
-    ensures steady { is_device result ≡ false → K.count keeper.new ≡ K.count keeper.old }
+    ensures leaves { Leaves K.Kept keeper.old keeper.new (is_device result) }
 {
     let access = find_access(keeper, at, who, &command.bucket, Right::DeleteVersion)?;
     let found = find_removable(keeper, at, &access, command);
@@ -124,11 +115,7 @@ fn find_removable<K: Keeper>(
 ) -> Result<Removed, Halt>
     ensures found { K.is_honest keeper.new → ChecksAs result (outcome.removal_permitted (K.vault keeper.old) at command.now access.now) }
     ensures there { K.is_honest keeper.new → OnOk result (IsHeldId (K.vault keeper.old) command.now.id) }
-    ensures same { K.vault keeper.new ≡ K.vault keeper.old }
-    ensures honest { K.is_honest keeper.new → K.is_honest keeper.old }
-    ensures counted { K.count keeper.old ≤ K.count keeper.new }
-    ensures device { IsTrue (is_device result) → RoseOrIsFull (K.count keeper.old) (K.count keeper.new) }
-    ensures steady { is_device result ≡ false → K.count keeper.new ≡ K.count keeper.old }
+    ensures leaves { LeavesSame K.Kept keeper.old keeper.new (is_device result) }
 {
     let entry = find_held(keeper, &command.bucket, &command.key, command.id)?;
     let marker = entry.marker;

@@ -1,7 +1,8 @@
 //! A line of an intake batch.
 ghost use Rattle.std.specs.Prelude.{◌≡◌, ◌≤◌, ◌+◌, length, IsTrue, IfOk, IfErr, OnOk, Some, None, false};
 ghost use Rattle.sha2.specs.Sha256.{sha256};
-ghost use Rattle.vault_core_model.specs.Halts.{ChecksAs, AnswersAs, is_device, is_device_refusal, RoseOrIsFull};
+ghost use Rattle.vault_core_model.specs.Leaves.{Leaves, LeavesSame};
+ghost use Rattle.vault_core_model.specs.Halts.{ChecksAs, AnswersAs, is_device, is_device_refusal};
 ghost use Rattle.vault_core_model.specs.EntryOutcomes.{new_version};
 ghost use Rattle.vault_core_model.specs.IntakeOutcome as outcome;
 ghost use Rattle.vault_core_model.specs.Totals.{admitted_bytes, received_bytes};
@@ -35,10 +36,7 @@ pub fn intake<K: Keeper>(
     command: &Intake,
 ) -> Result<Answer, Halt>
     ensures meets { K.is_honest keeper.new → AnswersAs result (K.vault keeper.old) (K.vault keeper.new) (outcome.intake (K.vault keeper.old) at who.now command.now) }
-    ensures honest { K.is_honest keeper.new → K.is_honest keeper.old }
-    ensures counted { K.count keeper.old ≤ K.count keeper.new }
-    ensures device { IsTrue (is_device result) → RoseOrIsFull (K.count keeper.old) (K.count keeper.new) }
-    ensures steady { is_device result ≡ false → K.count keeper.new ≡ K.count keeper.old }
+    ensures leaves { Leaves K.Kept keeper.old keeper.new (is_device result) }
 {
     let access = find_access_to_put(keeper, at, who, &command.put)?;
     let answer = take_in_once(alloc, keeper, at, who, command, &access);
@@ -58,10 +56,7 @@ fn take_in_once<K: Keeper>(
     requires in_time { K.is_honest keeper.old → (K.vault keeper.old).last ≤ at }
     requires there { K.is_honest keeper.old → config_of (K.vault keeper.old) command.now.put.bucket ≡ Some access.now.bucket }
     ensures meets { K.is_honest keeper.new → AnswersAs result (K.vault keeper.old) (K.vault keeper.new) (outcome.intake_by (K.vault keeper.old) at who.now command.now access.now (note_of (K.vault keeper.old) command.now.put.bucket command.now.batch command.now.line)) }
-    ensures honest { K.is_honest keeper.new → K.is_honest keeper.old }
-    ensures counted { K.count keeper.old ≤ K.count keeper.new }
-    ensures device { IsTrue (is_device result) → RoseOrIsFull (K.count keeper.old) (K.count keeper.new) }
-    ensures steady { is_device result ≡ false → K.count keeper.new ≡ K.count keeper.old }
+    ensures leaves { Leaves K.Kept keeper.old keeper.new (is_device result) }
 {
     let Some(note) = keeper.note(&command.put.bucket, &command.batch, command.line)? else {
         return take_in(alloc, keeper, at, who, command, access);
@@ -85,10 +80,7 @@ fn take_in<K: Keeper>(
     requires there { K.is_honest keeper.old → config_of (K.vault keeper.old) command.now.put.bucket ≡ Some access.now.bucket }
     requires first { K.is_honest keeper.old → note_of (K.vault keeper.old) command.now.put.bucket command.now.batch command.now.line ≡ None }
     ensures meets { K.is_honest keeper.new → AnswersAs result (K.vault keeper.old) (K.vault keeper.new) (outcome.take_in (K.vault keeper.old) at who.now command.now access.now) }
-    ensures honest { K.is_honest keeper.new → K.is_honest keeper.old }
-    ensures counted { K.count keeper.old ≤ K.count keeper.new }
-    ensures device { IsTrue (is_device result) → RoseOrIsFull (K.count keeper.old) (K.count keeper.new) }
-    ensures steady { is_device result ≡ false → K.count keeper.new ≡ K.count keeper.old }
+    ensures leaves { Leaves K.Kept keeper.old keeper.new (is_device result) }
 {
     let lock = find_lock_to_take_in(keeper, at, command, access)?;
     let id = find_id(keeper)?;
@@ -136,11 +128,7 @@ fn find_lock_to_take_in<K: Keeper>(
     ensures line { OnOk result (IsTrue (outcome.is_line command.now.line)) }
     ensures small { OnOk result (length command.now.put.content ≤ 1048576) }
     ensures fits { K.is_honest keeper.new → OnOk result (admitted_bytes (K.vault keeper.old) access.now.bucket.dept + received_bytes (K.vault keeper.old) access.now.bucket.dept + length command.now.put.content ≤ quota) }
-    ensures same { K.vault keeper.new ≡ K.vault keeper.old }
-    ensures honest { K.is_honest keeper.new → K.is_honest keeper.old }
-    ensures counted { K.count keeper.old ≤ K.count keeper.new }
-    ensures device { IsTrue (is_device result) → RoseOrIsFull (K.count keeper.old) (K.count keeper.new) }
-    ensures steady { is_device result ≡ false → K.count keeper.new ≡ K.count keeper.old }
+    ensures leaves { LeavesSame K.Kept keeper.old keeper.new (is_device result) }
 {
     if command.line == 0 {
         return Err(Halt::Refused(Refusal::InvalidArgument));

@@ -1,9 +1,9 @@
 //! Retention and legal hold of a version.
-ghost use Rattle.std.specs.Prelude.{◌≡◌, ◌≤◌, IsTrue, IfOk, Some, false};
-ghost use Rattle.vault_core_model.specs.Halts.{ChecksAs, AnswersAs, is_device, RoseOrIsFull};
+ghost use Rattle.std.specs.Prelude.{◌≡◌, IfOk, Some};
+ghost use Rattle.vault_core_model.specs.Leaves.{Leaves, LeavesSame};
+ghost use Rattle.vault_core_model.specs.Halts.{ChecksAs, AnswersAs, is_device};
 ghost use Rattle.vault_core_model.specs.Allowed.{IsNextSetting};
 ghost use Rattle.vault_core_model.specs.LockOutcomes as outcome;
-ghost use Rattle.vault_core_model.specs.Sound.{Sound};
 
 use std::alloc::AllocError;
 use vault_base::moment::Moment;
@@ -30,10 +30,7 @@ pub fn get_retention<K: Keeper>(
     command: &GetRetention,
 ) -> Result<Answer, Halt>
     ensures meets { K.is_honest keeper.new → AnswersAs result (K.vault keeper.old) (K.vault keeper.new) (outcome.get_retention (K.vault keeper.old) at who.now command.now) }
-    ensures honest { K.is_honest keeper.new → K.is_honest keeper.old }
-    ensures counted { K.count keeper.old ≤ K.count keeper.new }
-    ensures device { IsTrue (is_device result) → RoseOrIsFull (K.count keeper.old) (K.count keeper.new) }
-    ensures steady { is_device result ≡ false → K.count keeper.new ≡ K.count keeper.old }
+    ensures leaves { Leaves K.Kept keeper.old keeper.new (is_device result) }
 {
     drop(find_access(keeper, at, who, &command.bucket, Right::Get)?);
     let version = find_version(keeper, &command.bucket, &command.key, command.id)?;
@@ -51,10 +48,7 @@ pub fn get_hold<K: Keeper>(
     command: &GetHold,
 ) -> Result<Answer, Halt>
     ensures meets { K.is_honest keeper.new → AnswersAs result (K.vault keeper.old) (K.vault keeper.new) (outcome.get_hold (K.vault keeper.old) at who.now command.now) }
-    ensures honest { K.is_honest keeper.new → K.is_honest keeper.old }
-    ensures counted { K.count keeper.old ≤ K.count keeper.new }
-    ensures device { IsTrue (is_device result) → RoseOrIsFull (K.count keeper.old) (K.count keeper.new) }
-    ensures steady { is_device result ≡ false → K.count keeper.new ≡ K.count keeper.old }
+    ensures leaves { Leaves K.Kept keeper.old keeper.new (is_device result) }
 {
     drop(find_access(keeper, at, who, &command.bucket, Right::Get)?);
     let version = find_version(keeper, &command.bucket, &command.key, command.id)?;
@@ -72,10 +66,7 @@ pub fn set_retention<K: Keeper>(
     command: &SetRetention,
 ) -> Result<Answer, Halt>
     ensures meets { K.is_honest keeper.new → AnswersAs result (K.vault keeper.old) (K.vault keeper.new) (outcome.set_retention (K.vault keeper.old) at who.now command.now) }
-    ensures honest { K.is_honest keeper.new → K.is_honest keeper.old }
-    ensures counted { K.count keeper.old ≤ K.count keeper.new }
-    ensures device { IsTrue (is_device result) → RoseOrIsFull (K.count keeper.old) (K.count keeper.new) }
-    ensures steady { is_device result ≡ false → K.count keeper.new ≡ K.count keeper.old }
+    ensures leaves { Leaves K.Kept keeper.old keeper.new (is_device result) }
 {
     let access = find_access(keeper, at, who, &command.bucket, Right::Retain)?;
     let found = find_next_retention(keeper, at, who, command, &access);
@@ -93,10 +84,7 @@ pub fn set_hold<K: Keeper>(
     command: &SetHold,
 ) -> Result<Answer, Halt>
     ensures meets { K.is_honest keeper.new → AnswersAs result (K.vault keeper.old) (K.vault keeper.new) (outcome.set_hold (K.vault keeper.old) at who.now command.now) }
-    ensures honest { K.is_honest keeper.new → K.is_honest keeper.old }
-    ensures counted { K.count keeper.old ≤ K.count keeper.new }
-    ensures device { IsTrue (is_device result) → RoseOrIsFull (K.count keeper.old) (K.count keeper.new) }
-    ensures steady { is_device result ≡ false → K.count keeper.new ≡ K.count keeper.old }
+    ensures leaves { Leaves K.Kept keeper.old keeper.new (is_device result) }
 {
     drop(find_access(keeper, at, who, &command.bucket, Right::Hold)?);
     let NextSetting { id, setting } = find_next_hold(keeper, at, who, command)?;
@@ -112,14 +100,9 @@ fn find_next_retention<K: Keeper>(
     command: &SetRetention,
     access: &Access,
 ) -> Result<NextSetting, Halt>
-    requires { K.is_honest keeper.old → Sound (K.vault keeper.old) }
     ensures found { K.is_honest keeper.new → ChecksAs result (outcome.next_retention (K.vault keeper.old) at who.now command.now access.now) }
     ensures allowed { K.is_honest keeper.new → IfOk result (λ next. IsNextSetting (K.vault keeper.old) at next.id next.setting) }
-    ensures same { K.vault keeper.new ≡ K.vault keeper.old }
-    ensures honest { K.is_honest keeper.new → K.is_honest keeper.old }
-    ensures counted { K.count keeper.old ≤ K.count keeper.new }
-    ensures device { IsTrue (is_device result) → RoseOrIsFull (K.count keeper.old) (K.count keeper.new) }
-    ensures steady { is_device result ≡ false → K.count keeper.new ≡ K.count keeper.old }
+    ensures leaves { LeavesSame K.Kept keeper.old keeper.new (is_device result) }
 {
     check_end(at, Some(command.retention))?;
     let version = find_version(keeper, &command.bucket, &command.key, command.id)?;
@@ -151,14 +134,9 @@ fn find_next_hold<K: Keeper>(
     who: &CallerName,
     command: &SetHold,
 ) -> Result<NextSetting, Halt>
-    requires { K.is_honest keeper.old → Sound (K.vault keeper.old) }
     ensures found { K.is_honest keeper.new → ChecksAs result (outcome.next_hold (K.vault keeper.old) at who.now command.now) }
     ensures allowed { K.is_honest keeper.new → IfOk result (λ next. IsNextSetting (K.vault keeper.old) at next.id next.setting) }
-    ensures same { K.vault keeper.new ≡ K.vault keeper.old }
-    ensures honest { K.is_honest keeper.new → K.is_honest keeper.old }
-    ensures counted { K.count keeper.old ≤ K.count keeper.new }
-    ensures device { IsTrue (is_device result) → RoseOrIsFull (K.count keeper.old) (K.count keeper.new) }
-    ensures steady { is_device result ≡ false → K.count keeper.new ≡ K.count keeper.old }
+    ensures leaves { LeavesSame K.Kept keeper.old keeper.new (is_device result) }
 {
     let version = find_version(keeper, &command.bucket, &command.key, command.id)?;
     let id = version.id;

@@ -1,7 +1,8 @@
 //! A put.
-ghost use Rattle.std.specs.Prelude.{◌≡◌, ◌≤◌, IsTrue, IfOk, Some, None, false};
+ghost use Rattle.std.specs.Prelude.{◌≡◌, IfOk, Some, None};
+ghost use Rattle.vault_core_model.specs.Leaves.{Leaves, LeavesSame};
 ghost use Rattle.vault_core_model.specs.Allowed.{IsAdmission};
-ghost use Rattle.vault_core_model.specs.Halts.{ChecksAs, AnswersAs, is_device, RoseOrIsFull};
+ghost use Rattle.vault_core_model.specs.Halts.{ChecksAs, AnswersAs, is_device};
 ghost use Rattle.vault_core_model.specs.EntryOutcomes as outcome;
 ghost use Rattle.vault_core_model.specs.Vault.{config_of};
 
@@ -27,10 +28,7 @@ pub fn put<K: Keeper>(
     command: &Put,
 ) -> Result<Answer, Halt>
     ensures meets { K.is_honest keeper.new → AnswersAs result (K.vault keeper.old) (K.vault keeper.new) (outcome.put (K.vault keeper.old) at who.now command.now) }
-    ensures honest { K.is_honest keeper.new → K.is_honest keeper.old }
-    ensures counted { K.count keeper.old ≤ K.count keeper.new }
-    ensures device { IsTrue (is_device result) → RoseOrIsFull (K.count keeper.old) (K.count keeper.new) }
-    ensures steady { is_device result ≡ false → K.count keeper.new ≡ K.count keeper.old }
+    ensures leaves { Leaves K.Kept keeper.old keeper.new (is_device result) }
 {
     let access = find_access_to_put(keeper, at, who, command)?;
     let found = find_version_to_admit(alloc, keeper, at, who, command, &access);
@@ -57,11 +55,7 @@ fn find_version_to_admit<K: Keeper>(
     requires there { K.is_honest keeper.old → config_of (K.vault keeper.old) command.now.bucket ≡ Some access.now.bucket }
     ensures found { K.is_honest keeper.new → ChecksAs result (outcome.admission (K.vault keeper.old) at who.now command.now access.now) }
     ensures allowed { K.is_honest keeper.new → IfOk result (λ history. IsAdmission (K.vault keeper.old) at (record { history = history; note = None })) }
-    ensures same { K.vault keeper.new ≡ K.vault keeper.old }
-    ensures honest { K.is_honest keeper.new → K.is_honest keeper.old }
-    ensures counted { K.count keeper.old ≤ K.count keeper.new }
-    ensures device { IsTrue (is_device result) → RoseOrIsFull (K.count keeper.old) (K.count keeper.new) }
-    ensures steady { is_device result ≡ false → K.count keeper.new ≡ K.count keeper.old }
+    ensures leaves { LeavesSame K.Kept keeper.old keeper.new (is_device result) }
 {
     let lock = find_lock_to_admit(keeper, at, command, access)?;
     let id = find_id(keeper)?;

@@ -1,6 +1,7 @@
 //! Content versions that are read, with their bytes or without.
-ghost use Rattle.std.specs.Prelude.{◌≡◌, ◌≤◌, [], IsTrue, IfOk, unwrap_or, false};
-ghost use Rattle.vault_core_model.specs.Halts.{AnswersAs, is_device, is_device_given, RoseOrIsFull};
+ghost use Rattle.std.specs.Prelude.{◌≡◌, [], IfOk, unwrap_or};
+ghost use Rattle.vault_core_model.specs.Leaves.{Leaves, ReadsAs};
+ghost use Rattle.vault_core_model.specs.Halts.{AnswersAs, is_device};
 ghost use Rattle.vault_core_model.specs.EntryOutcomes as outcome;
 ghost use Rattle.vault_core_model.specs.Reads.{content_of};
 
@@ -25,10 +26,7 @@ pub fn get<K: Keeper>(
     command: &Get,
 ) -> Result<Answer, Halt>
     ensures meets { K.is_honest keeper.new → AnswersAs result (K.vault keeper.old) (K.vault keeper.new) (outcome.get (K.vault keeper.old) at who.now command.now) }
-    ensures honest { K.is_honest keeper.new → K.is_honest keeper.old }
-    ensures counted { K.count keeper.old ≤ K.count keeper.new }
-    ensures device { IsTrue (is_device result) → RoseOrIsFull (K.count keeper.old) (K.count keeper.new) }
-    ensures steady { is_device result ≡ false → K.count keeper.new ≡ K.count keeper.old }
+    ensures leaves { Leaves K.Kept keeper.old keeper.new (is_device result) }
 {
     drop(find_access(keeper, at, who, &command.bucket, Right::Get)?);
     let entry = find_version(keeper, &command.bucket, &command.key, command.id)?;
@@ -40,11 +38,7 @@ pub fn get<K: Keeper>(
 /// The bytes that stand under an id, or none.
 fn read_content<K: Keeper>(alloc: Global, keeper: &mut K, id: VersionId) -> Result<Content, Fault>
     ensures value { K.is_honest keeper.new → IfOk result (λ content. content ≡ unwrap_or (content_of (K.vault keeper.old) id) []) }
-    ensures same { K.vault keeper.new ≡ K.vault keeper.old }
-    ensures honest { K.is_honest keeper.new → K.is_honest keeper.old }
-    ensures counted { K.count keeper.old ≤ K.count keeper.new }
-    ensures device { result ≡ Err Fault.Device → RoseOrIsFull (K.count keeper.old) (K.count keeper.new) }
-    ensures steady { is_device_given result ≡ false → K.count keeper.new ≡ K.count keeper.old }
+    ensures leaves { ReadsAs K.Kept keeper.old keeper.new result }
 {
     match keeper.content(id)? {
         Some(content) => Ok(content),
@@ -60,10 +54,7 @@ pub fn head<K: Keeper>(
     command: &Head,
 ) -> Result<Answer, Halt>
     ensures meets { K.is_honest keeper.new → AnswersAs result (K.vault keeper.old) (K.vault keeper.new) (outcome.head (K.vault keeper.old) at who.now command.now) }
-    ensures honest { K.is_honest keeper.new → K.is_honest keeper.old }
-    ensures counted { K.count keeper.old ≤ K.count keeper.new }
-    ensures device { IsTrue (is_device result) → RoseOrIsFull (K.count keeper.old) (K.count keeper.new) }
-    ensures steady { is_device result ≡ false → K.count keeper.new ≡ K.count keeper.old }
+    ensures leaves { Leaves K.Kept keeper.old keeper.new (is_device result) }
 {
     drop(find_access(keeper, at, who, &command.bucket, Right::Get)?);
     let entry = find_version(keeper, &command.bucket, &command.key, command.id)?;

@@ -1,6 +1,6 @@
 //! The tests of one entry by itself.
-ghost use Rattle.std.specs.Prelude.{◌≡◌, ◌≤◌, IfOk, Err, false, [], ◌∷◌};
-ghost use Rattle.vault_core_model.specs.Halts.{is_device_given, RoseOrIsFull};
+ghost use Rattle.std.specs.Prelude.{◌≡◌, IfOk, false, [], ◌∷◌};
+ghost use Rattle.vault_core_model.specs.Leaves.{ReadsAs};
 ghost use Rattle.vault_core_model.specs.Vault.{last_lock};
 ghost use Rattle.vault_core_evidence.specs.Lawful.{last_at};
 ghost use Rattle.vault_core_evidence.specs.Breaches as spec;
@@ -22,11 +22,7 @@ fn first_breach<K: Keeper>(
     first: &Setting,
 ) -> Result<Option<Law>, Fault>
     ensures value { K.is_honest keeper.new → IfOk result (λ found. found ≡ spec.broken (spec.first_tests (K.vault keeper.old) admitted by.now first.now)) }
-    ensures same { K.vault keeper.new ≡ K.vault keeper.old }
-    ensures honest { K.is_honest keeper.new → K.is_honest keeper.old }
-    ensures counted { K.count keeper.old ≤ K.count keeper.new }
-    ensures device { result ≡ Err Fault.Device → RoseOrIsFull (K.count keeper.old) (K.count keeper.new) }
-    ensures steady { is_device_given result ≡ false → K.count keeper.new ≡ K.count keeper.old }
+    ensures leaves { ReadsAs K.Kept keeper.old keeper.new result }
 {
     if first.at != admitted || first.bypass || !is_author(by, &first.by) {
         return Ok(Some(Law::FirstSetting));
@@ -49,11 +45,7 @@ fn next_breach<K: Keeper>(
     next: &Setting,
 ) -> Result<Option<Law>, Fault>
     ensures value { K.is_honest keeper.new → IfOk result (λ found. found ≡ spec.broken (spec.next_tests (K.vault keeper.old) last.now next.now)) }
-    ensures same { K.vault keeper.new ≡ K.vault keeper.old }
-    ensures honest { K.is_honest keeper.new → K.is_honest keeper.old }
-    ensures counted { K.count keeper.old ≤ K.count keeper.new }
-    ensures device { result ≡ Err Fault.Device → RoseOrIsFull (K.count keeper.old) (K.count keeper.new) }
-    ensures steady { is_device_given result ≡ false → K.count keeper.new ≡ K.count keeper.old }
+    ensures leaves { ReadsAs K.Kept keeper.old keeper.new result }
 {
     if next.at < last.at {
         return Ok(Some(Law::Order));
@@ -69,11 +61,7 @@ fn later_breach<K: Keeper>(
     later: &[Setting],
 ) -> Result<Option<Law>, Fault>
     ensures value { K.is_honest keeper.new → IfOk result (λ found. found ≡ spec.broken (spec.after_tests (K.vault keeper.old) first.now later.now)) }
-    ensures same { K.vault keeper.new ≡ K.vault keeper.old }
-    ensures honest { K.is_honest keeper.new → K.is_honest keeper.old }
-    ensures counted { K.count keeper.old ≤ K.count keeper.new }
-    ensures device { result ≡ Err Fault.Device → RoseOrIsFull (K.count keeper.old) (K.count keeper.new) }
-    ensures steady { is_device_given result ≡ false → K.count keeper.new ≡ K.count keeper.old }
+    ensures leaves { ReadsAs K.Kept keeper.old keeper.new result }
 {
     let mut last = first;
     for next in later {
@@ -93,11 +81,7 @@ fn settings_breach<K: Keeper>(
     settings: &[Setting],
 ) -> Result<Option<Law>, Fault>
     ensures value { K.is_honest keeper.new → IfOk result (λ found. found ≡ spec.broken (spec.settings_tests (K.vault keeper.old) entry.now.admitted entry.now.by settings.now)) }
-    ensures same { K.vault keeper.new ≡ K.vault keeper.old }
-    ensures honest { K.is_honest keeper.new → K.is_honest keeper.old }
-    ensures counted { K.count keeper.old ≤ K.count keeper.new }
-    ensures device { result ≡ Err Fault.Device → RoseOrIsFull (K.count keeper.old) (K.count keeper.new) }
-    ensures steady { is_device_given result ≡ false → K.count keeper.new ≡ K.count keeper.old }
+    ensures leaves { ReadsAs K.Kept keeper.old keeper.new result }
 {
     let Some((first, later)) = settings.split_first() else {
         return Ok(None);
@@ -142,11 +126,7 @@ fn end_breach<K: Keeper>(
 ) -> Result<Option<Law>, Fault>
     requires { K.is_honest keeper.old → now ≡ (K.vault keeper.old).last }
     ensures value { K.is_honest keeper.new → IfOk result (λ found. found ≡ spec.broken (spec.end_tests (K.vault keeper.old) from lock.now removal.now)) }
-    ensures same { K.vault keeper.new ≡ K.vault keeper.old }
-    ensures honest { K.is_honest keeper.new → K.is_honest keeper.old }
-    ensures counted { K.count keeper.old ≤ K.count keeper.new }
-    ensures device { result ≡ Err Fault.Device → RoseOrIsFull (K.count keeper.old) (K.count keeper.new) }
-    ensures steady { is_device_given result ≡ false → K.count keeper.new ≡ K.count keeper.old }
+    ensures leaves { ReadsAs K.Kept keeper.old keeper.new result }
 {
     let Some(removal) = removal else {
         return Ok(order_breach(from <= now));
@@ -173,11 +153,7 @@ pub(crate) fn rule_breach<K: Keeper>(
 ) -> Result<Option<Law>, Fault>
     requires { K.is_honest keeper.old → now ≡ (K.vault keeper.old).last }
     ensures value { K.is_honest keeper.new → IfOk result (λ found. found ≡ spec.broken (spec.rule_tests (K.vault keeper.old) entry.now settings.now)) }
-    ensures same { K.vault keeper.new ≡ K.vault keeper.old }
-    ensures honest { K.is_honest keeper.new → K.is_honest keeper.old }
-    ensures counted { K.count keeper.old ≤ K.count keeper.new }
-    ensures device { result ≡ Err Fault.Device → RoseOrIsFull (K.count keeper.old) (K.count keeper.new) }
-    ensures steady { is_device_given result ≡ false → K.count keeper.new ≡ K.count keeper.old }
+    ensures leaves { ReadsAs K.Kept keeper.old keeper.new result }
 {
     if !is_admitter(keeper, entry.marker, &entry.by)? {
         return Ok(Some(Law::Admission));

@@ -1,7 +1,7 @@
 //! Who may do what.
-ghost use Rattle.std.specs.Prelude.{◌≡◌, ◌≤◌, ℕ, List, IfOk, Err, false};
+ghost use Rattle.std.specs.Prelude.{◌≡◌, ℕ, List, IfOk, false};
 ghost use Rattle.vault_base.specs.declared.right.Right.TheVariants as right;
-ghost use Rattle.vault_core_model.specs.Halts.{is_device_given, RoseOrIsFull};
+ghost use Rattle.vault_core_model.specs.Leaves.{ReadsAs};
 ghost use Rattle.vault_core_model.specs.Vault.{Vault, caller_of};
 ghost use Rattle.vault_core_worm_laws.specs.Bypass.{has_bypass};
 ghost use Rattle.vault_core_worm_laws.specs.Entitled.{has_right};
@@ -74,11 +74,7 @@ pub(crate) fn is_admitter<K: Keeper>(
     by: &Author,
 ) -> Result<bool, Fault>
     ensures value { K.is_honest keeper.new → IfOk result (λ may. may ≡ spec.is_admitter (K.vault keeper.old) marker by.now) }
-    ensures same { K.vault keeper.new ≡ K.vault keeper.old }
-    ensures honest { K.is_honest keeper.new → K.is_honest keeper.old }
-    ensures counted { K.count keeper.old ≤ K.count keeper.new }
-    ensures device { result ≡ Err Fault.Device → RoseOrIsFull (K.count keeper.old) (K.count keeper.new) }
-    ensures steady { is_device_given result ≡ false → K.count keeper.new ≡ K.count keeper.old }
+    ensures leaves { ReadsAs K.Kept keeper.old keeper.new result }
 {
     let Author::Caller(name) = by else {
         return Ok(marker);
@@ -100,11 +96,7 @@ pub(crate) fn is_author(by: &Author, who: &CallerName) -> bool
 /// The caller who removed; none where a rule did.
 pub(crate) fn remover<K: Keeper>(keeper: &mut K, cause: &Cause) -> Result<Option<Caller>, Fault>
     ensures value { K.is_honest keeper.new → IfOk result (λ found. found ≡ spec.remover_of (K.vault keeper.old) cause.now) }
-    ensures same { K.vault keeper.new ≡ K.vault keeper.old }
-    ensures honest { K.is_honest keeper.new → K.is_honest keeper.old }
-    ensures counted { K.count keeper.old ≤ K.count keeper.new }
-    ensures device { result ≡ Err Fault.Device → RoseOrIsFull (K.count keeper.old) (K.count keeper.new) }
-    ensures steady { is_device_given result ≡ false → K.count keeper.new ≡ K.count keeper.old }
+    ensures leaves { ReadsAs K.Kept keeper.old keeper.new result }
 {
     match cause {
         Cause::Request(name) => keeper.caller(name),

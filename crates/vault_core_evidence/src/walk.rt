@@ -1,8 +1,7 @@
 //! The first entry that breaks a law: a walk over all ids.
-ghost use Rattle.std.specs.Prelude.{◌≡◌, ◌≤◌, IfOk, Err, Some, false, length};
-ghost use Rattle.vault_core_model.specs.Halts.{is_device_given, RoseOrIsFull};
+ghost use Rattle.std.specs.Prelude.{◌≡◌, IfOk, Some, length};
+ghost use Rattle.vault_core_model.specs.Leaves.{ReadsAs};
 ghost use Rattle.vault_core_model.specs.Reads.{entry_of, settings_of, tenures_of};
-ghost use Rattle.vault_core_model.specs.Sound.{Sound};
 ghost use Rattle.vault_core_evidence.specs.Breaches.{first_breach};
 ghost use Rattle.vault_core_evidence.specs.Walk.{Finds, FindsMoves};
 
@@ -23,14 +22,9 @@ fn settings_of<K: Keeper>(
     id: VersionId,
     entry: &Entry,
 ) -> Result<Settings, Fault>
-    requires sound { K.is_honest keeper.old → Sound (K.vault keeper.old) }
     requires its { K.is_honest keeper.old → entry_of (K.vault keeper.old) id ≡ Some entry.now }
     ensures value { K.is_honest keeper.new → IfOk result (λ found. found ≡ settings_of (K.vault keeper.old) id) }
-    ensures same { K.vault keeper.new ≡ K.vault keeper.old }
-    ensures honest { K.is_honest keeper.new → K.is_honest keeper.old }
-    ensures counted { K.count keeper.old ≤ K.count keeper.new }
-    ensures device { result ≡ Err Fault.Device → RoseOrIsFull (K.count keeper.old) (K.count keeper.new) }
-    ensures steady { is_device_given result ≡ false → K.count keeper.new ≡ K.count keeper.old }
+    ensures leaves { ReadsAs K.Kept keeper.old keeper.new result }
 {
     if entry.marker {
         return Ok(Settings::new(alloc));
@@ -45,14 +39,9 @@ fn move_breach<K: Keeper>(
     id: VersionId,
     entry: &Entry,
 ) -> Result<Option<Law>, Fault>
-    requires sound { K.is_honest keeper.old → Sound (K.vault keeper.old) }
     requires its { K.is_honest keeper.old → entry_of (K.vault keeper.old) id ≡ Some entry.now }
     ensures value { K.is_honest keeper.new → IfOk result (λ found. FindsMoves seen.old entry.now.bucket (tenures_of (K.vault keeper.old) id) found seen.new) }
-    ensures same { K.vault keeper.new ≡ K.vault keeper.old }
-    ensures honest { K.is_honest keeper.new → K.is_honest keeper.old }
-    ensures counted { K.count keeper.old ≤ K.count keeper.new }
-    ensures device { result ≡ Err Fault.Device → RoseOrIsFull (K.count keeper.old) (K.count keeper.new) }
-    ensures steady { is_device_given result ≡ false → K.count keeper.new ≡ K.count keeper.old }
+    ensures leaves { ReadsAs K.Kept keeper.old keeper.new result }
 {
     if entry.marker {
         return Ok(None);
@@ -73,14 +62,9 @@ fn breach_of<K: Keeper>(
     now: Moment,
     id: VersionId,
 ) -> Result<Option<Law>, Fault>
-    requires sound { K.is_honest keeper.old → Sound (K.vault keeper.old) }
     requires now { K.is_honest keeper.old → now ≡ (K.vault keeper.old).last }
     ensures value { K.is_honest keeper.new → IfOk result (λ found. Finds (K.vault keeper.old) seen.old (entry_of (K.vault keeper.old) id) (settings_of (K.vault keeper.old) id) (tenures_of (K.vault keeper.old) id) found seen.new) }
-    ensures same { K.vault keeper.new ≡ K.vault keeper.old }
-    ensures honest { K.is_honest keeper.new → K.is_honest keeper.old }
-    ensures counted { K.count keeper.old ≤ K.count keeper.new }
-    ensures device { result ≡ Err Fault.Device → RoseOrIsFull (K.count keeper.old) (K.count keeper.new) }
-    ensures steady { is_device_given result ≡ false → K.count keeper.new ≡ K.count keeper.old }
+    ensures leaves { ReadsAs K.Kept keeper.old keeper.new result }
 {
     let Some(entry) = keeper.entry(id)? else {
         return Ok(None);
@@ -95,13 +79,8 @@ fn breach_of<K: Keeper>(
 
 /// How many entries there are, held or removed.
 fn count_entries<K: Keeper>(keeper: &mut K) -> Result<u32, Fault>
-    requires { K.is_honest keeper.old → Sound (K.vault keeper.old) }
     ensures value { K.is_honest keeper.new → IfOk result (λ n. n ≡ length (K.vault keeper.old).histories) }
-    ensures same { K.vault keeper.new ≡ K.vault keeper.old }
-    ensures honest { K.is_honest keeper.new → K.is_honest keeper.old }
-    ensures counted { K.count keeper.old ≤ K.count keeper.new }
-    ensures device { result ≡ Err Fault.Device → RoseOrIsFull (K.count keeper.old) (K.count keeper.new) }
-    ensures steady { is_device_given result ≡ false → K.count keeper.new ≡ K.count keeper.old }
+    ensures leaves { ReadsAs K.Kept keeper.old keeper.new result }
 {
     let next = keeper.next_id()?;
     Ok(u32::try_from(next.saturating_sub(1)).unwrap_or(u32::MAX))
@@ -114,15 +93,10 @@ fn find_breach<K: Keeper>(
     now: Moment,
     entries: u32,
 ) -> Result<Option<Breach>, Fault>
-    requires sound { K.is_honest keeper.old → Sound (K.vault keeper.old) }
     requires now { K.is_honest keeper.old → now ≡ (K.vault keeper.old).last }
     requires entries { K.is_honest keeper.old → entries ≡ length (K.vault keeper.old).histories }
     ensures value { K.is_honest keeper.new → IfOk result (λ found. found ≡ first_breach (K.vault keeper.old)) }
-    ensures same { K.vault keeper.new ≡ K.vault keeper.old }
-    ensures honest { K.is_honest keeper.new → K.is_honest keeper.old }
-    ensures counted { K.count keeper.old ≤ K.count keeper.new }
-    ensures device { result ≡ Err Fault.Device → RoseOrIsFull (K.count keeper.old) (K.count keeper.new) }
-    ensures steady { is_device_given result ≡ false → K.count keeper.new ≡ K.count keeper.old }
+    ensures leaves { ReadsAs K.Kept keeper.old keeper.new result }
 {
     let mut seen = SeenMoves::new(alloc);
     for place in 0..entries {
@@ -143,11 +117,7 @@ fn find_breach<K: Keeper>(
 /// bucket.
 pub fn lawful<K: Keeper>(alloc: Global, keeper: &mut K) -> Result<Option<Breach>, Fault>
     ensures value { K.is_honest keeper.new → IfOk result (λ found. found ≡ first_breach (K.vault keeper.old)) }
-    ensures same { K.vault keeper.new ≡ K.vault keeper.old }
-    ensures honest { K.is_honest keeper.new → K.is_honest keeper.old }
-    ensures counted { K.count keeper.old ≤ K.count keeper.new }
-    ensures device { result ≡ Err Fault.Device → RoseOrIsFull (K.count keeper.old) (K.count keeper.new) }
-    ensures steady { is_device_given result ≡ false → K.count keeper.new ≡ K.count keeper.old }
+    ensures leaves { ReadsAs K.Kept keeper.old keeper.new result }
 {
     let now = keeper.last()?;
     let entries = count_entries(keeper)?;

@@ -15,6 +15,7 @@ use vault_base::right::Right;
 use vault_core_model::change::Change;
 use vault_core_model::halt::Fault;
 use vault_core_model::keeper::{Keeper, Sink};
+use vault_core_model::kept::Kept;
 use vault_core_model::records::{
     Bucket, BucketConfig, Caller, Entry, Head, History, LastSetting, Note, Settings, Tenure,
     Tenures,
@@ -86,6 +87,19 @@ impl ListKeeper {
     }
 }
 
+impl Kept for ListKeeper {
+    ghost use Rattle.vault_core_model.specs.Sound.{Sound};
+
+    // A list has no device, so it has what was written; that is sound by the invariant.
+    ghost is_honest = { λ k. Sound k };
+
+    ghost vault = { λ k. k };
+
+    ghost count = { λ _. 0 };
+
+    ghost sound = { λ _ sound. sound };
+}
+
 impl Keeper for ListKeeper {
     ghost use Rattle.std.specs.Prelude.{◌≡◌, IsOkAnd};
     ghost use Rattle.vault_core_model.specs.Handing.{Hands};
@@ -94,19 +108,12 @@ impl Keeper for ListKeeper {
     ghost use Rattle.vault_core_model.specs.Totals.{IsRowFor, bucket_bytes, bucket_weight};
     ghost use Rattle.vault_core_model.specs.Vault.{has_department, next_id};
 
-    ghost is_honest = { λ _. Unit {0} };
-
-    ghost vault = { λ k. k };
-
-    ghost count = { λ _. 0 };
-
     fn faults(&self) -> u64 {
         0
     }
 
     fn last(&mut self) -> Result<Moment, Fault>
         ensures value { result ≡ Ok self.old.last }
-        ensures sound { Sound self.old }
         ensures same { self.new ≡ self.old }
     {
         Ok(self.last)

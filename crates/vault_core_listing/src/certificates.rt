@@ -1,6 +1,7 @@
 //! Certificates of destruction.
-ghost use Rattle.std.specs.Prelude.{◌≡◌, ◌≤◌, IsTrue, false};
-ghost use Rattle.vault_core_model.specs.Halts.{ChecksAs, AnswersAs, is_device, RoseOrIsFull};
+ghost use Rattle.std.specs.Prelude.{◌≡◌, false};
+ghost use Rattle.vault_core_model.specs.Leaves.{Leaves, LeavesSame};
+ghost use Rattle.vault_core_model.specs.Halts.{ChecksAs, AnswersAs, is_device};
 ghost use Rattle.vault_core_model.specs.Reads.{entry_of};
 ghost use Rattle.vault_core_model.specs.Checks.{check};
 ghost use Rattle.vault_core_model.specs.ListingOutcome as outcome;
@@ -24,10 +25,7 @@ pub fn certificate<K: Keeper>(
     command: &Certificate,
 ) -> Result<Answer, Halt>
     ensures meets { K.is_honest keeper.new → AnswersAs result (K.vault keeper.old) (K.vault keeper.new) (outcome.certificate (K.vault keeper.old) at who.now command.now) }
-    ensures honest { K.is_honest keeper.new → K.is_honest keeper.old }
-    ensures counted { K.count keeper.old ≤ K.count keeper.new }
-    ensures device { IsTrue (is_device result) → RoseOrIsFull (K.count keeper.old) (K.count keeper.new) }
-    ensures steady { is_device result ≡ false → K.count keeper.new ≡ K.count keeper.old }
+    ensures leaves { Leaves K.Kept keeper.old keeper.new (is_device result) }
 {
     drop(find_access(keeper, at, who, &command.bucket, Right::Report)?);
     let entry = find_entry(keeper, &command.bucket, command.id)?;
@@ -39,11 +37,7 @@ pub fn certificate<K: Keeper>(
 /// The entry of that id, held or removed, that was ever in that bucket.
 fn find_entry<K: Keeper>(keeper: &mut K, bucket: &BucketName, id: VersionId) -> Result<Entry, Halt>
     ensures found { K.is_honest keeper.new → ChecksAs result (outcome.entry_in bucket.now (entry_of (K.vault keeper.old) id)) }
-    ensures same { K.vault keeper.new ≡ K.vault keeper.old }
-    ensures honest { K.is_honest keeper.new → K.is_honest keeper.old }
-    ensures counted { K.count keeper.old ≤ K.count keeper.new }
-    ensures device { IsTrue (is_device result) → RoseOrIsFull (K.count keeper.old) (K.count keeper.new) }
-    ensures steady { is_device result ≡ false → K.count keeper.new ≡ K.count keeper.old }
+    ensures leaves { LeavesSame K.Kept keeper.old keeper.new (is_device result) }
 {
     let Some(entry) = keeper.entry(id)? else {
         return Err(Halt::Refused(Refusal::NoSuchVersion));

@@ -1,11 +1,11 @@
 //! Listings of a bucket's versions: keys by their bytes, within a key newest first.
-ghost use Rattle.std.specs.Prelude.{◌≡◌, ◌≤◌, ◌&&◌, IsTrue, IfOk, Err, Some, if◌then◌else◌, flat_map, false};
-ghost use Rattle.vault_core_model.specs.Halts.{ChecksAs, AnswersAs, is_device, is_device_given, RoseOrIsFull};
+ghost use Rattle.std.specs.Prelude.{◌≡◌, ◌&&◌, IfOk, Err, Some, flat_map, false};
+ghost use Rattle.vault_core_model.specs.Leaves.{Leaves, ReadsAs};
+ghost use Rattle.vault_core_model.specs.Halts.{ChecksAs, AnswersAs, is_device};
 ghost use Rattle.vault_core_model.specs.Checks.{check};
 ghost use Rattle.vault_core_model.specs.Reads.{entry_of};
 ghost use Rattle.std.specs.Str.{bytes_eq};
 ghost use Rattle.vault_core_model.specs.Places.{is_behind};
-ghost use Rattle.vault_core_model.specs.Sound.{Sound};
 ghost use Rattle.vault_core_model.specs.ListingOutcome as outcome;
 ghost use Rattle.vault_core_listing.specs.Walk.{EndsOrAdvances, asked_at, asked_first, completed, filled, grown, has_prefix, is_asked, is_past, page_of};
 
@@ -36,10 +36,7 @@ pub fn list_versions<K: Keeper>(
     command: &ListVersions,
 ) -> Result<Answer, Halt>
     ensures meets { K.is_honest keeper.new → AnswersAs result (K.vault keeper.old) (K.vault keeper.new) (outcome.list_versions (K.vault keeper.old) at who.now command.now) }
-    ensures honest { K.is_honest keeper.new → K.is_honest keeper.old }
-    ensures counted { K.count keeper.old ≤ K.count keeper.new }
-    ensures device { IsTrue (is_device result) → RoseOrIsFull (K.count keeper.old) (K.count keeper.new) }
-    ensures steady { is_device result ≡ false → K.count keeper.new ≡ K.count keeper.old }
+    ensures leaves { Leaves K.Kept keeper.old keeper.new (is_device result) }
 {
     drop(find_access(keeper, at, who, &command.bucket, Right::List)?);
     check_most(command.most)?;
@@ -65,13 +62,8 @@ fn find_page<K: Keeper>(
     keeper: &mut K,
     command: &ListVersions,
 ) -> Result<Page, Fault>
-    requires { K.is_honest keeper.old → Sound (K.vault keeper.old) }
     ensures value { K.is_honest keeper.new → IfOk result (λ page. page ≡ page_of (K.vault keeper.old) command.now) }
-    ensures same { K.vault keeper.new ≡ K.vault keeper.old }
-    ensures honest { K.is_honest keeper.new → K.is_honest keeper.old }
-    ensures counted { K.count keeper.old ≤ K.count keeper.new }
-    ensures device { result ≡ Err Fault.Device → RoseOrIsFull (K.count keeper.old) (K.count keeper.new) }
-    ensures steady { is_device_given result ≡ false → K.count keeper.new ≡ K.count keeper.old }
+    ensures leaves { ReadsAs K.Kept keeper.old keeper.new result }
 {
     let mut page = Page {
         entries: Listing::new(alloc),
@@ -88,13 +80,8 @@ fn list_first<K: Keeper>(
     page: &mut Page,
     command: &ListVersions,
 ) -> Result<(), Fault>
-    requires { K.is_honest keeper.old → Sound (K.vault keeper.old) }
     ensures value { K.is_honest keeper.new → IfOk result (λ _. page.new ≡ filled command.now.most page.old (asked_first (K.vault keeper.old) command.now)) }
-    ensures same { K.vault keeper.new ≡ K.vault keeper.old }
-    ensures honest { K.is_honest keeper.new → K.is_honest keeper.old }
-    ensures counted { K.count keeper.old ≤ K.count keeper.new }
-    ensures device { result ≡ Err Fault.Device → RoseOrIsFull (K.count keeper.old) (K.count keeper.new) }
-    ensures steady { is_device_given result ≡ false → K.count keeper.new ≡ K.count keeper.old }
+    ensures leaves { ReadsAs K.Kept keeper.old keeper.new result }
 {
     if command.after_id.is_none() {
         return Ok(());
@@ -112,13 +99,8 @@ fn list_behind<K: Keeper>(
     page: &mut Page,
     command: &ListVersions,
 ) -> Result<(), Fault>
-    requires { K.is_honest keeper.old → Sound (K.vault keeper.old) }
     ensures value { K.is_honest keeper.new → IfOk result (λ _. page.new ≡ completed (K.vault keeper.old) command.now page.old command.now.after_key) }
-    ensures same { K.vault keeper.new ≡ K.vault keeper.old }
-    ensures honest { K.is_honest keeper.new → K.is_honest keeper.old }
-    ensures counted { K.count keeper.old ≤ K.count keeper.new }
-    ensures device { result ≡ Err Fault.Device → RoseOrIsFull (K.count keeper.old) (K.count keeper.new) }
-    ensures steady { is_device_given result ≡ false → K.count keeper.new ≡ K.count keeper.old }
+    ensures leaves { ReadsAs K.Kept keeper.old keeper.new result }
 {
     let mut after = command.after_key.clone()?;
     for _ in 0..MOST_PAGES {
@@ -137,13 +119,8 @@ fn list_keys_behind<K: Keeper>(
     command: &ListVersions,
     after: &KeyPrefix,
 ) -> Result<Option<KeyPrefix>, Fault>
-    requires { K.is_honest keeper.old → Sound (K.vault keeper.old) }
     ensures value { K.is_honest keeper.new → IfOk result (λ next. EndsOrAdvances (K.vault keeper.old) command.now page.old after.now page.new next) }
-    ensures same { K.vault keeper.new ≡ K.vault keeper.old }
-    ensures honest { K.is_honest keeper.new → K.is_honest keeper.old }
-    ensures counted { K.count keeper.old ≤ K.count keeper.new }
-    ensures device { result ≡ Err Fault.Device → RoseOrIsFull (K.count keeper.old) (K.count keeper.new) }
-    ensures steady { is_device_given result ≡ false → K.count keeper.new ≡ K.count keeper.old }
+    ensures leaves { ReadsAs K.Kept keeper.old keeper.new result }
 {
     if page.more {
         return Ok(None);
@@ -166,13 +143,8 @@ fn list_keys<K: Keeper>(
     command: &ListVersions,
     keys: &[ObjectKey],
 ) -> Result<(), Fault>
-    requires { K.is_honest keeper.old → Sound (K.vault keeper.old) }
     ensures value { K.is_honest keeper.new → IfOk result (λ _. page.new ≡ filled command.now.most page.old (flat_map (asked_at (K.vault keeper.old) command.now) keys.now)) }
-    ensures same { K.vault keeper.new ≡ K.vault keeper.old }
-    ensures honest { K.is_honest keeper.new → K.is_honest keeper.old }
-    ensures counted { K.count keeper.old ≤ K.count keeper.new }
-    ensures device { result ≡ Err Fault.Device → RoseOrIsFull (K.count keeper.old) (K.count keeper.new) }
-    ensures steady { is_device_given result ≡ false → K.count keeper.new ≡ K.count keeper.old }
+    ensures leaves { ReadsAs K.Kept keeper.old keeper.new result }
 {
     for key in keys {
         list_key(keeper, page, command, key)?;
@@ -187,13 +159,8 @@ fn list_key<K: Keeper>(
     command: &ListVersions,
     key: &ObjectKey,
 ) -> Result<(), Fault>
-    requires { K.is_honest keeper.old → Sound (K.vault keeper.old) }
     ensures value { K.is_honest keeper.new → IfOk result (λ _. page.new ≡ filled command.now.most page.old (asked_at (K.vault keeper.old) command.now key.now)) }
-    ensures same { K.vault keeper.new ≡ K.vault keeper.old }
-    ensures honest { K.is_honest keeper.new → K.is_honest keeper.old }
-    ensures counted { K.count keeper.old ≤ K.count keeper.new }
-    ensures device { result ≡ Err Fault.Device → RoseOrIsFull (K.count keeper.old) (K.count keeper.new) }
-    ensures steady { is_device_given result ≡ false → K.count keeper.new ≡ K.count keeper.old }
+    ensures leaves { ReadsAs K.Kept keeper.old keeper.new result }
 {
     if page.more || !has_prefix(command, key) {
         return Ok(());
@@ -218,11 +185,7 @@ fn list_entry<K: Keeper>(
     current: bool,
 ) -> Result<(), Fault>
     ensures value { K.is_honest keeper.new → IfOk result (λ _. (entry : Entry) → entry_of (K.vault keeper.old) id ≡ Some entry → page.new ≡ (if is_asked command.now key.now id then grown command.now.most page.old (record { entry = entry; current = current }) else page.old)) }
-    ensures same { K.vault keeper.new ≡ K.vault keeper.old }
-    ensures honest { K.is_honest keeper.new → K.is_honest keeper.old }
-    ensures counted { K.count keeper.old ≤ K.count keeper.new }
-    ensures device { result ≡ Err Fault.Device → RoseOrIsFull (K.count keeper.old) (K.count keeper.new) }
-    ensures steady { is_device_given result ≡ false → K.count keeper.new ≡ K.count keeper.old }
+    ensures leaves { ReadsAs K.Kept keeper.old keeper.new result }
 {
     if page.more || !is_asked(command, key, id) {
         return Ok(());

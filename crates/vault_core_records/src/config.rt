@@ -1,7 +1,8 @@
 //! The default retention and the lifecycle rules of a bucket.
-ghost use Rattle.std.specs.Prelude.{◌≡◌, ◌≤◌, IsTrue, false};
+ghost use Rattle.std.specs.Prelude.{IsTrue};
 ghost use Rattle.vault_rules.specs.Rules.{is_rule_set};
-ghost use Rattle.vault_core_model.specs.Halts.{AnswersAs, is_device, RoseOrIsFull};
+ghost use Rattle.vault_core_model.specs.Leaves.{Leaves};
+ghost use Rattle.vault_core_model.specs.Halts.{AnswersAs, is_device};
 ghost use Rattle.vault_core_model.specs.RecordOutcomes as outcome;
 
 use vault_base::moment::Moment;
@@ -24,10 +25,7 @@ pub fn set_default<K: Keeper>(
     command: &SetDefault,
 ) -> Result<Answer, Halt>
     ensures meets { K.is_honest keeper.new → AnswersAs result (K.vault keeper.old) (K.vault keeper.new) (outcome.set_default (K.vault keeper.old) at who.now command.now) }
-    ensures honest { K.is_honest keeper.new → K.is_honest keeper.old }
-    ensures counted { K.count keeper.old ≤ K.count keeper.new }
-    ensures device { IsTrue (is_device result) → RoseOrIsFull (K.count keeper.old) (K.count keeper.new) }
-    ensures steady { is_device result ≡ false → K.count keeper.new ≡ K.count keeper.old }
+    ensures leaves { Leaves K.Kept keeper.old keeper.new (is_device result) }
 {
     drop(find_access(keeper, at, who, &command.bucket, Right::Config)?);
     check_default(command.default)?;
@@ -44,10 +42,7 @@ pub fn get_default<K: Keeper>(
     command: &GetDefault,
 ) -> Result<Answer, Halt>
     ensures meets { K.is_honest keeper.new → AnswersAs result (K.vault keeper.old) (K.vault keeper.new) (outcome.get_default (K.vault keeper.old) at who.now command.now) }
-    ensures honest { K.is_honest keeper.new → K.is_honest keeper.old }
-    ensures counted { K.count keeper.old ≤ K.count keeper.new }
-    ensures device { IsTrue (is_device result) → RoseOrIsFull (K.count keeper.old) (K.count keeper.new) }
-    ensures steady { is_device result ≡ false → K.count keeper.new ≡ K.count keeper.old }
+    ensures leaves { Leaves K.Kept keeper.old keeper.new (is_device result) }
 {
     let access = find_access(keeper, at, who, &command.bucket, Right::Config)?;
     let default = access.bucket.default;
@@ -64,10 +59,7 @@ pub fn set_rules<K: Keeper>(
 ) -> Result<Answer, Halt>
     ensures meets { K.is_honest keeper.new → AnswersAs result (K.vault keeper.old) (K.vault keeper.new) (outcome.set_rules (K.vault keeper.old) at who.now command.now) }
     ensures rule_set { IsTrue (is_rule_set command.now.rules) }
-    ensures honest { K.is_honest keeper.new → K.is_honest keeper.old }
-    ensures counted { K.count keeper.old ≤ K.count keeper.new }
-    ensures device { IsTrue (is_device result) → RoseOrIsFull (K.count keeper.old) (K.count keeper.new) }
-    ensures steady { is_device result ≡ false → K.count keeper.new ≡ K.count keeper.old }
+    ensures leaves { Leaves K.Kept keeper.old keeper.new (is_device result) }
 {
     // What the type promises of its rules, the change needs.
     let _rules = command.rules.as_slice();
@@ -85,10 +77,7 @@ pub fn get_rules<K: Keeper>(
     command: &GetRules,
 ) -> Result<Answer, Halt>
     ensures meets { K.is_honest keeper.new → AnswersAs result (K.vault keeper.old) (K.vault keeper.new) (outcome.get_rules (K.vault keeper.old) at who.now command.now) }
-    ensures honest { K.is_honest keeper.new → K.is_honest keeper.old }
-    ensures counted { K.count keeper.old ≤ K.count keeper.new }
-    ensures device { IsTrue (is_device result) → RoseOrIsFull (K.count keeper.old) (K.count keeper.new) }
-    ensures steady { is_device result ≡ false → K.count keeper.new ≡ K.count keeper.old }
+    ensures leaves { Leaves K.Kept keeper.old keeper.new (is_device result) }
 {
     drop(find_access(keeper, at, who, &command.bucket, Right::Config)?);
     let Some(rules) = keeper.rules(&command.bucket)? else {
@@ -105,10 +94,7 @@ pub fn drop_rules<K: Keeper>(
     command: &DropRules,
 ) -> Result<Answer, Halt>
     ensures meets { K.is_honest keeper.new → AnswersAs result (K.vault keeper.old) (K.vault keeper.new) (outcome.drop_rules (K.vault keeper.old) at who.now command.now) }
-    ensures honest { K.is_honest keeper.new → K.is_honest keeper.old }
-    ensures counted { K.count keeper.old ≤ K.count keeper.new }
-    ensures device { IsTrue (is_device result) → RoseOrIsFull (K.count keeper.old) (K.count keeper.new) }
-    ensures steady { is_device result ≡ false → K.count keeper.new ≡ K.count keeper.old }
+    ensures leaves { Leaves K.Kept keeper.old keeper.new (is_device result) }
 {
     drop(find_access(keeper, at, who, &command.bucket, Right::Config)?);
     let change = Change::SetRules(command.bucket.clone()?, None);

@@ -1,6 +1,7 @@
 //! A bucket that moves to another department.
-ghost use Rattle.std.specs.Prelude.{◌≡◌, ◌≤◌, IsTrue, IfOk, OnOk, Some, false};
-ghost use Rattle.vault_core_model.specs.Halts.{ChecksAs, AnswersAs, is_device, RoseOrIsFull};
+ghost use Rattle.std.specs.Prelude.{◌≡◌, ◌≤◌, IfOk, OnOk, Some};
+ghost use Rattle.vault_core_model.specs.Leaves.{Leaves, LeavesSame};
+ghost use Rattle.vault_core_model.specs.Halts.{ChecksAs, AnswersAs, is_device};
 ghost use Rattle.vault_core_model.specs.Vault.{config_of};
 ghost use Rattle.vault_core_model.specs.RecordOutcomes as outcome;
 
@@ -26,10 +27,7 @@ pub fn move_bucket<K: Keeper>(
     command: &MoveBucket,
 ) -> Result<Answer, Halt>
     ensures meets { K.is_honest keeper.new → AnswersAs result (K.vault keeper.old) (K.vault keeper.new) (outcome.move_bucket (K.vault keeper.old) at who.now command.now) }
-    ensures honest { K.is_honest keeper.new → K.is_honest keeper.old }
-    ensures counted { K.count keeper.old ≤ K.count keeper.new }
-    ensures device { IsTrue (is_device result) → RoseOrIsFull (K.count keeper.old) (K.count keeper.new) }
-    ensures steady { is_device result ≡ false → K.count keeper.new ≡ K.count keeper.old }
+    ensures leaves { Leaves K.Kept keeper.old keeper.new (is_device result) }
 {
     let bucket = find_bucket(keeper, at, who, command)?;
     let other = check_other(keeper, &bucket, &command.dept);
@@ -55,11 +53,7 @@ fn find_bucket<K: Keeper>(
     ensures found { K.is_honest keeper.new → ChecksAs result (outcome.bucket_to_move (K.vault keeper.old) at who.now command.now) }
     ensures in_time { K.is_honest keeper.new → OnOk result ((K.vault keeper.old).last ≤ at) }
     ensures there { K.is_honest keeper.new → IfOk result (λ bucket. config_of (K.vault keeper.old) command.now.bucket ≡ Some bucket) }
-    ensures same { K.vault keeper.new ≡ K.vault keeper.old }
-    ensures honest { K.is_honest keeper.new → K.is_honest keeper.old }
-    ensures counted { K.count keeper.old ≤ K.count keeper.new }
-    ensures device { IsTrue (is_device result) → RoseOrIsFull (K.count keeper.old) (K.count keeper.new) }
-    ensures steady { is_device result ≡ false → K.count keeper.new ≡ K.count keeper.old }
+    ensures leaves { LeavesSame K.Kept keeper.old keeper.new (is_device result) }
 {
     let caller = find_caller(keeper, at, who)?;
     let Some(bucket) = keeper.bucket(&command.bucket)? else {

@@ -1,7 +1,7 @@
 //! Departments, callers and buckets, and the report on a department.
 ghost use Rattle.std.specs.Prelude.{◌≡◌, ◌≤◌, IsTrue, IfOk, Err, IsSome, false};
-ghost use Rattle.vault_core_model.specs.Halts.{AnswersAs, is_device, is_device_given, RoseOrIsFull};
-ghost use Rattle.vault_core_model.specs.Sound.{Sound};
+ghost use Rattle.vault_core_model.specs.Leaves.{Leaves, ReadsAs};
+ghost use Rattle.vault_core_model.specs.Halts.{AnswersAs, is_device};
 ghost use Rattle.vault_core_model.specs.RecordOutcomes as outcome;
 
 use std::alloc::AllocError;
@@ -25,10 +25,7 @@ pub fn add_dept<K: Keeper>(
     command: &AddDept,
 ) -> Result<Answer, Halt>
     ensures meets { K.is_honest keeper.new → AnswersAs result (K.vault keeper.old) (K.vault keeper.new) (outcome.add_dept (K.vault keeper.old) at who.now command.now) }
-    ensures honest { K.is_honest keeper.new → K.is_honest keeper.old }
-    ensures counted { K.count keeper.old ≤ K.count keeper.new }
-    ensures device { IsTrue (is_device result) → RoseOrIsFull (K.count keeper.old) (K.count keeper.new) }
-    ensures steady { is_device result ≡ false → K.count keeper.new ≡ K.count keeper.old }
+    ensures leaves { Leaves K.Kept keeper.old keeper.new (is_device result) }
 {
     drop(find_administrator(keeper, at, who)?);
     if keeper.dept(&command.dept)? {
@@ -46,10 +43,7 @@ pub fn add_caller<K: Keeper>(
     command: &AddCaller,
 ) -> Result<Answer, Halt>
     ensures meets { K.is_honest keeper.new → AnswersAs result (K.vault keeper.old) (K.vault keeper.new) (outcome.add_caller (K.vault keeper.old) at who.now command.now) }
-    ensures honest { K.is_honest keeper.new → K.is_honest keeper.old }
-    ensures counted { K.count keeper.old ≤ K.count keeper.new }
-    ensures device { IsTrue (is_device result) → RoseOrIsFull (K.count keeper.old) (K.count keeper.new) }
-    ensures steady { is_device result ≡ false → K.count keeper.new ≡ K.count keeper.old }
+    ensures leaves { Leaves K.Kept keeper.old keeper.new (is_device result) }
 {
     drop(find_administrator(keeper, at, who)?);
     check_dept_if_given(keeper, &command.dept)?;
@@ -83,10 +77,7 @@ pub fn close_caller<K: Keeper>(
     command: &CloseCaller,
 ) -> Result<Answer, Halt>
     ensures meets { K.is_honest keeper.new → AnswersAs result (K.vault keeper.old) (K.vault keeper.new) (outcome.close_caller (K.vault keeper.old) at who.now command.now) }
-    ensures honest { K.is_honest keeper.new → K.is_honest keeper.old }
-    ensures counted { K.count keeper.old ≤ K.count keeper.new }
-    ensures device { IsTrue (is_device result) → RoseOrIsFull (K.count keeper.old) (K.count keeper.new) }
-    ensures steady { is_device result ≡ false → K.count keeper.new ≡ K.count keeper.old }
+    ensures leaves { Leaves K.Kept keeper.old keeper.new (is_device result) }
 {
     drop(find_administrator(keeper, at, who)?);
     let found = keeper.caller(&command.caller)?;
@@ -117,10 +108,7 @@ pub fn add_bucket<K: Keeper>(
     command: &AddBucket,
 ) -> Result<Answer, Halt>
     ensures meets { K.is_honest keeper.new → AnswersAs result (K.vault keeper.old) (K.vault keeper.new) (outcome.add_bucket (K.vault keeper.old) at who.now command.now) }
-    ensures honest { K.is_honest keeper.new → K.is_honest keeper.old }
-    ensures counted { K.count keeper.old ≤ K.count keeper.new }
-    ensures device { IsTrue (is_device result) → RoseOrIsFull (K.count keeper.old) (K.count keeper.new) }
-    ensures steady { is_device result ≡ false → K.count keeper.new ≡ K.count keeper.old }
+    ensures leaves { Leaves K.Kept keeper.old keeper.new (is_device result) }
 {
     drop(find_administrator(keeper, at, who)?);
     check_dept(keeper, &command.dept)?;
@@ -143,10 +131,7 @@ pub fn report<K: Keeper>(
     command: &Report,
 ) -> Result<Answer, Halt>
     ensures meets { K.is_honest keeper.new → AnswersAs result (K.vault keeper.old) (K.vault keeper.new) (outcome.report (K.vault keeper.old) at who.now command.now) }
-    ensures honest { K.is_honest keeper.new → K.is_honest keeper.old }
-    ensures counted { K.count keeper.old ≤ K.count keeper.new }
-    ensures device { IsTrue (is_device result) → RoseOrIsFull (K.count keeper.old) (K.count keeper.new) }
-    ensures steady { is_device result ≡ false → K.count keeper.new ≡ K.count keeper.old }
+    ensures leaves { Leaves K.Kept keeper.old keeper.new (is_device result) }
 {
     let caller = find_caller(keeper, at, who)?;
     let allowed = check_report(&caller, &command.dept);
@@ -158,14 +143,9 @@ pub fn report<K: Keeper>(
 
 /// The sums of a department at a reading that isn't before the last moment.
 fn sums_of<K: Keeper>(keeper: &mut K, dept: &DeptName, at: Moment) -> Result<reply::Report, Fault>
-    requires sound { K.is_honest keeper.old → Sound (K.vault keeper.old) }
     requires in_time { K.is_honest keeper.old → (K.vault keeper.old).last ≤ at }
     ensures value { K.is_honest keeper.new → IfOk result (λ report. report ≡ outcome.report_of (K.vault keeper.old) dept.now at) }
-    ensures same { K.vault keeper.new ≡ K.vault keeper.old }
-    ensures honest { K.is_honest keeper.new → K.is_honest keeper.old }
-    ensures counted { K.count keeper.old ≤ K.count keeper.new }
-    ensures device { result ≡ Err Fault.Device → RoseOrIsFull (K.count keeper.old) (K.count keeper.new) }
-    ensures steady { is_device_given result ≡ false → K.count keeper.new ≡ K.count keeper.old }
+    ensures leaves { ReadsAs K.Kept keeper.old keeper.new result }
 {
     let row = keeper.totals(dept)?;
     Ok(reply::Report {

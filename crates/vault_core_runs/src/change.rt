@@ -1,8 +1,9 @@
 //! One step of a run, made as one change.
-ghost use Rattle.std.specs.Prelude.{◌≡◌, ◌≤◌, ◌<◌, ◌+◌, ℕ, List, length, IsTrue, IfOk, IfErr, IfSome, OnOk, false};
+ghost use Rattle.std.specs.Prelude.{◌≡◌, ◌≤◌, ◌<◌, ◌+◌, ℕ, List, length, IfOk, IfErr, IfSome, OnOk};
+ghost use Rattle.vault_core_model.specs.Leaves.{Leaves, LeavesSame};
 ghost use Rattle.vault_core_model.specs.declared.records.Author.TheVariants as author;
 ghost use Rattle.vault_core_model.specs.declared.records.Cause.TheVariants as cause;
-ghost use Rattle.vault_core_model.specs.Halts.{is_device, RoseOrIsFull};
+ghost use Rattle.vault_core_model.specs.Halts.{is_device};
 ghost use Rattle.vault_core_model.specs.EntryOutcomes.{new_marker};
 ghost use Rattle.vault_core_model.specs.Plan.{rules_in, rule_id, change_at, counts as counts_of};
 ghost use Rattle.vault_core_runs.specs.Making.{place_of, HasId, MayBeMade, Hinders, MakesSteps, only, plus};
@@ -41,10 +42,7 @@ pub fn make_step<K: Keeper>(
     requires in_time { K.is_honest keeper.old → (K.vault keeper.old).last ≤ run.now.at }
     requires allowed { K.is_honest keeper.old → MayBeMade (K.vault keeper.old) run.now.bucket run.now.at key.now step.now }
     ensures makes { K.is_honest keeper.new → MakesSteps result (K.vault keeper.old) run.now.bucket run.now.at (only key.now step.now) counts.old counts.new (K.vault keeper.new) }
-    ensures honest { K.is_honest keeper.new → K.is_honest keeper.old }
-    ensures counted { K.count keeper.old ≤ K.count keeper.new }
-    ensures device { IsTrue (is_device result) → RoseOrIsFull (K.count keeper.old) (K.count keeper.new) }
-    ensures steady { is_device result ≡ false → K.count keeper.new ≡ K.count keeper.old }
+    ensures leaves { Leaves K.Kept keeper.old keeper.new (is_device result) }
 {
     let Some(more) = one_more(counts, step) else {
         return Err(Halt::Fault(Fault::Memory));
@@ -112,11 +110,7 @@ fn find_change<K: Keeper>(
     ensures is { K.is_honest keeper.new → IfOk result (λ change. change ≡ change_at (K.vault keeper.old) run.now.bucket run.now.at key.now step.now) }
     ensures room { K.is_honest keeper.new → OnOk result (HasId (K.vault keeper.old) step.now) }
     ensures hindered { K.is_honest keeper.new → IfErr result (λ halt. Hinders halt (K.vault keeper.old) step.now) }
-    ensures same { K.vault keeper.new ≡ K.vault keeper.old }
-    ensures honest { K.is_honest keeper.new → K.is_honest keeper.old }
-    ensures counted { K.count keeper.old ≤ K.count keeper.new }
-    ensures device { IsTrue (is_device result) → RoseOrIsFull (K.count keeper.old) (K.count keeper.new) }
-    ensures steady { is_device result ≡ false → K.count keeper.new ≡ K.count keeper.old }
+    ensures leaves { LeavesSame K.Kept keeper.old keeper.new (is_device result) }
 {
     match *step {
         Step::Mark(rule) => find_mark(alloc, keeper, run, key, rule),
@@ -138,11 +132,7 @@ fn find_mark<K: Keeper>(
     ensures is { K.is_honest keeper.new → IfOk result (λ change. change ≡ change_at (K.vault keeper.old) run.now.bucket run.now.at key.now (Step.Mark rule)) }
     ensures room { K.is_honest keeper.new → OnOk result (HasId (K.vault keeper.old) (Step.Mark rule)) }
     ensures hindered { K.is_honest keeper.new → IfErr result (λ halt. Hinders halt (K.vault keeper.old) (Step.Mark rule)) }
-    ensures same { K.vault keeper.new ≡ K.vault keeper.old }
-    ensures honest { K.is_honest keeper.new → K.is_honest keeper.old }
-    ensures counted { K.count keeper.old ≤ K.count keeper.new }
-    ensures device { IsTrue (is_device result) → RoseOrIsFull (K.count keeper.old) (K.count keeper.new) }
-    ensures steady { is_device result ≡ false → K.count keeper.new ≡ K.count keeper.old }
+    ensures leaves { LeavesSame K.Kept keeper.old keeper.new (is_device result) }
 {
     let id = find_id(keeper)?;
     let admission = Admission {

@@ -1,6 +1,7 @@
 //! The steps of a run at one key.
-ghost use Rattle.std.specs.Prelude.{◌≡◌, ◌≤◌, IsTrue, IfOk, false};
-ghost use Rattle.vault_core_model.specs.Halts.{is_device, RoseOrIsFull};
+ghost use Rattle.std.specs.Prelude.{◌≡◌, IsTrue, IfOk, false};
+ghost use Rattle.vault_core_model.specs.Leaves.{Leaves};
+ghost use Rattle.vault_core_model.specs.Halts.{is_device};
 ghost use Rattle.vault_core_model.specs.Plan.{rules_in};
 ghost use Rattle.vault_core_model.specs.Reads.{entries_of};
 ghost use Rattle.vault_core_run_laws.specs.KeyRuns.{MayRun, plan_at};
@@ -26,10 +27,7 @@ pub fn run_key<K: Keeper>(
     requires may { K.is_honest keeper.old → MayRun (K.vault keeper.old) run.now.bucket run.now.at }
     requires given { K.is_honest keeper.old → rules_in (K.vault keeper.old) run.now.bucket ≡ run.now.rules }
     ensures makes { K.is_honest keeper.new → MakesSteps result (K.vault keeper.old) run.now.bucket run.now.at (plan_at (K.vault keeper.old) run.now.bucket run.now.at key.now) counts.old counts.new (K.vault keeper.new) }
-    ensures honest { K.is_honest keeper.new → K.is_honest keeper.old }
-    ensures counted { K.count keeper.old ≤ K.count keeper.new }
-    ensures device { IsTrue (is_device result) → RoseOrIsFull (K.count keeper.old) (K.count keeper.new) }
-    ensures steady { is_device result ≡ false → K.count keeper.new ≡ K.count keeper.old }
+    ensures leaves { Leaves K.Kept keeper.old keeper.new (is_device result) }
 {
     let held = keeper.entries(&run.bucket, key)?;
     let steps = plan_of(alloc, run, key, &held)?;
@@ -83,10 +81,7 @@ fn make_steps<K: Keeper>(
     requires planned { K.is_honest keeper.old → steps.now ≡ key_plan run.now.rules key.now (entries_of (K.vault keeper.old) run.now.bucket key.now) run.now.at }
     requires causes { HaveCauses run.now.rules steps.now }
     ensures makes { K.is_honest keeper.new → MakesSteps result (K.vault keeper.old) run.now.bucket run.now.at (at_key key.now steps.now) counts.old counts.new (K.vault keeper.new) }
-    ensures honest { K.is_honest keeper.new → K.is_honest keeper.old }
-    ensures counted { K.count keeper.old ≤ K.count keeper.new }
-    ensures device { IsTrue (is_device result) → RoseOrIsFull (K.count keeper.old) (K.count keeper.new) }
-    ensures steady { is_device result ≡ false → K.count keeper.new ≡ K.count keeper.old }
+    ensures leaves { Leaves K.Kept keeper.old keeper.new (is_device result) }
 {
     for step in steps {
         make_step(alloc, keeper, run, key, step, counts)?;

@@ -1,6 +1,7 @@
 //! The keys of a bucket, page by page.
-ghost use Rattle.std.specs.Prelude.{◌≡◌, ◌≤◌, ◌<◌, [], length, IsTrue, IfOk, MatchOption, false};
-ghost use Rattle.vault_core_model.specs.Halts.{is_device, RoseOrIsFull};
+ghost use Rattle.std.specs.Prelude.{◌≡◌, ◌<◌, [], length, IfOk, MatchOption};
+ghost use Rattle.vault_core_model.specs.Leaves.{Leaves};
+ghost use Rattle.vault_core_model.specs.Halts.{is_device};
 ghost use Rattle.vault_core_model.specs.Plan.{plan, rules_in};
 ghost use Rattle.vault_core_run_laws.specs.KeyRuns.{MayRun, plans_at};
 ghost use Rattle.vault_core_runs.specs.Making.{IsLastKey, MakesSteps};
@@ -27,10 +28,7 @@ pub fn run_pages<K: Keeper>(
     requires may { K.is_honest keeper.old → MayRun (K.vault keeper.old) run.now.bucket run.now.at }
     requires given { K.is_honest keeper.old → rules_in (K.vault keeper.old) run.now.bucket ≡ run.now.rules }
     ensures makes { K.is_honest keeper.new → MakesSteps result (K.vault keeper.old) run.now.bucket run.now.at (plan (K.vault keeper.old) run.now.bucket run.now.at) counts.old counts.new (K.vault keeper.new) }
-    ensures honest { K.is_honest keeper.new → K.is_honest keeper.old }
-    ensures counted { K.count keeper.old ≤ K.count keeper.new }
-    ensures device { IsTrue (is_device result) → RoseOrIsFull (K.count keeper.old) (K.count keeper.new) }
-    ensures steady { is_device result ≡ false → K.count keeper.new ≡ K.count keeper.old }
+    ensures leaves { Leaves K.Kept keeper.old keeper.new (is_device result) }
 {
     let mut after = before_all(alloc)?;
     for _ in 0..u64::MAX {
@@ -80,10 +78,7 @@ fn run_page<K: Keeper>(
     requires given { K.is_honest keeper.old → rules_in (K.vault keeper.old) run.now.bucket ≡ run.now.rules }
     requires rising { K.is_honest keeper.old → IsRising keys.now }
     ensures makes { K.is_honest keeper.new → MakesSteps result (K.vault keeper.old) run.now.bucket run.now.at (plans_at (K.vault keeper.old) run.now.bucket run.now.at keys.now) counts.old counts.new (K.vault keeper.new) }
-    ensures honest { K.is_honest keeper.new → K.is_honest keeper.old }
-    ensures counted { K.count keeper.old ≤ K.count keeper.new }
-    ensures device { IsTrue (is_device result) → RoseOrIsFull (K.count keeper.old) (K.count keeper.new) }
-    ensures steady { is_device result ≡ false → K.count keeper.new ≡ K.count keeper.old }
+    ensures leaves { Leaves K.Kept keeper.old keeper.new (is_device result) }
 {
     for key in keys {
         run_key(alloc, keeper, run, key, counts)?;

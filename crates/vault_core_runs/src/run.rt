@@ -1,6 +1,7 @@
 //! The command that runs the lifecycle rules over a bucket.
-ghost use Rattle.std.specs.Prelude.{◌≡◌, ◌≤◌, IsTrue, false};
-ghost use Rattle.vault_core_model.specs.Halts.{is_device, is_device_halt, is_device_reply, is_device_stop, RoseOrIsFull};
+ghost use Rattle.std.specs.Prelude.{◌≡◌};
+ghost use Rattle.vault_core_model.specs.Leaves.{Leaves, LeavesSame};
+ghost use Rattle.vault_core_model.specs.Halts.{is_device, is_device_halt, is_device_reply, is_device_stop};
 ghost use Rattle.vault_core_model.specs.Plan.{plan, rules_in};
 ghost use Rattle.vault_core_model.specs.RunOutcome.{planned_run, AnswersRun};
 ghost use Rattle.vault_core_run_laws.specs.KeyRuns.{MayRun};
@@ -32,10 +33,7 @@ pub fn run_rules<K: Keeper>(
     command: &Run,
 ) -> Reply
     ensures step { K.is_honest keeper.new → AnswersRun (planned_run (K.vault keeper.old) at who.now command.now) (K.vault keeper.old) command.now.bucket at result (K.vault keeper.new) }
-    ensures honest { K.is_honest keeper.new → K.is_honest keeper.old }
-    ensures counted { K.count keeper.old ≤ K.count keeper.new }
-    ensures device { IsTrue (is_device_reply result) → RoseOrIsFull (K.count keeper.old) (K.count keeper.new) }
-    ensures steady { is_device_reply result ≡ false → K.count keeper.new ≡ K.count keeper.old }
+    ensures leaves { Leaves K.Kept keeper.old keeper.new (is_device_reply result) }
 {
     match find_run(keeper, at, who, command) {
         Ok(Some(run)) => run_bucket(alloc, keeper, &run),
@@ -59,11 +57,7 @@ fn find_run<K: Keeper>(
     command: &Run,
 ) -> Result<Option<BucketRun>, Halt>
     ensures found { K.is_honest keeper.new → BeginsAs result (K.vault keeper.old) command.now.bucket at (planned_run (K.vault keeper.old) at who.now command.now) }
-    ensures same { K.vault keeper.new ≡ K.vault keeper.old }
-    ensures honest { K.is_honest keeper.new → K.is_honest keeper.old }
-    ensures counted { K.count keeper.old ≤ K.count keeper.new }
-    ensures device { IsTrue (is_device result) → RoseOrIsFull (K.count keeper.old) (K.count keeper.new) }
-    ensures steady { is_device result ≡ false → K.count keeper.new ≡ K.count keeper.old }
+    ensures leaves { LeavesSame K.Kept keeper.old keeper.new (is_device result) }
 {
     drop(find_access(keeper, at, who, &command.bucket, Right::Run)?);
     let Some(rules) = keeper.rules(&command.bucket)? else {
@@ -105,10 +99,7 @@ fn run_bucket<K: Keeper>(alloc: Global, keeper: &mut K, run: &BucketRun) -> Repl
     requires may { K.is_honest keeper.old → MayRun (K.vault keeper.old) run.now.bucket run.now.at }
     requires given { K.is_honest keeper.old → rules_in (K.vault keeper.old) run.now.bucket ≡ run.now.rules }
     ensures step { K.is_honest keeper.new → AnswersRun (Ok (plan (K.vault keeper.old) run.now.bucket run.now.at)) (K.vault keeper.old) run.now.bucket run.now.at result (K.vault keeper.new) }
-    ensures honest { K.is_honest keeper.new → K.is_honest keeper.old }
-    ensures counted { K.count keeper.old ≤ K.count keeper.new }
-    ensures device { IsTrue (is_device_reply result) → RoseOrIsFull (K.count keeper.old) (K.count keeper.new) }
-    ensures steady { is_device_reply result ≡ false → K.count keeper.new ≡ K.count keeper.old }
+    ensures leaves { Leaves K.Kept keeper.old keeper.new (is_device_reply result) }
 {
     let mut counts = NO_CHANGE;
     match run_pages(alloc, keeper, run, &mut counts) {

@@ -7,14 +7,14 @@
 //! 1,moved,2024-03-01T00:00:00Z,,docs,a,version,5,(64 hex digits),,,,,,court,1
 //! 1,removed,2024-04-01T00:00:00Z,gov,docs,a,version,5,(64 hex digits),,,,,bypass,,
 //! ```
-ghost use Rattle.std.specs.Prelude.{◌≡◌, ◌≢◌, ◌≤◌, IfOk, OnErr, Err, false};
+ghost use Rattle.std.specs.Prelude.{◌≡◌, ◌≢◌, IfOk, OnErr, Err, false};
 ghost use Rattle.std.specs.Io.KnownBytes.{Appends, Keeps};
 ghost use Rattle.vault_core_evidence.specs.Events.{events_asked};
-ghost use Rattle.vault_core_model.specs.Halts.{RoseOrIsFull};
 ghost use Rattle.vault_files_events.specs.Counts.{counts};
 ghost use Rattle.vault_files_events.specs.EventsText.{events_text};
 ghost use Rattle.vault_files_texts.specs.Faults.{is_device_met};
 ghost use Rattle.vault_io.specs.Begins.{Begins};
+ghost use Rattle.vault_core_model.specs.Leaves.{LeavesSame};
 
 use crate::counted::Counted;
 use crate::takers::ToWriter;
@@ -45,11 +45,7 @@ fn write_events<K: Keeper, W: Write>(
 ) -> Result<Counted, ExportFault>
     ensures ok { K.is_honest keeper.new → IfOk result (λ n. Appends (W.contents writer.old) (W.contents writer.new) (events_text (events_asked before (K.vault keeper.old))) × (n ≡ counts (events_asked before (K.vault keeper.old)))) }
     ensures err { K.is_honest keeper.new → OnErr result (Begins (W.contents writer.old) (W.contents writer.new) (events_text (events_asked before (K.vault keeper.old)))) }
-    ensures same { K.vault keeper.new ≡ K.vault keeper.old }
-    ensures honest { K.is_honest keeper.new → K.is_honest keeper.old }
-    ensures counted { K.count keeper.old ≤ K.count keeper.new }
-    ensures device { result ≡ Err ExportFault.Device → RoseOrIsFull (K.count keeper.old) (K.count keeper.new) }
-    ensures steady { is_device_met result ≡ false → K.count keeper.new ≡ K.count keeper.old }
+    ensures leaves { LeavesSame K.Kept keeper.old keeper.new (is_device_met result) }
 {
     let mut taker = ToWriter::new(writer);
     take_events(alloc, keeper, &mut taker, &before)
@@ -71,11 +67,7 @@ pub fn export_events<K: Keeper, W: Write>(
 ) -> Result<Counted, ExportFault>
     ensures ok { K.is_honest keeper.new → IfOk result (λ n. Appends (W.contents writer.old) (W.contents writer.new) (events_text (events_asked before (K.vault keeper.old))) × (n ≡ counts (events_asked before (K.vault keeper.old)))) }
     ensures err { K.is_honest keeper.new → OnErr result (Begins (W.contents writer.old) (W.contents writer.new) (events_text (events_asked before (K.vault keeper.old)))) }
-    ensures same { K.vault keeper.new ≡ K.vault keeper.old }
-    ensures honest { K.is_honest keeper.new → K.is_honest keeper.old }
-    ensures counted { K.count keeper.old ≤ K.count keeper.new }
-    ensures device { result ≡ Err ExportFault.Device → RoseOrIsFull (K.count keeper.old) (K.count keeper.new) }
-    ensures steady { is_device_met result ≡ false → K.count keeper.new ≡ K.count keeper.old }
+    ensures leaves { LeavesSame K.Kept keeper.old keeper.new (is_device_met result) }
 {
     let counted = write_events(alloc, keeper, writer, before)?;
     flush(writer)?;

@@ -1,6 +1,6 @@
 //! What a vault's keeper reads of one entry.
-ghost use Rattle.std.specs.Prelude.{◌≡◌, ◌≤◌, IfOk, Err, false};
-ghost use Rattle.vault_core_model.specs.Halts.{is_device_given, RoseOrIsFull};
+ghost use Rattle.std.specs.Prelude.{◌≡◌, IfOk};
+ghost use Rattle.vault_core_model.specs.Leaves.{ReadsAs};
 ghost use Rattle.vault_core_model.specs.Vault.{history_of};
 ghost use Rattle.vault_files_events.specs.Past.{past_of};
 
@@ -20,11 +20,7 @@ pub(crate) struct Past {
 /// Reads what the vault has of the entry of an id.
 pub(crate) fn read_past<K: Keeper>(keeper: &mut K, id: VersionId) -> Result<Option<Past>, Fault>
     ensures value { K.is_honest keeper.new → IfOk result (λ found. found ≡ past_of (history_of (K.vault keeper.old) id)) }
-    ensures same { K.vault keeper.new ≡ K.vault keeper.old }
-    ensures honest { K.is_honest keeper.new → K.is_honest keeper.old }
-    ensures counted { K.count keeper.old ≤ K.count keeper.new }
-    ensures device { result ≡ Err Fault.Device → RoseOrIsFull (K.count keeper.old) (K.count keeper.new) }
-    ensures steady { is_device_given result ≡ false → K.count keeper.new ≡ K.count keeper.old }
+    ensures leaves { ReadsAs K.Kept keeper.old keeper.new result }
 {
     let Some(entry) = keeper.entry(id)? else {
         return Ok(None);

@@ -1,8 +1,9 @@
 //! The seal over what happened in a vault before a moment.
-ghost use Rattle.std.specs.Prelude.{◌≡◌, ◌≤◌, ◌<◌, IfOk, IsTrue, Err, Some, None, false, unwrap_or, MatchOption};
+ghost use Rattle.std.specs.Prelude.{◌≡◌, ◌≤◌, ◌<◌, IfOk, Err, Some, None, unwrap_or, MatchOption};
 ghost use Rattle.vault_base.specs.declared.refusal.Refusal.{Refusal as AnyRefusal};
 ghost use Rattle.vault_base.specs.declared.refusal.Refusal.TheVariants.{InvalidArgument};
-ghost use Rattle.vault_core_model.specs.Halts.{is_device, is_device_given, RoseOrIsFull};
+ghost use Rattle.vault_core_model.specs.Leaves.{LeavesSame, ReadsAs};
+ghost use Rattle.vault_core_model.specs.Halts.{is_device};
 ghost use Rattle.vault_files_events.specs.Faults.{keeper_fault_of};
 ghost use Rattle.vault_files_events.specs.Seal.{SealsAs, seal_of};
 
@@ -29,11 +30,7 @@ fn keeper_fault(fault: ExportFault) -> Fault
 /// The seal of what was before a moment.
 fn seal_before<K: Keeper>(alloc: Global, keeper: &mut K, before: Moment) -> Result<Seal, Fault>
     ensures value { K.is_honest keeper.new → IfOk result (λ s. s ≡ seal_of before (K.vault keeper.old)) }
-    ensures same { K.vault keeper.new ≡ K.vault keeper.old }
-    ensures honest { K.is_honest keeper.new → K.is_honest keeper.old }
-    ensures counted { K.count keeper.old ≤ K.count keeper.new }
-    ensures device { result ≡ Err Fault.Device → RoseOrIsFull (K.count keeper.old) (K.count keeper.new) }
-    ensures steady { is_device_given result ≡ false → K.count keeper.new ≡ K.count keeper.old }
+    ensures leaves { ReadsAs K.Kept keeper.old keeper.new result }
 {
     let mut digesting = Digesting::new();
     match take_events(alloc, keeper, &mut digesting, &Some(before)) {
@@ -66,11 +63,7 @@ fn reached(before: Option<Moment>, last: Moment) -> Option<Moment>
 /// changed.
 pub fn seal<K: Keeper>(alloc: Global, keeper: &mut K, before: Option<Moment>) -> Result<Seal, Halt>
     ensures sealed { K.is_honest keeper.new → SealsAs result before (K.vault keeper.old) }
-    ensures same { K.vault keeper.new ≡ K.vault keeper.old }
-    ensures honest { K.is_honest keeper.new → K.is_honest keeper.old }
-    ensures counted { K.count keeper.old ≤ K.count keeper.new }
-    ensures device { IsTrue (is_device result) → RoseOrIsFull (K.count keeper.old) (K.count keeper.new) }
-    ensures steady { is_device result ≡ false → K.count keeper.new ≡ K.count keeper.old }
+    ensures leaves { LeavesSame K.Kept keeper.old keeper.new (is_device result) }
     // Whatever the device does, nothing else is refused.
     ensures refused { (r : AnyRefusal) → result ≡ Err (Halt.Refused r) → r ≡ InvalidArgument }
 {

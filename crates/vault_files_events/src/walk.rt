@@ -1,7 +1,7 @@
 //! A walk over all entries of a vault, one at a time, that has the text of their events taken.
-ghost use Rattle.std.specs.Prelude.{◌≡◌, ◌≤◌, ◌+◌, IfOk, OnOk, OnErr, Err, false, length};
+ghost use Rattle.std.specs.Prelude.{◌≡◌, ◌+◌, IfOk, OnOk, OnErr, Err, false, length};
 ghost use Rattle.vault_core_evidence.specs.Events.{events_asked};
-ghost use Rattle.vault_core_model.specs.Halts.{RoseOrIsFull};
+ghost use Rattle.vault_core_model.specs.Leaves.{LeavesSame};
 ghost use Rattle.vault_core_model.specs.Sound.{Sound};
 ghost use Rattle.vault_core_model.specs.Vault.{history_of};
 ghost use Rattle.vault_files_events.specs.Counts.{counts};
@@ -61,11 +61,7 @@ fn take_entry<K: Keeper, T: Taker>(
 ) -> Result<Counted, ExportFault>
     ensures ok { K.is_honest keeper.new → IfOk result (λ n. T.took taker.old (event_rows (asked_found before.now (history_of (K.vault keeper.old) id))) taker.new × (n ≡ counts (asked_found before.now (history_of (K.vault keeper.old) id)))) }
     ensures err { K.is_honest keeper.new → OnErr result (TookSome T.took taker.old (event_rows (asked_found before.now (history_of (K.vault keeper.old) id))) taker.new) }
-    ensures same { K.vault keeper.new ≡ K.vault keeper.old }
-    ensures honest { K.is_honest keeper.new → K.is_honest keeper.old }
-    ensures counted { K.count keeper.old ≤ K.count keeper.new }
-    ensures device { result ≡ Err ExportFault.Device → RoseOrIsFull (K.count keeper.old) (K.count keeper.new) }
-    ensures steady { is_device_met result ≡ false → K.count keeper.new ≡ K.count keeper.old }
+    ensures leaves { LeavesSame K.Kept keeper.old keeper.new (is_device_met result) }
 {
     let Some(past) = read_past(keeper, id)? else {
         return Ok(Counted::none());
@@ -81,15 +77,10 @@ fn take_each<K: Keeper, T: Taker>(
     before: &Option<Moment>,
     entries: u32,
 ) -> Result<Counted, ExportFault>
-    requires sound { K.is_honest keeper.old → Sound (K.vault keeper.old) }
     requires entries { K.is_honest keeper.old → entries ≡ length (K.vault keeper.old).histories }
     ensures ok { K.is_honest keeper.new → IfOk result (λ n. T.took taker.old (event_rows (events_asked before.now (K.vault keeper.old))) taker.new × (n ≡ counts (events_asked before.now (K.vault keeper.old)))) }
     ensures err { K.is_honest keeper.new → OnErr result (TookSome T.took taker.old (event_rows (events_asked before.now (K.vault keeper.old))) taker.new) }
-    ensures same { K.vault keeper.new ≡ K.vault keeper.old }
-    ensures honest { K.is_honest keeper.new → K.is_honest keeper.old }
-    ensures counted { K.count keeper.old ≤ K.count keeper.new }
-    ensures device { result ≡ Err ExportFault.Device → RoseOrIsFull (K.count keeper.old) (K.count keeper.new) }
-    ensures steady { is_device_met result ≡ false → K.count keeper.new ≡ K.count keeper.old }
+    ensures leaves { LeavesSame K.Kept keeper.old keeper.new (is_device_met result) }
 {
     let mut counted = Counted::none();
     for place in 0..entries {
@@ -109,11 +100,7 @@ fn take_each<K: Keeper, T: Taker>(
 fn count_entries<K: Keeper>(keeper: &mut K) -> Result<u32, ExportFault>
     ensures value { K.is_honest keeper.new → IfOk result (λ n. n ≡ length (K.vault keeper.old).histories) }
     ensures sound { K.is_honest keeper.new → OnOk result (Sound (K.vault keeper.old)) }
-    ensures same { K.vault keeper.new ≡ K.vault keeper.old }
-    ensures honest { K.is_honest keeper.new → K.is_honest keeper.old }
-    ensures counted { K.count keeper.old ≤ K.count keeper.new }
-    ensures device { result ≡ Err ExportFault.Device → RoseOrIsFull (K.count keeper.old) (K.count keeper.new) }
-    ensures steady { is_device_met result ≡ false → K.count keeper.new ≡ K.count keeper.old }
+    ensures leaves { LeavesSame K.Kept keeper.old keeper.new (is_device_met result) }
 {
     keeper.last()?;
     let next = keeper.next_id()?;
@@ -132,11 +119,7 @@ pub(crate) fn take_events<K: Keeper, T: Taker>(
 ) -> Result<Counted, ExportFault>
     ensures ok { K.is_honest keeper.new → IfOk result (λ n. T.took taker.old (events_text (events_asked before.now (K.vault keeper.old))) taker.new × (n ≡ counts (events_asked before.now (K.vault keeper.old)))) }
     ensures err { K.is_honest keeper.new → OnErr result (TookSome T.took taker.old (events_text (events_asked before.now (K.vault keeper.old))) taker.new) }
-    ensures same { K.vault keeper.new ≡ K.vault keeper.old }
-    ensures honest { K.is_honest keeper.new → K.is_honest keeper.old }
-    ensures counted { K.count keeper.old ≤ K.count keeper.new }
-    ensures device { result ≡ Err ExportFault.Device → RoseOrIsFull (K.count keeper.old) (K.count keeper.new) }
-    ensures steady { is_device_met result ≡ false → K.count keeper.new ≡ K.count keeper.old }
+    ensures leaves { LeavesSame K.Kept keeper.old keeper.new (is_device_met result) }
 {
     taker.take(HEADER)?;
     let entries = count_entries(keeper)?;

@@ -1,7 +1,8 @@
 //! One row of a list.
 ghost use Rattle.std.specs.Prelude.{◌≡◌, ◌≢◌, ◌≤◌, ◌⊎◌, false, IfOk, IfErr, OnErr, option_map};
 ghost use Rattle.csv.specs.Records.{fields_of};
-ghost use Rattle.vault_core_model.specs.Halts.{ChecksAs, is_device_reply, RoseOrIsFull};
+ghost use Rattle.vault_core_model.specs.Leaves.{Leaves};
+ghost use Rattle.vault_core_model.specs.Halts.{ChecksAs, is_device_reply};
 ghost use Rattle.vault_core_model.specs.declared.command.Command.TheVariants.{Intake as AsIntake};
 ghost use Rattle.vault_core_model.specs.declared.halt.Fault.TheVariants as faults;
 ghost use Rattle.vault_core_model.specs.declared.halt.Halt.TheVariants as halts;
@@ -128,10 +129,7 @@ fn carried_out<K: Keeper>(
     ensures ok { K.is_honest keeper.new → IfOk result (λ reply. (spec.is_fault_reply reply ≡ false) × IsStep (K.vault keeper.old) at who.now (AsIntake intake) reply (K.vault keeper.new)) }
     ensures err { K.is_honest keeper.new → OnErr result (K.vault keeper.new ≡ K.vault keeper.old) }
     ensures reached { K.is_honest keeper.new → Reached (K.vault keeper.old) → Reached (K.vault keeper.new) }
-    ensures honest { K.is_honest keeper.new → K.is_honest keeper.old }
-    ensures counted { K.count keeper.old ≤ K.count keeper.new }
-    ensures device { result ≡ Err Fault.Device → RoseOrIsFull (K.count keeper.old) (K.count keeper.new) }
-    ensures steady { spec.tells_device result ≡ false → K.count keeper.new ≡ K.count keeper.old }
+    ensures leaves { Leaves K.Kept keeper.old keeper.new (spec.tells_device result) }
 {
     let command = Command::Intake(intake);
     let reply = step(alloc, keeper, at, who, &command);

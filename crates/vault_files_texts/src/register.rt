@@ -4,10 +4,10 @@
 //! version,bucket,key,kind,size,sha256,admitted,admitted_by,removed,cause,cause_by,days
 //! 2,docs,k,marker,0,,2024-03-01T08:00:01Z,ann,2024-03-01T08:00:03Z,rule,r1,0
 //! ```
-ghost use Rattle.std.specs.Prelude.{◌≡◌, ◌≢◌, ◌≤◌, OnOk, OnErr, true, false, Ok};
+ghost use Rattle.std.specs.Prelude.{◌≡◌, ◌≢◌, OnOk, OnErr, true, Ok};
 ghost use Rattle.std.specs.List.{flat_map};
 ghost use Rattle.std.specs.Io.KnownBytes.{Appends};
-ghost use Rattle.vault_core_model.specs.Halts.{is_device_given, RoseOrIsFull};
+ghost use Rattle.vault_core_model.specs.Leaves.{LeavesSame, ReadsAs};
 ghost use Rattle.vault_core_model.specs.Reads.{removed_entries};
 ghost use Rattle.vault_files_texts.specs.Faults.{is_device_met};
 ghost use Rattle.vault_files_texts.specs.Register as spec;
@@ -34,11 +34,7 @@ fn walk_rows<K: Keeper, W: Write>(
     ensures name { K.is_honest keeper.new → rows.new.writer.ghost_name ≡ rows.old.writer.ghost_name }
     ensures all { K.is_honest keeper.new → result ≡ Ok true → Appends (W.contents rows.old.writer.now) (W.contents rows.new.writer.now) (flat_map spec.row (removed_entries (K.vault keeper.old))) }
     ensures some { K.is_honest keeper.new → result ≢ Ok true → Begins (W.contents rows.old.writer.now) (W.contents rows.new.writer.now) (flat_map spec.row (removed_entries (K.vault keeper.old))) }
-    ensures same { K.vault keeper.new ≡ K.vault keeper.old }
-    ensures honest { K.is_honest keeper.new → K.is_honest keeper.old }
-    ensures counted { K.count keeper.old ≤ K.count keeper.new }
-    ensures device { result ≡ Err Fault.Device → RoseOrIsFull (K.count keeper.old) (K.count keeper.new) }
-    ensures steady { is_device_given result ≡ false → K.count keeper.new ≡ K.count keeper.old }
+    ensures leaves { ReadsAs K.Kept keeper.old keeper.new result }
 {
     keeper.walk_removed(rows)
 }
@@ -51,11 +47,7 @@ fn write_rows<K: Keeper, W: Write>(
 ) -> Result<(), ExportFault>
     ensures ok { K.is_honest keeper.new → OnOk result (Appends (W.contents writer.old) (W.contents writer.new) (flat_map spec.row (removed_entries (K.vault keeper.old)))) }
     ensures err { K.is_honest keeper.new → OnErr result (Begins (W.contents writer.old) (W.contents writer.new) (flat_map spec.row (removed_entries (K.vault keeper.old)))) }
-    ensures same { K.vault keeper.new ≡ K.vault keeper.old }
-    ensures honest { K.is_honest keeper.new → K.is_honest keeper.old }
-    ensures counted { K.count keeper.old ≤ K.count keeper.new }
-    ensures device { result ≡ Err ExportFault.Device → RoseOrIsFull (K.count keeper.old) (K.count keeper.new) }
-    ensures steady { is_device_met result ≡ false → K.count keeper.new ≡ K.count keeper.old }
+    ensures leaves { LeavesSame K.Kept keeper.old keeper.new (is_device_met result) }
 {
     let mut rows = RegisterRows::new(alloc, writer);
     if walk_rows(keeper, &mut rows)? {
@@ -78,11 +70,7 @@ pub fn export_register<K: Keeper, W: Write>(
 ) -> Result<(), ExportFault>
     ensures ok { K.is_honest keeper.new → OnOk result (Appends (W.contents writer.old) (W.contents writer.new) (spec.register (removed_entries (K.vault keeper.old)))) }
     ensures err { K.is_honest keeper.new → OnErr result (Begins (W.contents writer.old) (W.contents writer.new) (spec.register (removed_entries (K.vault keeper.old)))) }
-    ensures same { K.vault keeper.new ≡ K.vault keeper.old }
-    ensures honest { K.is_honest keeper.new → K.is_honest keeper.old }
-    ensures counted { K.count keeper.old ≤ K.count keeper.new }
-    ensures device { result ≡ Err ExportFault.Device → RoseOrIsFull (K.count keeper.old) (K.count keeper.new) }
-    ensures steady { is_device_met result ≡ false → K.count keeper.new ≡ K.count keeper.old }
+    ensures leaves { LeavesSame K.Kept keeper.old keeper.new (is_device_met result) }
 {
     write_bytes(writer, HEADER)?;
     write_rows(alloc, keeper, writer)?;

@@ -8,9 +8,9 @@ abbrev pub invariant-loop-turn : goal.invariant-loop-turn
 invariant-loop-turn g l = record {
   taken : List ℕ;
   read : Consumes (g.R.Read.remaining l.fn.reader) (g.R.Read.remaining l.reader) taken;
-  honest : g.K.Keeper.is_honest l.keeper → g.K.Keeper.is_honest l.fn.keeper;
-  counted : g.K.Keeper.count l.fn.keeper ≤ g.K.Keeper.count l.keeper;
-  finished : Finished (g.K.Keeper.is_honest l.keeper) (g.K.Keeper.vault l.fn.keeper) (g.K.Keeper.count l.fn.keeper) (g.W.Write.contents l.fn.writer) (asked_in 4_194_305 [] taken) (g.K.Keeper.vault l.keeper) (g.K.Keeper.count l.keeper) (g.W.Write.contents l.writer);
+  honest : g.K.Kept.is_honest l.keeper → g.K.Kept.is_honest l.fn.keeper;
+  counted : g.K.Kept.count l.fn.keeper ≤ g.K.Kept.count l.keeper;
+  finished : Finished (g.K.Kept.is_honest l.keeper) (g.K.Kept.vault l.fn.keeper) (g.K.Kept.count l.fn.keeper) (g.W.Write.contents l.fn.writer) (asked_in 4_194_305 [] taken) (g.K.Kept.vault l.keeper) (g.K.Kept.count l.keeper) (g.W.Write.contents l.writer);
   rest : l.part.items ≡ (advance 4_194_305 [] taken).1;
   bound : vec_len l.part ≤ 4_194_305;
 }

@@ -6,14 +6,14 @@ use Rattle.vault_core_evidence.proofs.walk.find_breach.Goals as goal
 
 pub returns-in-Some-2-clause-value : goal.returns-in-Some-2-clause-value
 returns-in-Some-2-clause-value g c clean =
-    let before = c.breach_of.ensures.honest clean in
+    let before = c.breach_of.ensures.leaves.honest clean in
     let first = c.loop-place.invariant.honest before in
-    let v = g.K.Keeper.vault c.args.keeper.now in
+    let v = g.K.Kept.vault c.args.keeper.now in
     let P : Vault → Type 0 = λ w. FindsAt w c.loop-place.seen c.in-Some.id c.in_ok-law.field-0 c.breach_of.new.seen in
     let finds = subst P c.loop-place.invariant.same (c.in_ok-law.ensures.value clean) in
     let low : c.loop-place.place < length v.histories = omega (arith, c.loop-place-test.true, c.requires.entries first) in
     sym (c.loop-place.invariant.left before
-    ∙ left_stops v c.loop-place.seen c.breach_of.new.seen c.loop-place.place c.in-Some.id c.in_ok-law.field-0 c.in-Some-2.law (c.requires.sound first) low
+    ∙ left_stops v c.loop-place.seen c.breach_of.new.seen c.loop-place.place c.in-Some.id c.in_ok-law.field-0 c.in-Some-2.law (g.met.K.Kept.sound _ first) low
     (its_id (is_version_id (c.loop-place.place + 1)) (c.loop-place.place + 1) c.in-Some.id c.new.result c.new.ensures c.in-Some.is) finds c.in-Some-2.is)
 
 pub loop-place-preserved : goal.loop-place-preserved
@@ -23,14 +23,14 @@ loop-place-preserved g c = record {
   counted = search rules;
   steady = search rules;
   left = λ clean.
-      let before = c.breach_of.ensures.honest clean in
+      let before = c.breach_of.ensures.leaves.honest clean in
       let first = c.loop-place.invariant.honest before in
-      let v = g.K.Keeper.vault c.args.keeper.now in
+      let v = g.K.Kept.vault c.args.keeper.now in
       let P : Vault → Type 0 = λ w. FindsAt w c.loop-place.seen c.in-Some.id c.in_ok-law.field-0 c.breach_of.new.seen in
       let finds = subst P c.loop-place.invariant.same (c.in_ok-law.ensures.value clean) in
       let low : c.loop-place.place < length v.histories = omega (arith, c.loop-place-test.true, c.requires.entries first) in
       let none : c.in_ok-law.field-0 ≡ None = search rules in
       c.loop-place.invariant.left before
-      ∙ left_goes_on v c.loop-place.seen c.breach_of.new.seen c.loop-place.place c.in-Some.id c.in_ok-law.field-0 (c.requires.sound first) low
+      ∙ left_goes_on v c.loop-place.seen c.breach_of.new.seen c.loop-place.place c.in-Some.id c.in_ok-law.field-0 (g.met.K.Kept.sound _ first) low
       (its_id (is_version_id (c.loop-place.place + 1)) (c.loop-place.place + 1) c.in-Some.id c.new.result c.new.ensures c.in-Some.is) finds none;
 }

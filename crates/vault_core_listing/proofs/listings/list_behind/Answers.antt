@@ -9,15 +9,15 @@ loop-init g c = record {
   honest = search rules;
   counted = search rules;
   steady = search rules;
-  left = λ honest. ap (completed (g.K.Keeper.vault c.args.keeper.now) c.args.command.now c.args.page.now) c.in_ok-after.ensures.cases;
-  few = λ honest. let few = few_keys (g.K.Keeper.vault c.args.keeper.now) c.args.command.now.bucket c.in_ok-after.after (c.requires honest) in omega arith;
+  left = λ honest. ap (completed (g.K.Kept.vault c.args.keeper.now) c.args.command.now c.args.page.now) c.in_ok-after.ensures.cases;
+  few = λ honest. let few = few_keys (g.K.Kept.vault c.args.keeper.now) c.args.command.now.bucket c.in_ok-after.after (c.requires honest) in omega arith;
 }
 
 -- no key is left
 pub returns-in_default-clause-value : goal.returns-in_default-clause-value
 returns-in_default-clause-value g c = λ honest.
-    walk_ends (g.K.Keeper.vault c.args.keeper.now) (g.K.Keeper.vault c.loop.keeper) c.args.command.now c.args.page.now c.loop.page c.list_keys_behind.new.page c.loop.after c.in_ok-next.field-0
-    c.loop.invariant.same c.in_default.is (c.loop.invariant.left (c.list_keys_behind.ensures.honest honest)) (c.in_ok-next.ensures.value honest)
+    walk_ends (g.K.Kept.vault c.args.keeper.now) (g.K.Kept.vault c.loop.keeper) c.args.command.now c.args.page.now c.loop.page c.list_keys_behind.new.page c.loop.after c.in_ok-next.field-0
+    c.loop.invariant.same c.in_default.is (c.loop.invariant.left (c.list_keys_behind.ensures.leaves.honest honest)) (c.in_ok-next.ensures.value honest)
 
 pub loop-preserved : goal.loop-preserved
 loop-preserved g c = record {
@@ -25,12 +25,12 @@ loop-preserved g c = record {
   honest = search rules;
   counted = search rules;
   steady = search rules;
-  left = λ honest. (walk_goes_on (g.K.Keeper.vault c.args.keeper.now) (g.K.Keeper.vault c.loop.keeper) c.args.command.now c.args.page.now c.loop.page c.list_keys_behind.new.page c.loop.after c.in_ok-next.field-0 c.in-Some.next
-      c.loop.invariant.same c.in-Some.is (c.loop.invariant.left (c.list_keys_behind.ensures.honest honest)) (c.in_ok-next.ensures.value honest)).0;
+  left = λ honest. (walk_goes_on (g.K.Kept.vault c.args.keeper.now) (g.K.Kept.vault c.loop.keeper) c.args.command.now c.args.page.now c.loop.page c.list_keys_behind.new.page c.loop.after c.in_ok-next.field-0 c.in-Some.next
+      c.loop.invariant.same c.in-Some.is (c.loop.invariant.left (c.list_keys_behind.ensures.leaves.honest honest)) (c.in_ok-next.ensures.value honest)).0;
   few = λ honest.
-      let fewer = walk_goes_on (g.K.Keeper.vault c.args.keeper.now) (g.K.Keeper.vault c.loop.keeper) c.args.command.now c.args.page.now c.loop.page c.list_keys_behind.new.page c.loop.after c.in_ok-next.field-0 c.in-Some.next
-      c.loop.invariant.same c.in-Some.is (c.loop.invariant.left (c.list_keys_behind.ensures.honest honest)) (c.in_ok-next.ensures.value honest) in
-      let few = c.loop.invariant.few (c.list_keys_behind.ensures.honest honest) in omega (arith, few, fewer.1);
+      let fewer = walk_goes_on (g.K.Kept.vault c.args.keeper.now) (g.K.Kept.vault c.loop.keeper) c.args.command.now c.args.page.now c.loop.page c.list_keys_behind.new.page c.loop.after c.in_ok-next.field-0 c.in-Some.next
+      c.loop.invariant.same c.in-Some.is (c.loop.invariant.left (c.list_keys_behind.ensures.leaves.honest honest)) (c.in_ok-next.ensures.value honest) in
+      let few = c.loop.invariant.few (c.list_keys_behind.ensures.leaves.honest honest) in omega (arith, few, fewer.1);
 }
 
 -- so many pages there can't be

@@ -5,10 +5,10 @@ use Rattle.vault_core_listing.proofs.listings.list_behind.Given as goal
 -- with the keys that are left the page becomes what it is to be, and each page of keys leaves fewer
 abbrev pub invariant-loop : goal.invariant-loop
 invariant-loop g l = record {
-  same : g.K.Keeper.vault l.keeper ≡ g.K.Keeper.vault l.fn.keeper;
-  honest : g.K.Keeper.is_honest l.keeper → g.K.Keeper.is_honest l.fn.keeper;
-  counted : g.K.Keeper.count l.fn.keeper ≤ g.K.Keeper.count l.keeper;
-  steady : g.K.Keeper.count l.keeper ≡ g.K.Keeper.count l.fn.keeper;
-  left : g.K.Keeper.is_honest l.keeper → completed (g.K.Keeper.vault l.fn.keeper) l.command l.page l.after ≡ completed (g.K.Keeper.vault l.fn.keeper) l.command l.fn.page l.command.after_key;
-  few : g.K.Keeper.is_honest l.keeper → length (keys_behind (g.K.Keeper.vault l.fn.keeper) l.command.bucket l.after) + 256 * l.counter ≤ 1000000000;
+  same : g.K.Kept.vault l.keeper ≡ g.K.Kept.vault l.fn.keeper;
+  honest : g.K.Kept.is_honest l.keeper → g.K.Kept.is_honest l.fn.keeper;
+  counted : g.K.Kept.count l.fn.keeper ≤ g.K.Kept.count l.keeper;
+  steady : g.K.Kept.count l.keeper ≡ g.K.Kept.count l.fn.keeper;
+  left : g.K.Kept.is_honest l.keeper → completed (g.K.Kept.vault l.fn.keeper) l.command l.page l.after ≡ completed (g.K.Kept.vault l.fn.keeper) l.command l.fn.page l.command.after_key;
+  few : g.K.Kept.is_honest l.keeper → length (keys_behind (g.K.Kept.vault l.fn.keeper) l.command.bucket l.after) + 256 * l.counter ≤ 1000000000;
 }

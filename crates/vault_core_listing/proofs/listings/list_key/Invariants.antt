@@ -6,9 +6,9 @@ use Rattle.vault_core_listing.proofs.listings.list_key.Given as goal
 -- with the entries that are left the page becomes what it is to be
 abbrev pub invariant-loop-held : goal.invariant-loop-held
 invariant-loop-held g l = record {
-  same : g.K.Keeper.vault l.keeper ≡ g.K.Keeper.vault l.fn.keeper;
-  honest : g.K.Keeper.is_honest l.keeper → g.K.Keeper.is_honest l.fn.keeper;
-  counted : g.K.Keeper.count l.fn.keeper ≤ g.K.Keeper.count l.keeper;
-  steady : g.K.Keeper.count l.keeper ≡ g.K.Keeper.count l.fn.keeper;
-  left : g.K.Keeper.is_honest l.keeper → IsLeft (g.K.Keeper.vault l.fn.keeper) l.command l.key l.current l.page (filled l.command.most l.fn.page (asked_at (g.K.Keeper.vault l.fn.keeper) l.command l.key)) (drop l.held-index l.held-items);
+  same : g.K.Kept.vault l.keeper ≡ g.K.Kept.vault l.fn.keeper;
+  honest : g.K.Kept.is_honest l.keeper → g.K.Kept.is_honest l.fn.keeper;
+  counted : g.K.Kept.count l.fn.keeper ≤ g.K.Kept.count l.keeper;
+  steady : g.K.Kept.count l.keeper ≡ g.K.Kept.count l.fn.keeper;
+  left : g.K.Kept.is_honest l.keeper → IsLeft (g.K.Kept.vault l.fn.keeper) l.command l.key l.current l.page (filled l.command.most l.fn.page (asked_at (g.K.Kept.vault l.fn.keeper) l.command l.key)) (drop l.held-index l.held-items);
 }

@@ -8,9 +8,9 @@ loop-key-preserved g c = record {
   honest = search rules;
   counted = search rules;
   steady = search rules;
-  so_far = λ honest. key_filled (g.K.Keeper.vault c.args.keeper.now) (g.K.Keeper.vault c.loop-key.keeper) c.args.command.now c.args.page.now c.loop-key.page c.list_key.new.page c.args.keys.now c.loop-key.key-index c.key-item.result
-      c.loop-key.invariant.same c.loop-key-test.true c.key-item.is (c.loop-key.invariant.so_far (c.list_key.ensures.honest honest)) (c.in_ok-list_key.ensures.value honest);
+  so_far = λ honest. key_filled (g.K.Kept.vault c.args.keeper.now) (g.K.Kept.vault c.loop-key.keeper) c.args.command.now c.args.page.now c.loop-key.page c.list_key.new.page c.args.keys.now c.loop-key.key-index c.key-item.result
+      c.loop-key.invariant.same c.loop-key-test.true c.key-item.is (c.loop-key.invariant.so_far (c.list_key.ensures.leaves.honest honest)) (c.in_ok-list_key.ensures.value honest);
 }
 
 pub returns-clause-value : goal.returns-clause-value
-returns-clause-value g c = λ honest. keys_filled (g.K.Keeper.vault c.args.keeper.now) c.args.command.now c.args.page.now c.loop-key.page c.args.keys.now c.loop-key.key-index (omega arith) (c.loop-key.invariant.so_far honest)
+returns-clause-value g c = λ honest. keys_filled (g.K.Kept.vault c.args.keeper.now) c.args.command.now c.args.page.now c.loop-key.page c.args.keys.now c.loop-key.key-index (omega arith) (c.loop-key.invariant.so_far honest)

@@ -6,9 +6,9 @@ use Rattle.vault_core_listing.proofs.listings.list_keys.Given as goal
 -- the page has what is asked for of the keys so far
 abbrev pub invariant-loop-key : goal.invariant-loop-key
 invariant-loop-key g l = record {
-  same : g.K.Keeper.vault l.keeper ≡ g.K.Keeper.vault l.fn.keeper;
-  honest : g.K.Keeper.is_honest l.keeper → g.K.Keeper.is_honest l.fn.keeper;
-  counted : g.K.Keeper.count l.fn.keeper ≤ g.K.Keeper.count l.keeper;
-  steady : g.K.Keeper.count l.keeper ≡ g.K.Keeper.count l.fn.keeper;
-  so_far : g.K.Keeper.is_honest l.keeper → l.page ≡ filled l.command.most l.fn.page (flat_map (asked_at (g.K.Keeper.vault l.fn.keeper) l.command) (take l.key-index l.keys));
+  same : g.K.Kept.vault l.keeper ≡ g.K.Kept.vault l.fn.keeper;
+  honest : g.K.Kept.is_honest l.keeper → g.K.Kept.is_honest l.fn.keeper;
+  counted : g.K.Kept.count l.fn.keeper ≤ g.K.Kept.count l.keeper;
+  steady : g.K.Kept.count l.keeper ≡ g.K.Kept.count l.fn.keeper;
+  so_far : g.K.Kept.is_honest l.keeper → l.page ≡ filled l.command.most l.fn.page (flat_map (asked_at (g.K.Kept.vault l.fn.keeper) l.command) (take l.key-index l.keys));
 }

@@ -9,36 +9,36 @@ use Rattle.vault_core_listing.proofs.listings.list_keys_behind.Goals.{then-len-v
 -- the page is cut off
 pub returns-then-page-clause-value : goal.returns-then-page-clause-value
 returns-then-page-clause-value g c = λ honest.
-    let v = g.K.Keeper.vault c.args.keeper.now in
+    let v = g.K.Kept.vault c.args.keeper.now in
     sym (filled_full c.args.command.now.most c.args.page.now (flat_map (asked_at v c.args.command.now) (keys_behind v c.args.command.now.bucket c.args.after.now)) c.if-page.true)
 
 -- fewer keys came than were asked for, or the last of them is past the prefix
 pub returns-then-len-clause-value : goal.returns-then-len-clause-value
 returns-then-len-clause-value g c = λ honest.
-    let v = g.K.Keeper.vault c.args.keeper.now in
-    let mid = g.K.Keeper.vault c.keys.new.self in
+    let v = g.K.Kept.vault c.args.keeper.now in
+    let mid = g.K.Kept.vault c.keys.new.self in
     let keys = c.in_ok-keys.keys.items in
-    let before = c.list_keys.ensures.honest honest in
+    let before = c.list_keys.ensures.leaves.honest honest in
     let read = c.in_ok-keys.ensures.value before in
     let now = c.in_ok-list_keys.ensures.value honest ∙ ap (λ ks. filled c.args.command.now.most c.args.page.now (flat_map (asked_at mid c.args.command.now) ks)) c.as_slice.ensures.value in
     elim c.then-len.branch [
       | then-len-via-then-len w ↦
           let few : length keys < 256 = omega (arith, ap length c.as_slice.ensures.value, c.as_slice.ensures.len, c.len.ensures, w.if-len.true) in
-          last_page v mid c.args.command.now c.args.page.now c.list_keys.new.page c.args.after.now keys c.keys.ensures.same few read now
+          last_page v mid c.args.command.now c.args.page.now c.list_keys.new.page c.args.after.now keys c.keys.ensures.leaves.same few read now
       | then-len-via-else-len+then-is_past w ↦
           let whole : 256 ≤ length keys = omega (arith, ap length c.as_slice.ensures.value, c.as_slice.ensures.len, c.len.ensures, w.if-len.false) in
           let at : Some c.in-Some.last.now ≡ slice_get keys (length keys - 1) = c.in-Some.ensures.value ∙ ap (λ ks. slice_get ks (length ks - 1)) c.deref.ensures.value in
           past_page v mid c.args.command.now c.args.page.now c.list_keys.new.page c.args.after.now c.in-Some.last.now keys
-          (c.requires (c.keys.ensures.honest before)) (sym w.is_past.ensures ∙ w.if-is_past.true) c.keys.ensures.same whole read at now
+          (c.requires (c.keys.ensures.leaves.honest before)) (sym w.is_past.ensures ∙ w.if-is_past.true) c.keys.ensures.leaves.same whole read at now
     ]
 
 -- as many came as were asked for
 pub returns-clause-value : goal.returns-clause-value
 returns-clause-value g c = λ honest.
-    let mid = g.K.Keeper.vault c.keys.new.self in
+    let mid = g.K.Kept.vault c.keys.new.self in
     let keys = c.in_ok-keys.keys.items in
     let whole : 256 ≤ length keys = omega (arith, ap length c.as_slice.ensures.value, c.as_slice.ensures.len, c.len.ensures) in
     let at : Some c.in-Some.last.now ≡ slice_get keys (length keys - 1) = c.in-Some.ensures.value ∙ ap (λ ks. slice_get ks (length ks - 1)) c.deref.ensures.value in
-    next_page (g.K.Keeper.vault c.args.keeper.now) mid c.args.command.now c.args.page.now c.list_keys.new.page c.args.after.now c.in-Some.last.now c.in_ok-to_prefix.field-0 keys
-    c.keys.ensures.same whole (c.in_ok-keys.ensures.value (c.list_keys.ensures.honest honest)) at c.in_ok-to_prefix.ensures.value (key_named c.in-Some.last.now c.in_ok-to_prefix.ensures.named)
+    next_page (g.K.Kept.vault c.args.keeper.now) mid c.args.command.now c.args.page.now c.list_keys.new.page c.args.after.now c.in-Some.last.now c.in_ok-to_prefix.field-0 keys
+    c.keys.ensures.leaves.same whole (c.in_ok-keys.ensures.value (c.list_keys.ensures.leaves.honest honest)) at c.in_ok-to_prefix.ensures.value (key_named c.in-Some.last.now c.in_ok-to_prefix.ensures.named)
     (c.in_ok-list_keys.ensures.value honest ∙ ap (λ ks. filled c.args.command.now.most c.args.page.now (flat_map (asked_at mid c.args.command.now) ks)) c.as_slice.ensures.value)

@@ -5,20 +5,20 @@ use Rattle.vault_core_runs.proofs.key.run_key.Goals as goal
 -- what is planned is the plan over the entries that the vault has
 pub make_steps-requires-clause-planned : goal.make_steps-requires-clause-planned
 make_steps-requires-clause-planned g c = λ h.
-    planned_as_read (g.K.Keeper.vault c.args.keeper.now) (g.K.Keeper.vault c.entries.new.self) c.args.run.now.bucket c.args.run.now.at c.args.key.now c.args.run.now.rules c.deref.result.now c.deref-2.result.now
-    (c.requires.may (c.entries.ensures.honest h)) c.entries.ensures.same (c.deref.ensures.value ∙ c.in_ok-held.ensures.value h) (λ rise. c.deref-2.ensures.value ∙ c.in_ok-steps.ensures.plan rise)
+    planned_as_read (g.K.Kept.vault c.args.keeper.now) (g.K.Kept.vault c.entries.new.self) c.args.run.now.bucket c.args.run.now.at c.args.key.now c.args.run.now.rules c.deref.result.now c.deref-2.result.now
+    (c.requires.may (c.entries.ensures.leaves.honest h)) c.entries.ensures.leaves.same (c.deref.ensures.value ∙ c.in_ok-held.ensures.value h) (λ rise. c.deref-2.ensures.value ∙ c.in_ok-steps.ensures.plan rise)
 
 pub returns-clause-makes : goal.returns-clause-makes
 returns-clause-makes g c = λ h.
-    let h1 = c.make_steps.ensures.honest h in
-    let h0 = c.entries.ensures.honest h1 in
-    let v = g.K.Keeper.vault c.args.keeper.now in
-    let w = g.K.Keeper.vault c.entries.new.self in
+    let h1 = c.make_steps.ensures.leaves.honest h in
+    let h0 = c.entries.ensures.leaves.honest h1 in
+    let v = g.K.Kept.vault c.args.keeper.now in
+    let w = g.K.Kept.vault c.entries.new.self in
     let b = c.args.run.now.bucket in
     let t = c.args.run.now.at in
     let held = c.deref.result.now in
     let steps = c.deref-2.result.now in
-    made_as_planned v w b t c.args.key.now c.args.run.now.rules held steps c.make_steps.result c.args.counts.now c.make_steps.new.counts (g.K.Keeper.vault c.make_steps.new.keeper)
-    c.entries.ensures.same (c.requires.given h0)
-    (planned_as_read v w b t c.args.key.now c.args.run.now.rules held steps (c.requires.may h0) c.entries.ensures.same (c.deref.ensures.value ∙ c.in_ok-held.ensures.value h1) (λ rise. c.deref-2.ensures.value ∙ c.in_ok-steps.ensures.plan rise))
+    made_as_planned v w b t c.args.key.now c.args.run.now.rules held steps c.make_steps.result c.args.counts.now c.make_steps.new.counts (g.K.Kept.vault c.make_steps.new.keeper)
+    c.entries.ensures.leaves.same (c.requires.given h0)
+    (planned_as_read v w b t c.args.key.now c.args.run.now.rules held steps (c.requires.may h0) c.entries.ensures.leaves.same (c.deref.ensures.value ∙ c.in_ok-held.ensures.value h1) (λ rise. c.deref-2.ensures.value ∙ c.in_ok-steps.ensures.plan rise))
     (c.make_steps.ensures.makes h)

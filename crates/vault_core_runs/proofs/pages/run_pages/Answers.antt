@@ -12,41 +12,41 @@ use Rattle.vault_core_runs.proofs.pages.run_pages.Goals as goal
 
 pub returns-in_err-keys-clause-makes : goal.returns-in_err-keys-clause-makes
 returns-in_err-keys-clause-makes g c = λ h.
-    let h1 = c.keys.ensures.honest h in
+    let h1 = c.keys.ensures.leaves.honest h in
     let h0 = c.loop.invariant.honest h1 in
-    let v = g.K.Keeper.vault c.args.keeper.now in
-    let v1 = g.K.Keeper.vault c.loop.keeper in
-    let w = g.K.Keeper.vault c.keys.new.self in
+    let v = g.K.Kept.vault c.args.keeper.now in
+    let v1 = g.K.Kept.vault c.loop.keeper in
+    let w = g.K.Kept.vault c.keys.new.self in
     let b = c.args.run.now.bucket in
     let t = c.args.run.now.at in
     let f = c.in_err-keys.field-0.0 in
     MakesSteps-err c.from_residual-in_err-keys.result (halt.Fault f) v b t (plan v b t) c.args.counts.now c.loop.counts w c.from_residual-in_err-keys.ensures.1
-    (stopped_between v v1 b t c.loop.after c.args.counts.now c.loop.counts (c.requires.may h0) (c.loop.invariant.done h1) f w c.keys.ensures.same)
+    (stopped_between v v1 b t c.loop.after c.args.counts.now c.loop.counts (c.requires.may h0) (c.loop.invariant.done h1) f w c.keys.ensures.leaves.same)
 
 pub run_page-requires-clause-may : goal.run_page-requires-clause-may
 run_page-requires-clause-may g c = λ h.
-    let h1 = c.keys.ensures.honest h in
+    let h1 = c.keys.ensures.leaves.honest h in
     let h0 = c.loop.invariant.honest h1 in
     let b = c.args.run.now.bucket in
     let t = c.args.run.now.at in
-    subst (λ (u : Vault). MayRun u b t) (sym c.keys.ensures.same)
-    (page_may (g.K.Keeper.vault c.args.keeper.now) (g.K.Keeper.vault c.loop.keeper) b t c.loop.after c.args.counts.now c.loop.counts (c.requires.may h0) (c.loop.invariant.done h1)).0
+    subst (λ (u : Vault). MayRun u b t) (sym c.keys.ensures.leaves.same)
+    (page_may (g.K.Kept.vault c.args.keeper.now) (g.K.Kept.vault c.loop.keeper) b t c.loop.after c.args.counts.now c.loop.counts (c.requires.may h0) (c.loop.invariant.done h1)).0
 
 pub run_page-requires-clause-given : goal.run_page-requires-clause-given
 run_page-requires-clause-given g c = λ h.
-    let h1 = c.keys.ensures.honest h in
+    let h1 = c.keys.ensures.leaves.honest h in
     let h0 = c.loop.invariant.honest h1 in
     let b = c.args.run.now.bucket in
     let t = c.args.run.now.at in
-    ap (λ u. rules_in u b) c.keys.ensures.same
-    ∙ (page_may (g.K.Keeper.vault c.args.keeper.now) (g.K.Keeper.vault c.loop.keeper) b t c.loop.after c.args.counts.now c.loop.counts (c.requires.may h0) (c.loop.invariant.done h1)).1 ∙ c.requires.given h0
+    ap (λ u. rules_in u b) c.keys.ensures.leaves.same
+    ∙ (page_may (g.K.Kept.vault c.args.keeper.now) (g.K.Kept.vault c.loop.keeper) b t c.loop.after c.args.counts.now c.loop.counts (c.requires.may h0) (c.loop.invariant.done h1)).1 ∙ c.requires.given h0
 
 pub run_page-requires-clause-rising : goal.run_page-requires-clause-rising
 run_page-requires-clause-rising g c = λ h.
-    let h1 = c.keys.ensures.honest h in
+    let h1 = c.keys.ensures.leaves.honest h in
     let h0 = c.loop.invariant.honest h1 in
-    let v = g.K.Keeper.vault c.args.keeper.now in
-    let v1 = g.K.Keeper.vault c.loop.keeper in
+    let v = g.K.Kept.vault c.args.keeper.now in
+    let v1 = g.K.Kept.vault c.loop.keeper in
     let b = c.args.run.now.bucket in
     let t = c.args.run.now.at in
     let x = c.args.counts.now in
@@ -58,12 +58,12 @@ run_page-requires-clause-rising g c = λ h.
 
 pub returns-in_err-run_page-clause-makes : goal.returns-in_err-run_page-clause-makes
 returns-in_err-run_page-clause-makes g c = λ h.
-    let hk = c.run_page.ensures.honest h in
-    let h1 = c.keys.ensures.honest hk in
+    let hk = c.run_page.ensures.leaves.honest h in
+    let h1 = c.keys.ensures.leaves.honest hk in
     let h0 = c.loop.invariant.honest h1 in
-    let v = g.K.Keeper.vault c.args.keeper.now in
-    let v1 = g.K.Keeper.vault c.loop.keeper in
-    let v2 = g.K.Keeper.vault c.run_page.new.keeper in
+    let v = g.K.Kept.vault c.args.keeper.now in
+    let v1 = g.K.Kept.vault c.loop.keeper in
+    let v2 = g.K.Kept.vault c.run_page.new.keeper in
     let b = c.args.run.now.bucket in
     let t = c.args.run.now.at in
     let x = c.args.counts.now in
@@ -76,22 +76,22 @@ returns-in_err-run_page-clause-makes g c = λ h.
     let page = page_is v v1 b t c.loop.after x y may d 256 keys (c.deref.ensures.value ∙ c.in_ok-keys.ensures.value hk) in
     MakesSteps-err c.from_residual-in_err-run_page.result e v b t (plan v b t) x z v2 c.from_residual-in_err-run_page.ensures.1
     (stopped_within v v1 b t c.loop.after x y may d 256 keys e z v2 page
-    (subst (λ (u : Vault). MakesUpTo u b t (plans_at u b t keys) e y z v2) c.keys.ensures.same (c.in_err-run_page.ensures.makes h)))
+    (subst (λ (u : Vault). MakesUpTo u b t (plans_at u b t keys) e y z v2) c.keys.ensures.leaves.same (c.in_err-run_page.ensures.makes h)))
 
 pub returns-clause-makes : goal.returns-clause-makes
 returns-clause-makes g c = λ h.
     let h0 = c.loop.invariant.honest h in
-    let v1 = g.K.Keeper.vault c.loop.keeper in
-    stopped_between (g.K.Keeper.vault c.args.keeper.now) v1 c.args.run.now.bucket c.args.run.now.at c.loop.after c.args.counts.now c.loop.counts (c.requires.may h0) (c.loop.invariant.done h) fault.Memory v1 refl
+    let v1 = g.K.Kept.vault c.loop.keeper in
+    stopped_between (g.K.Kept.vault c.args.keeper.now) v1 c.args.run.now.bucket c.args.run.now.at c.loop.after c.args.counts.now c.loop.counts (c.requires.may h0) (c.loop.invariant.done h) fault.Memory v1 refl
 
 pub returns-in_err-last-clause-makes : goal.returns-in_err-last-clause-makes
 returns-in_err-last-clause-makes g c = λ h.
-    let hk = c.run_page.ensures.honest h in
-    let h1 = c.keys.ensures.honest hk in
+    let hk = c.run_page.ensures.leaves.honest h in
+    let h1 = c.keys.ensures.leaves.honest hk in
     let h0 = c.loop.invariant.honest h1 in
-    let v = g.K.Keeper.vault c.args.keeper.now in
-    let v1 = g.K.Keeper.vault c.loop.keeper in
-    let v2 = g.K.Keeper.vault c.run_page.new.keeper in
+    let v = g.K.Kept.vault c.args.keeper.now in
+    let v1 = g.K.Kept.vault c.loop.keeper in
+    let v2 = g.K.Kept.vault c.run_page.new.keeper in
     let b = c.args.run.now.bucket in
     let t = c.args.run.now.at in
     let x = c.args.counts.now in
@@ -101,19 +101,19 @@ returns-in_err-last-clause-makes g c = λ h.
     let d = c.loop.invariant.done h1 in
     let keys = c.deref.result.now in
     let page = page_is v v1 b t c.loop.after x y may d 256 keys (c.deref.ensures.value ∙ c.in_ok-keys.ensures.value hk) in
-    let made = subst (λ (u : Vault). MakesAll u b t (plans_at u b t keys) y z v2) c.keys.ensures.same (c.in_ok-run_page.ensures.makes h) in
+    let made = subst (λ (u : Vault). MakesAll u b t (plans_at u b t keys) y z v2) c.keys.ensures.leaves.same (c.in_ok-run_page.ensures.makes h) in
     MakesSteps-err c.from_residual-in_err-last.result (halt.Fault fault.Memory) v b t (plan v b t) x z v2 c.from_residual-in_err-last.ensures.1
     (stopped_behind v v1 b t c.loop.after x y may d 256 keys fault.Memory z v2 page made)
 
 -- fewer keys came than a page has, so they were the last
 pub returns-in_default-clause-makes : goal.returns-in_default-clause-makes
 returns-in_default-clause-makes g c = λ h.
-    let hk = c.run_page.ensures.honest h in
-    let h1 = c.keys.ensures.honest hk in
+    let hk = c.run_page.ensures.leaves.honest h in
+    let h1 = c.keys.ensures.leaves.honest hk in
     let h0 = c.loop.invariant.honest h1 in
-    let v = g.K.Keeper.vault c.args.keeper.now in
-    let v1 = g.K.Keeper.vault c.loop.keeper in
-    let v2 = g.K.Keeper.vault c.run_page.new.keeper in
+    let v = g.K.Kept.vault c.args.keeper.now in
+    let v1 = g.K.Kept.vault c.loop.keeper in
+    let v2 = g.K.Kept.vault c.run_page.new.keeper in
     let b = c.args.run.now.bucket in
     let t = c.args.run.now.at in
     let x = c.args.counts.now in
@@ -123,7 +123,7 @@ returns-in_default-clause-makes g c = λ h.
     let d = c.loop.invariant.done h1 in
     let keys = c.deref.result.now in
     let page = page_is v v1 b t c.loop.after x y may d 256 keys (c.deref.ensures.value ∙ c.in_ok-keys.ensures.value hk) in
-    let made = subst (λ (u : Vault). MakesAll u b t (plans_at u b t keys) y z v2) c.keys.ensures.same (c.in_ok-run_page.ensures.makes h) in
+    let made = subst (λ (u : Vault). MakesAll u b t (plans_at u b t keys) y z v2) c.keys.ensures.leaves.same (c.in_ok-run_page.ensures.makes h) in
     let lent = c.deref-in-loop.result.now in
     let few : length lent < 256 = subst (λ (o : Option (List ℕ)). MatchOption o (length lent < 256) (λ k. IsLastKey lent k)) c.in_default.is c.in_ok-last.ensures in
     let short = subst (λ (ks : List (List ℕ)). length ks < 256) (c.deref-in-loop.ensures.value ∙ sym c.deref.ensures.value) few in
@@ -131,16 +131,16 @@ returns-in_default-clause-makes g c = λ h.
 
 pub loop-preserved : goal.loop-preserved
 loop-preserved g c = record {
-  honest = λ h. c.loop.invariant.honest (c.keys.ensures.honest (c.run_page.ensures.honest h));
+  honest = λ h. c.loop.invariant.honest (c.keys.ensures.leaves.honest (c.run_page.ensures.leaves.honest h));
   counted = search rules;
   steady = search rules;
   done = λ h.
-      let hk = c.run_page.ensures.honest h in
-      let h1 = c.keys.ensures.honest hk in
+      let hk = c.run_page.ensures.leaves.honest h in
+      let h1 = c.keys.ensures.leaves.honest hk in
       let h0 = c.loop.invariant.honest h1 in
-      let v = g.K.Keeper.vault c.args.keeper.now in
-      let v1 = g.K.Keeper.vault c.loop.keeper in
-      let v2 = g.K.Keeper.vault c.run_page.new.keeper in
+      let v = g.K.Kept.vault c.args.keeper.now in
+      let v1 = g.K.Kept.vault c.loop.keeper in
+      let v2 = g.K.Kept.vault c.run_page.new.keeper in
       let b = c.args.run.now.bucket in
       let t = c.args.run.now.at in
       let x = c.args.counts.now in
@@ -150,7 +150,7 @@ loop-preserved g c = record {
       let d = c.loop.invariant.done h1 in
       let keys = c.deref.result.now in
       let page = page_is v v1 b t c.loop.after x y may d 256 keys (c.deref.ensures.value ∙ c.in_ok-keys.ensures.value hk) in
-      let made = subst (λ (u : Vault). MakesAll u b t (plans_at u b t keys) y z v2) c.keys.ensures.same (c.in_ok-run_page.ensures.makes h) in
+      let made = subst (λ (u : Vault). MakesAll u b t (plans_at u b t keys) y z v2) c.keys.ensures.leaves.same (c.in_ok-run_page.ensures.makes h) in
       let lent = c.deref-in-loop.result.now in
       let found : IsLastKey lent c.in-Some.last = subst (λ (o : Option (List ℕ)). MatchOption o (length lent < 256) (λ k. IsLastKey lent k)) c.in-Some.is c.in_ok-last.ensures in
       let last = subst (λ (ks : List (List ℕ)). IsLastKey ks c.in-Some.last) (c.deref-in-loop.ensures.value ∙ sym c.deref.ensures.value) found in

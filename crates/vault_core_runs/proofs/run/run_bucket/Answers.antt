@@ -8,15 +8,15 @@ use Rattle.vault_core_runs.proofs.run.run_bucket.Goals as goal
 
 pub returns-in-Ok-clause-step : goal.returns-in-Ok-clause-step
 returns-in-Ok-clause-step g c = λ h.
-    let v = g.K.Keeper.vault c.args.keeper.now in
+    let v = g.K.Kept.vault c.args.keeper.now in
     let b = c.args.run.now.bucket in
     let t = c.args.run.now.at in
-    answers_done v b t (plan v b t) c.run_pages.new.counts (g.K.Keeper.vault c.run_pages.new.keeper) (c.in-Ok.ensures.makes h)
+    answers_done v b t (plan v b t) c.run_pages.new.counts (g.K.Kept.vault c.run_pages.new.keeper) (c.in-Ok.ensures.makes h)
 
 pub returns-in-Err-clause-step : goal.returns-in-Err-clause-step
 returns-in-Err-clause-step g c = λ h.
-    let v = g.K.Keeper.vault c.args.keeper.now in
-    let v2 = g.K.Keeper.vault c.run_pages.new.keeper in
+    let v = g.K.Kept.vault c.args.keeper.now in
+    let v2 = g.K.Kept.vault c.run_pages.new.keeper in
     let b = c.args.run.now.bucket in
     let t = c.args.run.now.at in
     let y = c.run_pages.new.counts in

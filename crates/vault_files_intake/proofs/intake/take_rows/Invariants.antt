@@ -8,12 +8,12 @@ use Rattle.vault_files_intake.proofs.intake.take_rows.Given as goal
 -- the rows above were taken
 abbrev pub invariant-loop-cells : goal.invariant-loop-cells
 invariant-loop-cells g l = record {
-  honest : g.K.Keeper.is_honest l.keeper → g.K.Keeper.is_honest l.fn.keeper;
-  reached : g.K.Keeper.is_honest l.keeper → Reached (g.K.Keeper.vault l.fn.keeper) → Reached (g.K.Keeper.vault l.keeper);
+  honest : g.K.Kept.is_honest l.keeper → g.K.Kept.is_honest l.fn.keeper;
+  reached : g.K.Kept.is_honest l.keeper → Reached (g.K.Kept.vault l.fn.keeper) → Reached (g.K.Kept.vault l.keeper);
   files : g.F.Folder.files l.folder ≡ g.F.Folder.files l.fn.folder;
-  counted : g.K.Keeper.count l.fn.keeper ≤ g.K.Keeper.count l.keeper;
+  counted : g.K.Kept.count l.fn.keeper ≤ g.K.Kept.count l.keeper;
   counted_there : g.F.Folder.count l.fn.folder ≤ g.F.Folder.count l.folder;
-  steady : list_any is_device_row l.rows.items ≡ false → g.K.Keeper.count l.keeper ≡ g.K.Keeper.count l.fn.keeper;
+  steady : list_any is_device_row l.rows.items ≡ false → g.K.Kept.count l.keeper ≡ g.K.Kept.count l.fn.keeper;
   above : l.above ≡ l.cells-index;
-  so_far : g.K.Keeper.is_honest l.keeper → TakesRows (g.F.Folder.files l.fn.folder) l.fn.at l.fn.who l.fn.bucket l.fn.batch 0 (map fields_of (take l.cells-index l.below)) (g.K.Keeper.vault l.fn.keeper) l.rows.items None (g.K.Keeper.vault l.keeper);
+  so_far : g.K.Kept.is_honest l.keeper → TakesRows (g.F.Folder.files l.fn.folder) l.fn.at l.fn.who l.fn.bucket l.fn.batch 0 (map fields_of (take l.cells-index l.below)) (g.K.Kept.vault l.fn.keeper) l.rows.items None (g.K.Kept.vault l.keeper);
 }

@@ -13,13 +13,13 @@ returns-clause-once g c = λ h.
 pub returns-clause-ok : goal.returns-clause-ok
 returns-clause-ok g c = λ h.
     on_ok_weaker c.send.result
-    (answer_served (RoseOrIsFull (g.K.Keeper.count c.args.keeper.now) (g.K.Keeper.count c.step-reply.new.keeper)) c.args.at c.args.shown c.args.who.now c.args.command.now (g.K.Keeper.vault c.args.keeper.now) (g.K.Keeper.vault c.step-reply.new.keeper) (g.W.Write.contents c.args.writer.now) (g.W.Write.contents c.send.new.writer) c.step-reply.result c.drops.result c.in-Ok.bytes.items c.as_slice.result.now (c.step-reply.ensures.step h) c.drops.ensures c.in-Ok.ensures c.step-reply.ensures.device c.as_slice.ensures.value)
+    (answer_served (RoseOrIsFull (g.K.Kept.count c.args.keeper.now) (g.K.Kept.count c.step-reply.new.keeper)) c.args.at c.args.shown c.args.who.now c.args.command.now (g.K.Kept.vault c.args.keeper.now) (g.K.Kept.vault c.step-reply.new.keeper) (g.W.Write.contents c.args.writer.now) (g.W.Write.contents c.send.new.writer) c.step-reply.result c.drops.result c.in-Ok.bytes.items c.as_slice.result.now (c.step-reply.ensures.step h) c.drops.ensures c.in-Ok.ensures c.step-reply.ensures.device c.as_slice.ensures.value)
     c.send.ensures.ok
 
 pub returns-clause-err : goal.returns-clause-err
 returns-clause-err g c = λ h.
     IfErr-weaker c.send.result _ _
-    (answer_left (RoseOrIsFull (g.K.Keeper.count c.args.keeper.now) (g.K.Keeper.count c.step-reply.new.keeper)) c.args.at c.args.shown c.args.who.now c.args.command.now (g.K.Keeper.vault c.args.keeper.now) (g.K.Keeper.vault c.step-reply.new.keeper) (g.W.Write.contents c.args.writer.now) (g.W.Write.contents c.send.new.writer) c.step-reply.result c.drops.result c.in-Ok.bytes.items c.as_slice.result.now (c.step-reply.ensures.step h) c.drops.ensures c.in-Ok.ensures c.step-reply.ensures.device c.as_slice.ensures.value)
+    (answer_left (RoseOrIsFull (g.K.Kept.count c.args.keeper.now) (g.K.Kept.count c.step-reply.new.keeper)) c.args.at c.args.shown c.args.who.now c.args.command.now (g.K.Kept.vault c.args.keeper.now) (g.K.Kept.vault c.step-reply.new.keeper) (g.W.Write.contents c.args.writer.now) (g.W.Write.contents c.send.new.writer) c.step-reply.result c.drops.result c.in-Ok.bytes.items c.as_slice.result.now (c.step-reply.ensures.step h) c.drops.ensures c.in-Ok.ensures c.step-reply.ensures.device c.as_slice.ensures.value)
     c.send.ensures.err
 
 pub returns-in_default-clause-steady : goal.returns-in_default-clause-steady

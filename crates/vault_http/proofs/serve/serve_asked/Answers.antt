@@ -7,4 +7,4 @@ returns-in-Plan-clause-steady g c =
     let same : c.args.moment.now ≡ Some c.in-Plan.plan.at = rw c.in-Plan.is at c.requires in
     let before = c.args.keeper.now in
     let after = c.serve_plan.new.keeper in
-    subst (λ (m : Option ℕ). Steady (g.K.Keeper.is_honest after) c.serve_plan.result m (g.K.Keeper.vault before) (g.K.Keeper.vault after) (g.K.Keeper.count before) (g.K.Keeper.count after) (g.W.Write.contents c.args.writer.now) (g.W.Write.contents c.serve_plan.new.writer)) (sym same) c.serve_plan.ensures.steady
+    subst (λ (m : Option ℕ). Steady (g.K.Kept.is_honest after) c.serve_plan.result m (g.K.Kept.vault before) (g.K.Kept.vault after) (g.K.Kept.count before) (g.K.Kept.count after) (g.W.Write.contents c.args.writer.now) (g.W.Write.contents c.serve_plan.new.writer)) (sym same) c.serve_plan.ensures.steady

@@ -17,5 +17,5 @@ returns-clause-taken g c =
 pub returns-in-NoHead-clause-err : goal.returns-in-NoHead-clause-err
 returns-in-NoHead-clause-err g c = λ h.
     IfErr-weaker c.deny.result _ _
-    (none_left (RoseOrIsFull (g.K.Keeper.count c.args.keeper.now) (g.K.Keeper.count c.args.keeper.now)) c.args.moment (g.R.Read.remaining c.args.reader.now) (g.R.Read.remaining c.read_head.new.reader) (g.R.Read.remaining c.read_head.new.reader) (g.W.Write.contents c.args.writer.now) (g.W.Write.contents c.deny.new.writer) c.read_head.new.buf.items (g.K.Keeper.vault c.args.keeper.now) c.in_ok-read_head.ensures.taken (rw c.in-NoHead.is at c.in_ok-read_head.ensures.front) (rw c.in-NoHead.is at c.in_ok-read_head.ensures.some).0)
+    (none_left (RoseOrIsFull (g.K.Kept.count c.args.keeper.now) (g.K.Kept.count c.args.keeper.now)) c.args.moment (g.R.Read.remaining c.args.reader.now) (g.R.Read.remaining c.read_head.new.reader) (g.R.Read.remaining c.read_head.new.reader) (g.W.Write.contents c.args.writer.now) (g.W.Write.contents c.deny.new.writer) c.read_head.new.buf.items (g.K.Kept.vault c.args.keeper.now) c.in_ok-read_head.ensures.taken (rw c.in-NoHead.is at c.in_ok-read_head.ensures.front) (rw c.in-NoHead.is at c.in_ok-read_head.ensures.some).0)
     c.deny.ensures.err

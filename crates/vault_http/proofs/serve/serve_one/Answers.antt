@@ -9,11 +9,11 @@ use Rattle.vault_http.proofs.serve.serve_one.Goals as goal
 pub returns-clause-ok : goal.returns-clause-ok
 returns-clause-ok g c = λ h.
     let same : c.from_secs.result ≡ moment_at c.args.reading = search rules in
-    subst (λ (m : Option ℕ). OnOk c.serve_at.result (IfSome (g.R.Read.remaining c.args.reader.now) (λ input. (out : List ℕ) × spec.Served (RoseOrIsFull (g.K.Keeper.count c.args.keeper.now) (g.K.Keeper.count c.serve_at.new.keeper)) m input (g.K.Keeper.vault c.args.keeper.now) out (g.K.Keeper.vault c.serve_at.new.keeper) × Appends (g.W.Write.contents c.args.writer.now) (g.W.Write.contents c.serve_at.new.writer) out))) same (c.serve_at.ensures.ok h)
+    subst (λ (m : Option ℕ). OnOk c.serve_at.result (IfSome (g.R.Read.remaining c.args.reader.now) (λ input. (out : List ℕ) × spec.Served (RoseOrIsFull (g.K.Kept.count c.args.keeper.now) (g.K.Kept.count c.serve_at.new.keeper)) m input (g.K.Kept.vault c.args.keeper.now) out (g.K.Kept.vault c.serve_at.new.keeper) × Appends (g.W.Write.contents c.args.writer.now) (g.W.Write.contents c.serve_at.new.writer) out))) same (c.serve_at.ensures.ok h)
 
 pub returns-clause-steady : goal.returns-clause-steady
 returns-clause-steady g c =
     let same : c.from_secs.result ≡ moment_at c.args.reading = search rules in
     let before = c.args.keeper.now in
     let after = c.serve_at.new.keeper in
-    subst (λ (m : Option ℕ). Steady (g.K.Keeper.is_honest after) c.serve_at.result m (g.K.Keeper.vault before) (g.K.Keeper.vault after) (g.K.Keeper.count before) (g.K.Keeper.count after) (g.W.Write.contents c.args.writer.now) (g.W.Write.contents c.serve_at.new.writer)) same c.serve_at.ensures.steady
+    subst (λ (m : Option ℕ). Steady (g.K.Kept.is_honest after) c.serve_at.result m (g.K.Kept.vault before) (g.K.Kept.vault after) (g.K.Kept.count before) (g.K.Kept.count after) (g.W.Write.contents c.args.writer.now) (g.W.Write.contents c.serve_at.new.writer)) same c.serve_at.ensures.steady

@@ -15,7 +15,7 @@ returns-clause-ok g c =
     let x = g.W.Write.contents c.write_bytes.new.writer in
     let P : List ℕ → Type 0 = λ bytes. Appends w x bytes in
     on_ok_weaker c.write_bytes.result
-    (λ s. one_finished _ (g.K.Keeper.vault before) (g.K.Keeper.vault after) (g.K.Keeper.count before) (g.K.Keeper.count after) w x c.args.asked _ c.in-Ok.ensures.ok (subst P c.as_bytes.ensures.value s))
+    (λ s. one_finished _ (g.K.Kept.vault before) (g.K.Kept.vault after) (g.K.Kept.count before) (g.K.Kept.count after) w x c.args.asked _ c.in-Ok.ensures.ok (subst P c.as_bytes.ensures.value s))
     c.write_bytes.ensures.ok
 
 pub returns-clause-err : goal.returns-clause-err
@@ -23,5 +23,5 @@ returns-clause-err g c =
     let before = c.args.keeper.now in
     let after = c.reply_to.new.keeper in
     on_err_weaker c.write_bytes.result
-    (λ s. one_begun _ (g.K.Keeper.vault before) (g.K.Keeper.vault after) (g.K.Keeper.count before) (g.K.Keeper.count after) (g.W.Write.contents c.args.writer.now) (g.W.Write.contents c.write_bytes.new.writer) c.args.asked _ s.0 s.1 c.in-Ok.ensures.ok (sym c.as_bytes.ensures.value ∙ s.2) s.3)
+    (λ s. one_begun _ (g.K.Kept.vault before) (g.K.Kept.vault after) (g.K.Kept.count before) (g.K.Kept.count after) (g.W.Write.contents c.args.writer.now) (g.W.Write.contents c.write_bytes.new.writer) c.args.asked _ s.0 s.1 c.in-Ok.ensures.ok (sym c.as_bytes.ensures.value ∙ s.2) s.3)
     c.write_bytes.ensures.err

@@ -6,12 +6,12 @@ returns-clause-err g c =
     let before = c.args.keeper.now in
     let step = c.step-reply in
     on_err c.told.result
-    (command_unwritten _ (g.K.Keeper.vault before) (g.K.Keeper.vault step.new.keeper) (g.K.Keeper.count before) (g.K.Keeper.count step.new.keeper) c.args.timed step.result
+    (command_unwritten _ (g.K.Kept.vault before) (g.K.Kept.vault step.new.keeper) (g.K.Kept.count before) (g.K.Kept.count step.new.keeper) c.args.timed step.result
     step.ensures.step step.ensures.counted step.ensures.device step.ensures.steady)
 
 pub returns-clause-ok : goal.returns-clause-ok
 returns-clause-ok g c =
     let before = c.args.keeper.now in
     let step = c.step-reply in
-    command_replied _ (g.K.Keeper.vault before) (g.K.Keeper.vault step.new.keeper) (g.K.Keeper.count before) (g.K.Keeper.count step.new.keeper) c.args.timed step.result
+    command_replied _ (g.K.Kept.vault before) (g.K.Kept.vault step.new.keeper) (g.K.Kept.count before) (g.K.Kept.count step.new.keeper) c.args.timed step.result
     step.ensures.step step.ensures.counted step.ensures.device step.ensures.steady c.told.result c.told.ensures

@@ -8,12 +8,12 @@ use Rattle.vaultctl_replay.proofs.answer.reply_to.Goals as goal
 pub returns-in-Refused-clause-ok : goal.returns-in-Refused-clause-ok
 returns-in-Refused-clause-ok g c =
     let now = c.args.keeper.now in
-    let P : Line → Type 0 = λ a. IfOk c.told.result (λ reply. Replied (g.K.Keeper.is_honest now) (g.K.Keeper.vault now) (g.K.Keeper.count now) a (string_bytes reply) (g.K.Keeper.vault now) (g.K.Keeper.count now)) in
-    subst P (sym c.in-Refused.is) (refusal_replied (g.K.Keeper.is_honest now) (g.K.Keeper.vault now) (g.K.Keeper.count now) c.in-Refused.refusal c.told.result c.told.ensures)
+    let P : Line → Type 0 = λ a. IfOk c.told.result (λ reply. Replied (g.K.Kept.is_honest now) (g.K.Kept.vault now) (g.K.Kept.count now) a (string_bytes reply) (g.K.Kept.vault now) (g.K.Kept.count now)) in
+    subst P (sym c.in-Refused.is) (refusal_replied (g.K.Kept.is_honest now) (g.K.Kept.vault now) (g.K.Kept.count now) c.in-Refused.refusal c.told.result c.told.ensures)
 
 pub returns-in-Command-clause-err : goal.returns-in-Command-clause-err
 returns-in-Command-clause-err g c =
     let before = c.args.keeper.now in
     let after = c.carried_out.new.keeper in
-    let P : Line → Type 0 = λ a. OnErr c.carried_out.result (Unwritten (g.K.Keeper.is_honest after) (g.K.Keeper.vault before) (g.K.Keeper.count before) a (g.K.Keeper.vault after) (g.K.Keeper.count after)) in
+    let P : Line → Type 0 = λ a. OnErr c.carried_out.result (Unwritten (g.K.Kept.is_honest after) (g.K.Kept.vault before) (g.K.Kept.count before) a (g.K.Kept.vault after) (g.K.Kept.count after)) in
     subst P (sym c.in-Command.is) c.carried_out.ensures.err

@@ -10,4 +10,4 @@ returns-clause-err g c =
     let v = g.W.Write.contents c.answer_last.new.writer in
     let w = g.W.Write.contents c.flush.new.writer in
     on_err c.flush.result
-    (Began-keeps (g.K.Keeper.is_honest after) (g.K.Keeper.vault before) (g.K.Keeper.vault after) (g.K.Keeper.count before) (g.K.Keeper.count after) u v w (last_of c.args.part.now) c.in_ok-answer_last.ensures.ok c.flush.ensures.keeps)
+    (Began-keeps (g.K.Kept.is_honest after) (g.K.Kept.vault before) (g.K.Kept.vault after) (g.K.Kept.count before) (g.K.Kept.count after) u v w (last_of c.args.part.now) c.in_ok-answer_last.ensures.ok c.flush.ensures.keeps)

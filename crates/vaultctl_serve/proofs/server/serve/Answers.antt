@@ -4,4 +4,4 @@ use Rattle.vaultctl_serve.proofs.server.serve.Goals as goal
 
 -- nothing was served
 pub returns-in_default-clause-stepped : goal.returns-in_default-clause-stepped
-returns-in_default-clause-stepped g c = λ h. Stepped-none c.args.count (g.K.Keeper.vault c.args.keeper.now) (g.K.Keeper.vault c.args.keeper.now) refl
+returns-in_default-clause-stepped g c = λ h. Stepped-none c.args.count (g.K.Kept.vault c.args.keeper.now) (g.K.Kept.vault c.args.keeper.now) refl

@@ -7,7 +7,7 @@ loop-init g c = record {
   honest = λ h. h;
   counted = omega arith;
   untold = λ _. Keeps-same (g.W.Write.contents c.args.told.now);
-  stepped = λ h. Stepped-none 0 (g.K.Keeper.vault c.args.keeper.now) (g.K.Keeper.vault c.args.keeper.now) refl;
+  stepped = λ h. Stepped-none 0 (g.K.Kept.vault c.args.keeper.now) (g.K.Kept.vault c.args.keeper.now) refl;
 }
 
 -- the steps so far, and then that of this connection
