@@ -1,5 +1,5 @@
 //! The quota of a department, and the numbers that the vault gives.
-ghost use Rattle.std.specs.Prelude.{◌≡◌, ◌≤◌, ◌+◌, IfOk, IfErr, OnOk, nat_lt, ◌<◌, false, Some, None};
+ghost use Rattle.std.specs.Prelude.{◌≡◌, ◌≤◌, ◌+◌, IfOk, IfErr, OnOk, nat_lt, ◌<◌, false, Some, None, if◌then◌else◌};
 ghost use Rattle.vault_base.specs.Name.{is_version_id};
 ghost use Rattle.vault_core_model.specs.Leaves.{LeavesSame};
 ghost use Rattle.vault_core_model.specs.Halts.{ChecksAs, is_device, is_device_refusal};

@@ -55,50 +55,50 @@ pub returns-in_err-replies-clause-once : goal.returns-in_err-replies-clause-once
 returns-in_err-replies-clause-once g c = λ h. extends_itself _
 
 pub returns-clause-once : goal.returns-clause-once
-returns-clause-once g c = λ h. run-extends _ _ _ _ (g.met.K.Kept.sound _ (c.loop-timed.invariant.honest h)) (c.loop-timed.invariant.so_far h)
+returns-clause-once g c = λ h. run-extends _ _ _ _ (g.K.Kept.sound _ (c.loop-timed.invariant.honest h)) (c.loop-timed.invariant.so_far h)
 
 pub returns-in_err-replies-clause-stored : goal.returns-in_err-replies-clause-stored
-returns-in_err-replies-clause-stored g c = λ h. Sound-stands_once _ (g.met.K.Kept.sound _ h)
+returns-in_err-replies-clause-stored g c = λ h. Sound-stands_once _ (g.K.Kept.sound _ h)
 
 pub returns-clause-stored : goal.returns-clause-stored
-returns-clause-stored g c = λ h. Sound-stands_once _ (g.met.K.Kept.sound _ h)
+returns-clause-stored g c = λ h. Sound-stands_once _ (g.K.Kept.sound _ h)
 
 pub returns-in_err-replies-clause-total : goal.returns-in_err-replies-clause-total
-returns-in_err-replies-clause-total g c = λ h dept. Sound-conserved _ dept (g.met.K.Kept.sound _ h)
+returns-in_err-replies-clause-total g c = λ h dept. Sound-conserved _ dept (g.K.Kept.sound _ h)
 
 pub returns-clause-total : goal.returns-clause-total
-returns-clause-total g c = λ h dept. Sound-conserved _ dept (g.met.K.Kept.sound _ h)
+returns-clause-total g c = λ h dept. Sound-conserved _ dept (g.K.Kept.sound _ h)
 
 pub returns-in_err-replies-clause-moved : goal.returns-in_err-replies-clause-moved
-returns-in_err-replies-clause-moved g c = λ h. moved _ (g.met.K.Kept.sound _ h)
+returns-in_err-replies-clause-moved g c = λ h. moved _ (g.K.Kept.sound _ h)
 
 pub returns-clause-moved : goal.returns-clause-moved
-returns-clause-moved g c = λ h. moved _ (g.met.K.Kept.sound _ h)
+returns-clause-moved g c = λ h. moved _ (g.K.Kept.sound _ h)
 
 pub returns-in_err-replies-clause-balanced : goal.returns-in_err-replies-clause-balanced
-returns-in_err-replies-clause-balanced g c = λ h. conserved _ (g.met.K.Kept.sound _ h)
+returns-in_err-replies-clause-balanced g c = λ h. conserved _ (g.K.Kept.sound _ h)
 
 pub returns-clause-balanced : goal.returns-clause-balanced
-returns-clause-balanced g c = λ h. conserved _ (g.met.K.Kept.sound _ h)
+returns-clause-balanced g c = λ h. conserved _ (g.K.Kept.sound _ h)
 
 pub returns-in_err-replies-clause-whole : goal.returns-in_err-replies-clause-whole
-returns-in_err-replies-clause-whole g c = λ h. Sound-all_conserved _ (g.met.K.Kept.sound _ h)
+returns-in_err-replies-clause-whole g c = λ h. Sound-all_conserved _ (g.K.Kept.sound _ h)
 
 pub returns-clause-whole : goal.returns-clause-whole
-returns-clause-whole g c = λ h. Sound-all_conserved _ (g.met.K.Kept.sound _ h)
+returns-clause-whole g c = λ h. Sound-all_conserved _ (g.K.Kept.sound _ h)
 
 pub returns-in_err-replies-clause-days : goal.returns-in_err-replies-clause-days
-returns-in_err-replies-clause-days g c = λ h t late. days_joined _ t (g.met.K.Kept.sound _ h) late
+returns-in_err-replies-clause-days g c = λ h t late. days_joined _ t (g.K.Kept.sound _ h) late
 
 pub returns-clause-days : goal.returns-clause-days
-returns-clause-days g c = λ h t late. days_joined _ t (g.met.K.Kept.sound _ h) late
+returns-clause-days g c = λ h t late. days_joined _ t (g.K.Kept.sound _ h) late
 
 pub returns-clause-begun : goal.returns-clause-begun
 returns-clause-begun g c = λ h.
     let all = take_all c.loop-timed.timed-index c.args.commands.now c.loop-timed-test.false in
-    run-begins _ _ _ _ (g.met.K.Kept.sound _ (c.loop-timed.invariant.honest h)) (subst (λ (cs : List Timed). IsRun (g.K.Kept.vault c.args.keeper.now) cs c.loop-timed.replies.items (g.K.Kept.vault c.loop-timed.keeper)) all (c.loop-timed.invariant.so_far h))
+    run-begins _ _ _ _ (g.K.Kept.sound _ (c.loop-timed.invariant.honest h)) (subst (λ (cs : List Timed). IsRun (g.K.Kept.vault c.args.keeper.now) cs c.loop-timed.replies.items (g.K.Kept.vault c.loop-timed.keeper)) all (c.loop-timed.invariant.so_far h))
 
 pub returns-clause-completed : goal.returns-clause-completed
 returns-clause-completed g c = λ h.
     let all = take_all c.loop-timed.timed-index c.args.commands.now c.loop-timed-test.false in
-    run-completes _ _ _ _ (g.met.K.Kept.sound _ (c.loop-timed.invariant.honest h)) (subst (λ (cs : List Timed). IsRun (g.K.Kept.vault c.args.keeper.now) cs c.loop-timed.replies.items (g.K.Kept.vault c.loop-timed.keeper)) all (c.loop-timed.invariant.so_far h))
+    run-completes _ _ _ _ (g.K.Kept.sound _ (c.loop-timed.invariant.honest h)) (subst (λ (cs : List Timed). IsRun (g.K.Kept.vault c.args.keeper.now) cs c.loop-timed.replies.items (g.K.Kept.vault c.loop-timed.keeper)) all (c.loop-timed.invariant.so_far h))

@@ -15,12 +15,12 @@ returns-clause-worm g c = λ h before. reached-Worm _ (returns-clause-reached g 
 
 pub returns-clause-once : goal.returns-clause-once
 returns-clause-once g c = λ h.
-    step-extends _ _ c.args.at c.args.who.now c.args.command.now c.carry_out.result (g.met.K.Kept.sound _ (c.carry_out.ensures.leaves.honest h)) (c.carry_out.ensures.step h)
+    step-extends _ _ c.args.at c.args.who.now c.args.command.now c.carry_out.result (g.K.Kept.sound _ (c.carry_out.ensures.leaves.honest h)) (c.carry_out.ensures.step h)
 
 pub returns-clause-begun : goal.returns-clause-begun
 returns-clause-begun g c = λ h.
-    step-begins _ _ c.args.at c.args.who.now c.args.command.now c.carry_out.result (g.met.K.Kept.sound _ (c.carry_out.ensures.leaves.honest h)) (c.carry_out.ensures.step h)
+    step-begins _ _ c.args.at c.args.who.now c.args.command.now c.carry_out.result (g.K.Kept.sound _ (c.carry_out.ensures.leaves.honest h)) (c.carry_out.ensures.step h)
 
 pub returns-clause-completed : goal.returns-clause-completed
 returns-clause-completed g c = λ h.
-    step-completes _ _ c.args.at c.args.who.now c.args.command.now c.carry_out.result (g.met.K.Kept.sound _ (c.carry_out.ensures.leaves.honest h)) (c.carry_out.ensures.step h)
+    step-completes _ _ c.args.at c.args.who.now c.args.command.now c.carry_out.result (g.K.Kept.sound _ (c.carry_out.ensures.leaves.honest h)) (c.carry_out.ensures.step h)

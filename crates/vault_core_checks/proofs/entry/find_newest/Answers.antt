@@ -11,7 +11,7 @@ pub returns-clause-value : goal.returns-clause-value
 returns-clause-value g c = λ honest.
     let before = c.read_entry.ensures.leaves.honest honest in
     newest_found (g.K.Kept.vault c.args.keeper.now) (g.K.Kept.vault c.head.new.self) c.args.bucket.now c.args.key.now c.in-Some.head c.in_ok-head.field-0 c.read_entry.result
-    c.head.ensures.leaves.same (g.met.K.Kept.sound _ (c.head.ensures.leaves.honest before)) c.in-Some.is (c.in_ok-head.ensures.value before) (c.read_entry.ensures.value honest)
+    c.head.ensures.leaves.same (g.K.Kept.sound _ (c.head.ensures.leaves.honest before)) c.in-Some.is (c.in_ok-head.ensures.value before) (c.read_entry.ensures.value honest)
 
 pub returns-clause-own : goal.returns-clause-own
 returns-clause-own g c = λ honest. own_after (g.K.Kept.vault c.args.keeper.now) (g.K.Kept.vault c.head.new.self) c.read_entry.result c.head.ensures.leaves.same (c.read_entry.ensures.own honest)

@@ -13,7 +13,7 @@ returns-in-Some-2-clause-value g c clean =
     let finds = subst P c.loop-place.invariant.same (c.in_ok-law.ensures.value clean) in
     let low : c.loop-place.place < length v.histories = omega (arith, c.loop-place-test.true, c.requires.entries first) in
     sym (c.loop-place.invariant.left before
-    ∙ left_stops v c.loop-place.seen c.breach_of.new.seen c.loop-place.place c.in-Some.id c.in_ok-law.field-0 c.in-Some-2.law (g.met.K.Kept.sound _ first) low
+    ∙ left_stops v c.loop-place.seen c.breach_of.new.seen c.loop-place.place c.in-Some.id c.in_ok-law.field-0 c.in-Some-2.law (g.K.Kept.sound _ first) low
     (its_id (is_version_id (c.loop-place.place + 1)) (c.loop-place.place + 1) c.in-Some.id c.new.result c.new.ensures c.in-Some.is) finds c.in-Some-2.is)
 
 pub loop-place-preserved : goal.loop-place-preserved
@@ -31,6 +31,6 @@ loop-place-preserved g c = record {
       let low : c.loop-place.place < length v.histories = omega (arith, c.loop-place-test.true, c.requires.entries first) in
       let none : c.in_ok-law.field-0 ≡ None = search rules in
       c.loop-place.invariant.left before
-      ∙ left_goes_on v c.loop-place.seen c.breach_of.new.seen c.loop-place.place c.in-Some.id c.in_ok-law.field-0 (g.met.K.Kept.sound _ first) low
+      ∙ left_goes_on v c.loop-place.seen c.breach_of.new.seen c.loop-place.place c.in-Some.id c.in_ok-law.field-0 (g.K.Kept.sound _ first) low
       (its_id (is_version_id (c.loop-place.place + 1)) (c.loop-place.place + 1) c.in-Some.id c.new.result c.new.ensures c.in-Some.is) finds none;
 }

@@ -9,5 +9,5 @@ returns-in_default-clause-found g c = λ h.
     let h1 = c.rules.ensures.leaves.honest h in
     planned v c.args.at c.args.who.now c.args.command.now c.in_ok-find_access.field-0 (c.in_ok-find_access.ensures.found h1)
     ∙ ap Ok (plan_without v c.args.command.now.bucket c.args.at c.in_ok-find_access.field-0.bucket
-    (g.met.K.Kept.sound _ (c.find_access.ensures.leaves.honest h1)) (c.in_ok-find_access.ensures.in_time h1) (c.in_ok-find_access.ensures.there h1)
+    (g.K.Kept.sound _ (c.find_access.ensures.leaves.honest h1)) (c.in_ok-find_access.ensures.in_time h1) (c.in_ok-find_access.ensures.there h1)
     (ap (λ u. rules_of u c.args.command.now.bucket) (sym c.find_access.ensures.leaves.same) ∙ sym (c.in_ok-rules.ensures.value h) ∙ c.in_default.is))
