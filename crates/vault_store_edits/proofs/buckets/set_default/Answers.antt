@@ -23,8 +23,8 @@ returns-clause-edit g c = record {
       let early : HasCleanDisk mid = omega (arith, clean, c.execute.ensures.survives.clean) in
       let look = c.in_ok-check_apart.ensures in
       edits_checked _ _ old mid new (with_changed table.Buckets (is_named c.args.name.now) (with_default_columns c.args.default)) c.execute.result (with_changed_ignores table.Buckets (is_named c.args.name.now) (with_default_columns c.args.default)) (look.kept early inside) (λ count has ran.
-      updates_after table.Buckets (passes by_name (default_params c.args.name.now c.args.default)) old mid new (with_changed table.Buckets (is_named c.args.name.now) (with_default_columns c.args.default)) (rw (c.params-to_sql.ensures, c.as_str.ensures) at (look.apart early has by_name finds_bucket)) has live (λ apart sound known. sets_default c.args.name.now c.args.default mid new count apart sound known ran))
-      (rw (c.params-to_sql-2.ensures, c.as_str-2.ensures, c.params-to_sql-3.ensures, c.default_mode.ensures, c.params-to_sql-4.ensures, bound_number c.default_days.result, c.default_days.ensures, c.params-to_sql-5.ensures, bound_number c.default_years.result, c.default_years.ensures) at (c.execute.ensures.runs clean (look.inside early inside)));
+      updates_after table.Buckets (passes by_name (default_params c.args.name.now c.args.default)) old mid new (with_changed table.Buckets (is_named c.args.name.now) (with_default_columns c.args.default)) (rw (c.params-to_sql.ensures, c.as_str.ensures.text) at (look.apart early has by_name finds_bucket)) has live (λ apart sound known. sets_default c.args.name.now c.args.default mid new count apart sound known ran))
+      (rw (c.params-to_sql-2.ensures, c.as_str-2.ensures.text, c.params-to_sql-3.ensures, c.default_mode.ensures, c.params-to_sql-4.ensures, bound_number c.default_days.result, c.default_days.ensures, c.params-to_sql-5.ensures, bound_number c.default_years.result, c.default_years.ensures) at (c.execute.ensures.runs clean (look.inside early inside)));
   sound = λ clean inside live has.
       let old = state g.S.Store c.args.tx.now.conn.now in
       let mid = state g.S.Store c.check_apart.new.tx.conn.now in
@@ -32,8 +32,8 @@ returns-clause-edit g c = record {
       let early : HasCleanDisk mid = omega (arith, clean, c.execute.ensures.survives.clean) in
       let look = c.in_ok-check_apart.ensures in
       sound_checked _ _ old mid new (with_changed table.Buckets (is_named c.args.name.now) (with_default_columns c.args.default)) c.execute.result has (λ count has ran.
-      updates_after table.Buckets (passes by_name (default_params c.args.name.now c.args.default)) old mid new (with_changed table.Buckets (is_named c.args.name.now) (with_default_columns c.args.default)) (rw (c.params-to_sql.ensures, c.as_str.ensures) at (look.apart early has by_name finds_bucket)) has live (λ apart sound known. sets_default c.args.name.now c.args.default mid new count apart sound known ran))
-      (rw (c.params-to_sql-2.ensures, c.as_str-2.ensures, c.params-to_sql-3.ensures, c.default_mode.ensures, c.params-to_sql-4.ensures, bound_number c.default_days.result, c.default_days.ensures, c.params-to_sql-5.ensures, bound_number c.default_years.result, c.default_years.ensures) at (c.execute.ensures.runs clean (look.inside early inside)));
+      updates_after table.Buckets (passes by_name (default_params c.args.name.now c.args.default)) old mid new (with_changed table.Buckets (is_named c.args.name.now) (with_default_columns c.args.default)) (rw (c.params-to_sql.ensures, c.as_str.ensures.text) at (look.apart early has by_name finds_bucket)) has live (λ apart sound known. sets_default c.args.name.now c.args.default mid new count apart sound known ran))
+      (rw (c.params-to_sql-2.ensures, c.as_str-2.ensures.text, c.params-to_sql-3.ensures, c.default_mode.ensures, c.params-to_sql-4.ensures, bound_number c.default_days.result, c.default_days.ensures, c.params-to_sql-5.ensures, bound_number c.default_years.result, c.default_years.ensures) at (c.execute.ensures.runs clean (look.inside early inside)));
   kept = λ clean inside.
       let old = state g.S.Store c.args.tx.now.conn.now in
       let mid = state g.S.Store c.check_apart.new.tx.conn.now in

@@ -23,8 +23,8 @@ returns-clause-edit g c = record {
       let early : HasCleanDisk mid = omega (arith, clean, c.execute.ensures.survives.clean) in
       let look = c.in_ok-check_apart.ensures in
       edits_checked _ _ old mid new (with_changed table.Callers (is_named c.args.name.now) closed_row) c.execute.result (with_changed_ignores table.Callers (is_named c.args.name.now) closed_row) (look.kept early inside) (λ count has ran.
-      updates_after table.Callers (passes by_name (Text c.args.name.now ∷ [])) old mid new (with_changed table.Callers (is_named c.args.name.now) closed_row) (rw (c.params-to_sql.ensures, c.as_str.ensures) at (look.apart early has by_name finds_caller)) has live (λ apart sound known. closes_caller c.args.name.now mid new count apart sound known ran))
-      (rw (c.params-to_sql-2.ensures, c.as_str-2.ensures) at (c.execute.ensures.runs clean (look.inside early inside)));
+      updates_after table.Callers (passes by_name (Text c.args.name.now ∷ [])) old mid new (with_changed table.Callers (is_named c.args.name.now) closed_row) (rw (c.params-to_sql.ensures, c.as_str.ensures.text) at (look.apart early has by_name finds_caller)) has live (λ apart sound known. closes_caller c.args.name.now mid new count apart sound known ran))
+      (rw (c.params-to_sql-2.ensures, c.as_str-2.ensures.text) at (c.execute.ensures.runs clean (look.inside early inside)));
   sound = λ clean inside live has.
       let old = state g.S.Store c.args.tx.now.conn.now in
       let mid = state g.S.Store c.check_apart.new.tx.conn.now in
@@ -32,8 +32,8 @@ returns-clause-edit g c = record {
       let early : HasCleanDisk mid = omega (arith, clean, c.execute.ensures.survives.clean) in
       let look = c.in_ok-check_apart.ensures in
       sound_checked _ _ old mid new (with_changed table.Callers (is_named c.args.name.now) closed_row) c.execute.result has (λ count has ran.
-      updates_after table.Callers (passes by_name (Text c.args.name.now ∷ [])) old mid new (with_changed table.Callers (is_named c.args.name.now) closed_row) (rw (c.params-to_sql.ensures, c.as_str.ensures) at (look.apart early has by_name finds_caller)) has live (λ apart sound known. closes_caller c.args.name.now mid new count apart sound known ran))
-      (rw (c.params-to_sql-2.ensures, c.as_str-2.ensures) at (c.execute.ensures.runs clean (look.inside early inside)));
+      updates_after table.Callers (passes by_name (Text c.args.name.now ∷ [])) old mid new (with_changed table.Callers (is_named c.args.name.now) closed_row) (rw (c.params-to_sql.ensures, c.as_str.ensures.text) at (look.apart early has by_name finds_caller)) has live (λ apart sound known. closes_caller c.args.name.now mid new count apart sound known ran))
+      (rw (c.params-to_sql-2.ensures, c.as_str-2.ensures.text) at (c.execute.ensures.runs clean (look.inside early inside)));
   kept = λ clean inside.
       let old = state g.S.Store c.args.tx.now.conn.now in
       let mid = state g.S.Store c.check_apart.new.tx.conn.now in

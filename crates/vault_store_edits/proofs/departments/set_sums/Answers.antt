@@ -30,8 +30,8 @@ returns-clause-edit g c = record {
       let fits5 : FitsSigned w64 c.in_ok-received.received = search rules in
       let fits6 : FitsSigned w64 c.in_ok-handed.handed = search rules in
       edits_checked _ _ old mid new (with_changed table.Departments (is_named c.args.name.now) (with_sums c.args.sums.now)) c.execute.result (with_changed_ignores table.Departments (is_named c.args.name.now) (with_sums c.args.sums.now)) (look.kept early inside) (λ count has ran.
-      updates_after table.Departments (passes by_name (sums_params c.args.name.now c.args.sums.now)) old mid new (with_changed table.Departments (is_named c.args.name.now) (with_sums c.args.sums.now)) (rw (c.params-to_sql.ensures, c.as_str.ensures) at (look.apart early has by_name finds_department)) has live (λ apart sound known. sets_sums c.args.name.now c.args.sums.now mid new count apart sound known ran))
-      (rw (c.params-to_sql-2.ensures, c.as_str-2.ensures, c.params-to_sql-3.ensures, to_z-of_z fits0, c.in_ok-admitted.ensures, c.params-to_sql-4.ensures, to_z-of_z fits1, c.in_ok-held.ensures, c.params-to_sql-5.ensures, to_z-of_z fits2, c.in_ok-removed.ensures, c.params-to_sql-6.ensures, to_z-of_z fits3, c.in_ok-weighted.ensures, c.params-to_sql-7.ensures, to_z-of_z fits4, c.in_ok-closed.ensures, c.params-to_sql-8.ensures, to_z-of_z fits5, c.in_ok-received.ensures, c.params-to_sql-9.ensures, to_z-of_z fits6, c.in_ok-handed.ensures) at (c.execute.ensures.runs clean (look.inside early inside)));
+      updates_after table.Departments (passes by_name (sums_params c.args.name.now c.args.sums.now)) old mid new (with_changed table.Departments (is_named c.args.name.now) (with_sums c.args.sums.now)) (rw (c.params-to_sql.ensures, c.as_str.ensures.text) at (look.apart early has by_name finds_department)) has live (λ apart sound known. sets_sums c.args.name.now c.args.sums.now mid new count apart sound known ran))
+      (rw (c.params-to_sql-2.ensures, c.as_str-2.ensures.text, c.params-to_sql-3.ensures, to_z-of_z fits0, c.in_ok-admitted.ensures, c.params-to_sql-4.ensures, to_z-of_z fits1, c.in_ok-held.ensures, c.params-to_sql-5.ensures, to_z-of_z fits2, c.in_ok-removed.ensures, c.params-to_sql-6.ensures, to_z-of_z fits3, c.in_ok-weighted.ensures, c.params-to_sql-7.ensures, to_z-of_z fits4, c.in_ok-closed.ensures, c.params-to_sql-8.ensures, to_z-of_z fits5, c.in_ok-received.ensures, c.params-to_sql-9.ensures, to_z-of_z fits6, c.in_ok-handed.ensures) at (c.execute.ensures.runs clean (look.inside early inside)));
   sound = λ clean inside live has.
       let old = state g.S.Store c.args.tx.now.conn.now in
       let mid = state g.S.Store c.check_apart.new.tx.conn.now in
@@ -46,8 +46,8 @@ returns-clause-edit g c = record {
       let fits5 : FitsSigned w64 c.in_ok-received.received = search rules in
       let fits6 : FitsSigned w64 c.in_ok-handed.handed = search rules in
       sound_checked _ _ old mid new (with_changed table.Departments (is_named c.args.name.now) (with_sums c.args.sums.now)) c.execute.result has (λ count has ran.
-      updates_after table.Departments (passes by_name (sums_params c.args.name.now c.args.sums.now)) old mid new (with_changed table.Departments (is_named c.args.name.now) (with_sums c.args.sums.now)) (rw (c.params-to_sql.ensures, c.as_str.ensures) at (look.apart early has by_name finds_department)) has live (λ apart sound known. sets_sums c.args.name.now c.args.sums.now mid new count apart sound known ran))
-      (rw (c.params-to_sql-2.ensures, c.as_str-2.ensures, c.params-to_sql-3.ensures, to_z-of_z fits0, c.in_ok-admitted.ensures, c.params-to_sql-4.ensures, to_z-of_z fits1, c.in_ok-held.ensures, c.params-to_sql-5.ensures, to_z-of_z fits2, c.in_ok-removed.ensures, c.params-to_sql-6.ensures, to_z-of_z fits3, c.in_ok-weighted.ensures, c.params-to_sql-7.ensures, to_z-of_z fits4, c.in_ok-closed.ensures, c.params-to_sql-8.ensures, to_z-of_z fits5, c.in_ok-received.ensures, c.params-to_sql-9.ensures, to_z-of_z fits6, c.in_ok-handed.ensures) at (c.execute.ensures.runs clean (look.inside early inside)));
+      updates_after table.Departments (passes by_name (sums_params c.args.name.now c.args.sums.now)) old mid new (with_changed table.Departments (is_named c.args.name.now) (with_sums c.args.sums.now)) (rw (c.params-to_sql.ensures, c.as_str.ensures.text) at (look.apart early has by_name finds_department)) has live (λ apart sound known. sets_sums c.args.name.now c.args.sums.now mid new count apart sound known ran))
+      (rw (c.params-to_sql-2.ensures, c.as_str-2.ensures.text, c.params-to_sql-3.ensures, to_z-of_z fits0, c.in_ok-admitted.ensures, c.params-to_sql-4.ensures, to_z-of_z fits1, c.in_ok-held.ensures, c.params-to_sql-5.ensures, to_z-of_z fits2, c.in_ok-removed.ensures, c.params-to_sql-6.ensures, to_z-of_z fits3, c.in_ok-weighted.ensures, c.params-to_sql-7.ensures, to_z-of_z fits4, c.in_ok-closed.ensures, c.params-to_sql-8.ensures, to_z-of_z fits5, c.in_ok-received.ensures, c.params-to_sql-9.ensures, to_z-of_z fits6, c.in_ok-handed.ensures) at (c.execute.ensures.runs clean (look.inside early inside)));
   kept = λ clean inside.
       let old = state g.S.Store c.args.tx.now.conn.now in
       let mid = state g.S.Store c.check_apart.new.tx.conn.now in

@@ -23,8 +23,8 @@ returns-clause-edit g c = record {
       let early : HasCleanDisk mid = omega (arith, clean, c.execute.ensures.survives.clean) in
       let look = c.in_ok-check_apart.ensures in
       edits_checked _ _ old mid new (without table.Heads (is_of_key c.args.bucket.now c.args.key.now)) c.execute.result (without_ignores table.Heads (is_of_key c.args.bucket.now c.args.key.now)) (look.kept early inside) (λ count has ran.
-      deletes_after table.Heads (passes by_key (Text c.args.bucket.now ∷ Text c.args.key.now ∷ [])) old mid new (without table.Heads (is_of_key c.args.bucket.now c.args.key.now)) (rw (c.params-to_sql.ensures, c.as_str.ensures, c.params-to_sql-2.ensures, c.as_str-2.ensures) at (look.apart early has by_key finds_head)) has (λ apart known. drops_head c.args.bucket.now c.args.key.now mid new count apart known ran))
-      (rw (c.params-to_sql-3.ensures, c.as_str-3.ensures, c.params-to_sql-4.ensures, c.as_str-4.ensures) at (c.execute.ensures.runs clean (look.inside early inside)));
+      deletes_after table.Heads (passes by_key (Text c.args.bucket.now ∷ Text c.args.key.now ∷ [])) old mid new (without table.Heads (is_of_key c.args.bucket.now c.args.key.now)) (rw (c.params-to_sql.ensures, c.as_str.ensures.text, c.params-to_sql-2.ensures, c.as_str-2.ensures.text) at (look.apart early has by_key finds_head)) has (λ apart known. drops_head c.args.bucket.now c.args.key.now mid new count apart known ran))
+      (rw (c.params-to_sql-3.ensures, c.as_str-3.ensures.text, c.params-to_sql-4.ensures, c.as_str-4.ensures.text) at (c.execute.ensures.runs clean (look.inside early inside)));
   sound = λ clean inside has.
       let old = state g.S.Store c.args.tx.now.conn.now in
       let mid = state g.S.Store c.check_apart.new.tx.conn.now in
@@ -32,8 +32,8 @@ returns-clause-edit g c = record {
       let early : HasCleanDisk mid = omega (arith, clean, c.execute.ensures.survives.clean) in
       let look = c.in_ok-check_apart.ensures in
       sound_checked _ _ old mid new (without table.Heads (is_of_key c.args.bucket.now c.args.key.now)) c.execute.result has (λ count has ran.
-      deletes_after table.Heads (passes by_key (Text c.args.bucket.now ∷ Text c.args.key.now ∷ [])) old mid new (without table.Heads (is_of_key c.args.bucket.now c.args.key.now)) (rw (c.params-to_sql.ensures, c.as_str.ensures, c.params-to_sql-2.ensures, c.as_str-2.ensures) at (look.apart early has by_key finds_head)) has (λ apart known. drops_head c.args.bucket.now c.args.key.now mid new count apart known ran))
-      (rw (c.params-to_sql-3.ensures, c.as_str-3.ensures, c.params-to_sql-4.ensures, c.as_str-4.ensures) at (c.execute.ensures.runs clean (look.inside early inside)));
+      deletes_after table.Heads (passes by_key (Text c.args.bucket.now ∷ Text c.args.key.now ∷ [])) old mid new (without table.Heads (is_of_key c.args.bucket.now c.args.key.now)) (rw (c.params-to_sql.ensures, c.as_str.ensures.text, c.params-to_sql-2.ensures, c.as_str-2.ensures.text) at (look.apart early has by_key finds_head)) has (λ apart known. drops_head c.args.bucket.now c.args.key.now mid new count apart known ran))
+      (rw (c.params-to_sql-3.ensures, c.as_str-3.ensures.text, c.params-to_sql-4.ensures, c.as_str-4.ensures.text) at (c.execute.ensures.runs clean (look.inside early inside)));
   kept = λ clean inside.
       let old = state g.S.Store c.args.tx.now.conn.now in
       let mid = state g.S.Store c.check_apart.new.tx.conn.now in

@@ -15,12 +15,12 @@ returns-clause-edit g c = record {
       let new = state g.S.Store c.execute.new.self.conn.now in
       let fits0 : FitsSigned w64 c.in_ok-count.count = search rules in
       edits_if _ _ old new _ c.execute.result (with_row_ignores table.Heads (head_row (record { bucket = c.args.bucket.now; key = c.args.key.now; head = c.args.head.now }))) (puts_head (record { bucket = c.args.bucket.now; key = c.args.key.now; head = c.args.head.now }) old new)
-      (rw (c.params-to_sql.ensures, c.as_str.ensures, c.params-to_sql-2.ensures, c.as_str-2.ensures, c.params-to_sql-3.ensures, c.number.ensures.value, c.params-to_sql-4.ensures, to_z-of_z fits0, c.in_ok-count.ensures) at (c.execute.ensures.runs clean inside));
+      (rw (c.params-to_sql.ensures, c.as_str.ensures.text, c.params-to_sql-2.ensures, c.as_str-2.ensures.text, c.params-to_sql-3.ensures, c.number.ensures.value, c.params-to_sql-4.ensures, to_z-of_z fits0, c.in_ok-count.ensures) at (c.execute.ensures.runs clean inside));
   sound = λ clean inside has.
       let old = state g.S.Store c.args.tx.now.conn.now in
       let new = state g.S.Store c.execute.new.self.conn.now in
       let fits0 : FitsSigned w64 c.in_ok-count.count = search rules in
-      sound_if _ _ old new _ c.execute.result has (puts_head (record { bucket = c.args.bucket.now; key = c.args.key.now; head = c.args.head.now }) old new) (rw (c.params-to_sql.ensures, c.as_str.ensures, c.params-to_sql-2.ensures, c.as_str-2.ensures, c.params-to_sql-3.ensures, c.number.ensures.value, c.params-to_sql-4.ensures, to_z-of_z fits0, c.in_ok-count.ensures) at (c.execute.ensures.runs clean inside));
+      sound_if _ _ old new _ c.execute.result has (puts_head (record { bucket = c.args.bucket.now; key = c.args.key.now; head = c.args.head.now }) old new) (rw (c.params-to_sql.ensures, c.as_str.ensures.text, c.params-to_sql-2.ensures, c.as_str-2.ensures.text, c.params-to_sql-3.ensures, c.number.ensures.value, c.params-to_sql-4.ensures, to_z-of_z fits0, c.in_ok-count.ensures) at (c.execute.ensures.runs clean inside));
   kept = λ clean inside. kept_if_refused _ _ (state g.S.Store c.args.tx.now.conn.now) (state g.S.Store c.execute.new.self.conn.now) c.execute.result (c.execute.ensures.runs clean inside);
   survives = c.execute.ensures.survives;
 }

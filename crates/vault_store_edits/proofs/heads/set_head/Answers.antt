@@ -24,8 +24,8 @@ returns-clause-edit g c = record {
       let look = c.in_ok-check_apart.ensures in
       let fits0 : FitsSigned w64 c.in_ok-count.count = search rules in
       edits_checked _ _ old mid new (with_changed table.Heads (is_of_key c.args.bucket.now c.args.key.now) (with_head_columns c.args.head.now)) c.execute.result (with_changed_ignores table.Heads (is_of_key c.args.bucket.now c.args.key.now) (with_head_columns c.args.head.now)) (look.kept early inside) (λ count has ran.
-      updates_after table.Heads (passes by_key (head_params (record { bucket = c.args.bucket.now; key = c.args.key.now; head = c.args.head.now }))) old mid new (with_changed table.Heads (is_of_key c.args.bucket.now c.args.key.now) (with_head_columns c.args.head.now)) (rw (c.params-to_sql.ensures, c.as_str.ensures, c.params-to_sql-2.ensures, c.as_str-2.ensures) at (look.apart early has by_key finds_head)) has live (λ apart sound known. sets_head (record { bucket = c.args.bucket.now; key = c.args.key.now; head = c.args.head.now }) mid new count apart sound known ran))
-      (rw (c.params-to_sql-3.ensures, c.as_str-3.ensures, c.params-to_sql-4.ensures, c.as_str-4.ensures, c.params-to_sql-5.ensures, c.number.ensures.value, c.params-to_sql-6.ensures, to_z-of_z fits0, c.in_ok-count.ensures) at (c.execute.ensures.runs clean (look.inside early inside)));
+      updates_after table.Heads (passes by_key (head_params (record { bucket = c.args.bucket.now; key = c.args.key.now; head = c.args.head.now }))) old mid new (with_changed table.Heads (is_of_key c.args.bucket.now c.args.key.now) (with_head_columns c.args.head.now)) (rw (c.params-to_sql.ensures, c.as_str.ensures.text, c.params-to_sql-2.ensures, c.as_str-2.ensures.text) at (look.apart early has by_key finds_head)) has live (λ apart sound known. sets_head (record { bucket = c.args.bucket.now; key = c.args.key.now; head = c.args.head.now }) mid new count apart sound known ran))
+      (rw (c.params-to_sql-3.ensures, c.as_str-3.ensures.text, c.params-to_sql-4.ensures, c.as_str-4.ensures.text, c.params-to_sql-5.ensures, c.number.ensures.value, c.params-to_sql-6.ensures, to_z-of_z fits0, c.in_ok-count.ensures) at (c.execute.ensures.runs clean (look.inside early inside)));
   sound = λ clean inside live has.
       let old = state g.S.Store c.args.tx.now.conn.now in
       let mid = state g.S.Store c.check_apart.new.tx.conn.now in
@@ -34,8 +34,8 @@ returns-clause-edit g c = record {
       let look = c.in_ok-check_apart.ensures in
       let fits0 : FitsSigned w64 c.in_ok-count.count = search rules in
       sound_checked _ _ old mid new (with_changed table.Heads (is_of_key c.args.bucket.now c.args.key.now) (with_head_columns c.args.head.now)) c.execute.result has (λ count has ran.
-      updates_after table.Heads (passes by_key (head_params (record { bucket = c.args.bucket.now; key = c.args.key.now; head = c.args.head.now }))) old mid new (with_changed table.Heads (is_of_key c.args.bucket.now c.args.key.now) (with_head_columns c.args.head.now)) (rw (c.params-to_sql.ensures, c.as_str.ensures, c.params-to_sql-2.ensures, c.as_str-2.ensures) at (look.apart early has by_key finds_head)) has live (λ apart sound known. sets_head (record { bucket = c.args.bucket.now; key = c.args.key.now; head = c.args.head.now }) mid new count apart sound known ran))
-      (rw (c.params-to_sql-3.ensures, c.as_str-3.ensures, c.params-to_sql-4.ensures, c.as_str-4.ensures, c.params-to_sql-5.ensures, c.number.ensures.value, c.params-to_sql-6.ensures, to_z-of_z fits0, c.in_ok-count.ensures) at (c.execute.ensures.runs clean (look.inside early inside)));
+      updates_after table.Heads (passes by_key (head_params (record { bucket = c.args.bucket.now; key = c.args.key.now; head = c.args.head.now }))) old mid new (with_changed table.Heads (is_of_key c.args.bucket.now c.args.key.now) (with_head_columns c.args.head.now)) (rw (c.params-to_sql.ensures, c.as_str.ensures.text, c.params-to_sql-2.ensures, c.as_str-2.ensures.text) at (look.apart early has by_key finds_head)) has live (λ apart sound known. sets_head (record { bucket = c.args.bucket.now; key = c.args.key.now; head = c.args.head.now }) mid new count apart sound known ran))
+      (rw (c.params-to_sql-3.ensures, c.as_str-3.ensures.text, c.params-to_sql-4.ensures, c.as_str-4.ensures.text, c.params-to_sql-5.ensures, c.number.ensures.value, c.params-to_sql-6.ensures, to_z-of_z fits0, c.in_ok-count.ensures) at (c.execute.ensures.runs clean (look.inside early inside)));
   kept = λ clean inside.
       let old = state g.S.Store c.args.tx.now.conn.now in
       let mid = state g.S.Store c.check_apart.new.tx.conn.now in

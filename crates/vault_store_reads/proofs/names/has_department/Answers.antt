@@ -8,4 +8,4 @@ query_rows-requires g c = (_, department_selects)
 
 pub returns-clause-value : goal.returns-clause-value
 returns-clause-value g c clean v was =
-    ap not c.is_empty.ensures ∙ ap (λ n. not (n == 0)) c.in_ok-rows.rows.ok.0 ∙ department_there v c.args.name.now c.in_ok-rows.rows.items (rw (c.params-to_sql.ensures, c.as_str.ensures) at (c.in_ok-rows.ensures.rows clean v was))
+    ap not c.is_empty.ensures ∙ ap (λ n. not (n == 0)) c.in_ok-rows.rows.ok.0 ∙ department_there v c.args.name.now c.in_ok-rows.rows.items (rw (c.params-to_sql.ensures, c.as_str.ensures.text) at (c.in_ok-rows.ensures.rows clean v was))

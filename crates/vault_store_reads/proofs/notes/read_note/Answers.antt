@@ -8,9 +8,9 @@ query_rows-requires g c = (_, note_selects)
 
 pub returns-in-Ok-clause-value : goal.returns-in-Ok-clause-value
 returns-in-Ok-clause-value g c clean v was =
-    note_read v c.args.bucket.now c.args.batch.now c.args.line c.in_ok-rows.rows.items (rw (c.params-to_sql.ensures, c.params-to_sql-2.ensures, c.params-to_sql-3.ensures, c.as_str.ensures, c.as_str-2.ensures) at (c.in_ok-rows.ensures.rows clean v was)) c.in-Some.row.now c.in-Ok.note (sym (rw c.deref.ensures.value at c.in-Some.ensures.value))
+    note_read v c.args.bucket.now c.args.batch.now c.args.line c.in_ok-rows.rows.items (rw (c.params-to_sql.ensures, c.params-to_sql-2.ensures, c.params-to_sql-3.ensures, c.as_str.ensures.text, c.as_str-2.ensures.text) at (c.in_ok-rows.ensures.rows clean v was)) c.in-Some.row.now c.in-Ok.note (sym (rw c.deref.ensures.value at c.in-Some.ensures.value))
     c.in-Ok.ensures.row
 
 pub returns-clause-value : goal.returns-clause-value
 returns-clause-value g c clean v was =
-    no_note v c.args.bucket.now c.args.batch.now c.args.line c.in_ok-rows.rows.items (rw (c.params-to_sql.ensures, c.params-to_sql-2.ensures, c.params-to_sql-3.ensures, c.as_str.ensures, c.as_str-2.ensures) at (c.in_ok-rows.ensures.rows clean v was)) (rw c.deref.ensures.value at c.in-None.ensures.value)
+    no_note v c.args.bucket.now c.args.batch.now c.args.line c.in_ok-rows.rows.items (rw (c.params-to_sql.ensures, c.params-to_sql-2.ensures, c.params-to_sql-3.ensures, c.as_str.ensures.text, c.as_str-2.ensures.text) at (c.in_ok-rows.ensures.rows clean v was)) (rw c.deref.ensures.value at c.in-None.ensures.value)

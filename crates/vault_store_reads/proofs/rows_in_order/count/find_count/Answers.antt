@@ -11,12 +11,12 @@ open_rows-requires g c = (_, head_selects)
 
 pub returns-in_default-clause-value : goal.returns-in_default-clause-value
 returns-in_default-clause-value g c clean v was =
-    let finds = rw (c.params-to_sql.ensures, c.params-to_sql-2.ensures, c.as_str.ensures, c.as_str-2.ensures) at (c.in_ok-rows.ensures.rows clean v was) in
+    let finds = rw (c.params-to_sql.ensures, c.params-to_sql-2.ensures, c.as_str.ensures.text, c.as_str-2.ensures.text) at (c.in_ok-rows.ensures.rows clean v was) in
     let none = no_head v c.args.bucket.now c.args.key.now c.in_ok-rows.rows.items finds (rw c.deref.ensures.value at c.in_default.ensures.value) in
     (none_counted (held_at v c.args.bucket.now c.args.key.now) none, finds.1.spells.kept.sound)
 
 pub returns-clause-value : goal.returns-clause-value
 returns-clause-value g c clean = if_shown c.read_count.result c.read_count.ensures (λ count told v was.
-    let finds = rw (c.params-to_sql.ensures, c.params-to_sql-2.ensures, c.as_str.ensures, c.as_str-2.ensures) at (c.in_ok-rows.ensures.rows clean v was) in
+    let finds = rw (c.params-to_sql.ensures, c.params-to_sql-2.ensures, c.as_str.ensures.text, c.as_str-2.ensures.text) at (c.in_ok-rows.ensures.rows clean v was) in
     let head = head_read v c.args.bucket.now c.args.key.now c.in_ok-rows.rows.items finds c.in-Some.row.now told.0 (sym (rw c.deref.ensures.value at c.in-Some.ensures.value)) told.1 in
     (sym told.2 ∙ counted (held_at v c.args.bucket.now c.args.key.now) told.0.head head, finds.1.spells.kept.sound))

@@ -7,4 +7,4 @@ pub open_rows-requires : goal.open_rows-requires
 open_rows-requires g c = (held_query, entries_is)
 
 pub returns-clause-rows : goal.returns-clause-rows
-returns-clause-rows g c clean = if_shown c.open_rows.result (c.open_rows.ensures.rows clean) (λ rows finds v was. (found_held v c.args.bucket.now c.args.key.now c.args.most rows.items (rw (c.params-to_sql.ensures, c.params-to_sql-2.ensures, c.params-to_sql-3.ensures, c.as_str.ensures, c.as_str-2.ensures) at (finds v was)), (finds v was).1.spells.kept.sound))
+returns-clause-rows g c clean = if_shown c.open_rows.result (c.open_rows.ensures.rows clean) (λ rows finds v was. (found_held v c.args.bucket.now c.args.key.now c.args.most rows.items (rw (c.params-to_sql.ensures, c.params-to_sql-2.ensures, c.params-to_sql-3.ensures, c.as_str.ensures.text, c.as_str-2.ensures.text) at (finds v was)), (finds v was).1.spells.kept.sound))

@@ -7,4 +7,4 @@ pub query_rows-requires : goal.query_rows-requires
 query_rows-requires g c = (query, keys_is)
 
 pub returns-clause-rows : goal.returns-clause-rows
-returns-clause-rows g c clean = if_shown c.query_rows.result (c.query_rows.ensures.rows clean) (λ rows finds v was. found_keys v c.args.bucket.now c.args.after.now c.args.most rows.items (rw (c.params-to_sql.ensures, c.params-to_sql-2.ensures, c.params-to_sql-3.ensures, c.as_str.ensures, c.as_str-2.ensures) at (finds v was)))
+returns-clause-rows g c clean = if_shown c.query_rows.result (c.query_rows.ensures.rows clean) (λ rows finds v was. found_keys v c.args.bucket.now c.args.after.now c.args.most rows.items (rw (c.params-to_sql.ensures, c.params-to_sql-2.ensures, c.params-to_sql-3.ensures, c.as_str.ensures.text, c.as_str-2.ensures.text) at (finds v was)))

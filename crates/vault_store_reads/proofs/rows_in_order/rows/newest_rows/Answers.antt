@@ -7,4 +7,4 @@ pub query_rows-requires : goal.query_rows-requires
 query_rows-requires g c = (but_query, newest_is)
 
 pub returns-clause-rows : goal.returns-clause-rows
-returns-clause-rows g c clean = if_shown c.query_rows.result (c.query_rows.ensures.rows clean) (λ rows finds v was. found_newest v c.args.bucket.now c.args.key.now c.args.id rows.items (rw (c.params-to_sql.ensures, c.params-to_sql-2.ensures, c.params-to_sql-3.ensures, c.as_str.ensures, c.as_str-2.ensures, c.number.ensures.value) at (finds v was)))
+returns-clause-rows g c clean = if_shown c.query_rows.result (c.query_rows.ensures.rows clean) (λ rows finds v was. found_newest v c.args.bucket.now c.args.key.now c.args.id rows.items (rw (c.params-to_sql.ensures, c.params-to_sql-2.ensures, c.params-to_sql-3.ensures, c.as_str.ensures.text, c.as_str-2.ensures.text, c.number.ensures.value) at (finds v was)))

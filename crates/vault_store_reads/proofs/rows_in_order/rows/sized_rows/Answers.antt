@@ -7,4 +7,4 @@ pub open_rows-requires : goal.open_rows-requires
 open_rows-requires g c = (query, sized_is)
 
 pub returns-clause-rows : goal.returns-clause-rows
-returns-clause-rows g c clean = if_shown c.open_rows.result (c.open_rows.ensures.rows clean) (λ rows finds v was. (found_sized v c.args.bucket.now rows.items (rw (c.params-to_sql.ensures, c.as_str.ensures) at (finds v was)), (finds v was).1.spells.kept.sound))
+returns-clause-rows g c clean = if_shown c.open_rows.result (c.open_rows.ensures.rows clean) (λ rows finds v was. (found_sized v c.args.bucket.now rows.items (rw (c.params-to_sql.ensures, c.as_str.ensures.text) at (finds v was)), (finds v was).1.spells.kept.sound))
