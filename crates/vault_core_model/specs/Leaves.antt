@@ -1,5 +1,5 @@
 -- What a call leaves of what keeps a vault.
-use Rattle.std.specs.Prelude.{◌≡◌, ℕ, ◌+◌, Bool, true, false, nat_lt, if◌then◌else◌, List, [], ◌∷◌, Result}
+use Rattle.std.specs.Prelude.{◌≡◌, ℕ, ◌+◌, ◌<◌, Bool, true, false, nat_lt, if◌then◌else◌, List, [], ◌∷◌, Result}
 use Rattle.vault_core_model.specs.declared.halt.Fault.{Fault}
 use Rattle.vault_core_model.specs.declared.kept.Kept.{Ghosts}
 use Rattle.vault_core_model.specs.declared.reply.Reply.{Reply}
@@ -19,6 +19,10 @@ count_after n true = if nat_lt n largest_count then n + 1 else n
 abbrev pub count_after_all : ℕ → List Reply → ℕ
 count_after_all n [] = n
 count_after_all n (reply ∷ replies) = count_after_all (count_after n (is_device_reply reply)) replies
+
+-- a count of failures rose, or stands at its greatest value
+abbrev pub RoseOrIsFull : ℕ → ℕ → Type 0
+RoseOrIsFull old new = old < largest_count → old < new
 
 -- whether its device has returned what was written, its vault, and how often its device failed
 pub record Standing : Type 1 where

@@ -1,6 +1,6 @@
 //! Where the files of an intake lie.
 ghost use Rattle.std.specs.Prelude.{◌≡◌, ◌≤◌, ℕ, List, Option, IfOk, option_map};
-ghost use Rattle.vault_core_model.specs.Halts.{RoseOrIsFull};
+ghost use Rattle.vault_core_model.specs.Leaves.{RoseOrIsFull};
 ghost use Rattle.vault_files_intake.specs.Folder.{Holds};
 ghost use Rattle.vault_files_intake.specs.declared.folder.File.{File as KnownFile};
 

@@ -2,7 +2,7 @@
 ghost use Rattle.std.specs.Prelude.{◌≡◌, ◌≤◌, ◌⊎◌, ◌+◌, ◌<◌, [], false, map, IfErr, OnOk, Some};
 ghost use Rattle.std.specs.List.{list_any};
 ghost use Rattle.csv.specs.Records.{fields_of};
-ghost use Rattle.vault_core_model.specs.Halts.{RoseOrIsFull};
+ghost use Rattle.vault_core_model.specs.Leaves.{RoseOrIsFull};
 ghost use Rattle.vault_core_model.specs.Step.{Reached};
 ghost use Rattle.vault_files_intake.specs.TakenIn as spec;
 ghost use Rattle.vault_files_intake.specs.List.{below_header};

@@ -1,7 +1,7 @@
 //! Commands carried out, and refusals, with their answers written.
 ghost use Rattle.std.specs.Prelude.{◌≡◌, ◌≤◌, ℕ, List, IfErr, OnOk, Ok, Err, Some};
 ghost use Rattle.std.specs.Io.KnownBytes.{Appends};
-ghost use Rattle.vault_core_model.specs.Halts.{RoseOrIsFull};
+ghost use Rattle.vault_core_model.specs.Leaves.{RoseOrIsFull};
 ghost use Rattle.vault_http.specs.Reply.{AnswersRefusal};
 ghost use Rattle.vault_http.specs.Exchange as spec;
 ghost use Rattle.vault_http.specs.Left as left;
@@ -29,6 +29,7 @@ fn drops(command: &Command) -> bool
 }
 
 /// Carries a command out and writes its answer.
+#[tactic(auto, using(vault_core_model::proofs::Counts::no_less))]
 fn answer<W: Write, K: Keeper>(
     alloc: Global,
     writer: &mut W,

@@ -3,7 +3,7 @@ ghost use Rattle.std.specs.Prelude.{◌≡◌, ◌≤◌, ℕ, List, IfErr, IfOk
 ghost use Rattle.std.specs.Io.KnownBytes.{Appends, Consumes};
 ghost use Rattle.httparse.specs.Spans.{IsRequestWithin, span_bytes};
 ghost use Rattle.vault_base.specs.Days.{moment_at};
-ghost use Rattle.vault_core_model.specs.Halts.{RoseOrIsFull};
+ghost use Rattle.vault_core_model.specs.Leaves.{RoseOrIsFull};
 ghost use Rattle.vault_http_request.specs.Plan.{IsAt};
 ghost use Rattle.vault_values.specs.Fault.{Gives};
 ghost use Rattle.vault_http.specs.Command.{IsWithinLength};

@@ -1,6 +1,7 @@
 //! What a refusal of the store is to a keeper.
 ghost use Rattle.std.specs.Prelude.{◌≡◌, ◌≤◌, false};
-ghost use Rattle.vault_core_model.specs.Halts.{is_device_fault, RoseOrIsFull};
+ghost use Rattle.vault_core_model.specs.Halts.{is_device_fault};
+ghost use Rattle.vault_core_model.specs.Leaves.{RoseOrIsFull};
 ghost use Rattle.vault_store.specs.Blame.{fault_of};
 
 use sqlite::{Error, ErrorCode};

@@ -3,7 +3,7 @@ use Rattle.std.specs.Prelude.{◌≡◌, ◌⊎◌, ℕ, List, Option, Some, Res
 use Rattle.std.specs.Io.KnownBytes.{Appends}
 use Rattle.vault_base.specs.declared.refusal.Refusal.{Refusal}
 use Rattle.vault_base.specs.declared.refusal.Refusal.TheVariants.{Device}
-use Rattle.vault_core_model.specs.Halts.{RoseOrIsFull}
+use Rattle.vault_core_model.specs.Leaves.{RoseOrIsFull}
 use Rattle.vault_core_model.specs.Vault.{Vault}
 use Rattle.vault_files.specs.TakenIn.{report_tells_device, TakesIn}
 use Rattle.vault_files.specs.File.{File}

@@ -1,8 +1,9 @@
 //! A command carried out, and its reply printed.
 ghost use Rattle.std.specs.Prelude.{◌≡◌, ◌≢◌, ◌≤◌, IsTrue, IfOk, OnErr, Err, Ok};
 ghost use Rattle.std.specs.Io.KnownBytes.{Appends};
-ghost use Rattle.vault_core.specs.Told.{CountAsTold};
-ghost use Rattle.vault_core_model.specs.Halts.{is_device_reply, RoseOrIsFull};
+ghost use Rattle.vault_core_model.specs.Leaves.{count_after};
+ghost use Rattle.vault_core_model.specs.Halts.{is_device_reply};
+ghost use Rattle.vault_core_model.specs.Leaves.{RoseOrIsFull};
 ghost use Rattle.vault_core_model.specs.Step.{IsStep, Reached};
 ghost use Rattle.vault_core_model.specs.declared.reply.Reply.{Reply as AnyReply};
 ghost use Rattle.vault_core_model.specs.declared.reply.Reply.TheVariants.{Refused};
@@ -87,6 +88,7 @@ pub fn tell_refusal<W: Write>(
 ///
 /// `Write` comes where the reply can't be written, and `Memory` where there is no room for its text; the
 /// command was carried out all the same.
+#[tactic(auto, using(vault_core_model::proofs::Counts::rose, vault_core_model::proofs::Counts::stays, vault_core_model::proofs::Counts::no_less))]
 pub fn carry_out<K: Keeper, W: Write, E: Write>(
     alloc: Global,
     keeper: &mut K,
@@ -107,7 +109,7 @@ pub fn carry_out<K: Keeper, W: Write, E: Write>(
     // failures rose, or can rise no further; where it doesn't tell it, the count is as it was.
     ensures steady { (reply : AnyReply) × (K.is_honest keeper.new → IsStep (K.vault keeper.old) at asked.now.who asked.now.command reply (K.vault keeper.new))
         × IfOk result (λ outcome. (outcome ≡ spec.outcome_of reply) × Appends (W.contents out.old) (W.contents out.new) (spec.printed reply))
-        × CountAsTold (K.count keeper.old) (K.count keeper.new) (is_device_reply reply) }
+        × (K.count keeper.new ≡ count_after (K.count keeper.old) (is_device_reply reply)) }
     ensures reached { K.is_honest keeper.new → Reached (K.vault keeper.old) → Reached (K.vault keeper.new) }
     ensures honest { K.is_honest keeper.new → K.is_honest keeper.old }
     ensures counted { K.count keeper.old ≤ K.count keeper.new }

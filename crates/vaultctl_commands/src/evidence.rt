@@ -3,7 +3,7 @@ ghost use Rattle.std.specs.Prelude.{◌≡◌, ◌≢◌, ◌≤◌, IfOk, OnErr
 ghost use Rattle.std.specs.Io.KnownBytes.{Appends};
 ghost use Rattle.vault_core_evidence.specs.Breaches.{first_breach};
 ghost use Rattle.vault_core_evidence.specs.Events.{events_asked};
-ghost use Rattle.vault_core_model.specs.Halts.{RoseOrIsFull};
+ghost use Rattle.vault_core_model.specs.Leaves.{RoseOrIsFull};
 ghost use Rattle.vault_core_model.specs.declared.reply.Reply.TheVariants.{Refused};
 ghost use Rattle.vault_files_events.specs.EventsText.{events_text};
 ghost use Rattle.vault_files_events.specs.Seal.{seal_text as seal_lines};
@@ -30,6 +30,7 @@ use vault_files_events::{Seal, export_events, seal, seal_text};
 ///
 /// `Write` comes where the text can't be written, `Memory` where there is no room for an entry's rows, and `Device` where
 /// the vault's device failed.
+#[tactic(auto, using(vault_core_model::proofs::Counts::rose, vault_core_model::proofs::Counts::stays, vault_core_model::proofs::Counts::no_less))]
 pub fn tell_events<K: Keeper, W: Write>(
     alloc: Global,
     keeper: &mut K,
@@ -88,6 +89,7 @@ const UNREACHED: &str =
 
 /// Prints the seal of what was before a moment; or the refusal of a moment after the vault's last change, and says in
 /// words on `err` which one it may be.
+#[tactic(auto, using(vault_core_model::proofs::Counts::rose, vault_core_model::proofs::Counts::stays, vault_core_model::proofs::Counts::no_less))]
 pub fn tell_seal<K: Keeper, W: Write, E: Write>(
     alloc: Global,
     keeper: &mut K,

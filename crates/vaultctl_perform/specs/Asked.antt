@@ -2,7 +2,7 @@
 use Rattle.std.specs.Prelude.{ℕ, ◌≡◌, ◌⊎◌, List, IsTrue, IfOk, Option, None, Some, Result}
 use Rattle.std.specs.Io.KnownBytes.{Appends}
 use Rattle.vault_base.specs.declared.refusal.Refusal.TheVariants.{ClockOutOfRange}
-use Rattle.vault_core.specs.Told.{CountAsTold}
+use Rattle.vault_core_model.specs.Leaves.{count_after}
 use Rattle.vault_core_model.specs.Halts.{is_device_reply}
 use Rattle.vault_core_model.specs.Step.{IsStep}
 use Rattle.vault_core_model.specs.Vault.{Vault}
@@ -28,11 +28,11 @@ abbrev pub IsDoneAt : Type 0 → Option ℕ → Asked → Vault → Vault → Ou
 IsDoneAt Failed (Some at) asked v v' told before after = IsDone Failed at asked v v' told before after
 IsDoneAt Failed None asked v v' told before after = ((at : ℕ) × IsDone Failed at asked v v' told before after) ⊎ IsUnread v v' told before after
 
--- One step was made at that reading, and its reply is printed where anything is. The reply tells that the device failed just where the count of failures rose, or can rise no further; where it doesn't, the count is as it was. Honest says that the device has returned what was written.
+-- One step was made at that reading, and its reply is printed where anything is. The count of failures is one more, up to its greatest value, exactly where the reply reports that the device failed. Honest says that the device has returned what was written.
 abbrev pub IsSteady : Type 0 → ℕ → Asked → Vault → Vault → ℕ → ℕ → Result Outcome JobFault → Option (List ℕ) → Option (List ℕ) → Type 0
 IsSteady Honest at asked v v' n n' result before after =
     (reply : Reply) × (Honest → IsStep v at asked.who asked.command reply v') × IfOk result (λ told. (told ≡ outcome_of reply) × Appends before after (printed reply))
-    × CountAsTold n n' (is_device_reply reply)
+    × (n' ≡ count_after n (is_device_reply reply))
 
 -- the clock shows no moment: nothing is done, and the count is as it was
 abbrev pub IsUnreadSteady : Vault → Vault → ℕ → ℕ → Result Outcome JobFault → Option (List ℕ) → Option (List ℕ) → Type 0

@@ -1,7 +1,7 @@
 //! Jobs that ask one thing of the vault in a file: their values, then the file, then the reading, then the step.
 ghost use Rattle.std.specs.Prelude.{◌≡◌, ◌≢◌, ◌≤◌, ℕ, IfOk, Result, Ok, Err, Some};
 ghost use Rattle.vault_base.specs.declared.refusal.Refusal.{Refusal as AnyRefusal};
-ghost use Rattle.vault_core_model.specs.Halts.{RoseOrIsFull};
+ghost use Rattle.vault_core_model.specs.Leaves.{RoseOrIsFull};
 ghost use Rattle.vault_core_model.specs.Step.{Reached};
 ghost use Rattle.vault_values.specs.Fault.{Gives};
 ghost use Rattle.vaultctl_commands.specs.Printed.{TellsReply};

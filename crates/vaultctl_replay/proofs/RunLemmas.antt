@@ -8,10 +8,9 @@ use Rattle.std.specs.Io.KnownBytes.{Appends, Consumes, Keeps}
 use Rattle.std.proofs.KnownBytes.{Appends-nil, Appends-trans}
 use Rattle.std.proofs.lemmas.List.Concat.{flat_map-append}
 use Rattle.std.proofs.lemmas.List.Folds.{list_any-append}
-use Rattle.vault_core.specs.Told.{CountAsTold}
-use Rattle.vault_core.proofs.Device.{count_as_told}
 use Rattle.vault_base.specs.declared.refusal.Refusal.{Refusal}
-use Rattle.vault_core_model.specs.Halts.{is_device_reply, RoseOrIsFull}
+use Rattle.vault_core_model.specs.Halts.{is_device_reply}
+use Rattle.vault_core_model.specs.Leaves.{count_after}
 use Rattle.vault_core_model.specs.Step.{IsRun, Reached, IsStep}
 use Rattle.vault_core_model.specs.Vault.{Vault, opening}
 use Rattle.vault_core_model.specs.declared.command.Timed.{Timed}
@@ -30,7 +29,7 @@ use Rattle.vaultctl_replay.proofs.LineLemmas.{asked_in-append, advance-append, a
 Answers-for : (H G : Type 0) (v v' : Vault) (n n' : ℕ) (asked : Line) (out : List Reply) → (G → H) → Answers H v n asked out v' n' → Answers G v n asked out v' n'
 Answers-for H G v v' n n' Skip out f a = a
 Answers-for H G v v' n n' (Refused r) out f a = a
-Answers-for H G v v' n n' (Command c) out f a = (a.0, λ h. a.1 (f h), a.2, a.3, a.4)
+Answers-for H G v v' n n' (Command c) out f a = (a.0, λ h. a.1 (f h), a.2, a.3)
 
 Runs-for : (H G : Type 0) (v v' : Vault) (n n' : ℕ) (asked : List Line) (out : List Reply) → (G → H) → Runs H v n asked out v' n' → Runs G v n asked out v' n'
 Runs-for H G v v' n n' [] out f r = r
@@ -81,9 +80,9 @@ refusal_replied H v n r (Ok t) told = (reply.Refused r ∷ [], (refl, refl, refl
 refusal_replied H v n r (Err e) told = told
 
 -- a step that was made, with what its reply tells of the count of failures
-module _ (H : Type 0) (v v' : Vault) (n n' : ℕ) (c : Timed) (r : Reply) (made : H → IsStep v c.at c.who c.command r v') (counted : n ≤ n') (device : IsTrue (is_device_reply r) → RoseOrIsFull n n') (steady : is_device_reply r ≡ false → n' ≡ n) where
+module _ (H : Type 0) (v v' : Vault) (n n' : ℕ) (c : Timed) (r : Reply) (made : H → IsStep v c.at c.who c.command r v') (counted : n' ≡ count_after n (is_device_reply r)) where
   answered : Answers H v n (Command c) (r ∷ []) v' n'
-  answered = (r, made, refl, counted, count_as_told n n' (is_device_reply r) device steady)
+  answered = (r, made, refl, counted)
 
   -- its reply isn't written
   pub command_unwritten : Unwritten H v n (Command c) v' n'
@@ -203,17 +202,17 @@ neither true c e = absurd (cc)
 neither false c e = (refl, e)
 
 -- what isn't told leaves the count
-still : (n n' : ℕ) (told : Bool) → CountAsTold n n' told → (told || false) ≡ false → n' ≡ n
+still : (n n' : ℕ) (told : Bool) → n' ≡ count_after n told → (told || false) ≡ false → n' ≡ n
 still n n' true t e = absurd (cc)
 still n n' false t e = t
 
-told_by : (n n' : ℕ) (r : Reply) (replies : List Reply) → replies ≡ r ∷ [] → CountAsTold n n' (is_device_reply r) → list_any is_device_reply replies ≡ false → n' ≡ n
+told_by : (n n' : ℕ) (r : Reply) (replies : List Reply) → replies ≡ r ∷ [] → n' ≡ count_after n (is_device_reply r) → list_any is_device_reply replies ≡ false → n' ≡ n
 told_by n n' r replies e t none = still n n' (is_device_reply r) t (subst (λ (rs : List Reply). list_any is_device_reply rs ≡ false) e none)
 
 answer_steady : (H : Type 0) (v v' : Vault) (n n' : ℕ) (asked : Line) (replies : List Reply) → Answers H v n asked replies v' n' → list_any is_device_reply replies ≡ false → n' ≡ n
 answer_steady H v v' n n' Skip replies a none = a.2
 answer_steady H v v' n n' (Refused r) replies a none = a.2
-answer_steady H v v' n n' (Command c) replies a none = told_by n n' a.0 replies a.2 a.4 none
+answer_steady H v v' n n' (Command c) replies a none = told_by n n' a.0 replies a.2 a.3 none
 
 run_steady : (H : Type 0) (v v' : Vault) (n n' : ℕ) (asked : List Line) (replies : List Reply) → Runs H v n asked replies v' n' → list_any is_device_reply replies ≡ false → n' ≡ n
 run_steady H v v' n n' [] replies r none = r.2

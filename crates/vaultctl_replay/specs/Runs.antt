@@ -2,7 +2,7 @@
 use Rattle.std.specs.Prelude.{◌≡◌, ◌≤◌, ℕ, List, [], ◌∷◌, ◌++◌, length, Option, ◌⊎◌, false}
 use Rattle.std.specs.Io.KnownBytes.{Appends}
 use Rattle.std.specs.List.{flat_map, list_any}
-use Rattle.vault_core.specs.Told.{CountAsTold}
+use Rattle.vault_core_model.specs.Leaves.{count_after}
 use Rattle.vault_core_model.specs.Halts.{is_device_reply}
 use Rattle.vault_core_model.specs.Step.{IsStep}
 use Rattle.vault_core_model.specs.Vault.{Vault}
@@ -18,12 +18,12 @@ use Rattle.vaultctl_replay.specs.Lines.{AskFor, AskSoFar, EndedAskFor}
 abbrev pub lines_of : List Reply → List ℕ
 lines_of replies = flat_map reply_text replies
 
--- A line that asks for this may have these replies, and lead from v to v': an empty one has none, and a command that to its step. The keeper's count of failures goes from n to n': the reply tells that the device failed just where the count rose, or can rise no further; where it doesn't, the count is as it was. Here and below Honest says that the device has returned what was written; what is said of a step holds then.
+-- A line that asks for this may have these replies, and lead from v to v': an empty one has none, and a command that to its step. The keeper's count of failures goes from n to n', which is one more, up to its greatest value, exactly where the reply reports that the device failed. Here and below Honest says that the device has returned what was written; what is said of a step holds then.
 abbrev pub Answers : Type 0 → Vault → ℕ → Line → List Reply → Vault → ℕ → Type 0
 Answers Honest v n Skip replies v' n' = (replies ≡ []) × (v' ≡ v) × (n' ≡ n)
 Answers Honest v n (Refused r) replies v' n' = (replies ≡ reply.Refused r ∷ []) × (v' ≡ v) × (n' ≡ n)
 Answers Honest v n (Command c) replies v' n' =
-    (r : Reply) × (Honest → IsStep v c.at c.who c.command r v') × (replies ≡ r ∷ []) × (n ≤ n') × CountAsTold n n' (is_device_reply r)
+    (r : Reply) × (Honest → IsStep v c.at c.who c.command r v') × (replies ≡ r ∷ []) × (n' ≡ count_after n (is_device_reply r))
 
 -- the line was carried out, and this is to be written of its reply
 abbrev pub Replied : Type 0 → Vault → ℕ → Line → List ℕ → Vault → ℕ → Type 0

@@ -29,6 +29,7 @@ fn told(alloc: Global, reply: Reply) -> Result<String, AllocError>
 }
 
 /// Carries out a command, of whose reply the observer hears. That is a line.
+#[tactic(auto, using(vault_core_model::proofs::Counts::no_less))]
 fn carried_out<K: Keeper, O: Observer>(
     alloc: Global,
     keeper: &mut K,

@@ -7,10 +7,10 @@ use Rattle.vault_core_evidence.proofs.walk.find_breach.Goals as goal
 pub returns-in-Some-2-clause-value : goal.returns-in-Some-2-clause-value
 returns-in-Some-2-clause-value g c clean =
     let before = c.breach_of.ensures.leaves.honest clean in
-    let first = c.loop-place.invariant.honest before in
+    let first = c.loop-place.invariant.leaves.honest before in
     let v = g.K.Kept.vault c.args.keeper.now in
     let P : Vault → Type 0 = λ w. FindsAt w c.loop-place.seen c.in-Some.id c.in_ok-law.field-0 c.breach_of.new.seen in
-    let finds = subst P c.loop-place.invariant.same (c.in_ok-law.ensures.value clean) in
+    let finds = subst P c.loop-place.invariant.leaves.same (c.in_ok-law.ensures.value clean) in
     let low : c.loop-place.place < length v.histories = omega (arith, c.loop-place-test.true, c.requires.entries first) in
     sym (c.loop-place.invariant.left before
     ∙ left_stops v c.loop-place.seen c.breach_of.new.seen c.loop-place.place c.in-Some.id c.in_ok-law.field-0 c.in-Some-2.law (g.K.Kept.sound _ first) low
@@ -18,16 +18,13 @@ returns-in-Some-2-clause-value g c clean =
 
 pub loop-place-preserved : goal.loop-place-preserved
 loop-place-preserved g c = record {
-  same = search rules;
-  honest = search rules;
-  counted = search rules;
-  steady = search rules;
+  leaves = search rules;
   left = λ clean.
       let before = c.breach_of.ensures.leaves.honest clean in
-      let first = c.loop-place.invariant.honest before in
+      let first = c.loop-place.invariant.leaves.honest before in
       let v = g.K.Kept.vault c.args.keeper.now in
       let P : Vault → Type 0 = λ w. FindsAt w c.loop-place.seen c.in-Some.id c.in_ok-law.field-0 c.breach_of.new.seen in
-      let finds = subst P c.loop-place.invariant.same (c.in_ok-law.ensures.value clean) in
+      let finds = subst P c.loop-place.invariant.leaves.same (c.in_ok-law.ensures.value clean) in
       let low : c.loop-place.place < length v.histories = omega (arith, c.loop-place-test.true, c.requires.entries first) in
       let none : c.in_ok-law.field-0 ≡ None = search rules in
       c.loop-place.invariant.left before

@@ -5,10 +5,7 @@ use Rattle.vault_core_listing.proofs.listings.list_behind.Goals as goal
 
 pub loop-init : goal.loop-init
 loop-init g c = record {
-  same = search rules;
-  honest = search rules;
-  counted = search rules;
-  steady = search rules;
+  leaves = search rules;
   left = λ honest. ap (completed (g.K.Kept.vault c.args.keeper.now) c.args.command.now c.args.page.now) c.in_ok-after.ensures.cases;
   few = λ honest. let few = few_keys (g.K.Kept.vault c.args.keeper.now) c.args.command.now.bucket c.in_ok-after.after (c.requires honest) in omega arith;
 }
@@ -17,19 +14,16 @@ loop-init g c = record {
 pub returns-in_default-clause-value : goal.returns-in_default-clause-value
 returns-in_default-clause-value g c = λ honest.
     walk_ends (g.K.Kept.vault c.args.keeper.now) (g.K.Kept.vault c.loop.keeper) c.args.command.now c.args.page.now c.loop.page c.list_keys_behind.new.page c.loop.after c.in_ok-next.field-0
-    c.loop.invariant.same c.in_default.is (c.loop.invariant.left (c.list_keys_behind.ensures.leaves.honest honest)) (c.in_ok-next.ensures.value honest)
+    c.loop.invariant.leaves.same c.in_default.is (c.loop.invariant.left (c.list_keys_behind.ensures.leaves.honest honest)) (c.in_ok-next.ensures.value honest)
 
 pub loop-preserved : goal.loop-preserved
 loop-preserved g c = record {
-  same = search rules;
-  honest = search rules;
-  counted = search rules;
-  steady = search rules;
+  leaves = search rules;
   left = λ honest. (walk_goes_on (g.K.Kept.vault c.args.keeper.now) (g.K.Kept.vault c.loop.keeper) c.args.command.now c.args.page.now c.loop.page c.list_keys_behind.new.page c.loop.after c.in_ok-next.field-0 c.in-Some.next
-      c.loop.invariant.same c.in-Some.is (c.loop.invariant.left (c.list_keys_behind.ensures.leaves.honest honest)) (c.in_ok-next.ensures.value honest)).0;
+      c.loop.invariant.leaves.same c.in-Some.is (c.loop.invariant.left (c.list_keys_behind.ensures.leaves.honest honest)) (c.in_ok-next.ensures.value honest)).0;
   few = λ honest.
       let fewer = walk_goes_on (g.K.Kept.vault c.args.keeper.now) (g.K.Kept.vault c.loop.keeper) c.args.command.now c.args.page.now c.loop.page c.list_keys_behind.new.page c.loop.after c.in_ok-next.field-0 c.in-Some.next
-      c.loop.invariant.same c.in-Some.is (c.loop.invariant.left (c.list_keys_behind.ensures.leaves.honest honest)) (c.in_ok-next.ensures.value honest) in
+      c.loop.invariant.leaves.same c.in-Some.is (c.loop.invariant.left (c.list_keys_behind.ensures.leaves.honest honest)) (c.in_ok-next.ensures.value honest) in
       let few = c.loop.invariant.few (c.list_keys_behind.ensures.leaves.honest honest) in omega (arith, few, fewer.1);
 }
 

@@ -15,23 +15,17 @@ returns-then-page-clause-value g c = λ honest.
 
 pub loop-held-init : goal.loop-held-init
 loop-held-init g c = record {
-  same = search rules;
-  honest = search rules;
-  counted = search rules;
-  steady = search rules;
+  leaves = search rules;
   left = λ honest. all_left (g.K.Kept.vault c.args.keeper.now) c.args.command.now c.args.key.now c.args.page.now c.in_ok-newest_first.newest_first.items c.deref-held-items.result.now
       (c.requires (c.entries.ensures.leaves.honest honest)) (c.in_ok-newest_first.ensures.value honest) (c.deref-held-items.ensures.value ∙ c.reverse.ensures.items);
 }
 
 pub loop-held-preserved : goal.loop-held-preserved
 loop-held-preserved g c = record {
-  same = search rules;
-  honest = search rules;
-  counted = search rules;
-  steady = search rules;
+  leaves = search rules;
   left = λ honest. item_listed (g.K.Kept.vault c.args.keeper.now) (g.K.Kept.vault c.loop-held.keeper) c.args.command.now c.args.key.now c.loop-held.current c.loop-held.page c.list_entry.new.page
       (filled c.args.command.now.most c.args.page.now (asked_at (g.K.Kept.vault c.args.keeper.now) c.args.command.now c.args.key.now)) c.deref-held-items.result.now c.loop-held.held-index c.held-item.result
-      c.loop-held.invariant.same c.loop-held-test.true c.held-item.is (c.in_ok-list_entry.ensures.value honest) (c.loop-held.invariant.left (c.list_entry.ensures.leaves.honest honest));
+      c.loop-held.invariant.leaves.same c.loop-held-test.true c.held-item.is (c.in_ok-list_entry.ensures.value honest) (c.loop-held.invariant.left (c.list_entry.ensures.leaves.honest honest));
 }
 
 pub returns-clause-value : goal.returns-clause-value

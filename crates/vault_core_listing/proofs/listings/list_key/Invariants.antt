@@ -1,4 +1,5 @@
-use Rattle.std.proofs.Common.{◌≡◌, ◌≤◌, drop}
+use Rattle.std.proofs.Common.{drop, false}
+use Rattle.vault_core_model.specs.Leaves.{LeavesSame}
 use Rattle.vault_core_listing.specs.Walk.{asked_at, filled}
 use Rattle.vault_core_listing.proofs.KeyWalk.{IsLeft}
 use Rattle.vault_core_listing.proofs.listings.list_key.Given as goal
@@ -6,9 +7,6 @@ use Rattle.vault_core_listing.proofs.listings.list_key.Given as goal
 -- with the entries that are left the page becomes what it is to be
 abbrev pub invariant-loop-held : goal.invariant-loop-held
 invariant-loop-held g l = record {
-  same : g.K.Kept.vault l.keeper ≡ g.K.Kept.vault l.fn.keeper;
-  honest : g.K.Kept.is_honest l.keeper → g.K.Kept.is_honest l.fn.keeper;
-  counted : g.K.Kept.count l.fn.keeper ≤ g.K.Kept.count l.keeper;
-  steady : g.K.Kept.count l.keeper ≡ g.K.Kept.count l.fn.keeper;
+  leaves : LeavesSame g.K.Kept l.fn.keeper l.keeper false;
   left : g.K.Kept.is_honest l.keeper → IsLeft (g.K.Kept.vault l.fn.keeper) l.command l.key l.current l.page (filled l.command.most l.fn.page (asked_at (g.K.Kept.vault l.fn.keeper) l.command l.key)) (drop l.held-index l.held-items);
 }

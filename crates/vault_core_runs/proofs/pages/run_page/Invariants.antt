@@ -1,4 +1,5 @@
-use Rattle.std.proofs.Common.{◌≡◌, ◌≤◌, take}
+use Rattle.std.proofs.Common.{take, false}
+use Rattle.vault_core_model.specs.Leaves.{Leaves}
 use Rattle.vault_core_run_laws.specs.KeyRuns.{plans_at}
 use Rattle.vault_core_runs.specs.Making.{MakesAll}
 use Rattle.vault_core_runs.proofs.pages.run_page.Given as goal
@@ -6,8 +7,6 @@ use Rattle.vault_core_runs.proofs.pages.run_page.Given as goal
 -- the plans of the keys so far are made
 abbrev pub invariant-loop-key : goal.invariant-loop-key
 invariant-loop-key g l = record {
-  honest : g.K.Kept.is_honest l.keeper → g.K.Kept.is_honest l.fn.keeper;
-  counted : g.K.Kept.count l.fn.keeper ≤ g.K.Kept.count l.keeper;
-  steady : g.K.Kept.count l.keeper ≡ g.K.Kept.count l.fn.keeper;
+  leaves : Leaves g.K.Kept l.fn.keeper l.keeper false;
   makes : g.K.Kept.is_honest l.keeper → MakesAll (g.K.Kept.vault l.fn.keeper) l.run.bucket l.run.at (plans_at (g.K.Kept.vault l.fn.keeper) l.run.bucket l.run.at (take l.key-index l.keys)) l.fn.counts l.counts (g.K.Kept.vault l.keeper);
 }

@@ -13,7 +13,7 @@ use Rattle.vault_core_runs.proofs.pages.run_pages.Goals as goal
 pub returns-in_err-keys-clause-makes : goal.returns-in_err-keys-clause-makes
 returns-in_err-keys-clause-makes g c = λ h.
     let h1 = c.keys.ensures.leaves.honest h in
-    let h0 = c.loop.invariant.honest h1 in
+    let h0 = c.loop.invariant.leaves.honest h1 in
     let v = g.K.Kept.vault c.args.keeper.now in
     let v1 = g.K.Kept.vault c.loop.keeper in
     let w = g.K.Kept.vault c.keys.new.self in
@@ -26,7 +26,7 @@ returns-in_err-keys-clause-makes g c = λ h.
 pub run_page-requires-clause-may : goal.run_page-requires-clause-may
 run_page-requires-clause-may g c = λ h.
     let h1 = c.keys.ensures.leaves.honest h in
-    let h0 = c.loop.invariant.honest h1 in
+    let h0 = c.loop.invariant.leaves.honest h1 in
     let b = c.args.run.now.bucket in
     let t = c.args.run.now.at in
     subst (λ (u : Vault). MayRun u b t) (sym c.keys.ensures.leaves.same)
@@ -35,7 +35,7 @@ run_page-requires-clause-may g c = λ h.
 pub run_page-requires-clause-given : goal.run_page-requires-clause-given
 run_page-requires-clause-given g c = λ h.
     let h1 = c.keys.ensures.leaves.honest h in
-    let h0 = c.loop.invariant.honest h1 in
+    let h0 = c.loop.invariant.leaves.honest h1 in
     let b = c.args.run.now.bucket in
     let t = c.args.run.now.at in
     ap (λ u. rules_in u b) c.keys.ensures.leaves.same
@@ -44,7 +44,7 @@ run_page-requires-clause-given g c = λ h.
 pub run_page-requires-clause-rising : goal.run_page-requires-clause-rising
 run_page-requires-clause-rising g c = λ h.
     let h1 = c.keys.ensures.leaves.honest h in
-    let h0 = c.loop.invariant.honest h1 in
+    let h0 = c.loop.invariant.leaves.honest h1 in
     let v = g.K.Kept.vault c.args.keeper.now in
     let v1 = g.K.Kept.vault c.loop.keeper in
     let b = c.args.run.now.bucket in
@@ -60,7 +60,7 @@ pub returns-in_err-run_page-clause-makes : goal.returns-in_err-run_page-clause-m
 returns-in_err-run_page-clause-makes g c = λ h.
     let hk = c.run_page.ensures.leaves.honest h in
     let h1 = c.keys.ensures.leaves.honest hk in
-    let h0 = c.loop.invariant.honest h1 in
+    let h0 = c.loop.invariant.leaves.honest h1 in
     let v = g.K.Kept.vault c.args.keeper.now in
     let v1 = g.K.Kept.vault c.loop.keeper in
     let v2 = g.K.Kept.vault c.run_page.new.keeper in
@@ -80,7 +80,7 @@ returns-in_err-run_page-clause-makes g c = λ h.
 
 pub returns-clause-makes : goal.returns-clause-makes
 returns-clause-makes g c = λ h.
-    let h0 = c.loop.invariant.honest h in
+    let h0 = c.loop.invariant.leaves.honest h in
     let v1 = g.K.Kept.vault c.loop.keeper in
     stopped_between (g.K.Kept.vault c.args.keeper.now) v1 c.args.run.now.bucket c.args.run.now.at c.loop.after c.args.counts.now c.loop.counts (c.requires.may h0) (c.loop.invariant.done h) fault.Memory v1 refl
 
@@ -88,7 +88,7 @@ pub returns-in_err-last-clause-makes : goal.returns-in_err-last-clause-makes
 returns-in_err-last-clause-makes g c = λ h.
     let hk = c.run_page.ensures.leaves.honest h in
     let h1 = c.keys.ensures.leaves.honest hk in
-    let h0 = c.loop.invariant.honest h1 in
+    let h0 = c.loop.invariant.leaves.honest h1 in
     let v = g.K.Kept.vault c.args.keeper.now in
     let v1 = g.K.Kept.vault c.loop.keeper in
     let v2 = g.K.Kept.vault c.run_page.new.keeper in
@@ -110,7 +110,7 @@ pub returns-in_default-clause-makes : goal.returns-in_default-clause-makes
 returns-in_default-clause-makes g c = λ h.
     let hk = c.run_page.ensures.leaves.honest h in
     let h1 = c.keys.ensures.leaves.honest hk in
-    let h0 = c.loop.invariant.honest h1 in
+    let h0 = c.loop.invariant.leaves.honest h1 in
     let v = g.K.Kept.vault c.args.keeper.now in
     let v1 = g.K.Kept.vault c.loop.keeper in
     let v2 = g.K.Kept.vault c.run_page.new.keeper in
@@ -131,13 +131,11 @@ returns-in_default-clause-makes g c = λ h.
 
 pub loop-preserved : goal.loop-preserved
 loop-preserved g c = record {
-  honest = λ h. c.loop.invariant.honest (c.keys.ensures.leaves.honest (c.run_page.ensures.leaves.honest h));
-  counted = search rules;
-  steady = search rules;
+  leaves = record { honest = λ h. c.loop.invariant.leaves.honest (c.keys.ensures.leaves.honest (c.run_page.ensures.leaves.honest h)); counted = search rules };
   done = λ h.
       let hk = c.run_page.ensures.leaves.honest h in
       let h1 = c.keys.ensures.leaves.honest hk in
-      let h0 = c.loop.invariant.honest h1 in
+      let h0 = c.loop.invariant.leaves.honest h1 in
       let v = g.K.Kept.vault c.args.keeper.now in
       let v1 = g.K.Kept.vault c.loop.keeper in
       let v2 = g.K.Kept.vault c.run_page.new.keeper in

@@ -1,6 +1,7 @@
 use Rattle.std.proofs.Common.{Err, inr, refl}
 use Rattle.std.proofs.lemmas.Result.{on_ok_weaker, IfErr-weaker}
-use Rattle.vault_core_model.specs.Halts.{RoseOrIsFull}
+use Rattle.vault_core_model.specs.Leaves.{RoseOrIsFull}
+use Rattle.vault_core_model.proofs.Counts.{rose, stays}
 use Rattle.vault_http.specs.declared.fault.ServeFault.TheVariants as faults
 use Rattle.vault_http.proofs.Counted.{reply_sent, step_steady}
 use Rattle.vault_http.proofs.Serves.{answer_left, answer_served}
@@ -13,25 +14,25 @@ returns-clause-once g c = λ h.
 pub returns-clause-ok : goal.returns-clause-ok
 returns-clause-ok g c = λ h.
     on_ok_weaker c.send.result
-    (answer_served (RoseOrIsFull (g.K.Kept.count c.args.keeper.now) (g.K.Kept.count c.step-reply.new.keeper)) c.args.at c.args.shown c.args.who.now c.args.command.now (g.K.Kept.vault c.args.keeper.now) (g.K.Kept.vault c.step-reply.new.keeper) (g.W.Write.contents c.args.writer.now) (g.W.Write.contents c.send.new.writer) c.step-reply.result c.drops.result c.in-Ok.bytes.items c.as_slice.result.now (c.step-reply.ensures.step h) c.drops.ensures c.in-Ok.ensures c.step-reply.ensures.device c.as_slice.ensures.value)
+    (answer_served (RoseOrIsFull (g.K.Kept.count c.args.keeper.now) (g.K.Kept.count c.step-reply.new.keeper)) c.args.at c.args.shown c.args.who.now c.args.command.now (g.K.Kept.vault c.args.keeper.now) (g.K.Kept.vault c.step-reply.new.keeper) (g.W.Write.contents c.args.writer.now) (g.W.Write.contents c.send.new.writer) c.step-reply.result c.drops.result c.in-Ok.bytes.items c.as_slice.result.now (c.step-reply.ensures.step h) c.drops.ensures c.in-Ok.ensures (rose _ _ _ c.step-reply.ensures.leaves.counted) c.as_slice.ensures.value)
     c.send.ensures.ok
 
 pub returns-clause-err : goal.returns-clause-err
 returns-clause-err g c = λ h.
     IfErr-weaker c.send.result _ _
-    (answer_left (RoseOrIsFull (g.K.Kept.count c.args.keeper.now) (g.K.Kept.count c.step-reply.new.keeper)) c.args.at c.args.shown c.args.who.now c.args.command.now (g.K.Kept.vault c.args.keeper.now) (g.K.Kept.vault c.step-reply.new.keeper) (g.W.Write.contents c.args.writer.now) (g.W.Write.contents c.send.new.writer) c.step-reply.result c.drops.result c.in-Ok.bytes.items c.as_slice.result.now (c.step-reply.ensures.step h) c.drops.ensures c.in-Ok.ensures c.step-reply.ensures.device c.as_slice.ensures.value)
+    (answer_left (RoseOrIsFull (g.K.Kept.count c.args.keeper.now) (g.K.Kept.count c.step-reply.new.keeper)) c.args.at c.args.shown c.args.who.now c.args.command.now (g.K.Kept.vault c.args.keeper.now) (g.K.Kept.vault c.step-reply.new.keeper) (g.W.Write.contents c.args.writer.now) (g.W.Write.contents c.send.new.writer) c.step-reply.result c.drops.result c.in-Ok.bytes.items c.as_slice.result.now (c.step-reply.ensures.step h) c.drops.ensures c.in-Ok.ensures (rose _ _ _ c.step-reply.ensures.leaves.counted) c.as_slice.ensures.value)
     c.send.ensures.err
 
 pub returns-in_default-clause-steady : goal.returns-in_default-clause-steady
 returns-in_default-clause-steady g c =
     let step = c.step-reply in
     let a = g.W.Write.contents c.args.writer.now in
-    step_steady _ (Err faults.Memory) c.args.at c.args.shown c.args.who.now _ _ _ _ c.args.command.now step.result a a step.ensures.step step.ensures.steady (refl {a = a})
+    step_steady _ (Err faults.Memory) c.args.at c.args.shown c.args.who.now _ _ _ _ c.args.command.now step.result a a step.ensures.step (stays _ _ _ step.ensures.leaves.counted) (refl {a = a})
 
 pub returns-clause-steady : goal.returns-clause-steady
 returns-clause-steady g c =
     let step = c.step-reply in
     let a = g.W.Write.contents c.args.writer.now in
     let b = g.W.Write.contents c.send.new.writer in
-    step_steady _ c.send.result c.args.at c.args.shown c.args.who.now _ _ _ _ c.args.command.now step.result a b step.ensures.step step.ensures.steady
+    step_steady _ c.send.result c.args.at c.args.shown c.args.who.now _ _ _ _ c.args.command.now step.result a b step.ensures.step (stays _ _ _ step.ensures.leaves.counted)
     (reply_sent c.send.result c.args.at c.args.command.now c.args.shown step.result a b c.drops.result c.in-Ok.bytes.items c.as_slice.result.now c.drops.ensures c.in-Ok.ensures c.as_slice.ensures.value c.send.ensures.ok c.send.ensures.err)

@@ -1,6 +1,6 @@
 use Rattle.std.proofs.Common.{refl}
 use Rattle.std.proofs.lemmas.Result.{IfErr-weaker}
-use Rattle.vault_core_model.specs.Halts.{RoseOrIsFull}
+use Rattle.vault_core_model.specs.Leaves.{RoseOrIsFull}
 use Rattle.vault_http.proofs.Serves.{deny_judged}
 use Rattle.vault_http.proofs.carrying.conclude.Goals as goal
 

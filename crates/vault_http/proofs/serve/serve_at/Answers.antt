@@ -1,5 +1,5 @@
 use Rattle.std.proofs.lemmas.Result.{on_ok_weaker, IfErr-weaker}
-use Rattle.vault_core_model.specs.Halts.{RoseOrIsFull}
+use Rattle.vault_core_model.specs.Leaves.{RoseOrIsFull}
 use Rattle.vault_http.proofs.Serves.{none_left}
 use Rattle.vault_http.proofs.Taken.{head_taken, end_taken}
 use Rattle.vault_http.proofs.serve.serve_at.Goals as goal

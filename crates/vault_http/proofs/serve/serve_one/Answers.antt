@@ -1,7 +1,7 @@
 use Rattle.std.proofs.Common.{rules, ◌≡◌, ℕ, List, IfSome, OnOk, Option, subst}
 use Rattle.std.specs.Io.KnownBytes.{Appends}
 use Rattle.vault_base.specs.Days.{moment_at}
-use Rattle.vault_core_model.specs.Halts.{RoseOrIsFull}
+use Rattle.vault_core_model.specs.Leaves.{RoseOrIsFull}
 use Rattle.vault_http.specs.Exchange as spec
 use Rattle.vault_http.specs.Steady.{Steady}
 use Rattle.vault_http.proofs.serve.serve_one.Goals as goal

@@ -1,5 +1,5 @@
 use Rattle.std.proofs.lemmas.Result.{on_ok_weaker, IfErr-weaker}
-use Rattle.vault_core_model.specs.Halts.{RoseOrIsFull}
+use Rattle.vault_core_model.specs.Leaves.{RoseOrIsFull}
 use Rattle.vault_http.specs.Exchange.{plan_of}
 use Rattle.vault_http.proofs.Counted.{plan_steady}
 use Rattle.vault_http.proofs.Serves.{plan_served, plan_left}

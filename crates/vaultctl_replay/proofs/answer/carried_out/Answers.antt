@@ -7,11 +7,11 @@ returns-clause-err g c =
     let step = c.step-reply in
     on_err c.told.result
     (command_unwritten _ (g.K.Kept.vault before) (g.K.Kept.vault step.new.keeper) (g.K.Kept.count before) (g.K.Kept.count step.new.keeper) c.args.timed step.result
-    step.ensures.step step.ensures.counted step.ensures.device step.ensures.steady)
+    step.ensures.step step.ensures.leaves.counted)
 
 pub returns-clause-ok : goal.returns-clause-ok
 returns-clause-ok g c =
     let before = c.args.keeper.now in
     let step = c.step-reply in
     command_replied _ (g.K.Kept.vault before) (g.K.Kept.vault step.new.keeper) (g.K.Kept.count before) (g.K.Kept.count step.new.keeper) c.args.timed step.result
-    step.ensures.step step.ensures.counted step.ensures.device step.ensures.steady c.told.result c.told.ensures
+    step.ensures.step step.ensures.leaves.counted c.told.result c.told.ensures
