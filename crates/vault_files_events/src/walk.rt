@@ -1,8 +1,7 @@
 //! A walk over all entries of a vault, one at a time, that has the text of their events taken.
-ghost use Rattle.std.specs.Prelude.{◌≡◌, ◌+◌, IfOk, OnOk, OnErr, Err, false, length};
+ghost use Rattle.std.specs.Prelude.{◌≡◌, ◌+◌, IfOk, OnErr, Err, false, length};
 ghost use Rattle.vault_core_evidence.specs.Events.{events_asked};
 ghost use Rattle.vault_core_model.specs.Leaves.{LeavesSame};
-ghost use Rattle.vault_core_model.specs.Sound.{Sound};
 ghost use Rattle.vault_core_model.specs.Vault.{history_of};
 ghost use Rattle.vault_files_events.specs.Counts.{counts};
 ghost use Rattle.vault_files_events.specs.EventsText.{asked_found, event_rows, events_text};
@@ -96,13 +95,11 @@ fn take_each<K: Keeper, T: Taker>(
     Ok(counted)
 }
 
-/// How many entries a vault has, and that it is sound, as every vault is that is kept.
+/// How many entries a vault has.
 fn count_entries<K: Keeper>(keeper: &mut K) -> Result<u32, ExportFault>
     ensures value { K.is_honest keeper.new → IfOk result (λ n. n ≡ length (K.vault keeper.old).histories) }
-    ensures sound { K.is_honest keeper.new → OnOk result (Sound (K.vault keeper.old)) }
     ensures leaves { LeavesSame K.Kept keeper.old keeper.new (is_device_met result) }
 {
-    keeper.last()?;
     let next = keeper.next_id()?;
     match u32::try_from(next.saturating_sub(1)) {
         Ok(entries) => Ok(entries),

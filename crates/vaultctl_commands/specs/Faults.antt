@@ -1,7 +1,8 @@
 -- The names of the faults of a job.
-use Rattle.std.specs.Prelude.{ℕ, List, [], codes}
+use Rattle.std.specs.Prelude.{ℕ, List, [], codes, Bool, true, false, Result, Err}
 use Rattle.vaultctl_commands.specs.declared.fault.JobFault.{JobFault}
 use Rattle.vaultctl_commands.specs.declared.fault.JobFault.TheVariants.{Read, Write, Memory, Device}
+use Rattle.vaultctl_commands.specs.declared.outcome.Outcome.{Outcome}
 
 -- the name by which a fault is told
 abbrev pub fault_name : JobFault → List ℕ
@@ -16,3 +17,8 @@ fault_words Read = codes "the input can't be read to its end: what was answered 
 fault_words Write = codes "the answer can't be written, as to a full disk or a closed pipe: what was asked may have been done, so look before you give it again\n"
 fault_words Memory = codes "the machine refused memory: stop other programs, and look what was done before you give it again\n"
 fault_words Device = []
+
+-- the job reports that the vault's device failed
+abbrev pub reports_device : Result Outcome JobFault → Bool
+reports_device (Err Device) = true
+reports_device _ = false

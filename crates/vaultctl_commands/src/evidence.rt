@@ -1,14 +1,15 @@
 //! What a vault shows to somebody who doesn't trust the machine that it is kept on, printed.
-ghost use Rattle.std.specs.Prelude.{◌≡◌, ◌≢◌, ◌≤◌, IfOk, OnErr, Err, false, string_bytes};
+ghost use Rattle.std.specs.Prelude.{◌≡◌, ◌≢◌, IfOk, OnErr, Err, string_bytes};
 ghost use Rattle.std.specs.Io.KnownBytes.{Appends};
 ghost use Rattle.vault_core_evidence.specs.Breaches.{first_breach};
 ghost use Rattle.vault_core_evidence.specs.Events.{events_asked};
-ghost use Rattle.vault_core_model.specs.Leaves.{RoseOrIsFull};
+ghost use Rattle.vault_core_model.specs.Leaves.{LeavesSame};
 ghost use Rattle.vault_core_model.specs.declared.reply.Reply.TheVariants.{Refused};
 ghost use Rattle.vault_files_events.specs.EventsText.{events_text};
 ghost use Rattle.vault_files_events.specs.Seal.{seal_text as seal_lines};
 ghost use Rattle.vault_io.specs.Begins.{Begins};
 ghost use Rattle.vaultctl_commands.specs.Evidence as spec;
+ghost use Rattle.vaultctl_commands.specs.Faults.{reports_device};
 ghost use Rattle.vaultctl_commands.specs.Printed.{printed};
 
 use crate::asked::{AskedEvents, AskedSeal};
@@ -30,7 +31,6 @@ use vault_files_events::{Seal, export_events, seal, seal_text};
 ///
 /// `Write` comes where the text can't be written, `Memory` where there is no room for an entry's rows, and `Device` where
 /// the vault's device failed.
-#[tactic(auto, using(vault_core_model::proofs::Counts::rose, vault_core_model::proofs::Counts::stays, vault_core_model::proofs::Counts::no_less))]
 pub fn tell_events<K: Keeper, W: Write>(
     alloc: Global,
     keeper: &mut K,
@@ -39,11 +39,7 @@ pub fn tell_events<K: Keeper, W: Write>(
 ) -> Result<Outcome, JobFault>
     ensures ok { K.is_honest keeper.new → IfOk result (λ told. (told ≡ Outcome.Done) × Appends (W.contents out.old) (W.contents out.new) (events_text (events_asked asked.now.before (K.vault keeper.old)))) }
     ensures err { K.is_honest keeper.new → OnErr result (Begins (W.contents out.old) (W.contents out.new) (events_text (events_asked asked.now.before (K.vault keeper.old)))) }
-    ensures same { K.vault keeper.new ≡ K.vault keeper.old }
-    ensures honest { K.is_honest keeper.new → K.is_honest keeper.old }
-    ensures counted { K.count keeper.old ≤ K.count keeper.new }
-    ensures device { result ≡ Err JobFault.Device → RoseOrIsFull (K.count keeper.old) (K.count keeper.new) }
-    ensures steady { result ≢ Err JobFault.Device → K.count keeper.new ≡ K.count keeper.old }
+    ensures leaves { LeavesSame K.Kept keeper.old keeper.new (reports_device result) }
     ensures reader { result ≢ Err JobFault.Read }
 {
     match export_events(alloc, keeper, out, asked.before) {
@@ -89,7 +85,6 @@ const UNREACHED: &str =
 
 /// Prints the seal of what was before a moment; or the refusal of a moment after the vault's last change, and says in
 /// words on `err` which one it may be.
-#[tactic(auto, using(vault_core_model::proofs::Counts::rose, vault_core_model::proofs::Counts::stays, vault_core_model::proofs::Counts::no_less))]
 pub fn tell_seal<K: Keeper, W: Write, E: Write>(
     alloc: Global,
     keeper: &mut K,
@@ -101,11 +96,7 @@ pub fn tell_seal<K: Keeper, W: Write, E: Write>(
     ensures ok { K.is_honest keeper.new → IfOk result (λ told. spec.IsSealed asked.now.before (K.vault keeper.old) told (W.contents out.old) (W.contents out.new)) }
     // Whatever the device does, what is answered is what was printed.
     ensures told { IfOk result (λ told. spec.TellsSeal told (W.contents out.old) (W.contents out.new)) }
-    ensures same { K.vault keeper.new ≡ K.vault keeper.old }
-    ensures honest { K.is_honest keeper.new → K.is_honest keeper.old }
-    ensures counted { K.count keeper.old ≤ K.count keeper.new }
-    ensures device { result ≡ Err JobFault.Device → RoseOrIsFull (K.count keeper.old) (K.count keeper.new) }
-    ensures steady { result ≢ Err JobFault.Device → K.count keeper.new ≡ K.count keeper.old }
+    ensures leaves { LeavesSame K.Kept keeper.old keeper.new (reports_device result) }
     ensures reader { result ≢ Err JobFault.Read }
 {
     match seal(alloc, keeper, asked.before) {
@@ -194,11 +185,7 @@ pub fn tell_lawful<K: Keeper, W: Write, E: Write>(
     ensures ok { K.is_honest keeper.new → IfOk result (λ told. spec.IsJudged (first_breach (K.vault keeper.old)) told (W.contents out.old) (W.contents out.new)) }
     // Whatever the device does, what is answered is what was printed.
     ensures told { IfOk result (λ told. spec.TellsLawful told (W.contents out.old) (W.contents out.new)) }
-    ensures same { K.vault keeper.new ≡ K.vault keeper.old }
-    ensures honest { K.is_honest keeper.new → K.is_honest keeper.old }
-    ensures counted { K.count keeper.old ≤ K.count keeper.new }
-    ensures device { result ≡ Err JobFault.Device → RoseOrIsFull (K.count keeper.old) (K.count keeper.new) }
-    ensures steady { result ≢ Err JobFault.Device → K.count keeper.new ≡ K.count keeper.old }
+    ensures leaves { LeavesSame K.Kept keeper.old keeper.new (reports_device result) }
     ensures reader { result ≢ Err JobFault.Read }
 {
     match lawful(alloc, keeper) {
