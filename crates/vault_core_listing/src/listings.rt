@@ -1,5 +1,5 @@
 //! Listings of a bucket's versions: keys by their bytes, within a key newest first.
-ghost use Rattle.std.specs.Prelude.{◌≡◌, ◌{◌≡◌, ◌&&◌, IfOk, Err, Some, flat_map, false};{◌≡◌, ◌&&◌, IfOk, Err, Some, flat_map, false};◌, IfOk, Err, Some, if◌then◌else◌, flat_map, false};
+ghost use Rattle.std.specs.Prelude.{◌≡◌, ◌&&◌, IfOk, Err, Some, if◌then◌else◌, flat_map, false};
 ghost use Rattle.vault_core_model.specs.Leaves.{Leaves, ReadsAs};
 ghost use Rattle.vault_core_model.specs.Halts.{ChecksAs, AnswersAs, is_device};
 ghost use Rattle.vault_core_model.specs.Checks.{check};
