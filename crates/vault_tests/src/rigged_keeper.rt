@@ -7,6 +7,7 @@ use vault_base::name::{
 use vault_core_model::change::Change;
 use vault_core_model::halt::Fault;
 use vault_core_model::keeper::{Keeper, Sink};
+use vault_core_model::kept::Kept;
 use vault_core_model::records::{
     BucketConfig, Caller, Entry, Head, LastSetting, Note, Settings, Tenures,
 };
@@ -44,7 +45,7 @@ impl<'a, K> RiggedKeeper<'a, K> {
     }
 }
 
-impl<K: Keeper> Keeper for RiggedKeeper<'_, K> {
+impl<K: Kept> Kept for RiggedKeeper<'_, K> {
     // What it answers holds of no vault.
     ghost is_honest = { λ _. ⊥ };
 
@@ -52,6 +53,10 @@ impl<K: Keeper> Keeper for RiggedKeeper<'_, K> {
 
     ghost count = { λ k. K.count k.keeper.now };
 
+    ghost sound = { λ _ never. absurd never };
+}
+
+impl<K: Keeper> Keeper for RiggedKeeper<'_, K> {
     fn faults(&self) -> u64 {
         self.keeper.faults()
     }

@@ -8,6 +8,7 @@ use vault_base::name::{
 use vault_core_model::change::Change;
 use vault_core_model::halt::Fault;
 use vault_core_model::keeper::{Keeper, Sink};
+use vault_core_model::kept::Kept;
 use vault_core_model::records::{
     BucketConfig, Caller, Entry, Head, LastSetting, Note, Settings, Tenures,
 };
@@ -66,7 +67,7 @@ fn kind_of(change: &Change) -> &'static str {
     }
 }
 
-impl<K: Keeper> Keeper for WatchedKeeper<'_, K> {
+impl<K: Kept> Kept for WatchedKeeper<'_, K> {
     ghost use Rattle.std.specs.Prelude.{◌≡◌, false};
 
     // What it answers holds of its vault until it has said that it is full.
@@ -76,6 +77,10 @@ impl<K: Keeper> Keeper for WatchedKeeper<'_, K> {
 
     ghost count = { λ k. K.count k.keeper.now };
 
+    ghost sound = { λ k honest. K.sound k.keeper.now honest.1 };
+}
+
+impl<K: Keeper> Keeper for WatchedKeeper<'_, K> {
     fn faults(&self) -> u64 {
         self.keeper.faults()
     }

@@ -8,6 +8,7 @@ use vault_base::name::{
 use vault_core_model::change::Change;
 use vault_core_model::halt::Fault;
 use vault_core_model::keeper::{Keeper, Sink};
+use vault_core_model::kept::Kept;
 use vault_core_model::records::{
     BucketConfig, Caller, Entry, Head, LastSetting, Note, Settings, Tenures,
 };
@@ -63,13 +64,17 @@ impl<K> ToldKeeper<K> {
     }
 }
 
-impl<K: Keeper> Keeper for ToldKeeper<K> {
+impl<K: Kept> Kept for ToldKeeper<K> {
     ghost is_honest = { λ k. K.is_honest k.keeper };
 
     ghost vault = { λ k. K.vault k.keeper };
 
     ghost count = { λ k. K.count k.keeper };
 
+    ghost sound = { λ k honest. K.sound k.keeper honest };
+}
+
+impl<K: Keeper> Keeper for ToldKeeper<K> {
     fn faults(&self) -> u64 {
         self.keeper.faults()
     }

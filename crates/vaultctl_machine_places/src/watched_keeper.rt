@@ -9,6 +9,7 @@ use vault_base::name::{
 use vault_core_model::change::Change;
 use vault_core_model::halt::Fault;
 use vault_core_model::keeper::{Keeper, Sink};
+use vault_core_model::kept::Kept;
 use vault_core_model::records::{
     BucketConfig, Caller, Entry, Head, LastSetting, Note, Settings, Tenures,
 };
@@ -85,7 +86,7 @@ fn is_lost<W: Watch>(watch: &W, refused: u64) -> bool
     true
 }
 
-impl<K: Keeper, W: Watch> Keeper for WatchedKeeper<K, W> {
+impl<K: Kept, W> Kept for WatchedKeeper<K, W> {
     ghost use Rattle.vaultctl_machine_places.specs.Watched.{failures};
 
     ghost is_honest = { λ k. K.is_honest k.keeper };
@@ -94,6 +95,11 @@ impl<K: Keeper, W: Watch> Keeper for WatchedKeeper<K, W> {
 
     ghost count = { λ k. failures (K.count k.keeper) k.refused };
 
+    ghost sound = { λ k honest. K.sound k.keeper honest };
+}
+
+#[tactic(auto, using(crate::proofs::Failures::failed_below, crate::proofs::Failures::refused_more))]
+impl<K: Keeper, W: Watch> Keeper for WatchedKeeper<K, W> {
     fn faults(&self) -> u64 {
         self.keeper.faults().saturating_add(self.refused)
     }
