@@ -22,8 +22,8 @@ none_first (x ∷ xs) ys e = if_none x.passes x.law (broken xs) (broken (xs ++ y
 
 -- what was found among the first tests is what all find
 pub stops : (xs ys : List Test) (found : Option Law) → found ≡ broken xs → is_some found ≡ true → found ≡ broken (xs ++ ys)
-stops xs ys found is some = let P : Option Law → Type 0 = λ o. is_some o ≡ true in is ∙ sym (some_first xs ys (subst P is some))
+stops xs ys found of_xs failed = let P : Option Law → Type 0 = λ o. is_some o ≡ true in of_xs ∙ sym (some_first xs ys (subst P of_xs failed))
 
 -- where nothing was, all find what the others find
-pub goes_on : (xs ys : List Test) (found later : Option Law) → found ≡ broken xs → is_some found ≡ false → later ≡ broken ys → later ≡ broken (xs ++ ys)
-goes_on xs ys found later is none rest = let P : Option Law → Type 0 = λ o. is_some o ≡ false in rest ∙ sym (none_first xs ys (subst P is none))
+pub goes_on : (xs ys : List Test) (first second : Option Law) → first ≡ broken xs → is_some first ≡ false → second ≡ broken ys → second ≡ broken (xs ++ ys)
+goes_on xs ys first second of_xs passed of_ys = let P : Option Law → Type 0 = λ o. is_some o ≡ false in of_ys ∙ sym (none_first xs ys (subst P of_xs passed))

@@ -33,7 +33,7 @@ abbrev pub AreLawful : Vault → ℕ → Author → List Setting → Type 0
 AreLawful v admitted by [] = Unit {0}
 AreLawful v admitted by (s ∷ ss) = IsLawfulFirst v admitted by s × AreLawfulAfter v s ss
 
--- the moment of the last of these settings; that one where there is none
+-- the moment of the last of these settings; without a setting, the moment that is given
 abbrev pub last_at : ℕ → List Setting → ℕ
 last_at from [] = from
 last_at from (s ∷ ss) = last_at s.at ss

@@ -4,8 +4,8 @@
 mod cells;
 mod counted;
 mod export;
-mod history;
 pub mod laws;
+mod past;
 mod record;
 mod rows;
 mod seal_lines;

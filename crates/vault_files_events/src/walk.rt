@@ -10,7 +10,7 @@ ghost use Rattle.vault_files_events.specs.Taking.{TookSome};
 ghost use Rattle.vault_files_texts.specs.Faults.{is_device_met};
 
 use crate::counted::Counted;
-use crate::history::{Past, read_past};
+use crate::past::{Past, read_past};
 use crate::rows::rows_of;
 use crate::taker::Taker;
 use std::alloc::Global;

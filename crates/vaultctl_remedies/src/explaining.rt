@@ -1,4 +1,6 @@
 //! What standard error says of the lines of a script.
+ghost use Rattle.std.specs.Prelude.{◌≡◌, ◌+◌, ◌-◌, ◌^◌, min};
+
 use crate::line_remedies::say_line;
 use std::alloc::Global;
 use std::io::Write;
@@ -19,7 +21,9 @@ pub struct Explainer<'a, E: Write> {
 
 impl<'a, E: Write> Explainer<'a, E> {
     /// It has heard of no line, and writes to this writer.
-    pub fn new(err: &'a mut E) -> Explainer<'a, E> {
+    pub fn new(err: &'a mut E) -> Explainer<'a, E>
+        ensures { result.lines ≡ 0 }
+    {
         Explainer { err, lines: 0 }
     }
 }
@@ -44,14 +48,18 @@ fn explain<E: Write>(alloc: Global, err: &mut E, number: u64, line: &[u8]) {
 }
 
 impl<E: Write> Observer for Explainer<'_, E> {
-    fn line(&mut self, alloc: Global, line: &[u8], asked: &Line) {
+    fn line(&mut self, alloc: Global, line: &[u8], asked: &Line)
+        ensures counted { self.new.lines ≡ min (self.old.lines + 1) (2 ^ 64 - 1) }
+    {
         self.lines = self.lines.saturating_add(1);
         if matches!(asked, Line::Refused(_)) {
             explain(alloc, self.err, self.lines, line);
         }
     }
 
-    fn reply(&mut self, command: &Command, reply: &Reply) {
+    fn reply(&mut self, command: &Command, reply: &Reply)
+        ensures counted { self.new.lines ≡ self.old.lines }
+    {
         say_line(self.lines, command, reply, self.err);
     }
 }

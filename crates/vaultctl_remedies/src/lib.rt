@@ -1,5 +1,5 @@
 //! What standard error says of what is refused: which value of a job's words isn't allowed, why the vault refuses a command
-//! or a script's line, and what to do. No clause speaks of these texts.
+//! or a script's line, and what to do. No clause speaks of these texts, but of the number of a line.
 #![tactic(auto)]
 
 pub mod explaining;
