@@ -271,7 +271,7 @@ def as_json(parts: Sequence[Part]) -> dict[str, Any]:
 def answer(engine: Engine, words: argparse.Namespace) -> None:
     """Prints the page of a version, or writes it as HTML."""
     file, at = engine.desk.file, engine.at or moments.now()
-    found = events.of_version(file, words.number)
+    found = events.in_tables(file, words.number)
     checked = _checked(file, words.seals)
     parts = parts_of(file, found, at, checked)
     title = f"What the vault has of version {words.number}"

@@ -6,7 +6,6 @@ import argparse
 import csv
 import html
 import io
-import subprocess
 import sys
 from collections.abc import Callable, Iterable, Iterator, Mapping, Sequence
 from pathlib import Path
@@ -14,7 +13,7 @@ from typing import Any
 
 from vaultdesk import moments, reading, spreadsheet
 from vaultdesk.engine import Engine
-from vaultdesk.errors import DeskError, EngineError, Refused, UsageError
+from vaultdesk.errors import DeskError, Refused, UsageError
 from vaultdesk.output import print_json, print_table, say
 
 Row = dict[str, str]
@@ -35,16 +34,8 @@ PAGE = """<!DOCTYPE html>
 
 def register(engine: Engine) -> list[Row]:
     """The rows of the register of removals, as the engine prints it."""
-    engine.close()
-    command = [engine.desk.program, "register", str(engine.desk.file)]
-    try:
-        done = subprocess.run(command, stdout=subprocess.PIPE, stderr=subprocess.PIPE, check=False)
-    except OSError as error:
-        raise EngineError(f"{engine.desk.program}: {error.strerror}") from error
-    if done.returncode != 0:
-        raise EngineError(done.stderr.decode(errors="replace").strip())
     # Split at LF alone: keys may have other characters that end a line elsewhere.
-    return list(csv.DictReader(io.StringIO(done.stdout.decode("utf-8"), newline="")))
+    return list(csv.DictReader(io.StringIO(engine.printed("register"), newline="")))
 
 
 def _span(words: argparse.Namespace) -> tuple[str | None, str | None]:
