@@ -55,7 +55,7 @@ class Offline(MachineTest):
         self.assertEqual(self.asked(), STOPPED_AND_STARTED)
 
     def test_what_became_of_the_server_is_printed_as_json(self) -> None:
-        words = ("offline", "--json", "records", "sh", "-c", "echo seen; exit 7")
+        words = ("offline", "--json", "records", "sh", "-c", "exit 7")
         wanted = {"vault": "records", "command": list(words[3:]), "status": 7, "unit": UNIT}
         for state, moved in (("active", True), ("inactive", False)):
             self.set_state(state)
