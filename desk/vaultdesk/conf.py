@@ -94,7 +94,7 @@ class Configuration:
         return self.values.get("TRUST_CLOCK") == "yes"
 
     def alarm(self) -> str:
-        """The command of the shell that reports a failure; empty where there is none."""
+        """The shell command that reports a failure; empty where none is set."""
         return self.values.get("ALARM", "")
 
 

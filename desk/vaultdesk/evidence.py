@@ -63,7 +63,7 @@ def seal_of(file: Path, before: str | None) -> Seal:
 
 
 def append(path: Path, seal: Seal) -> bool:
-    """Puts a seal behind those of a file, in one piece; false where it stands there already.
+    """Appends a seal to those of a file, in one piece; false where it stands there already.
 
     `DeskError` where the file has another seal of that moment, or can't be written."""
     there = [it for it in read_seals(path) if it.before == seal.before] if path.exists() else []
@@ -80,7 +80,7 @@ def append(path: Path, seal: Seal) -> bool:
 
 
 def seal(engine: Engine, words: argparse.Namespace) -> None:
-    """Prints the seal of a moment, and puts it behind the others of a file where that is asked."""
+    """Prints the seal of a moment, and appends it to a file where that is asked."""
     file = engine.desk.file
     found = seal_of(file, moments.read(words.before) if words.before else None)
     if words.json:
@@ -148,7 +148,7 @@ def add(commands: argparse._SubParsersAction[argparse.ArgumentParser], common: a
     example = "Example: vaultdesk seal --vault records.vault --append"
     it = commands.add_parser("seal", parents=[common], help=what, epilog=example)
     it.add_argument("--before", metavar="DATE", help="the moment; left out: that of the vault's last change")
-    more = "put it behind the seals of FILE; left out: NAME.seals beside NAME.vault"
+    more = "append it to the seals of FILE; left out: NAME.seals beside NAME.vault"
     it.add_argument("--append", nargs="?", const="", metavar="FILE", help=more)
     it.set_defaults(run=seal)
 

@@ -124,7 +124,7 @@ class Night:
         self.copy = backup.made(self.served.file, self.served.conf.backup(), config.program())
 
     def make_seal(self) -> None:
-        """Puts the seal of all that was before the last moment behind those of earlier nights."""
+        """Appends the seal of all that was before the last moment to those of earlier nights."""
         self.seal = evidence.seal_of(self.served.file, None)
         evidence.append(evidence.seals_beside(self.served.file), self.seal)
 
@@ -135,7 +135,7 @@ class Night:
         backup.remove(self.removed)
 
     def work(self) -> int:
-        """All of it, and the status. It is done as the user whose the vaults are."""
+        """All of it, and the status. It is done as the vaults' owner."""
         is_right = self.done(self.look_at_clock)
         if is_right:
             self.done(lambda: self.carry_out(self.served.file))

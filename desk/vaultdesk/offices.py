@@ -21,12 +21,12 @@ from vaultdesk.units import Served
 
 Row = dict[str, Any]
 ABOUT = """Several vaults on one machine: nginx gives each request at one port to the vault that has its bucket, and
-what each tells is brought together. While a server has a vault its file can't be read: give the night's copies, or
+what each has is brought together. While a server has a vault its file can't be read: give the night's copies, or
 stop it."""
 SUMS = ("admitted", "received", "held", "removed", "handed", "byte_days")
 LISTED = ("vault", "port", "state", "file", "copy")
 MAP = """\
-# Several vaults behind one port, made by `vaultdesk offices map`. Before a vault's port stands the name of its unit,
+# Several vaults behind one port, made by `vaultdesk offices map`. A vault's port follows the name of its unit,
 # vault-serve@NAME. Put this and the server of nginx-vaults.conf into /etc/nginx/conf.d.
 
 {upstreams}
@@ -102,7 +102,7 @@ def registers(words: argparse.Namespace) -> int:
 
 
 def reports(words: argparse.Namespace) -> int:
-    """Prints the reports of all departments of several vaults, all of one moment. Where one can't be had: nothing."""
+    """Prints the reports of all departments of several vaults, all of one moment. Nothing where one can't be read."""
     at = moments.read(words.at)
     rows: list[Row] = []
     for file in _files(words):

@@ -1,4 +1,4 @@
-"""Around a vault's server: a command while it stands still, a copy that is put back, and whether it serves."""
+"""Around a vault's server: a command while it is stopped, a copy that is put back, and whether it serves."""
 
 from __future__ import annotations
 
@@ -15,8 +15,8 @@ from vaultdesk.output import print_json, say
 from vaultdesk.units import Busy, Served, Standstill, systemctl
 
 PATIENCE = 30  # seconds for the server's answer
-OFFLINE = """Stops the server of a vault, does a command as the user whose the vaults are, in their folder, and starts
-the server again, also where the command fails. Standard input, output and error are the caller's, and the status is
+OFFLINE = """Stops the server of a vault, runs a command as the vaults' owner, in their folder, and starts the server
+again, also where the command fails. Standard input, output and error are the caller's, and the status is
 the command's; where the server doesn't start again, the status is never 0. A server that didn't run isn't started.
 While another job works on the vault, this one waits. With --json, standard output has the command, its status and
 what became of the server, and what the command prints goes to standard error."""
@@ -28,11 +28,11 @@ another job has stopped it for its work. It is 1, with a line that says why, in 
 served, or a server that is enabled and doesn't run. A server whose file failed is started anew first."""
 
 
-# ---- a command while it stands still
+# ---- a command while it is stopped
 
 
 def offline(words: argparse.Namespace) -> int:
-    """Stops the server, does a command as the user whose the vaults are, and starts the server again."""
+    """Stops the server, runs a command as the vaults' owner, and starts the server again."""
     if not words.given:
         raise UsageError("which command? vaultdesk offline NAME COMMAND..")
     if words.given[0].startswith("-"):
@@ -51,7 +51,7 @@ def offline(words: argparse.Namespace) -> int:
 
 
 def _carried_out(served: Served, words: argparse.Namespace) -> int:
-    """The status of a command that is done by the vaults' owner, as a shell tells it: 128 and the signal's number."""
+    """The status of a command that is done by the vaults' owner, as a shell has it: for a signal 128 and its number."""
     with served.owner().start(words.given, served.folder, **({"stdout": 2} if words.json else {})) as child:
         try:
             status = child.wait()
@@ -218,10 +218,10 @@ NAMED = "the vault /var/lib/vaultctl/NAME.vault, with /etc/vaultctl/NAME.conf"
 def add(commands: argparse._SubParsersAction[argparse.ArgumentParser], common: argparse.ArgumentParser) -> None:
     """Adds the subcommands to the desk's words."""
     example = "Example: vaultdesk offline records vaultctl verify records.vault"
-    what = "do a command on a vault that is served, while its server stands still"
+    what = "run a command on a vault that is served, while its server is stopped"
     it = commands.add_parser("offline", parents=[common], help=what, description=OFFLINE, epilog=example)
     it.add_argument("name", metavar="NAME", help=NAMED)
-    text = "done by the user whose the vaults are, in their folder; its status is this one's"
+    text = "run by the vaults' owner, in their folder; its status is this one's"
     it.add_argument("given", nargs=argparse.REMAINDER, metavar="COMMAND", help=text)
     it.set_defaults(do=offline)
 

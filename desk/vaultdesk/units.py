@@ -64,7 +64,7 @@ class Served:
         self.unit = f"vault-serve@{name}.service"
 
     def owner(self) -> Owner:
-        """Whose the vaults are: the user whose folder they are in."""
+        """The vaults' owner: the owner of their folder."""
         return owner_of(self.folder)
 
     def state(self) -> str:
