@@ -16,7 +16,7 @@ from vaultdesk.errors import DeskError
 
 @dataclass(frozen=True)
 class Event:
-    """A record of the events (docs/formats/TEXTS.md), each cell as it stands there."""
+    """A record of the events (docs/formats/TEXTS.md), each cell as it is there."""
 
     version: int
     event: str

@@ -90,7 +90,7 @@ def _print_csv(rows: Sequence[Row], columns: Sequence[str], as_json: bool) -> No
 def registers(words: argparse.Namespace) -> int:
     """Prints the registers of several vaults as one, by the moment of removal.
 
-    Removals of one second stand in the order of the files. Where one can't be read nothing is printed."""
+    Removals of one second are in the order of the files. Where one can't be read nothing is printed."""
     rows = [row for file in _files(words) for row in register_of(file)]
     rows.sort(key=lambda it: str(it["removed"]))  # moments are 20 bytes each, so they sort as texts
     columns = (
@@ -222,14 +222,14 @@ def _add_gathering(
     example = "Example: vaultdesk offices reports --at 2026-01-01 records.vault court.vault > reports.csv"
     it = kinds.add_parser("reports", parents=[common], help="the reports of all departments, as CSV", epilog=example)
     it.add_argument("files", nargs="+", metavar="FILE")
-    it.add_argument("--at", required=True, metavar="DATE", help="of which moment; no vault's last change is later")
+    it.add_argument("--at", required=True, metavar="DATE", help="the moment of all, not before any vault's last change")
     text = "who asks, with the right admin in each vault (registrar)"
     it.add_argument("--as", dest="caller", default="registrar", metavar="CALLER", help=text)
     it.set_defaults(do=reports)
 
     example = "Example: vaultdesk offices backup /srv/copies records.vault court.vault"
     it = kinds.add_parser("backup", parents=[common], help="a copy of each, audited", epilog=example)
-    it.add_argument("folder", metavar="FOLDER", help="in it each vault has a folder of its name")
+    it.add_argument("folder", metavar="FOLDER", help="each vault has a folder of its name in it")
     it.add_argument("files", nargs="+", metavar="FILE")
     it.set_defaults(do=copies)
 
@@ -246,8 +246,8 @@ def add(commands: argparse._SubParsersAction[argparse.ArgumentParser], common: a
     example = "Example: vaultdesk offices map > /etc/nginx/conf.d/vaults.conf"
     what = "what nginx needs to serve several vaults at one port, each by its buckets"
     it = kinds.add_parser("map", parents=[common], help=what, epilog=example)
-    it.add_argument("names", nargs="*", metavar="NAME", help="left out: all vaults that have a configuration")
-    text = "a bucket that is newer than the copy of a vault that is served; given again, another"
+    it.add_argument("names", nargs="*", metavar="NAME", help="default: all vaults that have a configuration")
+    text = "a bucket that is newer than its vault's copy; may be given again"
     it.add_argument("--bucket", action="append", default=[], metavar="VAULT:BUCKET", help=text)
     text = "a port of 127.0.0.1 at which nginx answers for buckets that no vault has (8089)"
     it.add_argument("--nowhere", type=int, default=8089, metavar="PORT", help=text)

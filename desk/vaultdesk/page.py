@@ -186,7 +186,7 @@ def add(commands: argparse._SubParsersAction[argparse.ArgumentParser], common: a
     example = "Example: vaultdesk page records.vault page.html"
     it = commands.add_parser("page", parents=[common], help=what, epilog=example)
     it.add_argument("file", nargs="?", metavar="FILE", help="the vault's file, or its name in the settings (or $VAULT)")
-    it.add_argument("out", nargs="?", metavar="PAGE", help="the file that is written; left out: to standard output")
-    it.add_argument("--at", metavar="DATE", help="the moment that the page is of; left out: this machine's clock")
+    it.add_argument("out", nargs="?", metavar="PAGE", help="the file to write (default: standard output)")
+    it.add_argument("--at", metavar="DATE", help="the moment of the page (default: this machine's clock)")
     it.add_argument("--force", action="store_true", help="write over a file that is there")
     it.set_defaults(do=page)

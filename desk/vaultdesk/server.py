@@ -21,9 +21,9 @@ the command's; where the server doesn't start again, the status is never 0. A se
 While another job works on the vault, this one waits. With --json, standard output has the command, its status and
 what became of the server, and what the command prints goes to standard error."""
 RESTORE = """Puts a copy of a vault in the vault's place, and starts its server. The copy is audited before anything
-else is done: where it isn't sound, all stays as it is, and the server isn't stopped. The files that stood there are
+else is done: where it isn't sound, all stays as it is, and the server isn't stopped. The files that were there are
 moved to a folder NAME-MOMENT.replaced beside them: remove it yourself."""
-CHECK = """The status is 0 where the server answers, where it is about to start, where it isn't to run, and where
+CHECK = """The status is 0 where the server answers, where it is about to start, where it should not run, and where
 another job has stopped it for its work. It is 1, with a line that says why, in all other cases: no answer, nobody is
 served, or a server that is enabled and doesn't run. A server whose file failed is started anew first."""
 
@@ -151,7 +151,7 @@ class Answer:
         if self.status == 500:
             return "its file failed (500)"
         if self.status == 503 and "ClockBack" in self.body:
-            cause = "nobody is served (503 ClockBack): the machine's clock stands before the vault's last change"
+            cause = "nobody is served (503 ClockBack): the machine's clock is before the vault's last change"
             return f"{cause}. Set the clock right; where that change is dated ahead, it serves again after its moment"
         if self.status == 503 and "ClockOutOfRange" in self.body:
             return "nobody is served (503 ClockOutOfRange): the machine's clock shows no moment that a vault can keep"
