@@ -39,11 +39,11 @@ class Shape:
     """What a vault has when it is measured."""
 
     entries: int
-    # They are put into the buckets of so many departments in turn.
+    # They are put into the buckets of that many departments in turn.
     departments: int = 1
     # The bytes of a content; the first one is the long one all the same.
     size: int = CONTENT
-    # Whether the keys come in a random order, or each behind the one before.
+    # Whether the keys come in a random order, or each after the one before.
     scattered: bool = False
     # How many versions of one key, in a bucket of its own, were removed; one more is held.
     removed: int = 0
@@ -174,7 +174,7 @@ def fill_versions(connection, shape):
 
 
 def fill(connection, shape):
-    """Adds all that the vault has, and what a new vault's `meta` tells of it."""
+    """Adds all that the vault has, and what a new vault's `meta` says of it."""
     fill_departments(connection, shape)
     fill_entries(connection, shape)
     count = shape.entries

@@ -66,7 +66,7 @@ def list_one_of(bucket):
 
 
 def list_page(shape):
-    """Pages of a hundred versions, each behind a key picked at random."""
+    """Pages of a hundred versions, each after a key picked at random."""
     dice = random.Random(3)
     while True:
         key = shape.key(dice.randrange(1, shape.entries))

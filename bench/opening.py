@@ -79,7 +79,7 @@ def by_departments(wanted, vaults, results):
 
 
 def by_bytes(wanted, vaults, results):
-    """Vaults of rising bytes of contents of 1 MiB; the size that is told is in MiB. Each is removed behind it. What the
+    """Vaults of rising bytes of contents of 1 MiB; the size is given in MiB. Each is removed after it. What the
     machine may have too little memory for isn't measured; where there was too little all the same, it is told."""
     for mebibytes in wanted.volumes:
         if talk.free_memory() - talk.SPARED < ENOUGH * mebibytes * MIB:

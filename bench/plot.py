@@ -79,7 +79,7 @@ def tens_around(values):
 
 
 class Axis:
-    """Where a number stands along an axis of so many points, and its ticks."""
+    """Where a number stands along an axis of that many points, and its ticks."""
 
     def __init__(self, values, is_log, start, end):
         self.is_log, self.start, self.end = is_log, start, end

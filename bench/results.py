@@ -11,7 +11,7 @@ from turns import PEER, PROGRAM
 UNITS = {"microseconds": 1e6, "milliseconds": 1e3}
 # Where a page has the table of a part.
 PLACE = re.compile(r"(<!-- bench (\w+) -->\n)```\n.*?```\n", re.DOTALL)
-# The GiB of memory for which it is told how much a vault may have.
+# The GiB of memory for which it says how much a vault may have.
 FREE = (1, 2, 4, 8, 16)
 # How often the peer's time a put is to take at most, by the entries of the vault.
 AIMS = {

@@ -46,7 +46,7 @@ class Server:
         return (GET % self.shape.key(1 + i % (self.shape.entries - 1))).encode()
 
     def take(self, requests, clients):
-        """The seconds of requests by so many clients, those of the server's processor, and the median of those that a
+        """The seconds of requests by that many clients, those of the server's processor, and the median of those that a
         client waits for one."""
         waits = []
 
@@ -102,7 +102,7 @@ def by_clients(wanted, vaults, results):
 
 
 def by_bytes(wanted, vaults, results):
-    """Requests with bodies of rising size, by one client; the size that is told is in KiB."""
+    """Requests with bodies of rising size, by one client; the size is given in KiB."""
     for kibibytes in (1, 100, 1_024):
         server = Server(vaults, fixture.Shape(16, size=kibibytes << 10))
         few = max(1, min(wanted.ops, wanted.ops * 8 // kibibytes))

@@ -42,7 +42,7 @@ class Pair:
             self.talks[who] = talk.Talk(words(who, program, path))
 
     def measure(self, results, what, size, source, turns, ops, alone=False):
-        """Has them, or the program alone, take so many lines of a source in each turn, and notes the times for one
+        """Has them, or the program alone, take that many lines of a source in each turn, and notes the times for one
         line."""
         asked = [list(itertools.islice(source, ops)) for _ in range(turns + 1)]
         order = [PROGRAM] if alone else list(self.talks)

@@ -10,7 +10,7 @@ import lines
 import talk
 from turns import PROGRAM, Pair
 
-# Files of so many bytes are taken in.
+# Files of that many bytes are taken in.
 FILE_SIZES = {"small": fixture.CONTENT, "large": 1 << 20}
 # The vault that they are taken into.
 SMALL = fixture.Shape(100)
@@ -41,7 +41,7 @@ def runs(wanted, vaults, results):
 
 
 def make_files(folder, count, size):
-    """A folder with so many files, and a list of them."""
+    """A folder with that many files, and a list of them."""
     files = folder / "files"
     files.mkdir()
     rows = ["file,key,mode,until,hold"]

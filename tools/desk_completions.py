@@ -128,7 +128,7 @@ def is_of_vault(command):
 
 
 def bash_choices(commands):
-    """Options with choices; a repeated one has them for each word behind it."""
+    """Options with choices; a repeated one has them for each word after it."""
     return [
         f'    "{after(it)} {option.names[-1]}")'
         + ('' if option.is_repeated else ' [ "$option" != "${COMP_WORDS[COMP_CWORD - 1]}" ] ||')

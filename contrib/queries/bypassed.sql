@@ -1,5 +1,5 @@
 -- What was done by bypassing a retention in GOVERNANCE: versions removed, and retentions ended earlier or changed. A
--- version whose retention was changed may have been removed later without a bypass: it stands behind.
+-- version whose retention was changed may have been removed later without a bypass: that is in the last column.
 SELECT
     strftime('%Y-%m-%dT%H:%M:%SZ', removed, 'unixepoch') AS moment,
     cause_by AS caller,

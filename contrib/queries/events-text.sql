@@ -1,5 +1,5 @@
 -- All that ever happened to each entry, by rising id: the text that `vaultctl events` prints, byte for byte, where sqlite3
--- prints in list mode and without headers, as it does unless it is told otherwise. With a moment :before it is what was
+-- prints in list mode and without headers, as it does by default. With a moment :before it is what was
 -- before that moment. A date alone is its midnight; all in UTC.
 WITH
 given(name, at, kind) AS (

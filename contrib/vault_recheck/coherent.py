@@ -197,7 +197,7 @@ def owner_contradictions(base: sqlite3.Connection, meta: Meta) -> Contradictions
 
 
 def moves_of(base: sqlite3.Connection, meta: Meta) -> list[tuple[int, int]]:
-    """Number and moment of each move that a tenure shows, with one before all and one behind."""
+    """Number and moment of each move that a tenure shows, with one before all and one after."""
     known = base.execute("SELECT n, min(moment) FROM tenures WHERE n > 0 GROUP BY n ORDER BY n").fetchall()
     return [(0, 0), *known, (meta.moves + 1, meta.last)]
 

@@ -100,7 +100,7 @@ class Find(OfficeTest):
             (medium / "records.vault-wal").write_bytes(b"some changes")
             done = self.desk("find", "--removed", "--vault", str(copy))
         self.assertEqual(done.status, 0)
-        self.assertIn("the log alone is left out", done.err)
+        self.assertIn("only in the log is left out", done.err)
 
     def test_a_file_that_is_no_vault_or_isnt_there_is_said(self) -> None:
         for name in (str(self.folder / "none"), self.written("text", b"no vault, but a text of some bytes")):

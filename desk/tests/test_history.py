@@ -5,10 +5,15 @@ from __future__ import annotations
 import csv
 import io
 import json
+import sqlite3
+from contextlib import closing
 from typing import Any
 
 from tests.office import OfficeTest
-from vaultdesk import reading, recheck
+from vaultdesk import events, reading, recheck
+from vaultdesk.config import desk
+from vaultdesk.engine import Engine
+from vaultdesk.errors import DeskError
 
 KEY = "2024/Müller 100%_\u2028x"
 
@@ -71,6 +76,22 @@ class History(OfficeTest):
         self.assertIn("no version of this vault has the number", done.err)
         for wrong in ("0", "x", "1.0", "-1", "²"):
             self.assertEqual(self.desk("history", wrong).status, 2, wrong)
+
+    def test_the_engine_and_the_tables_have_the_same_events(self) -> None:
+        with Engine(desk(None, None)) as engine:
+            for it in (1, 2, 3):
+                self.assertEqual(events.of_version(engine, it), events.in_tables(self.file, it))
+            with self.assertRaises(DeskError):
+                events.in_tables(self.file, 4)
+
+    def test_a_file_that_is_not_sound_has_no_history(self) -> None:
+        with closing(sqlite3.connect(self.file)) as base:
+            base.execute("UPDATE entries SET size = 5 WHERE id = 2")
+            base.commit()
+        self.assertEqual(len(events.in_tables(self.file, 1)), 8)
+        done = self.desk("history", "1", at=None)
+        self.assertEqual((done.status, done.out), (1, ""))
+        self.assertIn("Damaged", done.err)
 
     def test_the_query_has_the_events_that_the_second_opinion_has(self) -> None:
         out = io.StringIO()

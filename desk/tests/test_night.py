@@ -97,11 +97,11 @@ class Night(MachineTest):
 
     def test_a_clock_that_is_behind(self) -> None:
         self.lines({"do": "put", "bucket": "docs", "key": "later", "text": "x"}, at=ago(-1))
-        self.refused_by_the_clock("stands before the vault's last change")
+        self.refused_by_the_clock("is before the vault's last change")
 
     def test_a_clock_that_is_far_ahead(self) -> None:
         self.configure(BUCKETS="docs", MAX_JUMP="0")
-        self.refused_by_the_clock("stands more than 0 days past")
+        self.refused_by_the_clock("is more than 0 days past")
         self.done("night", "records", "--clock-is-right", at=None)
         self.assertEqual(self.keys_marked(), ["2024/a"])
 

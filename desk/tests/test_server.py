@@ -6,12 +6,15 @@ import json
 import os
 import socketserver
 import sqlite3
+import subprocess
+import sys
 import threading
 from contextlib import closing
 from pathlib import Path
 from unittest import mock
 
 from tests.machine import STOPPED_AND_STARTED, UNIT, MachineTest
+from vaultdesk import units
 
 
 class Offline(MachineTest):
@@ -50,6 +53,31 @@ class Offline(MachineTest):
         self.assertEqual(done.status, 1)
         self.assertIn("SIGTERM", done.err)
         self.assertEqual(self.asked(), STOPPED_AND_STARTED)
+
+    def test_what_became_of_the_server_is_printed_as_json(self) -> None:
+        words = ("offline", "--json", "records", "sh", "-c", "exit 7")
+        wanted = {"vault": "records", "command": list(words[3:]), "status": 7, "unit": UNIT}
+        for state, moved in (("active", True), ("inactive", False)):
+            self.set_state(state)
+            done = self.desk(*words, at=None)
+            self.assertEqual(done.status, 7)
+            self.assertEqual(json.loads(done.out), {**wanted, "stopped": moved, "started": moved})
+        self.set_state("active")
+        (self.machine / "broken").touch()
+        done = self.desk(*words, at=None)
+        self.assertEqual(done.status, 1)
+        self.assertEqual(json.loads(done.out), {**wanted, "stopped": True, "started": False})
+
+    def test_standard_output_has_the_json_alone(self) -> None:
+        words = [sys.executable, "-m", "vaultdesk", "offline", "--json", "records", "echo", "seen"]
+        done = subprocess.run(words, cwd=Path(units.__file__).parents[1], capture_output=True, check=True)
+        self.assertEqual((json.loads(done.stdout)["status"], done.stderr), (0, b"seen\n"))
+
+    def test_an_option_after_the_name_is_no_command(self) -> None:
+        self.set_state("active")
+        done = self.desk("offline", "records", "--json", "true", at=None)
+        self.assertEqual((done.status, self.asked()), (2, []))
+        self.assertIn("before NAME", done.err)
 
     def test_it_is_for_root(self) -> None:
         with mock.patch("os.geteuid", return_value=1000):

@@ -33,7 +33,7 @@ UNSHOWN = (
     "that it was there.",
     "What was tried and what was read: the vault keeps neither refused commands nor reads.",
     "Which person it was. The vault takes the name that it is given; who may give it is for the machine to guard.",
-    "What the content says, or who wrote it. The vault has its bytes, and here stands their digest.",
+    "What the content says, or who wrote it. The vault has its bytes, and here is their digest.",
 )
 
 
@@ -126,7 +126,7 @@ def _guard_sentences(found: Sequence[Event], guards: Guards) -> Iterator[str]:
 
 
 def _checked(file: Path, given: str | None) -> Checked:
-    """What vault-recheck says of the file, and of the seals that are given or stand beside it."""
+    """What vault-recheck says of the file, and of the seals that are given or beside it."""
     beside = evidence.seals_beside(file)
     path = Path(given) if given else beside if beside.is_file() else None
     seals = evidence.read_seals(path) if path else []
@@ -271,7 +271,7 @@ def as_json(parts: Sequence[Part]) -> dict[str, Any]:
 def answer(engine: Engine, words: argparse.Namespace) -> None:
     """Prints the page of a version, or writes it as HTML."""
     file, at = engine.desk.file, engine.at or moments.now()
-    found = events.of_version(file, words.number)
+    found = events.in_tables(file, words.number)
     checked = _checked(file, words.seals)
     parts = parts_of(file, found, at, checked)
     title = f"What the vault has of version {words.number}"
@@ -291,7 +291,7 @@ def add(commands: argparse._SubParsersAction[argparse.ArgumentParser], common: a
     example = "Example: vaultdesk answer 17 --at 2024-09-01 --seals deposited/records.seals --html answer.html"
     it = commands.add_parser("answer", parents=[common], help=what, epilog=example)
     it.add_argument("number", type=number, metavar="N", help="the version's number, as find and ls print it")
-    it.add_argument("--seals", metavar="FILE", help="seals to check; left out: NAME.seals beside NAME.vault, if there")
+    it.add_argument("--seals", metavar="FILE", help="seals to check (default: NAME.seals beside NAME.vault, if there)")
     it.add_argument("--html", metavar="FILE", help="write the page as HTML, to be printed")
     it.add_argument("--force", action="store_true", help="write over a file that is there")
     it.set_defaults(run=answer)

@@ -18,13 +18,13 @@ from vaultdesk.output import print_json
 from vaultdesk.owner import owner_of
 
 ABOUT = """Makes a copy of a vault by SQLite's online backup, audits the copy, and prints its path,
-FOLDER/NAME-MOMENT.vault. The copy belongs to whom the vault belongs, who alone can read it. While a server has the
-vault none is made. A copy that isn't sound keeps .damaged after its name, and the status is 1; then no older copy is
+FOLDER/NAME-MOMENT.vault. The copy belongs to the vault's owner, who alone can read it. While a server has the vault,
+no copy is made. A copy that isn't sound keeps .damaged after its name, and the status is 1; then no older copy is
 removed."""
 
 
 def stamp() -> str:
-    """This moment, as it stands in the names of copies."""
+    """This moment, as the names of copies have it."""
     return dt.datetime.now(dt.timezone.utc).strftime("%Y%m%dT%H%M%SZ")
 
 
@@ -105,7 +105,7 @@ def outdated(folder: Path, name: str, keep: int | None, coming: int = 0) -> list
 
 
 def remove(copies: list[Path]) -> None:
-    """Removes copies, each with what stands beside it."""
+    """Removes copies, each with the files beside it."""
     for it in copies:
         for path in (it, Path(f"{it}-wal"), Path(f"{it}-shm")):
             path.unlink(missing_ok=True)
@@ -150,7 +150,7 @@ def add(commands: argparse._SubParsersAction[argparse.ArgumentParser], common: a
     what = "make a copy of a vault, and audit the copy"
     it = commands.add_parser("backup", parents=[common], help=what, description=ABOUT, epilog=example)
     it.add_argument("vault", metavar="VAULT", help="the vault's file, or its name in the settings")
-    text = "left out: BACKUP of /etc/vaultctl/VAULT.conf, whose KEEP counts then too"
+    text = "default: BACKUP in /etc/vaultctl/VAULT.conf, with its KEEP"
     it.add_argument("folder", nargs="?", metavar="FOLDER", help=text)
     it.add_argument("--keep", type=int, metavar="N", help="remove all copies of the vault there but the newest N")
     it.add_argument("--dry-run", action="store_true", help="say what would be done, and change nothing")

@@ -1,4 +1,4 @@
-"""Where that stands which the desk shares with auditors: their queries, and vault-recheck's code."""
+"""Where the desk finds what it shares with auditors: their queries, and vault-recheck's code."""
 
 from __future__ import annotations
 
@@ -8,7 +8,7 @@ HERE = Path(__file__).resolve()
 PLACES = (
     HERE.parents[2] / "contrib",  # of the sources
     HERE.parents[1],  # of the package, which puts them beside the desk
-    Path("/usr/share/vaultctl"),  # of the package, where the desk stands elsewhere
+    Path("/usr/share/vaultctl"),  # of the package, where the desk is elsewhere
 )
 
 

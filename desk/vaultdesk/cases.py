@@ -60,7 +60,7 @@ def check_name(case: str) -> str:
 
 
 class Cases:
-    """What the file has, and a door to put records behind the others."""
+    """What the file has, and a way to append records."""
 
     def __init__(self, path: Path) -> None:
         self.path = path
@@ -120,7 +120,7 @@ class Cases:
         self._file.flush()
 
     def add(self, note: Note) -> None:
-        """Puts a record behind the others, at once: a change that was made has it, even if the next one fails."""
+        """Appends a record at once: a change that was made has it, even if the next one fails."""
         self._write([str(getattr(note, name)) for name in HEAD])
         self._keep(note)
 

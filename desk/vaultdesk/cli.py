@@ -29,7 +29,7 @@ def common_words() -> argparse.ArgumentParser:
     it = argparse.ArgumentParser(add_help=False)
     it.add_argument("--vault", metavar="V", help="the vault's file, or its name in the settings (or $VAULT)")
     it.add_argument("--as", dest="caller", metavar="CALLER", help="who asks (or $VAULT_CALLER)")
-    it.add_argument("--at", metavar="DATE", help="when it is asked; left out: this machine's clock")
+    it.add_argument("--at", metavar="DATE", help="the moment of the command (default: this machine's clock)")
     it.add_argument("--json", action="store_true", help="print JSON")
     return it
 

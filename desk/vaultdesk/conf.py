@@ -47,7 +47,7 @@ def value_of(text: str) -> str:
 
 @dataclass(frozen=True)
 class Configuration:
-    """What stands in the configuration of a vault. A value is looked at where it is asked for."""
+    """The configuration of a vault. A value is looked at where it is asked for."""
 
     name: str
     path: Path
@@ -86,7 +86,7 @@ class Configuration:
         return self._number("KEEP", value, 1, 1_000_000) if value else None
 
     def max_jump(self) -> int:
-        """How many days the clock may stand past all that is known."""
+        """How many days the clock may be past all that is known."""
         return self._number("MAX_JUMP", self.values.get("MAX_JUMP") or "2", 0, 100_000)
 
     def trusts_clock(self) -> bool:
@@ -94,7 +94,7 @@ class Configuration:
         return self.values.get("TRUST_CLOCK") == "yes"
 
     def alarm(self) -> str:
-        """The command of the shell that reports a failure; empty where there is none."""
+        """The shell command that reports a failure; empty where none is set."""
         return self.values.get("ALARM", "")
 
 

@@ -26,7 +26,7 @@ PLACES = (Path("~/.config/vaultdesk.toml"), Path("/etc/vaultctl/desk.toml"))
 
 @dataclass(frozen=True)
 class Settings:
-    """What stands in a file of settings; all of it may be left out."""
+    """The members of a file of settings; all of it may be left out."""
 
     vault: str | None = None
     caller: str | None = None

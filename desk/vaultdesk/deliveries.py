@@ -102,7 +102,7 @@ class Intake:
 
 
 def _write_list(path: Path, items: Sequence[Item]) -> None:
-    """The engine's list. A row that is left out stands there without a file, so that the others keep their numbers:
+    """The engine's list. A row that is left out is there without a file, so that the others keep their numbers:
     mended and given again, it is taken in, and those that are in the vault aren't taken in twice."""
     with path.open("w", encoding="utf-8", newline="") as file:
         writer = csv.writer(file, lineterminator="\n")
@@ -112,7 +112,7 @@ def _write_list(path: Path, items: Sequence[Item]) -> None:
 
 
 def _cause(items: Sequence[Item], number: int, words: str) -> str:
-    """The cause of a refused row, without the file's name, which stands beside it."""
+    """The cause of a refused row, without the file's name, which is beside it."""
     return words.removeprefix(f"{items[number - 1].file}: ")
 
 

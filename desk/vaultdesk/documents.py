@@ -180,13 +180,13 @@ def add(commands: argparse._SubParsersAction[argparse.ArgumentParser], common: a
     example = 'get letters "2025/002 Miller" letter.pdf'
     it = _subcommand(commands, common, get, "write a version's content to a file", example)
     it.add_argument("key")
-    it.add_argument("path", nargs="?", help="left out: to standard output")
+    it.add_argument("path", nargs="?", help="the file to write (default: standard output)")
     it.add_argument("--version", type=int, metavar="N", help="that version, and not the current one")
     it.add_argument("--force", action="store_true", help="write over a file that is there")
 
     what = "write all documents of a bucket to a folder, with a list that says which is which"
     it = _subcommand(commands, common, export, what, "export letters out --prefix 2025/")
-    it.add_argument("folder", help="gets a file for each, named by its number, and documents.csv, an inventory of them")
+    it.add_argument("folder", help="gets a file for each, named by its number, and documents.csv, their inventory")
     it.add_argument("--prefix", metavar="P", help="only keys that begin so")
     it.add_argument("--all-versions", action="store_true", help="older versions too")
     it.add_argument("--force", action="store_true", help="write over files that are there")

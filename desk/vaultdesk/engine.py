@@ -51,6 +51,19 @@ class Engine:
         if self._child is not None and self._end() != 0:
             raise EngineError(self._last_words())
 
+    def printed(self, command: str) -> str:
+        """What a subcommand of `vaultctl` prints of the vault's file. The vault is closed first: one program has it.
+
+        `EngineError` where the subcommand ends with a fault."""
+        self.close()
+        try:
+            done = subprocess.run([self.desk.program, command, str(self.desk.file)], capture_output=True, check=False)
+        except OSError as error:
+            raise self._missing(error) from error
+        if done.returncode != 0:
+            raise EngineError(done.stderr.decode(errors="replace").strip())
+        return done.stdout.decode("utf-8")
+
     def ask(self, do: str, asker: str | None = None, /, **members: Any) -> dict[str, Any]:
         """The value of `ok` in the reply to a line by the desk's caller, or by `asker`; members of None are left out.
 
@@ -115,9 +128,13 @@ class Engine:
                 words, stdin=subprocess.PIPE, stdout=subprocess.PIPE, stderr=self._said, encoding="utf-8"
             )
         except OSError as error:
-            cause = f"{self.desk.program}: {error.strerror}: is vaultctl installed? $VAULTCTL names another program"
-            raise EngineError(cause) from error
+            raise self._missing(error) from error
         return self._child
+
+    def _missing(self, error: OSError) -> EngineError:
+        """Says that the engine can't be started."""
+        why = "is vaultctl installed? $VAULTCTL names another program"
+        return EngineError(f"{self.desk.program}: {error.strerror}: {why}")
 
     def _end(self) -> int:
         """Ends the engine, which closes the vault, and returns its status."""

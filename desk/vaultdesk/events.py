@@ -2,17 +2,21 @@
 
 from __future__ import annotations
 
-from collections.abc import Callable, Mapping, Sequence
+import csv
+import io
+from collections.abc import Callable, Iterable, Mapping, Sequence
 from dataclasses import dataclass
 from pathlib import Path
 from typing import Any
 
 from vaultdesk import reading
+from vaultdesk.engine import Engine
+from vaultdesk.errors import DeskError
 
 
 @dataclass(frozen=True)
 class Event:
-    """A record of the events (docs/formats/TEXTS.md), each cell as it stands there."""
+    """A record of the events (docs/formats/TEXTS.md), each cell as it is there."""
 
     version: int
     event: str
@@ -53,12 +57,28 @@ def _event(row: Mapping[str, Any]) -> Event:
     return Event(**{**cells, "version": int(row["version"]), "size": int(row["size"])})  # type: ignore[arg-type]
 
 
-def of_version(file: Path, version: int) -> list[Event]:
-    """All that happened to a version, in the order of time: the query has the settings before the moves.
+def _in_time(rows: Iterable[Mapping[str, Any]]) -> list[Event]:
+    """The events of these rows in the order of time: of each version the rows have the settings before the moves."""
+    return sorted(map(_event, rows), key=lambda it: it.moment)
+
+
+def of_version(engine: Engine, version: int) -> list[Event]:
+    """All that happened to a version, in the order of time, as the engine prints it after an audit of the file.
+
+    `DeskError` where the vault has none of that number, `EngineError` where the file isn't sound or can't be opened."""
+    # Split at LF alone: keys may have other characters that end a line elsewhere.
+    rows = csv.DictReader(io.StringIO(engine.printed("events"), newline=""))
+    found = _in_time(it for it in rows if it["version"] == str(version))
+    if not found:
+        raise DeskError(f"no version of this vault has the number {version}")
+    return found
+
+
+def in_tables(file: Path, version: int) -> list[Event]:
+    """The same, read from the tables by the auditor's query: for answers that don't rest on the engine.
 
     `DeskError` where the vault has none of that number."""
-    found = [_event(it) for it in reading.query(file, "events", id=version, before=None)]
-    return sorted(found, key=lambda it: it.moment)
+    return _in_time(reading.query(file, "events", id=version, before=None))
 
 
 def up_to(found: Sequence[Event], at: str) -> list[Event]:

@@ -63,7 +63,7 @@ def seal_of(file: Path, before: str | None) -> Seal:
 
 
 def append(path: Path, seal: Seal) -> bool:
-    """Puts a seal behind those of a file, in one piece; false where it stands there already.
+    """Appends a seal to those of a file, in one piece; false where it is there already.
 
     `DeskError` where the file has another seal of that moment, or can't be written."""
     there = [it for it in read_seals(path) if it.before == seal.before] if path.exists() else []
@@ -80,7 +80,7 @@ def append(path: Path, seal: Seal) -> bool:
 
 
 def seal(engine: Engine, words: argparse.Namespace) -> None:
-    """Prints the seal of a moment, and puts it behind the others of a file where that is asked."""
+    """Prints the seal of a moment, and appends it to a file where that is asked."""
     file = engine.desk.file
     found = seal_of(file, moments.read(words.before) if words.before else None)
     if words.json:
@@ -126,7 +126,7 @@ def check_seals(engine: Engine, words: argparse.Namespace) -> None:
 
 
 def compare(engine: Engine, words: argparse.Namespace) -> None:
-    """Says whether what the older copy had stands unaltered in the newer one."""
+    """Says whether what the older copy had is unaltered in the newer one."""
     say_while_long(f"{recheck.WHO}, audits both files first")
     with recheck.audited(Path(words.old)) as old, recheck.audited(Path(words.new)) as new:
         found = list(recheck.compare.differences(old, new))
@@ -136,7 +136,7 @@ def compare(engine: Engine, words: argparse.Namespace) -> None:
         for it in found:
             print(it)
         if not found:
-            print(f"unaltered: all that {words.old} has stands in {words.new}, and nothing new is dated before its end")
+            print(f"unaltered: all that {words.old} has is in {words.new}, and nothing new is dated before its end")
         print(f"compared by {recheck.WHO}")
     if found:
         raise DeskError(f"{counted(len(found), 'difference')}: {words.new} isn't {words.old} with what came since")
@@ -147,18 +147,18 @@ def add(commands: argparse._SubParsersAction[argparse.ArgumentParser], common: a
     what = "the seal of all that happened before a moment: four lines to be deposited with somebody else"
     example = "Example: vaultdesk seal --vault records.vault --append"
     it = commands.add_parser("seal", parents=[common], help=what, epilog=example)
-    it.add_argument("--before", metavar="DATE", help="the moment; left out: that of the vault's last change")
-    more = "put it behind the seals of FILE; left out: NAME.seals beside NAME.vault"
+    it.add_argument("--before", metavar="DATE", help="the moment (default: that of the vault's last change)")
+    more = "append it to the seals of FILE (default: NAME.seals beside NAME.vault)"
     it.add_argument("--append", nargs="?", const="", metavar="FILE", help=more)
     it.set_defaults(run=seal)
 
     what = "whether seals come out of the vault again, a whole year of them in one pass"
     example = "Example: vaultdesk check-seals deposited/records.seals"
     it = commands.add_parser("check-seals", parents=[common], help=what, epilog=example)
-    it.add_argument("files", nargs="*", metavar="FILE", help="files of seals; left out: NAME.seals beside NAME.vault")
+    it.add_argument("files", nargs="*", metavar="FILE", help="files of seals (default: NAME.seals beside NAME.vault)")
     it.set_defaults(run=check_seals)
 
-    what = "whether what an older copy has stands unaltered in a newer one, and nothing new is dated before its end"
+    what = "whether what an older copy has is unaltered in a newer one, and nothing new is dated before its end"
     example = "Example: vaultdesk compare backup/records-20250101.vault records.vault"
     it = commands.add_parser("compare", parents=[common], help=what, epilog=example)
     it.add_argument("old", metavar="OLD", help="the file of the older copy")

@@ -1,4 +1,4 @@
-"""What the page of a vault tells, read from its tables alone at one moment."""
+"""What the page of a vault has, read from its tables alone at one moment."""
 
 from __future__ import annotations
 
@@ -102,7 +102,7 @@ class Ending(NamedTuple):
 
 
 class Facts(NamedTuple):
-    """All that a page tells."""
+    """All that a page has."""
 
     name: str
     at: str
@@ -250,7 +250,7 @@ def _read(base: sqlite3.Connection, name: str, at: int) -> Facts:
 
 
 def facts_of(file: Path, at: int) -> Facts:
-    """What a vault's file tells of a moment that isn't before its last change. `DeskError` where it can't be read."""
+    """What a vault's file has of a moment that isn't before its last change. `DeskError` where it can't be read."""
     try:
         with closing(sqlite3.connect(f"{file.resolve().as_uri()}?mode=ro", uri=True, isolation_level=None)) as base:
             base.execute("BEGIN")

@@ -113,7 +113,7 @@ def _add_held(commands: argparse._SubParsersAction[argparse.ArgumentParser], com
     it.add_argument("--prefix", metavar="P", default="", help="only keys that begin so")
     it.add_argument("--on-hold", action="store_true", help="only what is under a legal hold")
     it.add_argument("--ends-before", metavar="DATE", help="only what has no retention, or one that ends before that")
-    it.add_argument("--csv", action="store_true", help="print CSV, as hold --from takes it")
+    it.add_argument("--csv", action="store_true", help="print CSV, which hold --from takes")
     it.set_defaults(run=held)
 
 
@@ -126,8 +126,8 @@ def add(commands: argparse._SubParsersAction[argparse.ArgumentParser], common: a
         epilog="Examples: vaultdesk find Miller --held; vaultdesk find --same-as scan.pdf; "
         "vaultdesk find --prefix 2024/ --since 2024-06-01 --before 2024-07-01 --csv",
     )
-    it.add_argument("text", nargs="?", help="what stands in the key, letter by letter")
-    it.add_argument("-i", "--ignore-case", action="store_true", help="small and large letters of TEXT are one")
+    it.add_argument("text", nargs="?", help="a part of the key, letter by letter")
+    it.add_argument("-i", "--ignore-case", action="store_true", help="ignore the case of TEXT")
     it.add_argument("--prefix", metavar="P", help="how the key begins")
     it.add_argument("--bucket", metavar="B")
     content = it.add_mutually_exclusive_group()
@@ -139,6 +139,6 @@ def add(commands: argparse._SubParsersAction[argparse.ArgumentParser], common: a
     state.add_argument("--held", action="store_true", help="without what was removed")
     state.add_argument("--removed", action="store_true", help="only what was removed")
     it.add_argument("--markers", action="store_true", help="delete markers too")
-    it.add_argument("--csv", action="store_true", help="print CSV, as hold --from takes it")
+    it.add_argument("--csv", action="store_true", help="print CSV, which hold --from takes")
     it.set_defaults(run=find)
     _add_held(commands, common)

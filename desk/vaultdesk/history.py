@@ -7,9 +7,10 @@ from collections.abc import Sequence
 from dataclasses import asdict
 from typing import Any
 
+from vaultdesk import events
 from vaultdesk.engine import Engine
 from vaultdesk.errors import DeskError
-from vaultdesk.events import Event, of_version, up_to
+from vaultdesk.events import Event, up_to
 from vaultdesk.output import print_json, print_rows, shown
 
 REMOVED = {
@@ -78,7 +79,7 @@ def document_of(found: Sequence[Event]) -> dict[str, Any]:
 
 def history(engine: Engine, words: argparse.Namespace) -> None:
     """Prints all that happened to a version."""
-    found = of_version(engine.desk.file, words.number)
+    found = events.of_version(engine, words.number)
     if engine.at:
         found = up_to(found, engine.at)
         if not found:

@@ -55,7 +55,7 @@ def _decoded(content: bytes) -> str:
 
 
 def _delimiter(head: str) -> str:
-    """What stands most often between the names of the first line."""
+    """What is most often between the names of the first line."""
     return max(";,\t", key=head.count)
 
 

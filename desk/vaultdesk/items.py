@@ -136,14 +136,14 @@ def look_at_file(it: Item, folder: Path, names: Mapping[str, str]) -> None:
 
 
 def look_at_doubles(items: Sequence[Item], held: frozenset[str]) -> None:
-    """What stands twice: within the delivery, or in the vault already."""
+    """What comes twice: within the delivery, or in the vault already."""
     keys = Counter(it.key for it in items)
     digests = Counter(it.digest for it in items if it.digest)
     for it in items:
         if keys[it.key] > 1:
-            it.notes.append("the key stands more than once in this delivery")
+            it.notes.append("the key comes more than once in this delivery")
         if it.digest and digests[it.digest] > 1:
-            it.notes.append("the same content stands more than once in this delivery")
+            it.notes.append("the same content comes more than once in this delivery")
         if it.digest in held:
             it.is_doubled = True
             it.notes.append("the vault holds the same content already")

@@ -209,7 +209,7 @@ def _add_holds(commands: argparse._SubParsersAction[argparse.ArgumentParser], co
     it = commands.add_parser("hold", parents=[common], help=what, epilog=example)
     it.set_defaults(run=hold)
     add_targets(it)
-    it.add_argument("--case", metavar="NAME", help="note in NAME.cases beside NAME.vault for which case")
+    it.add_argument("--case", metavar="NAME", help="note in NAME.cases, beside NAME.vault, for which case it is")
     it.add_argument("--dry-run", action="store_true", help="say what would be done, and change nothing")
 
     example = 'Example: vaultdesk release --case "Miller 17"'
@@ -217,7 +217,7 @@ def _add_holds(commands: argparse._SubParsersAction[argparse.ArgumentParser], co
     it = commands.add_parser("release", parents=[common], help=what, epilog=example)
     it.set_defaults(run=release)
     add_targets(it)
-    more = "of that case; without others, all that it has on hold; what another case has on hold stays so"
+    more = "of that case; alone, all that the case has on hold; holds of other cases stay"
     it.add_argument("--case", metavar="NAME", help=more)
     it.add_argument("--dry-run", action="store_true", help="say what would be done, and change nothing")
 
@@ -228,9 +228,9 @@ def add(commands: argparse._SubParsersAction[argparse.ArgumentParser], common: a
     example = "Example: vaultdesk retain letters 2025/002 --until 2035-01-01"
     it = commands.add_parser("retain", parents=[common], help="set or extend a retention", epilog=example)
     add_targets(it)
-    it.add_argument("--until", metavar="DATE", required=True, help="its end; a date alone is its midnight, UTC")
+    it.add_argument("--until", metavar="DATE", required=True, help="its end; a date is its midnight in UTC")
     it.add_argument("--mode", choices=("GOVERNANCE", "COMPLIANCE"), default="GOVERNANCE", help="its mode (GOVERNANCE)")
-    it.add_argument("--bypass", action="store_true", help="instead of a retention in GOVERNANCE that is in force")
+    it.add_argument("--bypass", action="store_true", help="also while a retention in GOVERNANCE is in force")
     add_yes(it)
     it.set_defaults(run=retain)
 

@@ -25,7 +25,7 @@ ABOUT = """Stops the server of a vault, as one program at a time has it, carries
 buckets, makes a copy, audits the copy, puts a seal after those of earlier nights, and starts the server again.
 /etc/vaultctl/NAME.conf says which buckets (BUCKETS), by which callers (BUCKET:CALLER, or NIGHT), where the copies
 go (BACKUP) and how many are kept (KEEP). No rule is carried out while the machine's clock isn't synchronized,
-unless TRUST_CLOCK is yes; nor where it stands more than MAX_JUMP days past the vault's last change and the last
+unless TRUST_CLOCK is yes; nor where it is more than MAX_JUMP days past the vault's last change and the last
 night: what a clock that is ahead removes can't be put back. The copy is made all the same. The status is 1 where
 one of these wasn't done to its end."""
 COLUMNS = ("bucket", "marked", "removed", "lone")
@@ -83,7 +83,7 @@ class Night:
         [(last,)] = reading.rows(self.served.file, "SELECT last FROM meta")
         clock = moments.of_seconds(self.now)
         if self.now < last:
-            raise DeskError(f"the clock ({clock}) stands before the vault's last change ({moments.of_seconds(last)})")
+            raise DeskError(f"the clock ({clock}) is before the vault's last change ({moments.of_seconds(last)})")
         if self.is_sure:
             return
         if not self.served.conf.trusts_clock() and not is_synchronized():
@@ -94,7 +94,7 @@ class Night:
         if known and self.now - known > days * DAY:
             known_text = f"the vault's last change and the last night ({moments.of_seconds(known)})"
             remedy = f"If it is right: vaultdesk night --clock-is-right {self.served.name}"
-            raise DeskError(f"the clock ({clock}) stands more than {days} days past {known_text}. {remedy}")
+            raise DeskError(f"the clock ({clock}) is more than {days} days past {known_text}. {remedy}")
 
     def carry_out(self, file: Path) -> None:
         """Carries out the rules of all buckets, over one opening of the file."""
@@ -124,7 +124,7 @@ class Night:
         self.copy = backup.made(self.served.file, self.served.conf.backup(), config.program())
 
     def make_seal(self) -> None:
-        """Puts the seal of all that was before the last moment behind those of earlier nights."""
+        """Appends the seal of all that was before the last moment to those of earlier nights."""
         self.seal = evidence.seal_of(self.served.file, None)
         evidence.append(evidence.seals_beside(self.served.file), self.seal)
 
@@ -135,7 +135,7 @@ class Night:
         backup.remove(self.removed)
 
     def work(self) -> int:
-        """All of it, and the status. It is done as the user whose the vaults are."""
+        """All of it, and the status. It is done as the vaults' owner."""
         is_right = self.done(self.look_at_clock)
         if is_right:
             self.done(lambda: self.carry_out(self.served.file))
@@ -222,7 +222,7 @@ def add(commands: argparse._SubParsersAction[argparse.ArgumentParser], common: a
     example = "Example: vaultdesk night records --dry-run"
     it = commands.add_parser("night", parents=[common], help=what, description=ABOUT, epilog=example)
     it.add_argument("name", metavar="NAME", help="the vault /var/lib/vaultctl/NAME.vault, with /etc/vaultctl/NAME.conf")
-    text = "carry out the rules by a clock that nothing synchronizes, or that stands far ahead of all that is known"
+    text = "carry out the rules by a clock that nothing synchronizes, or that is far ahead of all that is known"
     it.add_argument("--clock-is-right", action="store_true", help=text)
     it.add_argument("--dry-run", action="store_true", help="say what would be marked and removed, and change nothing")
     it.set_defaults(do=night)

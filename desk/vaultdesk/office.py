@@ -128,8 +128,8 @@ def add(commands: argparse._SubParsersAction[argparse.ArgumentParser], common: a
     it = commands.add_parser("buckets", parents=[common], help=what, epilog=example)
     one = it.add_mutually_exclusive_group()
     one.add_argument("--add", metavar="NAME", help="a new bucket of --department")
-    one.add_argument("--move", metavar="NAME", help="the bucket goes to --department with all that it holds")
-    it.add_argument("--department", metavar="NAME", help="of which department it is then")
+    one.add_argument("--move", metavar="NAME", help="move this bucket to --department, with all that it holds")
+    it.add_argument("--department", metavar="NAME", help="the bucket's department")
     add_yes(it)
     it.set_defaults(run=buckets)
 

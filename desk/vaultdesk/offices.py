@@ -21,12 +21,12 @@ from vaultdesk.units import Served
 
 Row = dict[str, Any]
 ABOUT = """Several vaults on one machine: nginx gives each request at one port to the vault that has its bucket, and
-what each tells is brought together. While a server has a vault its file can't be read: give the night's copies, or
+what each has is brought together. While a server has a vault its file can't be read: give the night's copies, or
 stop it."""
 SUMS = ("admitted", "received", "held", "removed", "handed", "byte_days")
 LISTED = ("vault", "port", "state", "file", "copy")
 MAP = """\
-# Several vaults behind one port, made by `vaultdesk offices map`. Before a vault's port stands the name of its unit,
+# Several vaults behind one port, made by `vaultdesk offices map`. A vault's port follows the name of its unit,
 # vault-serve@NAME. Put this and the server of nginx-vaults.conf into /etc/nginx/conf.d.
 
 {upstreams}
@@ -90,7 +90,7 @@ def _print_csv(rows: Sequence[Row], columns: Sequence[str], as_json: bool) -> No
 def registers(words: argparse.Namespace) -> int:
     """Prints the registers of several vaults as one, by the moment of removal.
 
-    Removals of one second stand in the order of the files. Where one can't be read nothing is printed."""
+    Removals of one second are in the order of the files. Where one can't be read nothing is printed."""
     rows = [row for file in _files(words) for row in register_of(file)]
     rows.sort(key=lambda it: str(it["removed"]))  # moments are 20 bytes each, so they sort as texts
     columns = (
@@ -102,7 +102,7 @@ def registers(words: argparse.Namespace) -> int:
 
 
 def reports(words: argparse.Namespace) -> int:
-    """Prints the reports of all departments of several vaults, all of one moment. Where one can't be had: nothing."""
+    """Prints the reports of all departments of several vaults, all of one moment. Nothing where one can't be read."""
     at = moments.read(words.at)
     rows: list[Row] = []
     for file in _files(words):
@@ -222,14 +222,14 @@ def _add_gathering(
     example = "Example: vaultdesk offices reports --at 2026-01-01 records.vault court.vault > reports.csv"
     it = kinds.add_parser("reports", parents=[common], help="the reports of all departments, as CSV", epilog=example)
     it.add_argument("files", nargs="+", metavar="FILE")
-    it.add_argument("--at", required=True, metavar="DATE", help="of which moment; no vault's last change is later")
+    it.add_argument("--at", required=True, metavar="DATE", help="the moment of all, not before any vault's last change")
     text = "who asks, with the right admin in each vault (registrar)"
     it.add_argument("--as", dest="caller", default="registrar", metavar="CALLER", help=text)
     it.set_defaults(do=reports)
 
     example = "Example: vaultdesk offices backup /srv/copies records.vault court.vault"
     it = kinds.add_parser("backup", parents=[common], help="a copy of each, audited", epilog=example)
-    it.add_argument("folder", metavar="FOLDER", help="in it each vault has a folder of its name")
+    it.add_argument("folder", metavar="FOLDER", help="each vault has a folder of its name in it")
     it.add_argument("files", nargs="+", metavar="FILE")
     it.set_defaults(do=copies)
 
@@ -246,8 +246,8 @@ def add(commands: argparse._SubParsersAction[argparse.ArgumentParser], common: a
     example = "Example: vaultdesk offices map > /etc/nginx/conf.d/vaults.conf"
     what = "what nginx needs to serve several vaults at one port, each by its buckets"
     it = kinds.add_parser("map", parents=[common], help=what, epilog=example)
-    it.add_argument("names", nargs="*", metavar="NAME", help="left out: all vaults that have a configuration")
-    text = "a bucket that is newer than the copy of a vault that is served; given again, another"
+    it.add_argument("names", nargs="*", metavar="NAME", help="default: all vaults that have a configuration")
+    text = "a bucket that is newer than its vault's copy; may be given again"
     it.add_argument("--bucket", action="append", default=[], metavar="VAULT:BUCKET", help=text)
     text = "a port of 127.0.0.1 at which nginx answers for buckets that no vault has (8089)"
     it.add_argument("--nowhere", type=int, default=8089, metavar="PORT", help=text)

@@ -1,4 +1,4 @@
-"""Whose the vaults of this machine are, and work that is done as that user."""
+"""The owner of this machine's vaults, and work that is done as that user."""
 
 from __future__ import annotations
 
@@ -128,7 +128,7 @@ class Owner:
 
 
 def owner_of(path: Path) -> Owner:
-    """Whose a file or folder is. `DeskError` where it isn't there."""
+    """The owner of a file or folder. `DeskError` where it isn't there."""
     try:
         found = path.stat()
     except OSError as error:

@@ -1,4 +1,4 @@
-"""A page (HTML) of what a vault holds, has removed and will let go of, for people and for paper."""
+"""A page (HTML) of what a vault holds, has removed and will remove, for people and for paper."""
 
 from __future__ import annotations
 
@@ -120,7 +120,7 @@ def _buckets(found: Sequence[Bucket], rules: Sequence[Rule]) -> list[str]:
 def _callers(found: Sequence[Caller]) -> list[str]:
     return [
         "<h2>Callers</h2>",
-        "<p>Who may do what, in the buckets of the own department. A closed caller can do nothing.</p>",
+        "<p>Who may do what, in the buckets of the caller's department. A closed caller can do nothing.</p>",
         table(("caller", "department", "state", "rights"), found, "callers"),
     ]
 
@@ -182,11 +182,11 @@ def page(words: argparse.Namespace) -> int:
 
 def add(commands: argparse._SubParsersAction[argparse.ArgumentParser], common: argparse.ArgumentParser) -> None:
     """Adds the subcommand to the desk's words."""
-    what = "a page (HTML) of what a vault holds, has removed and will let go of"
+    what = "a page (HTML) of what a vault holds, has removed and will remove"
     example = "Example: vaultdesk page records.vault page.html"
     it = commands.add_parser("page", parents=[common], help=what, epilog=example)
     it.add_argument("file", nargs="?", metavar="FILE", help="the vault's file, or its name in the settings (or $VAULT)")
-    it.add_argument("out", nargs="?", metavar="PAGE", help="the file that is written; left out: to standard output")
-    it.add_argument("--at", metavar="DATE", help="the moment that the page is of; left out: this machine's clock")
+    it.add_argument("out", nargs="?", metavar="PAGE", help="the file to write (default: standard output)")
+    it.add_argument("--at", metavar="DATE", help="the moment of the page (default: this machine's clock)")
     it.add_argument("--force", action="store_true", help="write over a file that is there")
     it.set_defaults(do=page)

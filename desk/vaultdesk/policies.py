@@ -59,7 +59,7 @@ def rule_of(words: argparse.Namespace) -> Rule:
     if words.days is None and words.noncurrent_days is None and not words.lone_markers:
         raise UsageError("a rule does something: give --days, --noncurrent-days or --lone-markers")
     if words.days is not None and words.lone_markers:
-        raise UsageError("--days and --lone-markers don't stand in one rule")
+        raise UsageError("--days and --lone-markers don't go together in one rule")
     rule: Rule = {"ID": words.id, "Status": "Disabled" if words.disabled else "Enabled", "Prefix": words.prefix}
     if words.above is not None:
         rule["ObjectSizeGreaterThan"] = words.above
@@ -134,11 +134,11 @@ def _add_rule_words(it: argparse.ArgumentParser, id_needed: bool) -> None:
     it.add_argument("--prefix", default="", help="for keys that begin so")
     it.add_argument("--days", type=int, metavar="N", help="mark the current version N days after its admission")
     it.add_argument("--noncurrent-days", type=int, metavar="N", help="remove older versions N days after the next one")
-    it.add_argument("--keep", type=int, metavar="N", help="with --noncurrent-days: but for the newest N of those")
+    it.add_argument("--keep", type=int, metavar="N", help="with --noncurrent-days: keep the newest N of those")
     it.add_argument("--lone-markers", action="store_true", help="remove delete markers below which nothing is held")
     it.add_argument("--above", type=int, metavar="BYTES", help="for entries of more bytes")
     it.add_argument("--below", type=int, metavar="BYTES", help="for entries of fewer bytes")
-    it.add_argument("--disabled", action="store_true", help="not carried out")
+    it.add_argument("--disabled", action="store_true", help="no run carries it out")
 
 
 def _add_rules(commands: argparse._SubParsersAction[argparse.ArgumentParser], common: argparse.ArgumentParser) -> None:
@@ -178,7 +178,7 @@ def add(commands: argparse._SubParsersAction[argparse.ArgumentParser], common: a
     period = it.add_mutually_exclusive_group()
     period.add_argument("--years", type=int, metavar="N")
     period.add_argument("--days", type=int, metavar="N")
-    period.add_argument("--none", action="store_true", help="none from now on")
+    period.add_argument("--none", action="store_true", help="no default from now on")
     it.add_argument("--mode", choices=("GOVERNANCE", "COMPLIANCE"), default="GOVERNANCE", help="its mode (GOVERNANCE)")
     it.set_defaults(run=default)
 
@@ -188,6 +188,6 @@ def add(commands: argparse._SubParsersAction[argparse.ArgumentParser], common: a
     what = "carry out the rules of a department's buckets, after saying what goes and when"
     it = commands.add_parser("expire", parents=[common], help=what, epilog=example)
     it.add_argument("department")
-    it.add_argument("--until", metavar="DATE", help="say what goes up to then; left out: tonight")
+    it.add_argument("--until", metavar="DATE", help="say what goes up to then (default: tonight)")
     add_yes(it)
     it.set_defaults(run=expire)

@@ -39,7 +39,7 @@ def _immutable(file: Path) -> str:
         return ""
     log = Path(f"{file.resolve()}-wal")
     if log.is_file() and log.stat().st_size:
-        why = "what stands in the log alone is left out. Copy both files elsewhere to have it read."
+        why = "what is only in the log is left out. Copy both files elsewhere to have it read."
         say(f"{log} isn't read, as nothing can be written there: {why}")
     return "&immutable=1"
 

@@ -9,7 +9,7 @@ from vaultdesk.errors import Refused
 
 DENIALS = {
     "unknown-caller": "no open caller has that name: a caller is given by --as or $VAULT_CALLER",
-    "department": "the bucket is another department's, and a caller works on the buckets of the own department alone",
+    "department": "the bucket is another department's, and callers work only on those of their own",
     "legal-hold": "a legal hold is on: lift it first (vaultdesk release), by a caller with the right hold",
     "retention-compliance": "a retention in COMPLIANCE is in force: nobody removes it or shortens it before its end",
     "retention-governance": "a retention in GOVERNANCE is in force: a caller with the right bypass may give --bypass",

@@ -1,4 +1,4 @@
-"""Around a vault's server: a command while it stands still, a copy that is put back, and whether it serves."""
+"""Around a vault's server: a command while it is stopped, a copy that is put back, and whether it serves."""
 
 from __future__ import annotations
 
@@ -12,36 +12,51 @@ from pathlib import Path
 from vaultdesk.backup import stamp
 from vaultdesk.errors import DeskError, UsageError
 from vaultdesk.output import print_json, say
-from vaultdesk.units import Busy, Served, systemctl
+from vaultdesk.units import Busy, Served, Standstill, systemctl
 
 PATIENCE = 30  # seconds for the server's answer
-OFFLINE = """Stops the server of a vault, does a command as the user whose the vaults are, in their folder, and starts
-the server again, also where the command fails. Standard input, output and error are the caller's, and the status is
+OFFLINE = """Stops the server of a vault, runs a command as the vaults' owner, in their folder, and starts the server
+again, also where the command fails. Standard input, output and error are the caller's, and the status is
 the command's; where the server doesn't start again, the status is never 0. A server that didn't run isn't started.
-While another job works on the vault, this one waits."""
+While another job works on the vault, this one waits. With --json, standard output has the command, its status and
+what became of the server, and what the command prints goes to standard error."""
 RESTORE = """Puts a copy of a vault in the vault's place, and starts its server. The copy is audited before anything
-else is done: where it isn't sound, all stays as it is, and the server isn't stopped. The files that stood there are
+else is done: where it isn't sound, all stays as it is, and the server isn't stopped. The files that were there are
 moved to a folder NAME-MOMENT.replaced beside them: remove it yourself."""
-CHECK = """The status is 0 where the server answers, where it is about to start, where it isn't to run, and where
+CHECK = """The status is 0 where the server answers, where it is about to start, where it should not run, and where
 another job has stopped it for its work. It is 1, with a line that says why, in all other cases: no answer, nobody is
 served, or a server that is enabled and doesn't run. A server whose file failed is started anew first."""
 
 
-# ---- a command while it stands still
+# ---- a command while it is stopped
 
 
 def offline(words: argparse.Namespace) -> int:
-    """Stops the server, does a command as the user whose the vaults are, and starts the server again."""
+    """Stops the server, runs a command as the vaults' owner, and starts the server again."""
     if not words.given:
         raise UsageError("which command? vaultdesk offline NAME COMMAND..")
-    served = Served(words.name)
-    with served.alone(), served.standing_still():
-        child = served.owner().start(words.given, served.folder)
+    if words.given[0].startswith("-"):
+        raise UsageError(f"{words.given[0]}: options go before NAME, and what is after NAME is the command")
+    served, seen = Served(words.name), Standstill()
+    status = None
+    with served.alone():
+        try:
+            with served.standing_still(seen=seen):
+                status = _carried_out(served, words)
+        finally:
+            if words.json and status is not None:
+                found = {"vault": served.name, "command": words.given, "status": status}
+                print_json({**found, "unit": served.unit, "stopped": seen.stopped, "started": seen.started})
+    return status
+
+
+def _carried_out(served: Served, words: argparse.Namespace) -> int:
+    """The status of a command that is done by the vaults' owner, as a shell has it: for a signal 128 and its number."""
+    with served.owner().start(words.given, served.folder, **({"stdout": 2} if words.json else {})) as child:
         try:
             status = child.wait()
         except BaseException:
             child.terminate()
-            child.wait()
             raise
     return status if status >= 0 else 128 - status
 
@@ -136,7 +151,7 @@ class Answer:
         if self.status == 500:
             return "its file failed (500)"
         if self.status == 503 and "ClockBack" in self.body:
-            cause = "nobody is served (503 ClockBack): the machine's clock stands before the vault's last change"
+            cause = "nobody is served (503 ClockBack): the machine's clock is before the vault's last change"
             return f"{cause}. Set the clock right; where that change is dated ahead, it serves again after its moment"
         if self.status == 503 and "ClockOutOfRange" in self.body:
             return "nobody is served (503 ClockOutOfRange): the machine's clock shows no moment that a vault can keep"
@@ -203,10 +218,10 @@ NAMED = "the vault /var/lib/vaultctl/NAME.vault, with /etc/vaultctl/NAME.conf"
 def add(commands: argparse._SubParsersAction[argparse.ArgumentParser], common: argparse.ArgumentParser) -> None:
     """Adds the subcommands to the desk's words."""
     example = "Example: vaultdesk offline records vaultctl verify records.vault"
-    what = "do a command on a vault that is served, while its server stands still"
-    it = commands.add_parser("offline", help=what, description=OFFLINE, epilog=example)
+    what = "run a command on a vault that is served, while its server is stopped"
+    it = commands.add_parser("offline", parents=[common], help=what, description=OFFLINE, epilog=example)
     it.add_argument("name", metavar="NAME", help=NAMED)
-    text = "done by the user whose the vaults are, in their folder; its status is this one's"
+    text = "run by the vaults' owner, in their folder; its status is this one's"
     it.add_argument("given", nargs=argparse.REMAINDER, metavar="COMMAND", help=text)
     it.set_defaults(do=offline)
 

@@ -9,6 +9,7 @@ import sys
 import time
 from collections.abc import Iterator
 from contextlib import contextmanager
+from dataclasses import dataclass
 from pathlib import Path
 
 from vaultdesk import conf, config
@@ -18,6 +19,14 @@ from vaultdesk.owner import Owner, owner_of, signals_raise, signals_wait
 
 RUNNING = ("active", "activating", "reloading", "deactivating")
 LONGEST_WAIT = 3_600  # seconds that a job waits for another one
+
+
+@dataclass
+class Standstill:
+    """What became of a server for the sake of a job: whether it was stopped, and whether it was started."""
+
+    stopped: bool = False
+    started: bool = False
 
 
 class Busy(DeskError):
@@ -55,7 +64,7 @@ class Served:
         self.unit = f"vault-serve@{name}.service"
 
     def owner(self) -> Owner:
-        """Whose the vaults are: the user whose folder they are in."""
+        """The vaults' owner: the owner of their folder."""
         return owner_of(self.folder)
 
     def state(self) -> str:
@@ -92,22 +101,24 @@ class Served:
             yield
 
     @contextmanager
-    def standing_still(self, serves_anyway: bool = False) -> Iterator[None]:
+    def standing_still(self, serves_anyway: bool = False, seen: Standstill | None = None) -> Iterator[None]:
         """The server is stopped, if it runs, and started again, however what is done meanwhile ends.
 
-        With `serves_anyway` it is started in any case. `DeskError` where it doesn't start."""
+        With `serves_anyway` it is started in any case. `seen` gets what became of it. `DeskError` where it
+        doesn't start."""
         if not serves_anyway and self.state() not in RUNNING:
             yield
             return
+        seen = seen or Standstill()
         with signals_raise():
             try:
                 if systemctl("stop", self.unit)[0] != 0:
                     raise DeskError(f"the server doesn't stop: see systemctl status {self.unit}")
+                seen.stopped = True
                 yield
-            except BaseException:
-                self._start()
-                raise
-            if not self._start():
+            finally:
+                seen.started = self._start()
+            if not seen.started:
                 raise DeskError("what was asked is done")
 
     def _start(self) -> bool:

@@ -21,8 +21,8 @@ from vaultdesk.output import print_json, print_table
 from vaultdesk.owner import Owner, owner_of
 
 NGINX = "www-data"  # the group as which Debian's nginx reads
-ABOUT = """Looks after the file of users whom nginx lets in, which it names in auth_basic_user_file: a name in each
-line, which has to be a caller's, and the digest of a password. The passwords themselves stand nowhere."""
+ABOUT = """Looks after the file of the users whom nginx lets in (auth_basic_user_file). Each line has a name, which has
+to be a caller's, and the digest of a password. The passwords themselves are kept nowhere."""
 SHORTEST = 8  # characters of a password
 
 
@@ -183,9 +183,9 @@ def add(commands: argparse._SubParsersAction[argparse.ArgumentParser], common: a
     example = f"Example: vaultdesk users add {place} ann"
     what = "add one: its password is asked for, or is the first line of standard input"
     it = kinds.add_parser("add", parents=[common], help=what, epilog=example)
-    it.add_argument("file", metavar="FILE", help=f"{text}; it is made where it isn't there")
+    it.add_argument("file", metavar="FILE", help=f"{text}; it is made if it isn't there")
     it.add_argument("name", metavar="NAME", help="the name of a caller")
-    it.add_argument("--vault", metavar="V", help="look first whether that caller is there")
+    it.add_argument("--vault", metavar="V", help="check first that the vault has this caller")
     it.set_defaults(do=users_add)
 
     example = f"Example: vaultdesk users password {place} ann"

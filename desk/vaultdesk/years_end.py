@@ -6,7 +6,6 @@ import argparse
 import csv
 import html
 import io
-import subprocess
 import sys
 from collections.abc import Callable, Iterable, Iterator, Mapping, Sequence
 from pathlib import Path
@@ -14,7 +13,7 @@ from typing import Any
 
 from vaultdesk import moments, reading, spreadsheet
 from vaultdesk.engine import Engine
-from vaultdesk.errors import DeskError, EngineError, Refused, UsageError
+from vaultdesk.errors import DeskError, Refused, UsageError
 from vaultdesk.output import print_json, print_table, say
 
 Row = dict[str, str]
@@ -35,16 +34,8 @@ PAGE = """<!DOCTYPE html>
 
 def register(engine: Engine) -> list[Row]:
     """The rows of the register of removals, as the engine prints it."""
-    engine.close()
-    command = [engine.desk.program, "register", str(engine.desk.file)]
-    try:
-        done = subprocess.run(command, stdout=subprocess.PIPE, stderr=subprocess.PIPE, check=False)
-    except OSError as error:
-        raise EngineError(f"{engine.desk.program}: {error.strerror}") from error
-    if done.returncode != 0:
-        raise EngineError(done.stderr.decode(errors="replace").strip())
     # Split at LF alone: keys may have other characters that end a line elsewhere.
-    return list(csv.DictReader(io.StringIO(done.stdout.decode("utf-8"), newline="")))
+    return list(csv.DictReader(io.StringIO(engine.printed("register"), newline="")))
 
 
 def _span(words: argparse.Namespace) -> tuple[str | None, str | None]:
@@ -191,15 +182,15 @@ def add(commands: argparse._SubParsersAction[argparse.ArgumentParser], common: a
     texts = ("certificates of all removals, a file each and one page", "vaultdesk certificates out --since 2025-01-01")
     it = _subcommand(commands, common, "certificates", certificates, texts)
     it.add_argument("folder")
-    it.add_argument("--since", metavar="DATE", help="of what was removed from then on")
-    it.add_argument("--before", metavar="DATE", help="of what was removed earlier than that")
+    it.add_argument("--since", metavar="DATE", help="only of removals from then on")
+    it.add_argument("--before", metavar="DATE", help="only of earlier removals")
     it.add_argument("--any-caller", action="store_true", help="ask as a caller of each bucket's own department")
     it.add_argument("--force", action="store_true", help="write over files that are there")
 
     texts = ("the register of removals, also as a spreadsheet", "vaultdesk register --xlsx register.xlsx")
     it = _subcommand(commands, common, "register", print_register, texts)
-    it.add_argument("--since", metavar="DATE", help="of what was removed from then on")
-    it.add_argument("--before", metavar="DATE", help="of what was removed earlier than that")
+    it.add_argument("--since", metavar="DATE", help="only of removals from then on")
+    it.add_argument("--before", metavar="DATE", help="only of earlier removals")
     it.add_argument("--documents", action="store_true", help="without delete markers")
     it.add_argument("--xlsx", metavar="FILE", help="a spreadsheet in which every cell is a text")
     it.add_argument("--force", action="store_true", help="write over a file that is there")
@@ -218,5 +209,5 @@ def add(commands: argparse._SubParsersAction[argparse.ArgumentParser], common: a
         "vaultdesk charges --since 2025-01-01 --before 2026-01-01",
     )
     it = _subcommand(commands, common, "charges", charges, texts)
-    it.add_argument("--since", metavar="DATE", required=True, help="the beginning")
-    it.add_argument("--before", metavar="DATE", required=True, help="the end, which isn't part of it")
+    it.add_argument("--since", metavar="DATE", required=True, help="from this moment on")
+    it.add_argument("--before", metavar="DATE", required=True, help="up to this moment, which isn't included")
