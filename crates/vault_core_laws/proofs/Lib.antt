@@ -10,6 +10,7 @@ pub mod NameOrder
 pub mod Newest
 pub mod References
 pub mod Runs
+pub mod SoundProp
 pub mod Soundness
 pub mod Telescope
 pub mod Tenures
