@@ -1,10 +1,9 @@
 -- A committed edit that is the edit of a change makes that change.
-use Rattle.std.proofs.Common.{◌≡◌, ℕ, ◌≤◌, IsTrue, IsPermutation, Result, Ok, Err, OnOk, sym, subst, refl}
+use Rattle.std.proofs.Common.{◌≡◌, ℕ, IsTrue, IsPermutation, Result, Ok, Err, OnOk, sym, subst, refl}
 use Rattle.sqlite_trees.specs.Tree.{Trees}
 use Rattle.sqlite.specs.Effect.{Database, IsDatabase}
 use Rattle.sqlite.specs.State.{State, Survives}
 use Rattle.sqlite.proofs.StateLemmas.{survives_weaker}
-use Rattle.vault_base.specs.Days.{last_moment}
 use Rattle.vault_core_model.specs.Vault.{Vault}
 use Rattle.vault_core_model.specs.declared.change.Change.{Change}
 use Rattle.vault_core_model.specs.Change.{changed}
@@ -30,8 +29,8 @@ found_again db v trees schema sound listed same = subst (IsFoundIn v) (sym same)
 })
 
 pub commits_change : (old new : State) (t : ℕ) (edit : Rows → Rows) → IsTrue old.is_open → (old.now.schema ≡ vault_schema → Commits old new edit)
-    → ((trees : Trees) → new.may_leave trees → trees ≡ new.now.trees) → t ≤ last_moment → ChangesBy old new t edit
-commits_change old new t edit was_open commits alone low v c given was later allowed is =
+    → ((trees : Trees) → new.may_leave trees → trees ≡ new.now.trees) → ChangesBy old new t edit
+commits_change old new t edit was_open commits alone v c low given was later allowed is =
     let kept = was was_open in
     let schema = kept.0.spells.schema in
     let did = commits schema in
@@ -40,8 +39,8 @@ commits_change old new t edit was_open commits alone low v c given was later all
     let sound = (sound_is_rows new.now (changed v t c)).1 told in
     (λ is_open. (sound, did.committed), λ trees may. found_again new.now (changed v t c) trees (did.schema schema) sound (did.listed schema) (alone trees may))
 
-pub may_commit_change : (old : State) (t : ℕ) (edit : Rows → Rows) (trees : Trees) → IsTrue old.is_open → (old.now.schema ≡ vault_schema → MayCommit old edit trees) → t ≤ last_moment → AreChangedBy old t edit trees
-may_commit_change old t edit trees was_open commits low v c given was later allowed is =
+pub may_commit_change : (old : State) (t : ℕ) (edit : Rows → Rows) (trees : Trees) → IsTrue old.is_open → (old.now.schema ≡ vault_schema → MayCommit old edit trees) → AreChangedBy old t edit trees
+may_commit_change old t edit trees was_open commits v c low given was later allowed is =
     let kept = was was_open in
     let schema = kept.0.spells.schema in
     let did = commits schema in
@@ -50,9 +49,9 @@ may_commit_change old t edit trees was_open commits low v c given was later allo
     let told = rows_told old.now db v t c has later low allowed given refl (edited (rows_in old.now) (rows_in db) edit v t c (is was_open) (did.rows schema)) in
     record { spelled = (sound_is_rows db (changed v t c)).1 told; listed = did.listed schema }
 
-pub on_ok_all : {A E : Type 0} {P Q R : Type 0} (T : Type 0) (r : Result A E) → OnOk r P → OnOk r Q → OnOk r R → (P → Q → R → T) → OnOk r T
-on_ok_all T (Ok a) p q s f = f p q s
-on_ok_all T (Err e) p q s f = tt
+pub on_ok_all : {A E : Type 0} {P Q R T : Type 0} (U : Type 0) (r : Result A E) → OnOk r P → OnOk r Q → OnOk r R → OnOk r T → (P → Q → R → T → U) → OnOk r U
+on_ok_all U (Ok a) p q s t f = f p q s t
+on_ok_all U (Err e) p q s t f = tt
 
 pub on_ok_then : {A E : Type 0} {P : Type 0} (R : Type 0) (r : Result A E) → OnOk r P → (P → R) → OnOk r R
 on_ok_then R (Ok a) p f = f p

@@ -5,22 +5,18 @@ use Rattle.sqlite.proofs.StateLemmas.{survives_weaker}
 use Rattle.vault_core_model.specs.declared.change.Change.{Change}
 use Rattle.vault_core_model.specs.Vault.{Vault}
 use Rattle.vault_store_model.specs.Keeping.{Keeps}
-use Rattle.vault_store_model.specs.Limits.{IsChangeInLimits}
 use Rattle.vault_store_apply.specs.Applies.{Changes, AreChanged, IsChanged}
 
-module _ (old new : State) (t : ℕ) (c d : Change) (same : c ≡ d) (given : IsChangeInLimits c) where
-  limits : IsChangeInLimits d
-  limits = subst IsChangeInLimits same given
-
+module _ (old new : State) (t : ℕ) (c d : Change) (same : c ≡ d) where
   -- a change that was made as this one
-  pub made_as : {A E : Type 0} (r : Result A E) → (IsChangeInLimits d → OnOk r (Changes old new t d)) → OnOk r (Changes old new t c)
-  made_as r done = subst (λ x. OnOk r (Changes old new t x)) (sym same) (done limits)
+  pub made_as : {A E : Type 0} (r : Result A E) → OnOk r (Changes old new t d) → OnOk r (Changes old new t c)
+  made_as r done = subst (λ x. OnOk r (Changes old new t x)) (sym same) done
 
   -- what a crash may leave of every vault that was kept, it may leave of this one
-  pub left_of_all : (v : Vault) → Keeps old v → (IsChangeInLimits d → Survives old new (AreChanged old t d)) → Survives old new (IsChanged old v t c)
+  pub left_of_all : (v : Vault) → Keeps old v → Survives old new (AreChanged old t d) → Survives old new (IsChanged old v t c)
   left_of_all v was crash =
       subst (λ x. Survives old new (IsChanged old v t x)) (sym same)
-      (survives_weaker old new _ (IsChanged old v t d) (λ _ trees by is_open later allowed. by v was later allowed) (crash limits))
+      (survives_weaker old new _ (IsChanged old v t d) (λ _ trees by is_open later allowed. by v was later allowed) crash)
 
-  pub left_of_one : (v : Vault) → Keeps old v → (IsChangeInLimits d → (w : Vault) → Keeps old w → Survives old new (IsChanged old w t d)) → Survives old new (IsChanged old v t c)
-  left_of_one v was crash = subst (λ x. Survives old new (IsChanged old v t x)) (sym same) (crash limits v was)
+  pub left_of_one : (v : Vault) → Keeps old v → ((w : Vault) → Keeps old w → Survives old new (IsChanged old w t d)) → Survives old new (IsChanged old v t c)
+  left_of_one v was crash = subst (λ x. Survives old new (IsChanged old v t x)) (sym same) (crash v was)

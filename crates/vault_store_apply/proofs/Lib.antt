@@ -5,3 +5,4 @@ pub mod ReadLemmas
 pub mod RemovalLemmas
 pub mod MoveLemmas
 pub mod ChangeLemmas
+pub mod LimitLemmas

@@ -53,7 +53,3 @@ keeps_now g h v shut keeps is_open = keeps (clean_if_open (g.view h.store) shut 
 pub if_there : {A E : Type 0} (P : Option A → Type 0) (o : Option A) (r : Result A E) → o ≡ result_ok r → P o → IfOk r (λ x. P (Some x))
 if_there P o (Ok x) same p = subst P same p
 if_there P o (Err e) same p = tt
-
-pub on_ok_here : {A E : Type 0} {P : Type 0} (r : Result A E) → P → OnOk r P
-on_ok_here (Ok x) p = p
-on_ok_here (Err e) p = tt

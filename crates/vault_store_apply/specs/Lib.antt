@@ -3,3 +3,4 @@ pub mod Left
 pub mod Parts
 pub mod EntryParts
 pub mod Heads
+pub mod Typed

@@ -6,7 +6,6 @@ ghost use Rattle.vault_core_model.specs.Allowed.{Allows};
 ghost use Rattle.vault_core_model.specs.Change.{changed};
 ghost use Rattle.vault_core_model.specs.Vault.{Vault};
 ghost use Rattle.vault_store_model.specs.Keeping.{Keeps};
-ghost use Rattle.vault_store_model.specs.Limits.{IsChangeInLimits};
 ghost use Rattle.vault_store_apply.specs.Applies.{Changes, IsChanged};
 ghost use Rattle.vault_store_apply.specs.Left.{IsFoundIn};
 ghost use Rattle.vault_store_reads.specs.Quiet.{IsOpenIfOk};
@@ -19,21 +18,19 @@ use crate::entries::settings::add_setting;
 use crate::records::{
     add_bucket, add_caller, add_department, close_caller, set_default, set_rules,
 };
-use sqlite::{Alter, Connection, Error, ErrorCode};
+use sqlite::{Alter, Connection, Error};
 use std::alloc::Global;
 use vault_base::moment::Moment;
 use vault_core_model::change::Change;
-use vault_store_limits::change::is_in_limits;
 
-/// Makes a change that is in its limits.
+/// Makes a change, where the connection is open.
 fn make<S: Alter>(
     conn: &mut Connection<S>,
     alloc: Global,
     at: Moment,
     change: &Change,
 ) -> Result<(), Error>
-    requires settled { conn.old.in_transaction ≡ false }
-    requires limits { IsChangeInLimits change.now }
+    requires { conn.old.in_transaction ≡ false }
     ensures mode { conn.new.in_transaction ≡ false }
     ensures open { IsOpenIfOk S.Store conn.new result }
     ensures done { HasCleanDisk (state S.Store conn.new) → OnOk result (Changes (state S.Store conn.old) (state S.Store conn.new) at change.now) }
@@ -69,8 +66,8 @@ fn check_open<S: Alter>(conn: &mut Connection<S>) -> Result<(), Error>
 
 /// Makes a change at a moment, which becomes the last one; or changes nothing.
 ///
-/// `TooBig` where what the change brings isn't in the limits of what a vault keeps. Want of memory is
-/// `OutOfMemory`.
+/// `TooBig` where a number is 2^63 or more, which no column takes, or where a count goes beyond its bits.
+/// Want of memory is `OutOfMemory`.
 pub fn apply_change<S: Alter>(
     conn: &mut Connection<S>,
     alloc: Global,
@@ -87,9 +84,6 @@ pub fn apply_change<S: Alter>(
     // What a crash may leave, at any moment of the call: what it could leave before, or the changed vault.
     ensures crash { (v : Vault) → Keeps (state S.Store conn.old) v → v.last ≤ at → Allows v at change.now → Survives (state S.Store conn.old) (state S.Store conn.new) (IsFoundIn (changed v at change.now)) }
 {
-    if !is_in_limits(alloc, change)? {
-        return Err(Error::SqliteFailure(ErrorCode::TooBig));
-    }
     // What a read of a connection that a failure has shut leaves is told by no clause.
     check_open(conn)?;
     make(conn, alloc, at, change)

@@ -11,7 +11,7 @@ use vault_base::moment::Moment;
 use vault_store_edits::transaction::{Part, transact};
 
 /// Makes each change at a moment whose edit of the tables the part makes, if what it brings is in its
-/// limits; where that fails, nothing.
+/// limits; where that fails, nothing. Where it is made, what the part writes is as its types say.
 pub fn commit_part<S: Alter, P: Part<S>>(
     conn: &mut Connection<S>,
     at: Moment,
@@ -20,10 +20,9 @@ pub fn commit_part<S: Alter, P: Part<S>>(
     requires { conn.old.in_transaction ≡ false }
     ensures mode { conn.new.in_transaction ≡ false }
     ensures open { IsOpenIfOk S.Store conn.new result }
-    ensures done { HasCleanDisk (state S.Store conn.new) → OnOk result (ChangesBy (state S.Store conn.old) (state S.Store conn.new) at (P.edit part.now)) }
+    ensures done { HasCleanDisk (state S.Store conn.new) → OnOk result (P.limits part.now × ChangesBy (state S.Store conn.old) (state S.Store conn.new) at (P.edit part.now)) }
     ensures nothing { KeepsIfErr S.Store conn.old conn.new result }
-    ensures crash { Survives (state S.Store conn.old) (state S.Store conn.new) (AreChangedBy (state S.Store conn.old) at (P.edit part.now)) }
+    ensures crash { Survives (state S.Store conn.old) (state S.Store conn.new) (λ trees. P.limits part.now × AreChangedBy (state S.Store conn.old) at (P.edit part.now) trees) }
 {
-    let _in_range = at.secs();
     transact(conn, part)
 }

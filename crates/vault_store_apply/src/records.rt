@@ -1,13 +1,12 @@
 //! Changes of records and of configurations.
 //!
-//! Each is made in a transaction of its own: where it fails, nothing is changed. What it brings has to be
-//! in its limits, as `vault_store_limits` tells.
-ghost use Rattle.std.specs.Prelude.{◌≡◌, ℕ, List, false, OnOk};
+//! Each is made in a transaction of its own: where it fails, nothing is changed. That what it brings is in
+//! its limits follows from its types and from what the vault allows.
+ghost use Rattle.std.specs.Prelude.{◌≡◌, ℕ, List, false, IfSome, OnOk};
 ghost use Rattle.sqlite.specs.Held.{state};
 ghost use Rattle.sqlite.specs.State.{HasCleanDisk, Survives};
 ghost use Rattle.vault_core_model.specs.declared.change.Change.TheVariants as change;
 ghost use Rattle.vault_audit_model.specs.Spells.{rules_from, rules_if_given};
-ghost use Rattle.vault_store_model.specs.Limits.{IsChangeInLimits};
 ghost use Rattle.vault_store_apply.specs.Applies.{Changes, AreChanged};
 ghost use Rattle.vault_store_reads.specs.Quiet.{IsOpenIfOk};
 ghost use Rattle.vault_store_edits.specs.Commits.{KeepsIfErr};
@@ -33,9 +32,9 @@ pub fn add_department<S: Alter>(
     requires { conn.old.in_transaction ≡ false }
     ensures mode { conn.new.in_transaction ≡ false }
     ensures open { IsOpenIfOk S.Store conn.new result }
-    ensures done { HasCleanDisk (state S.Store conn.new) → IsChangeInLimits (change.AddDept name.now) → OnOk result (Changes (state S.Store conn.old) (state S.Store conn.new) at (change.AddDept name.now)) }
+    ensures done { HasCleanDisk (state S.Store conn.new) → OnOk result (Changes (state S.Store conn.old) (state S.Store conn.new) at (change.AddDept name.now)) }
     ensures nothing { KeepsIfErr S.Store conn.old conn.new result }
-    ensures crash { IsChangeInLimits (change.AddDept name.now) → Survives (state S.Store conn.old) (state S.Store conn.new) (AreChanged (state S.Store conn.old) at (change.AddDept name.now)) }
+    ensures crash { Survives (state S.Store conn.old) (state S.Store conn.new) (AreChanged (state S.Store conn.old) at (change.AddDept name.now)) }
 {
     commit_part(conn, at, &NewDepartment { at, name })
 }
@@ -49,9 +48,9 @@ pub fn add_caller<S: Alter>(
     requires { conn.old.in_transaction ≡ false }
     ensures mode { conn.new.in_transaction ≡ false }
     ensures open { IsOpenIfOk S.Store conn.new result }
-    ensures done { HasCleanDisk (state S.Store conn.new) → IsChangeInLimits (change.AddCaller caller.now) → OnOk result (Changes (state S.Store conn.old) (state S.Store conn.new) at (change.AddCaller caller.now)) }
+    ensures done { HasCleanDisk (state S.Store conn.new) → OnOk result (Changes (state S.Store conn.old) (state S.Store conn.new) at (change.AddCaller caller.now)) }
     ensures nothing { KeepsIfErr S.Store conn.old conn.new result }
-    ensures crash { IsChangeInLimits (change.AddCaller caller.now) → Survives (state S.Store conn.old) (state S.Store conn.new) (AreChanged (state S.Store conn.old) at (change.AddCaller caller.now)) }
+    ensures crash { Survives (state S.Store conn.old) (state S.Store conn.new) (AreChanged (state S.Store conn.old) at (change.AddCaller caller.now)) }
 {
     commit_part(conn, at, &NewCaller { at, caller })
 }
@@ -65,9 +64,9 @@ pub fn close_caller<S: Alter>(
     requires { conn.old.in_transaction ≡ false }
     ensures mode { conn.new.in_transaction ≡ false }
     ensures open { IsOpenIfOk S.Store conn.new result }
-    ensures done { HasCleanDisk (state S.Store conn.new) → IsChangeInLimits (change.CloseCaller name.now) → OnOk result (Changes (state S.Store conn.old) (state S.Store conn.new) at (change.CloseCaller name.now)) }
+    ensures done { HasCleanDisk (state S.Store conn.new) → OnOk result (Changes (state S.Store conn.old) (state S.Store conn.new) at (change.CloseCaller name.now)) }
     ensures nothing { KeepsIfErr S.Store conn.old conn.new result }
-    ensures crash { IsChangeInLimits (change.CloseCaller name.now) → Survives (state S.Store conn.old) (state S.Store conn.new) (AreChanged (state S.Store conn.old) at (change.CloseCaller name.now)) }
+    ensures crash { Survives (state S.Store conn.old) (state S.Store conn.new) (AreChanged (state S.Store conn.old) at (change.CloseCaller name.now)) }
 {
     commit_part(conn, at, &ClosedCaller { at, name })
 }
@@ -82,9 +81,9 @@ pub fn add_bucket<S: Alter>(
     requires { conn.old.in_transaction ≡ false }
     ensures mode { conn.new.in_transaction ≡ false }
     ensures open { IsOpenIfOk S.Store conn.new result }
-    ensures done { HasCleanDisk (state S.Store conn.new) → IsChangeInLimits (change.AddBucket name.now dept.now) → OnOk result (Changes (state S.Store conn.old) (state S.Store conn.new) at (change.AddBucket name.now dept.now)) }
+    ensures done { HasCleanDisk (state S.Store conn.new) → OnOk result (Changes (state S.Store conn.old) (state S.Store conn.new) at (change.AddBucket name.now dept.now)) }
     ensures nothing { KeepsIfErr S.Store conn.old conn.new result }
-    ensures crash { IsChangeInLimits (change.AddBucket name.now dept.now) → Survives (state S.Store conn.old) (state S.Store conn.new) (AreChanged (state S.Store conn.old) at (change.AddBucket name.now dept.now)) }
+    ensures crash { Survives (state S.Store conn.old) (state S.Store conn.new) (AreChanged (state S.Store conn.old) at (change.AddBucket name.now dept.now)) }
 {
     commit_part(conn, at, &NewBucket { at, name, dept })
 }
@@ -99,9 +98,9 @@ pub fn set_default<S: Alter>(
     requires { conn.old.in_transaction ≡ false }
     ensures mode { conn.new.in_transaction ≡ false }
     ensures open { IsOpenIfOk S.Store conn.new result }
-    ensures done { HasCleanDisk (state S.Store conn.new) → IsChangeInLimits (change.SetDefault name.now default) → OnOk result (Changes (state S.Store conn.old) (state S.Store conn.new) at (change.SetDefault name.now default)) }
+    ensures done { HasCleanDisk (state S.Store conn.new) → OnOk result (Changes (state S.Store conn.old) (state S.Store conn.new) at (change.SetDefault name.now default)) }
     ensures nothing { KeepsIfErr S.Store conn.old conn.new result }
-    ensures crash { IsChangeInLimits (change.SetDefault name.now default) → Survives (state S.Store conn.old) (state S.Store conn.new) (AreChanged (state S.Store conn.old) at (change.SetDefault name.now default)) }
+    ensures crash { Survives (state S.Store conn.old) (state S.Store conn.new) (AreChanged (state S.Store conn.old) at (change.SetDefault name.now default)) }
 {
     commit_part(conn, at, &NewDefault { at, name, default })
 }
@@ -116,9 +115,9 @@ pub fn set_rules<S: Alter>(
     requires { conn.old.in_transaction ≡ false }
     ensures mode { conn.new.in_transaction ≡ false }
     ensures open { IsOpenIfOk S.Store conn.new result }
-    ensures done { HasCleanDisk (state S.Store conn.new) → IsChangeInLimits (change.SetRules name.now rules.now) → OnOk result (Changes (state S.Store conn.old) (state S.Store conn.new) at (change.SetRules name.now rules.now)) }
+    ensures done { HasCleanDisk (state S.Store conn.new) → OnOk result (Changes (state S.Store conn.old) (state S.Store conn.new) at (change.SetRules name.now rules.now)) }
     ensures nothing { KeepsIfErr S.Store conn.old conn.new result }
-    ensures crash { IsChangeInLimits (change.SetRules name.now rules.now) → Survives (state S.Store conn.old) (state S.Store conn.new) (AreChanged (state S.Store conn.old) at (change.SetRules name.now rules.now)) }
+    ensures crash { Survives (state S.Store conn.old) (state S.Store conn.new) (AreChanged (state S.Store conn.old) at (change.SetRules name.now rules.now)) }
 {
     let rules = rules_given(rules);
     commit_part(conn, at, &NewRules { at, name, rules })
@@ -126,7 +125,8 @@ pub fn set_rules<S: Alter>(
 
 /// The rules of a set; none where there is no set.
 fn rules_given(rules: &Option<RuleSet>) -> &[Rule]
-    ensures { (name : List ℕ) → rules_from name 1 result.now ≡ rules_if_given name rules.now }
+    ensures rows { (name : List ℕ) → rules_from name 1 result.now ≡ rules_if_given name rules.now }
+    ensures same { IfSome rules.now (λ rs. result.now ≡ rs) }
 {
     match rules {
         Some(rules) => rules.as_slice(),

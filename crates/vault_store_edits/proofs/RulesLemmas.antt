@@ -1,6 +1,7 @@
 -- Rules that are put in one after another.
 use Rattle.std.proofs.Common.{◌≡◌, ◌==◌, ◌<◌, ◌+◌, ℕ, List, [], ◌∷◌, ◌++◌, length, map, take, get_or, Bool, true, false, cond, IsTrue, refl, sym, ap, subst, subst₂, ◌∙◌, arith}
 use Rattle.std.specs.Prelude.{IsPermutation}
+use Rattle.std.specs.List.{AllByRecursion}
 use Rattle.std.proofs.lemmas.List.{map-append, take_more, length-take-le}
 use Rattle.std.proofs.lemmas.List.Sorted.{IsPermutation-refl}
 use Rattle.sqlite_value.specs.Order.{Row}
@@ -14,6 +15,7 @@ use Rattle.vault_audit_model.specs.Rows.{rule_row}
 use Rattle.vault_audit_model.specs.Spells.{rules_from}
 use Rattle.vault_store_model.specs.Rows.{Rows, rows_in}
 use Rattle.vault_store_model.specs.Edits.{with_row, and_then, Edits, pushed, with_each}
+use Rattle.vault_store_edits.specs.Typed.{IsTypedRule}
 
 pushed_one : (xs : List Row) (r : Row) (rows : List Row) → pushed (xs ++ r ∷ []) rows ≡ r ∷ pushed xs rows
 pushed_one [] r rows = refl
@@ -64,3 +66,12 @@ one_rule_more bucket rules n rule within is =
 
 pub kept_edit : (old new : State) (edit : Rows → Rows) → Edits old new edit → KeepsCommit old new
 kept_edit old new edit e = record { was_open = λ _. e.was_open; committed = λ _. e.committed }
+
+all_and_one : (rules : List Rule) (rule : Rule) → AllByRecursion IsTypedRule rules → IsTypedRule rule → AllByRecursion IsTypedRule (rules ++ rule ∷ [])
+all_and_one [] rule all is = (is, tt)
+all_and_one (r ∷ rs) rule all is = (all.0, all_and_one rs rule all.1 is)
+
+-- what the types say of the first rules and of the next
+pub one_typed_more : (rules : List Rule) (n : ℕ) (rule : Rule) → n < length rules → rule ≡ get_or rules n rule → AllByRecursion IsTypedRule (take n rules) → IsTypedRule rule → AllByRecursion IsTypedRule (take (n + 1) rules)
+one_typed_more rules n rule within is all one =
+    subst (AllByRecursion IsTypedRule) (sym (take_more rules n rule within)) (all_and_one (take n rules) (get_or rules n rule) all (subst IsTypedRule is one))

@@ -100,6 +100,10 @@ pub on_err_all : {A E : Type 0} {P Q : Type 0} (r : Result A E) → OnErr r P �
 on_err_all (Ok a) p f = tt
 on_err_all (Err e) p f = f p
 
+pub on_ok_here : {A E : Type 0} {P : Type 0} (r : Result A E) → P → OnOk r P
+on_ok_here (Ok a) p = p
+on_ok_here (Err e) p = tt
+
 pub on_err_here : {A E : Type 0} {P : Type 0} (r : Result A E) → P → OnErr r P
 on_err_here (Ok a) p = tt
 on_err_here (Err e) p = p

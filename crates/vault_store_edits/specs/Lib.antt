@@ -5,3 +5,4 @@ pub mod Apart
 pub mod Queries
 pub mod Author
 pub mod Inside
+pub mod Typed

@@ -1,6 +1,7 @@
 //! Rows of `buckets`.
 ghost use Rattle.std.specs.Prelude.{◌≡◌, None};
 ghost use Rattle.vault_base.specs.declared.refusal.Table.TheVariants as table;
+ghost use Rattle.vault_audit_model.specs.Limits.{IsBucketName, IsPlainName};
 ghost use Rattle.vault_audit_model.specs.Rows.{bucket_row};
 ghost use Rattle.vault_store_model.specs.Edits.{with_row, with_changed};
 ghost use Rattle.vault_store_model.specs.Tests.{is_named, with_default_columns, with_owner};
@@ -21,6 +22,7 @@ pub fn put_bucket<S: Alter>(
 ) -> Result<usize, Error>
     ensures same_reference { tx.new.conn.ghost_name ≡ tx.old.conn.ghost_name }
     ensures edit { IsEdit S.Store tx.old.conn.now tx.new.conn.now result (with_row table.Buckets (bucket_row (record { name = name.now; config = record { dept = dept.now; default = None } }))) }
+    ensures limits { IsBucketName name.now × IsPlainName dept.now }
 {
     tx.execute(
         "INSERT INTO buckets (name, dept, mode, days, years) VALUES (?1, ?2, 0, NULL, NULL)",

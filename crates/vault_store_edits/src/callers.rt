@@ -1,6 +1,7 @@
 //! Rows of `callers`.
 ghost use Rattle.std.specs.Prelude.{◌≡◌};
 ghost use Rattle.vault_base.specs.declared.refusal.Table.TheVariants as table;
+ghost use Rattle.vault_audit_model.specs.Limits.{IsCaller};
 ghost use Rattle.vault_audit_model.specs.Rows.{caller_row};
 ghost use Rattle.vault_store_model.specs.Edits.{with_row, with_changed};
 ghost use Rattle.vault_store_model.specs.Tests.{is_named, closed_row};
@@ -17,6 +18,7 @@ use vault_core_model::records::Caller;
 pub fn put_caller<S: Alter>(tx: &mut Transaction<'_, S>, caller: &Caller) -> Result<usize, Error>
     ensures same_reference { tx.new.conn.ghost_name ≡ tx.old.conn.ghost_name }
     ensures edit { IsEdit S.Store tx.old.conn.now tx.new.conn.now result (with_row table.Callers (caller_row caller.now)) }
+    ensures limits { IsCaller caller.now }
 {
     tx.execute(
         "INSERT INTO callers (name, dept, rights, closed) VALUES (?1, ?2, ?3, ?4)",

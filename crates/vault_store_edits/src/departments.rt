@@ -1,6 +1,7 @@
 //! Rows of `departments`.
 ghost use Rattle.std.specs.Prelude.{◌≡◌};
 ghost use Rattle.vault_base.specs.declared.refusal.Table.TheVariants as table;
+ghost use Rattle.vault_audit_model.specs.Limits.{IsPlainName};
 ghost use Rattle.vault_audit_model.specs.Rows.{department_row};
 ghost use Rattle.vault_store_model.specs.Edits.{with_row, with_changed};
 ghost use Rattle.vault_store_model.specs.Tests.{is_named, with_sums};
@@ -20,6 +21,7 @@ pub fn put_department<S: Alter>(
 ) -> Result<usize, Error>
     ensures same_reference { tx.new.conn.ghost_name ≡ tx.old.conn.ghost_name }
     ensures edit { IsEdit S.Store tx.old.conn.now tx.new.conn.now result (with_row table.Departments (department_row (record { name = name.now; sums = record { admitted = 0; received = 0; held = 0; removed = 0; handed = 0; weighted = 0; closed = 0 } }))) }
+    ensures limits { IsPlainName name.now }
 {
     tx.execute(
         "INSERT INTO departments (name, admitted, held, removed, weighted, closed, received, handed) VALUES (?1, 0, 0, 0, 0, 0, 0, 0)",

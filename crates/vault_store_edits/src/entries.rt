@@ -1,10 +1,12 @@
 //! Rows of `entries`.
-ghost use Rattle.std.specs.Prelude.{◌≡◌};
+ghost use Rattle.std.specs.Prelude.{◌≡◌, OnOk};
 ghost use Rattle.vault_base.specs.declared.refusal.Table.TheVariants as table;
+ghost use Rattle.vault_audit_model.specs.Limits.{IsCause};
 ghost use Rattle.vault_audit_model.specs.Rows.{entry_row};
 ghost use Rattle.vault_store_model.specs.Edits.{with_row, with_changed};
 ghost use Rattle.vault_store_model.specs.Tests.{is_numbered, removed_row};
 ghost use Rattle.vault_store_edits.specs.Inside.{IsEdit, IsEditOfSound};
+ghost use Rattle.vault_store_edits.specs.Typed.{IsTypedEntry};
 
 use crate::by_id::check_id;
 use crate::entry_parameters::{
@@ -21,6 +23,7 @@ use vault_core_model::records::{Entry, Removal};
 pub fn put_entry<S: Alter>(tx: &mut Transaction<'_, S>, entry: &Entry) -> Result<usize, Error>
     ensures same_reference { tx.new.conn.ghost_name ≡ tx.old.conn.ghost_name }
     ensures edit { IsEdit S.Store tx.old.conn.now tx.new.conn.now result (with_row table.Entries (entry_row entry.now)) }
+    ensures limits { OnOk result (IsTypedEntry entry.now) }
 {
     let size = whole(entry.size)?;
     tx.execute(
@@ -50,6 +53,7 @@ pub fn remove_entry<S: Alter>(
 ) -> Result<usize, Error>
     ensures same_reference { tx.new.conn.ghost_name ≡ tx.old.conn.ghost_name }
     ensures edit { IsEditOfSound S.Store tx.old.conn.now tx.new.conn.now result (with_changed table.Entries (is_numbered id) (removed_row removal.now)) }
+    ensures limits { IsCause removal.now.cause }
 {
     let at = seconds(removal.at);
     let cause = cause_number(&removal.cause);

@@ -1,7 +1,8 @@
 //! The parameters of statements on entries: who admitted them, why they were removed, and their digests.
-ghost use Rattle.std.specs.Prelude.{◌≡◌, pos, option_map};
+ghost use Rattle.std.specs.Prelude.{◌≡◌, length, pos, option_map, IfSome};
 ghost use Rattle.sqlite_value.specs.declared.value.Value.TheVariants.{Text, Blob};
 ghost use Rattle.sqlite.specs.Values.{or_null};
+ghost use Rattle.vault_audit_model.specs.Limits.{IsAuthor, IsCause};
 ghost use Rattle.vault_audit_model.specs.Rows.{author_kind, cause_number, cause_text, removal_by};
 ghost use Rattle.vault_audit_model.specs.Values.{bytes_or_null, flag};
 ghost use Rattle.vault_store_edits.specs.Author.{author_text};
@@ -12,7 +13,8 @@ use vault_core_model::records::{Author, Cause, Removal};
 
 /// The bytes of a digest, if there is one.
 pub fn digest_bytes(digest: &Option<Digest>) -> Option<&[u8]>
-    ensures { or_null (λ b. Blob b.now) result ≡ bytes_or_null digest.now }
+    ensures value { or_null (λ b. Blob b.now) result ≡ bytes_or_null digest.now }
+    ensures limits { IfSome digest.now (λ d. length d ≡ 32) }
 {
     match digest {
         Some(digest) => Some(digest.as_slice()),
@@ -32,7 +34,8 @@ pub fn is_rule(author: &Author) -> bool
 
 /// The caller's name or the rule's id.
 pub fn author_text(author: &Author) -> &str
-    ensures { result.now ≡ author_text author.now }
+    ensures value { result.now ≡ author_text author.now }
+    ensures limits { IsAuthor author.now }
 {
     match author {
         Author::Caller(name) => name.as_str(),
@@ -53,7 +56,8 @@ pub fn cause_number(cause: &Cause) -> u32
 
 /// The caller's name or the rule's id in a cause.
 pub fn cause_text(cause: &Cause) -> &str
-    ensures { result.now ≡ cause_text cause.now }
+    ensures value { result.now ≡ cause_text cause.now }
+    ensures limits { IsCause cause.now }
 {
     match cause {
         Cause::Request(name) => name.as_str(),

@@ -1,9 +1,10 @@
 //! Rows of `intake`.
-ghost use Rattle.std.specs.Prelude.{◌≡◌};
+ghost use Rattle.std.specs.Prelude.{◌≡◌, OnOk};
 ghost use Rattle.vault_base.specs.declared.refusal.Table.TheVariants as table;
 ghost use Rattle.vault_audit_model.specs.Rows.{note_row};
 ghost use Rattle.vault_store_model.specs.Edits.{with_row};
 ghost use Rattle.vault_store_edits.specs.Inside.{IsEdit};
+ghost use Rattle.vault_store_edits.specs.Typed.{IsTypedNote};
 
 use crate::parameters::{retention_mode, until, whole};
 use sqlite::{Alter, Error, Transaction, params};
@@ -13,6 +14,7 @@ use vault_core_model::records::Note;
 pub fn put_note<S: Alter>(tx: &mut Transaction<'_, S>, note: &Note) -> Result<usize, Error>
     ensures same_reference { tx.new.conn.ghost_name ≡ tx.old.conn.ghost_name }
     ensures edit { IsEdit S.Store tx.old.conn.now tx.new.conn.now result (with_row table.Intake (note_row note.now)) }
+    ensures limits { OnOk result (IsTypedNote note.now) }
 {
     let size = whole(note.size)?;
     tx.execute(

@@ -1,5 +1,6 @@
 //! The row of `meta`.
-ghost use Rattle.std.specs.Prelude.{◌≡◌};
+ghost use Rattle.std.specs.Prelude.{◌≡◌, ◌≤◌, OnOk};
+ghost use Rattle.vault_base.specs.Days.{last_moment};
 ghost use Rattle.vault_base.specs.declared.refusal.Table.TheVariants as table;
 ghost use Rattle.vault_store_model.specs.Edits.{with_changed};
 ghost use Rattle.vault_store_model.specs.Tests.{every, with_last, with_last_and_moves, with_last_and_next};
@@ -15,6 +16,7 @@ use vault_base::refusal::Table;
 pub fn set_last<S: Alter>(tx: &mut Transaction<'_, S>, last: Moment) -> Result<usize, Error>
     ensures same_reference { tx.new.conn.ghost_name ≡ tx.old.conn.ghost_name }
     ensures edit { IsEditOfSound S.Store tx.old.conn.now tx.new.conn.now result (with_changed table.Meta every (with_last last)) }
+    ensures range { OnOk result (last ≤ last_moment) }
 {
     check_apart(tx, Table::Meta, "SELECT rowid FROM meta", &[])?;
     tx.execute("UPDATE meta SET last = ?1", params![seconds(last)])
@@ -28,6 +30,7 @@ pub fn set_last_and_next<S: Alter>(
 ) -> Result<usize, Error>
     ensures same_reference { tx.new.conn.ghost_name ≡ tx.old.conn.ghost_name }
     ensures edit { IsEditOfSound S.Store tx.old.conn.now tx.new.conn.now result (with_changed table.Meta every (with_last_and_next last next)) }
+    ensures range { OnOk result (last ≤ last_moment) }
 {
     let next = whole(next)?;
     check_apart(tx, Table::Meta, "SELECT rowid FROM meta", &[])?;
@@ -45,6 +48,7 @@ pub fn set_last_and_moves<S: Alter>(
 ) -> Result<usize, Error>
     ensures same_reference { tx.new.conn.ghost_name ≡ tx.old.conn.ghost_name }
     ensures edit { IsEditOfSound S.Store tx.old.conn.now tx.new.conn.now result (with_changed table.Meta every (with_last_and_moves last moves)) }
+    ensures range { OnOk result (last ≤ last_moment) }
 {
     check_apart(tx, Table::Meta, "SELECT rowid FROM meta", &[])?;
     tx.execute(

@@ -1,7 +1,9 @@
 //! The parameters of the statements: values of records as a statement takes them.
-ghost use Rattle.std.specs.Prelude.{◌≡◌, ◌≤◌, ◌+◌, pos, IfOk, option_map, option_and_then};
+ghost use Rattle.std.specs.Prelude.{◌≡◌, ◌≤◌, ◌+◌, pos, IfOk, IfSome, option_map, option_and_then};
 ghost use Rattle.sqlite_value.specs.declared.value.Value.TheVariants.{Text};
 ghost use Rattle.sqlite.specs.Values.{or_null};
+ghost use Rattle.vault_base.specs.Days.{last_moment};
+ghost use Rattle.vault_audit_model.specs.Limits.{IsPlainName, IsRetention};
 ghost use Rattle.vault_audit_model.specs.Rows.{bit, rights_number, mode_number, days_of, years_of};
 ghost use Rattle.vault_audit_model.specs.Values.{text_or_null};
 
@@ -34,14 +36,16 @@ pub fn bound(bound: Option<u64>) -> Result<Option<i64>, Error>
 
 /// A moment, in seconds since 1970.
 pub fn seconds(moment: Moment) -> i64
-    ensures { result ≡ pos moment }
+    ensures value { result ≡ pos moment }
+    ensures range { moment ≤ last_moment }
 {
     moment.secs() as i64
 }
 
 /// The end of a retention.
 pub fn until(retention: Option<Retention>) -> Option<i64>
-    ensures { result ≡ option_map (λ r. pos r.until) retention }
+    ensures value { result ≡ option_map (λ r. pos r.until) retention }
+    ensures limits { IfSome retention IsRetention }
 {
     match retention {
         Some(retention) => Some(seconds(retention.until)),
@@ -102,7 +106,8 @@ pub fn default_years(default: Option<Default>) -> Option<u32>
 
 /// The name of a department, if there is one.
 pub fn dept_text(dept: &Option<DeptName>) -> Option<&str>
-    ensures { or_null (λ s. Text s.now) result ≡ text_or_null dept.now }
+    ensures value { or_null (λ s. Text s.now) result ≡ text_or_null dept.now }
+    ensures limits { IfSome dept.now IsPlainName }
 {
     match dept {
         Some(dept) => Some(dept.as_str()),

@@ -1,5 +1,6 @@
 //! Rows of `rules`.
 ghost use Rattle.std.specs.Prelude.{◌≡◌, map, IsTrue, OnOk};
+ghost use Rattle.std.specs.List.{AllByRecursion};
 ghost use Rattle.sqlite.specs.Effect.{IsDatabase};
 ghost use Rattle.sqlite.specs.State.{HasCleanDisk, Survives};
 ghost use Rattle.sqlite.specs.Held.{state};
@@ -10,6 +11,7 @@ ghost use Rattle.vault_audit_model.specs.Tables.{vault_schema};
 ghost use Rattle.vault_store_model.specs.Edits.{with_row, without, Edits, with_each};
 ghost use Rattle.vault_store_model.specs.Tests.{is_named};
 ghost use Rattle.vault_store_edits.specs.Inside.{CommitsNothing, IsEdit};
+ghost use Rattle.vault_store_edits.specs.Typed.{IsTypedRule};
 
 use crate::apart::check_apart;
 use crate::parameters::{bound, noncurrent_days, noncurrent_newer};
@@ -47,6 +49,7 @@ pub fn put_rule<S: Alter>(
 ) -> Result<usize, Error>
     ensures same_reference { tx.new.conn.ghost_name ≡ tx.old.conn.ghost_name }
     ensures edit { IsEdit S.Store tx.old.conn.now tx.new.conn.now result (with_row table.Rules (rule_row (record { bucket = bucket.now; place = place; rule = rule.now }))) }
+    ensures limits { OnOk result (IsTypedRule rule.now) }
 {
     let larger = bound(rule.larger)?;
     let smaller = bound(rule.smaller)?;
@@ -83,6 +86,7 @@ pub fn put_rules<S: Alter>(
         → (state S.Store tx.old.conn.now).now.schema ≡ vault_schema → IsDatabase (state S.Store tx.old.conn.now).now → OnOk result (IsDatabase (state S.Store tx.new.conn.now).now) }
     ensures kept { CommitsNothing S.Store tx.old.conn.now tx.new.conn.now result }
     ensures survives { Survives (state S.Store tx.old.conn.now) (state S.Store tx.new.conn.now) (λ _. ⊥) }
+    ensures limits { OnOk result (AllByRecursion IsTypedRule rules.now) }
 {
     let mut place = 0u32;
     for rule in rules {

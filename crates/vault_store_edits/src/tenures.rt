@@ -1,6 +1,7 @@
 //! Rows of `tenures`.
 ghost use Rattle.std.specs.Prelude.{◌≡◌};
 ghost use Rattle.vault_base.specs.declared.refusal.Table.TheVariants as table;
+ghost use Rattle.vault_audit_model.specs.Limits.{IsPlainName};
 ghost use Rattle.vault_audit_model.specs.Rows.{tenure_row};
 ghost use Rattle.vault_store_model.specs.Copies.{with_tenures};
 ghost use Rattle.vault_store_model.specs.Edits.{with_row};
@@ -43,6 +44,7 @@ pub fn put_tenures<S: Alter>(
 ) -> Result<usize, Error>
     ensures same_reference { tx.new.conn.ghost_name ≡ tx.old.conn.ghost_name }
     ensures edit { IsEdit S.Store tx.old.conn.now tx.new.conn.now result (with_tenures bucket.now number dept.now at) }
+    ensures limits { IsPlainName dept.now }
 {
     tx.execute(
         "INSERT INTO tenures (id, n, dept, moment) SELECT id, ?2, ?3, ?4 FROM entries WHERE bucket = ?1 AND marker = 0 AND removed IS NULL",

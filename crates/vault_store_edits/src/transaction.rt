@@ -19,10 +19,14 @@ pub trait Part<S: Alter> {
     /// What it makes of the rows of the tables.
     ghost edit: { Self → Rows → Rows };
 
+    /// What the types of the values say that it writes, known once it has written them.
+    ghost limits: { Self → Type 0 };
+
     fn make(&self, tx: &mut Transaction<'_, S>) -> Result<(), Error>
         ensures same_reference { tx.new.conn.ghost_name ≡ tx.old.conn.ghost_name }
         ensures edits { HasCleanDisk (state S.Store tx.new.conn.now) → IsTrue tx.old.conn.now.in_transaction → IsReady (state S.Store tx.old.conn.now)
             → OnOk result (Edits (state S.Store tx.old.conn.now) (state S.Store tx.new.conn.now) (edit self.now) × IsDatabase (state S.Store tx.new.conn.now).now) }
+        ensures limited { OnOk result (limits self.now) }
         ensures kept { CommitsNoPart S.Store tx.old.conn.now tx.new.conn.now result }
         ensures survives { Survives (state S.Store tx.old.conn.now) (state S.Store tx.new.conn.now) (λ _. ⊥) };
 }
@@ -43,6 +47,7 @@ fn make_open<S: Alter, P: Part<S>>(tx: &mut Transaction<'_, S>, part: &P) -> Res
     ensures same_reference { tx.new.conn.ghost_name ≡ tx.old.conn.ghost_name }
     ensures edits { HasCleanDisk (state S.Store tx.new.conn.now) → IsTrue tx.old.conn.now.in_transaction → IsLive (state S.Store tx.old.conn.now)
         → OnOk result (IsTrue (state S.Store tx.old.conn.now).is_open × ((state S.Store tx.old.conn.now).now.schema ≡ vault_schema → Edits (state S.Store tx.old.conn.now) (state S.Store tx.new.conn.now) (P.edit part.now) × IsDatabase (state S.Store tx.new.conn.now).now)) }
+    ensures limited { OnOk result (P.limits part.now) }
     ensures kept { HasCleanDisk (state S.Store tx.new.conn.now) → IsTrue tx.old.conn.now.in_transaction → IsLive (state S.Store tx.old.conn.now)
         → OnErr result ((IsTrue (state S.Store tx.old.conn.now).is_open → (state S.Store tx.old.conn.now).now.schema ≡ vault_schema) → KeepsCommit (state S.Store tx.old.conn.now) (state S.Store tx.new.conn.now)) }
     ensures survives { Survives (state S.Store tx.old.conn.now) (state S.Store tx.new.conn.now) (λ _. ⊥) }
@@ -57,11 +62,13 @@ pub fn transact<S: Alter, P: Part<S>>(conn: &mut Connection<S>, part: &P) -> Res
     ensures mode { conn.new.in_transaction ≡ false }
     ensures open { HasCleanDisk (state S.Store conn.new) → OnOk result (IsTrue (state S.Store conn.old).is_open × IsTrue (state S.Store conn.new).is_open) }
     ensures done { HasCleanDisk (state S.Store conn.new) → OnOk result ((state S.Store conn.old).now.schema ≡ vault_schema → Commits (state S.Store conn.old) (state S.Store conn.new) (P.edit part.now)) }
+    ensures limited { OnOk result (P.limits part.now) }
     ensures nothing { KeepsIfErr S.Store conn.old conn.new result }
     // What a crash may leave after that are these tables alone.
     ensures alone { HasCleanDisk (state S.Store conn.new) → OnOk result ((trees : Trees) → (state S.Store conn.new).may_leave trees → trees ≡ (state S.Store conn.new).now.trees) }
-    // What a crash may leave, at any moment of the call: what it could leave before, or the edited tables.
-    ensures crash { Survives (state S.Store conn.old) (state S.Store conn.new) (λ trees. IsTrue (state S.Store conn.old).is_open × ((state S.Store conn.old).now.schema ≡ vault_schema → MayCommit (state S.Store conn.old) (P.edit part.now) trees)) }
+    // What a crash may leave, at any moment of the call: what it could leave before, or the edited tables,
+    // where all has been written.
+    ensures crash { Survives (state S.Store conn.old) (state S.Store conn.new) (λ trees. P.limits part.now × IsTrue (state S.Store conn.old).is_open × ((state S.Store conn.old).now.schema ≡ vault_schema → MayCommit (state S.Store conn.old) (P.edit part.now) trees)) }
 {
     // Its clause says that the tables of an open connection obey their schema.
     let _schema = conn.schema();

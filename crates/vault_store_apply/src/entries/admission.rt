@@ -7,7 +7,6 @@ ghost use Rattle.vault_base.specs.Days.{day};
 ghost use Rattle.vault_core_model.specs.Vault.{Vault};
 ghost use Rattle.vault_store_model.specs.Keeping.{Keeps};
 ghost use Rattle.vault_store_model.specs.Changes.{head_with};
-ghost use Rattle.vault_store_model.specs.Limits.{IsChangeInLimits};
 ghost use Rattle.vault_store_model.specs.Sums.{CountsIn};
 ghost use Rattle.vault_store_apply.specs.Applies.{Changes, IsChanged};
 ghost use Rattle.vault_store_reads.specs.Quiet.{IsOpenIfOk};
@@ -60,17 +59,16 @@ pub fn admit<S: Alter>(
     requires { conn.old.in_transaction ≡ false }
     ensures mode { conn.new.in_transaction ≡ false }
     ensures open { IsOpenIfOk S.Store conn.new result }
-    ensures done { HasCleanDisk (state S.Store conn.new) → IsChangeInLimits (change.Admit admission.now) → OnOk result (Changes (state S.Store conn.old) (state S.Store conn.new) at (change.Admit admission.now)) }
+    ensures done { HasCleanDisk (state S.Store conn.new) → OnOk result (Changes (state S.Store conn.old) (state S.Store conn.new) at (change.Admit admission.now)) }
     ensures nothing { KeepsIfErr S.Store conn.old conn.new result }
     ensures honest { HasCleanDisk (state S.Store conn.new) → HasCleanDisk (state S.Store conn.old) }
-    ensures crash { IsChangeInLimits (change.Admit admission.now) → (v : Vault) → Keeps (state S.Store conn.old) v → Survives (state S.Store conn.old) (state S.Store conn.new) (IsChanged (state S.Store conn.old) v at (change.Admit admission.now)) }
+    ensures crash { (v : Vault) → Keeps (state S.Store conn.old) v → Survives (state S.Store conn.old) (state S.Store conn.new) (IsChanged (state S.Store conn.old) v at (change.Admit admission.now)) }
 {
     let entry = &admission.history.entry;
     let place = read_place(conn, &entry.bucket, &entry.key)?;
     let newest = next_head(entry.id, place.head)?;
     let sums = with_version(place.sums, entry.size, at);
     let next = u64::from(entry.id.number()) + 1;
-    let _in_range = at.secs();
     let part = NewEntry {
         at,
         admission,

@@ -7,7 +7,6 @@ ghost use Rattle.vault_core_model.specs.declared.change.Change.TheVariants as ch
 ghost use Rattle.vault_core_model.specs.Reads.{entry_of};
 ghost use Rattle.vault_core_model.specs.Vault.{Vault};
 ghost use Rattle.vault_store_model.specs.Keeping.{Keeps};
-ghost use Rattle.vault_store_model.specs.Limits.{IsChangeInLimits};
 ghost use Rattle.vault_store_model.specs.Sums.{CountsOut};
 ghost use Rattle.vault_store_apply.specs.Applies.{Changes, IsChanged};
 ghost use Rattle.vault_store_apply.specs.Heads.{head_without};
@@ -66,10 +65,10 @@ pub fn remove<S: Alter>(
     requires { conn.old.in_transaction ≡ false }
     ensures mode { conn.new.in_transaction ≡ false }
     ensures open { IsOpenIfOk S.Store conn.new result }
-    ensures done { HasCleanDisk (state S.Store conn.new) → IsChangeInLimits (change.Remove id removal.now) → OnOk result (Changes (state S.Store conn.old) (state S.Store conn.new) at (change.Remove id removal.now)) }
+    ensures done { HasCleanDisk (state S.Store conn.new) → OnOk result (Changes (state S.Store conn.old) (state S.Store conn.new) at (change.Remove id removal.now)) }
     ensures nothing { KeepsIfErr S.Store conn.old conn.new result }
     ensures honest { HasCleanDisk (state S.Store conn.new) → HasCleanDisk (state S.Store conn.old) }
-    ensures crash { IsChangeInLimits (change.Remove id removal.now) → (v : Vault) → Keeps (state S.Store conn.old) v → Survives (state S.Store conn.old) (state S.Store conn.new) (IsChanged (state S.Store conn.old) v at (change.Remove id removal.now)) }
+    ensures crash { (v : Vault) → Keeps (state S.Store conn.old) v → Survives (state S.Store conn.old) (state S.Store conn.new) (IsChanged (state S.Store conn.old) v at (change.Remove id removal.now)) }
 {
     let entry = find_entry(conn, id)?;
     let place = match read_place(conn, &entry.bucket, &entry.key) {
@@ -89,7 +88,6 @@ pub fn remove<S: Alter>(
     };
     let left = left_head(beside.newest, place.head);
     let sums = without_version(place.sums, &entry, beside.since, at);
-    let _in_range = at.secs();
     let part = RemovedEntry {
         at,
         id,

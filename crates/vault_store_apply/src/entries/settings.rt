@@ -6,7 +6,6 @@ ghost use Rattle.vault_core_model.specs.declared.change.Change.TheVariants as ch
 ghost use Rattle.vault_core_model.specs.Reads.{count_of_settings};
 ghost use Rattle.vault_core_model.specs.Vault.{Vault};
 ghost use Rattle.vault_store_model.specs.Keeping.{Keeps};
-ghost use Rattle.vault_store_model.specs.Limits.{IsChangeInLimits};
 ghost use Rattle.vault_store_apply.specs.Applies.{Changes, IsChanged};
 ghost use Rattle.vault_store_reads.specs.Quiet.{IsOpenIfOk};
 ghost use Rattle.vault_store_edits.specs.Commits.{KeepsIfErr};
@@ -43,10 +42,10 @@ pub fn add_setting<S: Alter>(
     requires { conn.old.in_transaction ≡ false }
     ensures mode { conn.new.in_transaction ≡ false }
     ensures open { IsOpenIfOk S.Store conn.new result }
-    ensures done { HasCleanDisk (state S.Store conn.new) → IsChangeInLimits (change.AddSetting id setting.now) → OnOk result (Changes (state S.Store conn.old) (state S.Store conn.new) at (change.AddSetting id setting.now)) }
+    ensures done { HasCleanDisk (state S.Store conn.new) → OnOk result (Changes (state S.Store conn.old) (state S.Store conn.new) at (change.AddSetting id setting.now)) }
     ensures nothing { KeepsIfErr S.Store conn.old conn.new result }
     ensures honest { HasCleanDisk (state S.Store conn.new) → HasCleanDisk (state S.Store conn.old) }
-    ensures crash { IsChangeInLimits (change.AddSetting id setting.now) → (v : Vault) → Keeps (state S.Store conn.old) v → Survives (state S.Store conn.old) (state S.Store conn.new) (IsChanged (state S.Store conn.old) v at (change.AddSetting id setting.now)) }
+    ensures crash { (v : Vault) → Keeps (state S.Store conn.old) v → Survives (state S.Store conn.old) (state S.Store conn.new) (IsChanged (state S.Store conn.old) v at (change.AddSetting id setting.now)) }
 {
     let last = read_setting(conn, id)?;
     let place = next_place(last)?;

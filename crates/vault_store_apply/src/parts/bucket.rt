@@ -18,9 +18,14 @@ pub struct NewBucket<'a> {
 }
 
 impl<S: Alter> Part<S> for NewBucket<'_> {
+    ghost use Rattle.std.specs.Prelude.{◌≤◌};
+    ghost use Rattle.vault_base.specs.Days.{last_moment};
+    ghost use Rattle.vault_audit_model.specs.Limits.{IsBucketName, IsPlainName};
     ghost use Rattle.vault_store_apply.specs.Parts.{bucket_added};
 
     ghost edit = { λ part. bucket_added part.name.now part.dept.now part.at };
+
+    ghost limits = { λ part. (part.at ≤ last_moment) × IsBucketName part.name.now × IsPlainName part.dept.now };
 
     fn make(&self, tx: &mut Transaction<'_, S>) -> Result<(), Error> {
         put_bucket(tx, self.name, self.dept)?;
@@ -38,9 +43,13 @@ pub struct NewDefault<'a> {
 }
 
 impl<S: Alter> Part<S> for NewDefault<'_> {
+    ghost use Rattle.std.specs.Prelude.{◌≤◌};
+    ghost use Rattle.vault_base.specs.Days.{last_moment};
     ghost use Rattle.vault_store_apply.specs.Parts.{default_set};
 
     ghost edit = { λ part. default_set part.name.now part.default part.at };
+
+    ghost limits = { λ part. part.at ≤ last_moment };
 
     fn make(&self, tx: &mut Transaction<'_, S>) -> Result<(), Error> {
         set_default(tx, self.name, self.default)?;
@@ -58,9 +67,15 @@ pub struct NewRules<'a> {
 }
 
 impl<S: Alter> Part<S> for NewRules<'_> {
+    ghost use Rattle.std.specs.Prelude.{◌≤◌};
+    ghost use Rattle.std.specs.List.{AllByRecursion};
+    ghost use Rattle.vault_base.specs.Days.{last_moment};
+    ghost use Rattle.vault_store_edits.specs.Typed.{IsTypedRule};
     ghost use Rattle.vault_store_apply.specs.Parts.{rules_set};
 
     ghost edit = { λ part. rules_set part.name.now part.rules.now part.at };
+
+    ghost limits = { λ part. (part.at ≤ last_moment) × AllByRecursion IsTypedRule part.rules.now };
 
     fn make(&self, tx: &mut Transaction<'_, S>) -> Result<(), Error> {
         delete_rules(tx, self.name)?;

@@ -15,9 +15,14 @@ pub struct NewCaller<'a> {
 }
 
 impl<S: Alter> Part<S> for NewCaller<'_> {
+    ghost use Rattle.std.specs.Prelude.{◌≤◌};
+    ghost use Rattle.vault_base.specs.Days.{last_moment};
+    ghost use Rattle.vault_audit_model.specs.Limits.{IsCaller};
     ghost use Rattle.vault_store_apply.specs.Parts.{caller_added};
 
     ghost edit = { λ part. caller_added part.caller.now part.at };
+
+    ghost limits = { λ part. (part.at ≤ last_moment) × IsCaller part.caller.now };
 
     fn make(&self, tx: &mut Transaction<'_, S>) -> Result<(), Error> {
         put_caller(tx, self.caller)?;
@@ -34,9 +39,13 @@ pub struct ClosedCaller<'a> {
 }
 
 impl<S: Alter> Part<S> for ClosedCaller<'_> {
+    ghost use Rattle.std.specs.Prelude.{◌≤◌};
+    ghost use Rattle.vault_base.specs.Days.{last_moment};
     ghost use Rattle.vault_store_apply.specs.Parts.{caller_closed};
 
     ghost edit = { λ part. caller_closed part.name.now part.at };
+
+    ghost limits = { λ part. part.at ≤ last_moment };
 
     fn make(&self, tx: &mut Transaction<'_, S>) -> Result<(), Error> {
         close_caller(tx, self.name)?;

@@ -14,9 +14,14 @@ pub struct NewDepartment<'a> {
 }
 
 impl<S: Alter> Part<S> for NewDepartment<'_> {
+    ghost use Rattle.std.specs.Prelude.{◌≤◌};
+    ghost use Rattle.vault_base.specs.Days.{last_moment};
+    ghost use Rattle.vault_audit_model.specs.Limits.{IsPlainName};
     ghost use Rattle.vault_store_apply.specs.Parts.{department_added};
 
     ghost edit = { λ part. department_added part.name.now part.at };
+
+    ghost limits = { λ part. (part.at ≤ last_moment) × IsPlainName part.name.now };
 
     fn make(&self, tx: &mut Transaction<'_, S>) -> Result<(), Error> {
         put_department(tx, self.name)?;

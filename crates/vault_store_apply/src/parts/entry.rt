@@ -1,7 +1,10 @@
 //! An entry that is added, and one that is removed.
-ghost use Rattle.std.specs.Prelude.{◌≡◌};
+ghost use Rattle.std.specs.Prelude.{◌≡◌, IfSome, OnOk};
+ghost use Rattle.vault_audit_model.specs.Limits.{IsCause};
 ghost use Rattle.vault_store_apply.specs.EntryParts.{history_put, noted_and_summed, bytes_dropped};
+ghost use Rattle.vault_store_apply.specs.Typed.{IsFirstTyped};
 ghost use Rattle.vault_store_edits.specs.Inside.{MakesPart};
+ghost use Rattle.vault_store_edits.specs.Typed.{IsTypedEntry, IsTypedNote};
 
 use crate::parts::given::{
     leave_head, put_content_if_given, put_first_setting, put_first_tenure, put_newest,
@@ -22,6 +25,7 @@ use vault_tally::row::Row as Sums;
 fn put_history<S: Alter>(tx: &mut Transaction<'_, S>, history: &History) -> Result<(), Error>
     ensures same_reference { tx.new.conn.ghost_name ≡ tx.old.conn.ghost_name }
     ensures part { MakesPart S.Store tx.old.conn.now tx.new.conn.now result (history_put history.now) }
+    ensures typed { OnOk result (IsTypedEntry history.now.entry × IsFirstTyped history.now.settings) }
 {
     put_entry(tx, &history.entry)?;
     put_content_if_given(tx, history.entry.id, &history.content)?;
@@ -39,6 +43,7 @@ fn put_beside<S: Alter>(
 ) -> Result<(), Error>
     ensures same_reference { tx.new.conn.ghost_name ≡ tx.old.conn.ghost_name }
     ensures part { MakesPart S.Store tx.old.conn.now tx.new.conn.now result (noted_and_summed note.now marker dept.now sums.now) }
+    ensures typed { OnOk result (IfSome note.now IsTypedNote) }
 {
     put_note_if_given(tx, note)?;
     set_sums_of(tx, marker, dept, sums)
@@ -52,6 +57,7 @@ fn drop_bytes<S: Alter>(
 ) -> Result<(), Error>
     ensures same_reference { tx.new.conn.ghost_name ≡ tx.old.conn.ghost_name }
     ensures part { MakesPart S.Store tx.old.conn.now tx.new.conn.now result (bytes_dropped id removal.now) }
+    ensures limits { IsCause removal.now.cause }
 {
     remove_entry(tx, id, removal)?;
     delete_content(tx, id)?;
@@ -74,9 +80,14 @@ pub struct NewEntry<'a> {
 }
 
 impl<S: Alter> Part<S> for NewEntry<'_> {
+    ghost use Rattle.std.specs.Prelude.{◌≤◌};
+    ghost use Rattle.vault_base.specs.Days.{last_moment};
+    ghost use Rattle.vault_store_apply.specs.Typed.{IsTypedAdmission};
     ghost use Rattle.vault_store_apply.specs.EntryParts.{entry_added};
 
     ghost edit = { λ part. entry_added part.admission.now part.head part.newest part.dept.now part.sums part.at part.next };
+
+    ghost limits = { λ part. (part.at ≤ last_moment) × IsTypedAdmission part.admission.now };
 
     fn make(&self, tx: &mut Transaction<'_, S>) -> Result<(), Error> {
         let entry = &self.admission.history.entry;
@@ -109,9 +120,14 @@ pub struct RemovedEntry<'a> {
 }
 
 impl<S: Alter> Part<S> for RemovedEntry<'_> {
+    ghost use Rattle.std.specs.Prelude.{◌≤◌};
+    ghost use Rattle.vault_base.specs.Days.{last_moment};
+    ghost use Rattle.vault_audit_model.specs.Limits.{IsCause};
     ghost use Rattle.vault_store_apply.specs.EntryParts.{entry_removed};
 
     ghost edit = { λ part. entry_removed part.entry.now part.id part.removal.now part.left part.dept.now part.sums part.at };
+
+    ghost limits = { λ part. (part.at ≤ last_moment) × IsCause part.removal.now.cause };
 
     fn make(&self, tx: &mut Transaction<'_, S>) -> Result<(), Error> {
         drop_bytes(tx, self.id, self.removal)?;

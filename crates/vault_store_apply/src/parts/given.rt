@@ -1,10 +1,12 @@
 //! Statements of one part, each where there is what it writes.
-ghost use Rattle.std.specs.Prelude.{◌≡◌, Some};
+ghost use Rattle.std.specs.Prelude.{◌≡◌, Some, IfSome, OnOk};
 ghost use Rattle.vault_base.specs.declared.refusal.Table.TheVariants as table;
 ghost use Rattle.vault_audit_model.specs.Rows.{content_row, note_row};
 ghost use Rattle.vault_store_model.specs.Changes.{with_row_if_given, with_head};
 ghost use Rattle.vault_store_apply.specs.EntryParts.{with_left_head, with_first_setting, with_first_tenure, with_sums_as};
+ghost use Rattle.vault_store_apply.specs.Typed.{IsFirstTyped};
 ghost use Rattle.vault_store_edits.specs.Inside.{MakesPart};
+ghost use Rattle.vault_store_edits.specs.Typed.{IsTypedNote};
 
 use sqlite::{Alter, Error, Transaction};
 use vault_base::content::Content;
@@ -41,6 +43,7 @@ pub fn put_note_if_given<S: Alter>(
 ) -> Result<(), Error>
     ensures same_reference { tx.new.conn.ghost_name ≡ tx.old.conn.ghost_name }
     ensures part { MakesPart S.Store tx.old.conn.now tx.new.conn.now result (with_row_if_given table.Intake note_row note.now) }
+    ensures typed { OnOk result (IfSome note.now IsTypedNote) }
 {
     let Some(note) = note else {
         return Ok(());
@@ -94,6 +97,7 @@ pub fn put_first_setting<S: Alter>(
 ) -> Result<(), Error>
     ensures same_reference { tx.new.conn.ghost_name ≡ tx.old.conn.ghost_name }
     ensures part { MakesPart S.Store tx.old.conn.now tx.new.conn.now result (with_first_setting id settings.now) }
+    ensures typed { OnOk result (IsFirstTyped settings.now) }
 {
     let Some(setting) = settings.first() else {
         return Ok(());

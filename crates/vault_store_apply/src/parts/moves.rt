@@ -1,5 +1,6 @@
 //! A bucket that moves to another department.
 ghost use Rattle.std.specs.Prelude.{◌≡◌};
+ghost use Rattle.vault_audit_model.specs.Limits.{IsPlainName};
 ghost use Rattle.vault_store_apply.specs.Parts.{bucket_given, both_summed};
 ghost use Rattle.vault_store_edits.specs.Inside.{MakesPart};
 
@@ -24,6 +25,7 @@ fn give_bucket<S: Alter>(
 ) -> Result<(), Error>
     ensures same_reference { tx.new.conn.ghost_name ≡ tx.old.conn.ghost_name }
     ensures part { MakesPart S.Store tx.old.conn.now tx.new.conn.now result (bucket_given name.now number dept.now at) }
+    ensures limits { IsPlainName dept.now }
 {
     put_tenures(tx, name, number, dept, at)?;
     set_owner(tx, name, dept)?;
@@ -62,9 +64,14 @@ pub struct MovedBucket<'a> {
 }
 
 impl<S: Alter> Part<S> for MovedBucket<'_> {
+    ghost use Rattle.std.specs.Prelude.{◌≤◌};
+    ghost use Rattle.vault_base.specs.Days.{last_moment};
+    ghost use Rattle.vault_audit_model.specs.Limits.{IsPlainName};
     ghost use Rattle.vault_store_apply.specs.Parts.{bucket_moved};
 
     ghost edit = { λ part. bucket_moved part.name.now part.number part.dept.now part.at part.owner.now part.handed part.received };
+
+    ghost limits = { λ part. (part.at ≤ last_moment) × IsPlainName part.dept.now };
 
     fn make(&self, tx: &mut Transaction<'_, S>) -> Result<(), Error> {
         give_bucket(tx, self.name, self.number, self.dept, self.at)?;

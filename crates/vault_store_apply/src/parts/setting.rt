@@ -17,9 +17,14 @@ pub struct NewSetting<'a> {
 }
 
 impl<S: Alter> Part<S> for NewSetting<'_> {
+    ghost use Rattle.std.specs.Prelude.{◌≤◌};
+    ghost use Rattle.vault_base.specs.Days.{last_moment};
+    ghost use Rattle.vault_store_edits.specs.Typed.{IsTypedSetting};
     ghost use Rattle.vault_store_apply.specs.EntryParts.{setting_added};
 
     ghost edit = { λ part. setting_added part.id part.place part.setting.now part.at };
+
+    ghost limits = { λ part. (part.at ≤ last_moment) × IsTypedSetting part.setting.now };
 
     fn make(&self, tx: &mut Transaction<'_, S>) -> Result<(), Error> {
         put_setting(tx, self.id, self.place, self.setting)?;

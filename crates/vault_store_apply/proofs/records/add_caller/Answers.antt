@@ -7,14 +7,14 @@ use Rattle.vault_store_apply.proofs.ApplyLemmas.{on_ok_then}
 use Rattle.vault_store_apply.proofs.records.add_caller.Goals as goal
 
 pub returns-clause-done : goal.returns-clause-done
-returns-clause-done g c clean given =
+returns-clause-done g c clean =
     let old = state g.S.Store c.args.conn.now in
     let new = state g.S.Store c.commit_part.new.conn in
     on_ok_then (Changes old new c.args.at (change.AddCaller c.args.caller.now)) c.commit_part.result (c.commit_part.ensures.done clean)
-    (λ by v was later allowed. by v (change.AddCaller c.args.caller.now) given was later allowed (λ is_open xs u. refl))
+    (λ told v was later allowed. told.1 v (change.AddCaller c.args.caller.now) told.0.0 told.0.1 was later allowed (λ is_open xs u. refl))
 
 pub returns-clause-crash : goal.returns-clause-crash
-returns-clause-crash g c given =
+returns-clause-crash g c =
     let old = state g.S.Store c.args.conn.now in
     let new = state g.S.Store c.commit_part.new.conn in
-    survives_weaker old new _ _ (λ late trees by v was later allowed. by v (change.AddCaller c.args.caller.now) given was later allowed (λ is_open xs u. refl)) c.commit_part.ensures.crash
+    survives_weaker old new _ _ (λ late trees told v was later allowed. told.1 v (change.AddCaller c.args.caller.now) told.0.0 told.0.1 was later allowed (λ is_open xs u. refl)) c.commit_part.ensures.crash

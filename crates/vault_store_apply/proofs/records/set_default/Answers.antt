@@ -4,17 +4,18 @@ use Rattle.sqlite.proofs.StateLemmas.{survives_weaker}
 use Rattle.vault_core_model.specs.declared.change.Change.TheVariants as change
 use Rattle.vault_store_apply.specs.Applies.{Changes}
 use Rattle.vault_store_apply.proofs.ApplyLemmas.{on_ok_then}
+use Rattle.vault_store_apply.proofs.LimitLemmas.{default_in_limits}
 use Rattle.vault_store_apply.proofs.records.set_default.Goals as goal
 
 pub returns-clause-done : goal.returns-clause-done
-returns-clause-done g c clean given =
+returns-clause-done g c clean =
     let old = state g.S.Store c.args.conn.now in
     let new = state g.S.Store c.commit_part.new.conn in
     on_ok_then (Changes old new c.args.at (change.SetDefault c.args.name.now c.args.default)) c.commit_part.result (c.commit_part.ensures.done clean)
-    (λ by v was later allowed. by v (change.SetDefault c.args.name.now c.args.default) given was later allowed (λ is_open xs u. refl))
+    (λ told v was later allowed. told.1 v (change.SetDefault c.args.name.now c.args.default) told.0 (default_in_limits c.args.default allowed.1) was later allowed (λ is_open xs u. refl))
 
 pub returns-clause-crash : goal.returns-clause-crash
-returns-clause-crash g c given =
+returns-clause-crash g c =
     let old = state g.S.Store c.args.conn.now in
     let new = state g.S.Store c.commit_part.new.conn in
-    survives_weaker old new _ _ (λ late trees by v was later allowed. by v (change.SetDefault c.args.name.now c.args.default) given was later allowed (λ is_open xs u. refl)) c.commit_part.ensures.crash
+    survives_weaker old new _ _ (λ late trees told v was later allowed. told.1 v (change.SetDefault c.args.name.now c.args.default) told.0 (default_in_limits c.args.default allowed.1) was later allowed (λ is_open xs u. refl)) c.commit_part.ensures.crash

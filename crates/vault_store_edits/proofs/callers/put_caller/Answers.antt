@@ -14,11 +14,11 @@ returns-clause-edit g c = record {
       let old = state g.S.Store c.args.tx.now.conn.now in
       let new = state g.S.Store c.execute.new.self.conn.now in
       edits_if _ _ old new _ c.execute.result (with_row_ignores table.Callers (caller_row c.args.caller.now)) (puts_caller c.args.caller.now old new)
-      (rw (c.params-to_sql.ensures, c.as_str.ensures.text, c.params-to_sql-2.ensures, c.dept_text.ensures, bound_text c.args.caller.now.dept, c.params-to_sql-3.ensures, c.rights_number.ensures, c.params-to_sql-4.ensures, bound_flag c.args.caller.now.closed) at (c.execute.ensures.runs clean inside));
+      (rw (c.params-to_sql.ensures, c.as_str.ensures.text, c.params-to_sql-2.ensures, c.dept_text.ensures.value, bound_text c.args.caller.now.dept, c.params-to_sql-3.ensures, c.rights_number.ensures, c.params-to_sql-4.ensures, bound_flag c.args.caller.now.closed) at (c.execute.ensures.runs clean inside));
   sound = λ clean inside has.
       let old = state g.S.Store c.args.tx.now.conn.now in
       let new = state g.S.Store c.execute.new.self.conn.now in
-      sound_if _ _ old new _ c.execute.result has (puts_caller c.args.caller.now old new) (rw (c.params-to_sql.ensures, c.as_str.ensures.text, c.params-to_sql-2.ensures, c.dept_text.ensures, bound_text c.args.caller.now.dept, c.params-to_sql-3.ensures, c.rights_number.ensures, c.params-to_sql-4.ensures, bound_flag c.args.caller.now.closed) at (c.execute.ensures.runs clean inside));
+      sound_if _ _ old new _ c.execute.result has (puts_caller c.args.caller.now old new) (rw (c.params-to_sql.ensures, c.as_str.ensures.text, c.params-to_sql-2.ensures, c.dept_text.ensures.value, bound_text c.args.caller.now.dept, c.params-to_sql-3.ensures, c.rights_number.ensures, c.params-to_sql-4.ensures, bound_flag c.args.caller.now.closed) at (c.execute.ensures.runs clean inside));
   kept = λ clean inside. kept_if_refused _ _ (state g.S.Store c.args.tx.now.conn.now) (state g.S.Store c.execute.new.self.conn.now) c.execute.result (c.execute.ensures.runs clean inside);
   survives = c.execute.ensures.survives;
 }

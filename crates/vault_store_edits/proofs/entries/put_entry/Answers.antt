@@ -8,6 +8,8 @@ use Rattle.vault_audit_model.proofs.OutcomeLemmas.{kept_if_refused}
 use Rattle.vault_store_edits.proofs.CastLemmas.{bound_number, bound_flag}
 use Rattle.vault_store_edits.proofs.BoundLemmas.{bound_bytes, bound_name, bound_at, bound_by}
 use Rattle.vault_store_edits.proofs.EntryRowLemmas.{puts_entry}
+use Rattle.vault_store_edits.proofs.TransactionLemmas.{on_ok_here}
+use Rattle.vault_store_edits.specs.Typed.{IsTypedEntry}
 use Rattle.vault_store_edits.proofs.entries.put_entry.Goals as goal
 
 pub returns-clause-edit : goal.returns-clause-edit
@@ -18,13 +20,18 @@ returns-clause-edit g c = record {
       let fits0 : FitsSigned w64 c.in_ok-size.size = search rules in
       let fits1 : FitsSigned w64 c.seconds.result = search rules in
       edits_if _ _ old new _ c.execute.result (with_row_ignores table.Entries (entry_row c.args.entry.now)) (puts_entry c.args.entry.now old new)
-      (rw (c.params-to_sql.ensures, c.number.ensures.value, c.params-to_sql-2.ensures, c.as_str.ensures.text, c.params-to_sql-3.ensures, c.as_str-2.ensures.text, c.params-to_sql-4.ensures, bound_flag c.args.entry.now.marker, c.params-to_sql-5.ensures, to_z-of_z fits0, c.in_ok-size.ensures, c.params-to_sql-6.ensures, c.digest_bytes.ensures, bound_bytes c.args.entry.now.digest, c.params-to_sql-7.ensures, to_z-of_z fits1, c.seconds.ensures, c.params-to_sql-8.ensures, bound_flag c.is_rule.result, c.is_rule.ensures, c.params-to_sql-9.ensures, c.author_text.ensures, bound_name c.args.entry.now.by, c.params-to_sql-10.ensures, c.removal_at.ensures, bound_at c.args.entry.now.removal, c.params-to_sql-11.ensures, bound_number c.removal_cause.result, c.removal_cause.ensures, c.params-to_sql-12.ensures, c.removal_by.ensures, bound_by c.args.entry.now.removal) at (c.execute.ensures.runs clean inside));
+      (rw (c.params-to_sql.ensures, c.number.ensures.value, c.params-to_sql-2.ensures, c.as_str.ensures.text, c.params-to_sql-3.ensures, c.as_str-2.ensures.text, c.params-to_sql-4.ensures, bound_flag c.args.entry.now.marker, c.params-to_sql-5.ensures, to_z-of_z fits0, c.in_ok-size.ensures, c.params-to_sql-6.ensures, c.digest_bytes.ensures.value, bound_bytes c.args.entry.now.digest, c.params-to_sql-7.ensures, to_z-of_z fits1, c.seconds.ensures.value, c.params-to_sql-8.ensures, bound_flag c.is_rule.result, c.is_rule.ensures, c.params-to_sql-9.ensures, c.author_text.ensures.value, bound_name c.args.entry.now.by, c.params-to_sql-10.ensures, c.removal_at.ensures, bound_at c.args.entry.now.removal, c.params-to_sql-11.ensures, bound_number c.removal_cause.result, c.removal_cause.ensures, c.params-to_sql-12.ensures, c.removal_by.ensures, bound_by c.args.entry.now.removal) at (c.execute.ensures.runs clean inside));
   sound = λ clean inside has.
       let old = state g.S.Store c.args.tx.now.conn.now in
       let new = state g.S.Store c.execute.new.self.conn.now in
       let fits0 : FitsSigned w64 c.in_ok-size.size = search rules in
       let fits1 : FitsSigned w64 c.seconds.result = search rules in
-      sound_if _ _ old new _ c.execute.result has (puts_entry c.args.entry.now old new) (rw (c.params-to_sql.ensures, c.number.ensures.value, c.params-to_sql-2.ensures, c.as_str.ensures.text, c.params-to_sql-3.ensures, c.as_str-2.ensures.text, c.params-to_sql-4.ensures, bound_flag c.args.entry.now.marker, c.params-to_sql-5.ensures, to_z-of_z fits0, c.in_ok-size.ensures, c.params-to_sql-6.ensures, c.digest_bytes.ensures, bound_bytes c.args.entry.now.digest, c.params-to_sql-7.ensures, to_z-of_z fits1, c.seconds.ensures, c.params-to_sql-8.ensures, bound_flag c.is_rule.result, c.is_rule.ensures, c.params-to_sql-9.ensures, c.author_text.ensures, bound_name c.args.entry.now.by, c.params-to_sql-10.ensures, c.removal_at.ensures, bound_at c.args.entry.now.removal, c.params-to_sql-11.ensures, bound_number c.removal_cause.result, c.removal_cause.ensures, c.params-to_sql-12.ensures, c.removal_by.ensures, bound_by c.args.entry.now.removal) at (c.execute.ensures.runs clean inside));
+      sound_if _ _ old new _ c.execute.result has (puts_entry c.args.entry.now old new) (rw (c.params-to_sql.ensures, c.number.ensures.value, c.params-to_sql-2.ensures, c.as_str.ensures.text, c.params-to_sql-3.ensures, c.as_str-2.ensures.text, c.params-to_sql-4.ensures, bound_flag c.args.entry.now.marker, c.params-to_sql-5.ensures, to_z-of_z fits0, c.in_ok-size.ensures, c.params-to_sql-6.ensures, c.digest_bytes.ensures.value, bound_bytes c.args.entry.now.digest, c.params-to_sql-7.ensures, to_z-of_z fits1, c.seconds.ensures.value, c.params-to_sql-8.ensures, bound_flag c.is_rule.result, c.is_rule.ensures, c.params-to_sql-9.ensures, c.author_text.ensures.value, bound_name c.args.entry.now.by, c.params-to_sql-10.ensures, c.removal_at.ensures, bound_at c.args.entry.now.removal, c.params-to_sql-11.ensures, bound_number c.removal_cause.result, c.removal_cause.ensures, c.params-to_sql-12.ensures, c.removal_by.ensures, bound_by c.args.entry.now.removal) at (c.execute.ensures.runs clean inside));
   kept = λ clean inside. kept_if_refused _ _ (state g.S.Store c.args.tx.now.conn.now) (state g.S.Store c.execute.new.self.conn.now) c.execute.result (c.execute.ensures.runs clean inside);
   survives = c.execute.ensures.survives;
 }
+
+pub returns-clause-limits : goal.returns-clause-limits
+returns-clause-limits g c =
+    let all : IsTypedEntry c.args.entry.now = search rules in
+    on_ok_here c.execute.result all

@@ -25,7 +25,7 @@ returns-clause-edit g c = record {
       let fits0 : FitsSigned w64 c.seconds-at.result = search rules in
       edits_checked _ _ old mid new (with_changed table.Entries (is_numbered c.args.id) (removed_row c.args.removal.now)) c.execute.result (with_changed_ignores table.Entries (is_numbered c.args.id) (removed_row c.args.removal.now)) (look.kept early inside) (λ count has ran.
       updates_after table.Entries (passes by_id (removal_params c.args.id c.args.removal.now)) old mid new (with_changed table.Entries (is_numbered c.args.id) (removed_row c.args.removal.now)) (look.apart early has by_id finds_entry) has live (λ apart sound known. removes_entry c.args.id c.args.removal.now mid new count apart sound known ran))
-      (rw (c.params-to_sql.ensures, c.number.ensures.value, c.params-to_sql-2.ensures, to_z-of_z fits0, c.seconds-at.ensures, c.params-to_sql-3.ensures, c.cause_number-cause.ensures, c.params-to_sql-4.ensures, c.cause_text-by.ensures) at (c.execute.ensures.runs clean (look.inside early inside)));
+      (rw (c.params-to_sql.ensures, c.number.ensures.value, c.params-to_sql-2.ensures, to_z-of_z fits0, c.seconds-at.ensures.value, c.params-to_sql-3.ensures, c.cause_number-cause.ensures, c.params-to_sql-4.ensures, c.cause_text-by.ensures.value) at (c.execute.ensures.runs clean (look.inside early inside)));
   sound = λ clean inside live has.
       let old = state g.S.Store c.args.tx.now.conn.now in
       let mid = state g.S.Store c.check_id.new.tx.conn.now in
@@ -35,7 +35,7 @@ returns-clause-edit g c = record {
       let fits0 : FitsSigned w64 c.seconds-at.result = search rules in
       sound_checked _ _ old mid new (with_changed table.Entries (is_numbered c.args.id) (removed_row c.args.removal.now)) c.execute.result has (λ count has ran.
       updates_after table.Entries (passes by_id (removal_params c.args.id c.args.removal.now)) old mid new (with_changed table.Entries (is_numbered c.args.id) (removed_row c.args.removal.now)) (look.apart early has by_id finds_entry) has live (λ apart sound known. removes_entry c.args.id c.args.removal.now mid new count apart sound known ran))
-      (rw (c.params-to_sql.ensures, c.number.ensures.value, c.params-to_sql-2.ensures, to_z-of_z fits0, c.seconds-at.ensures, c.params-to_sql-3.ensures, c.cause_number-cause.ensures, c.params-to_sql-4.ensures, c.cause_text-by.ensures) at (c.execute.ensures.runs clean (look.inside early inside)));
+      (rw (c.params-to_sql.ensures, c.number.ensures.value, c.params-to_sql-2.ensures, to_z-of_z fits0, c.seconds-at.ensures.value, c.params-to_sql-3.ensures, c.cause_number-cause.ensures, c.params-to_sql-4.ensures, c.cause_text-by.ensures.value) at (c.execute.ensures.runs clean (look.inside early inside)));
   kept = λ clean inside.
       let old = state g.S.Store c.args.tx.now.conn.now in
       let mid = state g.S.Store c.check_id.new.tx.conn.now in

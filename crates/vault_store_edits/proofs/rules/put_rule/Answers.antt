@@ -6,6 +6,9 @@ use Rattle.vault_audit_model.specs.Rows.{rule_row}
 use Rattle.vault_audit_model.proofs.OutcomeLemmas.{kept_if_refused}
 use Rattle.vault_store_edits.proofs.CastLemmas.{bound_number, bound_flag, bound_whole}
 use Rattle.vault_store_edits.proofs.RecordRowLemmas.{puts_rule}
+use Rattle.std.proofs.Common.{rules}
+use Rattle.vault_store_edits.proofs.TransactionLemmas.{on_ok_here}
+use Rattle.vault_store_edits.specs.Typed.{IsTypedRule}
 use Rattle.vault_store_edits.proofs.rules.put_rule.Goals as goal
 
 pub returns-clause-edit : goal.returns-clause-edit
@@ -22,3 +25,8 @@ returns-clause-edit g c = record {
   kept = λ clean inside. kept_if_refused _ _ (state g.S.Store c.args.tx.now.conn.now) (state g.S.Store c.execute.new.self.conn.now) c.execute.result (c.execute.ensures.runs clean inside);
   survives = c.execute.ensures.survives;
 }
+
+pub returns-clause-limits : goal.returns-clause-limits
+returns-clause-limits g c =
+    let all : IsTypedRule c.args.rule.now = search rules in
+    on_ok_here c.execute.result all

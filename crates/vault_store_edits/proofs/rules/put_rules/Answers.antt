@@ -1,4 +1,5 @@
 use Rattle.std.proofs.Common.{rules, List, ◌≡◌, ◌≤◌, ◌+◌, ℕ, refl, length, map, sym, subst, arith}
+use Rattle.std.specs.List.{AllByRecursion}
 use Rattle.std.proofs.lemmas.List.{take_all}
 use Rattle.sqlite.specs.State.{HasCleanDisk}
 use Rattle.sqlite.specs.Held.{state}
@@ -11,13 +12,14 @@ use Rattle.vault_store_model.specs.Edits.{with_row, Edits, with_each}
 use Rattle.vault_store_model.proofs.EditLemmas.{edits_then}
 use Rattle.vault_store_edits.proofs.QueryLemmas.{kept_itself, survives_itself}
 use Rattle.vault_store_edits.proofs.StatementLemmas.{kept_then, on_err}
-use Rattle.vault_store_edits.proofs.RulesLemmas.{no_rows, with_first, one_rule_more, kept_edit}
+use Rattle.vault_store_edits.specs.Typed.{IsTypedRule}
+use Rattle.vault_store_edits.proofs.RulesLemmas.{no_rows, with_first, one_rule_more, one_typed_more, kept_edit}
 use Rattle.vault_store_edits.proofs.rules.put_rules.Goals as goal
 
 pub loop-rule-init : goal.loop-rule-init
 loop-rule-init g c =
     let old = state g.S.Store c.args.tx.now.conn.now in
-    (refl, refl, survives_itself old, λ clean inside. (kept_itself old, inside), λ clean inside is_open. no_rows table.Rules old is_open inside, λ clean inside has live. (live, has))
+    (refl, refl, survives_itself old, λ clean inside. (kept_itself old, inside), λ clean inside is_open. no_rows table.Rules old is_open inside, λ clean inside has live. (live, has), tt)
 
 pub loop-rule-preserved : goal.loop-rule-preserved
 loop-rule-preserved g c =
@@ -51,6 +53,7 @@ loop-rule-preserved g c =
           let before = was.5 early inside has live in
           let e = one.edit.edits clean here in
           (one.edit.sound clean here before.1, e.schema before.1),
+      one_typed_more all n rule c.loop-rule-test.true c.rule-item.is was.6 one.limits,
     )
 
 pub returns-clause-edits : goal.returns-clause-edits
@@ -58,6 +61,11 @@ returns-clause-edits g c clean inside is_open =
     let it = c.loop-rule.invariant.4 clean inside is_open in
     let high : length c.args.rules.now ≤ c.loop-rule.rule-index = search rules in
     subst (λ (rs : List Rule). Edits (state g.S.Store c.args.tx.now.conn.now) (state g.S.Store c.loop-rule.tx.conn.now) (with_each table.Rules (map rule_row (rules_from c.args.bucket.now 1 rs)))) (take_all c.loop-rule.rule-index c.args.rules.now high) it
+
+pub returns-clause-limits : goal.returns-clause-limits
+returns-clause-limits g c =
+    let high : length c.args.rules.now ≤ c.loop-rule.rule-index = search rules in
+    subst (AllByRecursion IsTypedRule) (take_all c.loop-rule.rule-index c.args.rules.now high) c.loop-rule.invariant.6
 
 pub returns-clause-sound : goal.returns-clause-sound
 returns-clause-sound g c clean inside has live = (c.loop-rule.invariant.5 clean inside has live).0

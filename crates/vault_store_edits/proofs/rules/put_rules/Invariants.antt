@@ -1,13 +1,15 @@
-use Rattle.std.proofs.Common.{◌≡◌, IsTrue}
+use Rattle.std.proofs.Common.{◌≡◌, IsTrue, take}
+use Rattle.std.specs.List.{AllByRecursion}
 use Rattle.sqlite.specs.Effect.{IsDatabase}
 use Rattle.sqlite.specs.State.{HasCleanDisk, KeepsCommit, Survives}
 use Rattle.sqlite.specs.Held.{state}
 use Rattle.vault_audit_model.specs.Tables.{vault_schema}
 use Rattle.vault_store_model.specs.Edits.{Edits}
+use Rattle.vault_store_edits.specs.Typed.{IsTypedRule}
 use Rattle.vault_store_edits.proofs.RulesLemmas.{with_first}
 use Rattle.vault_store_edits.proofs.rules.put_rules.Given as goal
 
--- the rules so far are put in
+-- the rules so far are put in, and are well spelled
 abbrev pub invariant-loop-rule : goal.invariant-loop-rule
 invariant-loop-rule g l =
     let old = state g.S.Store l.fn.tx.conn.now in
@@ -16,3 +18,4 @@ invariant-loop-rule g l =
     × (HasCleanDisk now → IsTrue l.fn.tx.conn.now.in_transaction → KeepsCommit old now × IsTrue l.tx.conn.now.in_transaction)
     × (HasCleanDisk now → IsTrue l.fn.tx.conn.now.in_transaction → IsTrue old.is_open → Edits old now (with_first l.bucket l.rules l.rule-index))
     × (HasCleanDisk now → IsTrue l.fn.tx.conn.now.in_transaction → old.now.schema ≡ vault_schema → IsDatabase old.now → IsDatabase now.now × (now.now.schema ≡ vault_schema))
+    × AllByRecursion IsTypedRule (take l.rule-index l.rules)

@@ -15,13 +15,13 @@ returns-clause-edit g c = record {
       let new = state g.S.Store c.execute.new.self.conn.now in
       let fits0 : FitsSigned w64 c.seconds.result = search rules in
       edits_if _ _ old new _ c.execute.result (with_row_ignores table.Tenures (tenure_row (record { id = c.args.id; tenure = c.args.tenure.now }))) (puts_tenure (record { id = c.args.id; tenure = c.args.tenure.now }) old new)
-      (rw (c.params-to_sql.ensures, c.number.ensures.value, c.params-to_sql-2.ensures, c.params-to_sql-3.ensures, c.as_str.ensures.text, c.params-to_sql-4.ensures, to_z-of_z fits0, c.seconds.ensures) at (c.execute.ensures.runs clean inside));
+      (rw (c.params-to_sql.ensures, c.number.ensures.value, c.params-to_sql-2.ensures, c.params-to_sql-3.ensures, c.as_str.ensures.text, c.params-to_sql-4.ensures, to_z-of_z fits0, c.seconds.ensures.value) at (c.execute.ensures.runs clean inside));
   sound = λ clean inside has.
       let old = state g.S.Store c.args.tx.now.conn.now in
       let new = state g.S.Store c.execute.new.self.conn.now in
       let fits0 : FitsSigned w64 c.seconds.result = search rules in
       sound_if _ _ old new _ c.execute.result has (puts_tenure (record { id = c.args.id; tenure = c.args.tenure.now }) old new)
-      (rw (c.params-to_sql.ensures, c.number.ensures.value, c.params-to_sql-2.ensures, c.params-to_sql-3.ensures, c.as_str.ensures.text, c.params-to_sql-4.ensures, to_z-of_z fits0, c.seconds.ensures) at (c.execute.ensures.runs clean inside));
+      (rw (c.params-to_sql.ensures, c.number.ensures.value, c.params-to_sql-2.ensures, c.params-to_sql-3.ensures, c.as_str.ensures.text, c.params-to_sql-4.ensures, to_z-of_z fits0, c.seconds.ensures.value) at (c.execute.ensures.runs clean inside));
   kept = λ clean inside. kept_if_refused _ _ (state g.S.Store c.args.tx.now.conn.now) (state g.S.Store c.execute.new.self.conn.now) c.execute.result (c.execute.ensures.runs clean inside);
   survives = c.execute.ensures.survives;
 }

@@ -9,7 +9,7 @@ use Rattle.vault_store_model.specs.Keeping.{Keeps}
 use Rattle.vault_core_model.specs.Vault.{Vault}
 use Rattle.vault_store_edits.specs.Commits.{Commits, MayCommit}
 use Rattle.vault_audit_model.proofs.OutcomeLemmas.{on_ok_then}
-use Rattle.vault_store_edits.proofs.TransactionLemmas.{commit_keeps, commit_leaves, refused_keeps, on_err_then, on_err_here, undone_keeps}
+use Rattle.vault_store_edits.proofs.TransactionLemmas.{commit_keeps, commit_leaves, refused_keeps, on_ok_here, on_err_then, on_err_here, undone_keeps}
 use Rattle.vault_store_edits.proofs.transaction.transact.Goals as goal
 
 pub returns-clause-open : goal.returns-clause-open
@@ -38,6 +38,9 @@ returns-clause-done g c clean =
     on_ok_then c.commit.result (c.commit.ensures.ok late) (λ fin has.
     subst (λ h. Commits (state g.S.Store old) (state g.S.Store h) edit) same (commit_keeps g.S.Store old last edit (parts.1 has).0 (parts.1 has).1 (state g.S.Store end) fin.1))
 
+pub returns-clause-limited : goal.returns-clause-limited
+returns-clause-limited g c = on_ok_here c.commit.result c.in_ok-make_open.ensures.limited
+
 pub returns-clause-nothing : goal.returns-clause-nothing
 returns-clause-nothing g c clean =
     let old = c.args.conn.now in
@@ -60,12 +63,12 @@ returns-clause-crash g c =
     let end = c.commit.new.self.0 in
     let edit = g.P.Part.edit c.args.part.now in
     let same : end ≡ c.conn-2-1.given.0 = search rules in
-    let P : Trees → Type 0 = λ trees. IsTrue (state g.S.Store old).is_open × ((state g.S.Store old).now.schema ≡ vault_schema → MayCommit (state g.S.Store old) edit trees) in
+    let P : Trees → Type 0 = λ trees. g.P.Part.limits c.args.part.now × IsTrue (state g.S.Store old).is_open × ((state g.S.Store old).now.schema ≡ vault_schema → MayCommit (state g.S.Store old) edit trees) in
     let whole = survives_then (state g.S.Store old) last (state g.S.Store end) _ _ P (λ _ db none. absurd none)
     (λ late trees is.
     let early : HasCleanDisk last = omega (arith, c.commit.ensures.survives.clean) in
     let parts = rw begun at (c.in_ok-make_open.ensures.edits early (rw begun refl) (rw begun c.schema-schema.ensures.live)) in
-    (parts.0, λ has. commit_leaves g.S.Store old last edit (parts.1 has).0 (parts.1 has).1 trees is))
+    (c.in_ok-make_open.ensures.limited, parts.0, λ has. commit_leaves g.S.Store old last edit (parts.1 has).0 (parts.1 has).1 trees is))
     (survives_begin g.S.Store old last _ (rw begun at c.make_open.ensures.survives)) c.commit.ensures.survives in
     subst (λ h. Survives (state g.S.Store old) (state g.S.Store h) P) same whole
 

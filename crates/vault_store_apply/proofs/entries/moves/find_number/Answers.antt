@@ -1,4 +1,4 @@
-use Rattle.vault_store_apply.proofs.ReadLemmas.{on_ok_here}
+use Rattle.vault_store_edits.proofs.TransactionLemmas.{on_ok_here}
 use Rattle.vault_store_apply.proofs.entries.moves.find_number.Goals as goal
 
 pub returns-clause-open : goal.returns-clause-open

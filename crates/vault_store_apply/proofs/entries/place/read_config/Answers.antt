@@ -2,7 +2,8 @@ use Rattle.std.proofs.Common.{◌≡◌}
 use Rattle.sqlite.specs.Held.{state}
 use Rattle.vault_core_model.specs.Vault.{Vault, config_of}
 use Rattle.vault_store_model.specs.Keeping.{Keeps}
-use Rattle.vault_store_apply.proofs.ReadLemmas.{if_there, on_ok_here}
+use Rattle.vault_store_edits.proofs.TransactionLemmas.{on_ok_here}
+use Rattle.vault_store_apply.proofs.ReadLemmas.{if_there}
 use Rattle.vault_store_apply.proofs.entries.place.read_config.Goals as goal
 
 pub returns-clause-value : goal.returns-clause-value

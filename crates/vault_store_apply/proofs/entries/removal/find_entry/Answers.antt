@@ -3,7 +3,8 @@ use Rattle.sqlite.specs.Held.{state}
 use Rattle.vault_core_model.specs.Vault.{Vault}
 use Rattle.vault_core_model.specs.Reads.{entry_of}
 use Rattle.vault_store_model.specs.Keeping.{Keeps}
-use Rattle.vault_store_apply.proofs.ReadLemmas.{if_there, on_ok_here}
+use Rattle.vault_store_edits.proofs.TransactionLemmas.{on_ok_here}
+use Rattle.vault_store_apply.proofs.ReadLemmas.{if_there}
 use Rattle.vault_store_apply.proofs.entries.removal.find_entry.Goals as goal
 
 pub returns-clause-value : goal.returns-clause-value

@@ -1,8 +1,7 @@
-use Rattle.std.proofs.Common.{◌≤◌, sym, arith}
+use Rattle.std.proofs.Common.{sym, arith}
 use Rattle.sqlite.specs.State.{HasCleanDisk}
 use Rattle.sqlite.specs.Held.{state}
 use Rattle.sqlite.proofs.StateLemmas.{survives_then}
-use Rattle.vault_base.specs.Days.{last_moment}
 use Rattle.vault_core_model.specs.declared.change.Change.TheVariants as change
 use Rattle.vault_store_apply.specs.Applies.{Changes, IsChanged}
 use Rattle.vault_store_edits.proofs.TransactionLemmas.{on_err_here}
@@ -10,60 +9,59 @@ use Rattle.vault_store_edits.proofs.TransactionLemmas.{on_err_all}
 use Rattle.vault_store_apply.proofs.ApplyLemmas.{on_ok_then, shut_leaves}
 use Rattle.vault_store_apply.proofs.ReadLemmas.{keeps_now, read_then}
 use Rattle.vault_store_apply.proofs.RemovalLemmas.{edits_removal}
+use Rattle.vault_store_apply.proofs.LimitLemmas.{removal_in_limits}
 use Rattle.vault_store_apply.proofs.entries.removal.remove.Goals as goal
 
 pub returns-clause-done : goal.returns-clause-done
-returns-clause-done g c clean given =
+returns-clause-done g c clean =
     let old = state g.S.Store c.args.conn.now in
     let new = state g.S.Store c.commit_part-removed.new.conn in
     let clean3 : HasCleanDisk (state g.S.Store c.read_beside.new.conn) = omega (arith, clean, c.commit_part-removed.ensures.crash.clean) in
     let clean2 = c.in-Ok-read_beside.ensures.read.honest clean3 in
     let clean1 = c.in-Ok.ensures.read.honest clean2 in
     let t = c.args.at in
-    let low : t ≤ last_moment = omega (arith, c.secs-in_range.ensures.value, c.secs-in_range.ensures.range) in
     let it = change.Remove c.args.id c.args.removal.now in
     on_ok_then (Changes old new t it) c.commit_part-removed.result (c.commit_part-removed.ensures.done clean)
-    (λ by v was later allowed.
+    (λ told v was later allowed.
     let was1 = c.in_ok-entry.ensures.read.same clean1 v was in
     let was2 = c.in-Ok.ensures.read.same clean2 v was1 in
     let was3 = c.in-Ok-read_beside.ensures.read.same clean3 v was2 in
-    by v it given was3 later allowed
+    told.1 v it told.0.0 (removal_in_limits v t c.args.id c.args.removal.now told.0.0 allowed told.0.1) was3 later allowed
     (λ is_open.
-    let told = c.in-Ok.ensures.value clean2 v was1 in
+    let read = c.in-Ok.ensures.value clean2 v was1 in
     let place = c.in-Ok.place in
     let beside = c.in-Ok-read_beside.beside in
-    let beside_is = c.in-Ok-read_beside.ensures.value clean3 v was2 told.2 in
+    let beside_is = c.in-Ok-read_beside.ensures.value clean3 v was2 read.2 in
     edits_removal v t c.args.id c.args.removal.now c.in_ok-entry.entry place.config place.sums c.without_version-sums.result place.head c.left_head-left.result beside.newest beside.since
-    (was3 is_open).0.spells.kept.sound later low allowed (sym (c.in_ok-entry.ensures.value clean1 v was)) told.0 told.1 beside_is.1 c.without_version-sums.ensures told.2 beside_is.0 c.left_head-left.ensures))
+    (was3 is_open).0.spells.kept.sound later told.0.0 allowed (sym (c.in_ok-entry.ensures.value clean1 v was)) read.0 read.1 beside_is.1 c.without_version-sums.ensures read.2 beside_is.0 c.left_head-left.ensures))
 
 pub returns-clause-crash : goal.returns-clause-crash
-returns-clause-crash g c given v was =
+returns-clause-crash g c v was =
     let old = state g.S.Store c.args.conn.now in
     let h1 = c.find_entry.new.conn in
     let h2 = c.read_place.new.conn in
     let h3 = c.read_beside.new.conn in
     let new = state g.S.Store c.commit_part-removed.new.conn in
     let t = c.args.at in
-    let low : t ≤ last_moment = omega (arith, c.secs-in_range.ensures.value, c.secs-in_range.ensures.range) in
     let it = change.Remove c.args.id c.args.removal.now in
     let was1 = keeps_now g.S.Store h1 v (g.met.S.Store.shut_if_dirty h1.store) (λ clean. c.in_ok-entry.ensures.read.same clean v was) in
     let was2 = keeps_now g.S.Store h2 v (g.met.S.Store.shut_if_dirty h2.store) (λ clean. c.in-Ok.ensures.read.same clean v was1) in
     let first = read_then old (state g.S.Store h1) (state g.S.Store h2) c.in_ok-entry.ensures.open (c.in_ok-entry.ensures.read.crash v was) (c.in-Ok.ensures.read.crash v was1) in
     let reads = read_then old (state g.S.Store h2) (state g.S.Store h3) c.in-Ok.ensures.open first (c.in-Ok-read_beside.ensures.read.crash v was2) in
     survives_then old (state g.S.Store h3) new _ _ (IsChanged old v t it) (λ _ trees shut is_open. absurd (shut is_open))
-    (λ late trees by was_open later allowed.
+    (λ late trees told was_open later allowed.
     let clean3 : HasCleanDisk (state g.S.Store h3) = omega (arith, late, c.commit_part-removed.ensures.crash.clean) in
     let clean2 = c.in-Ok-read_beside.ensures.read.honest clean3 in
     let clean1 = c.in-Ok.ensures.read.honest clean2 in
     let was3 = c.in-Ok-read_beside.ensures.read.same clean3 v was2 in
-    by v it given was3 later allowed
+    told.1 v it told.0.0 (removal_in_limits v t c.args.id c.args.removal.now told.0.0 allowed told.0.1) was3 later allowed
     (λ is_open.
-    let told = c.in-Ok.ensures.value clean2 v was1 in
+    let read = c.in-Ok.ensures.value clean2 v was1 in
     let place = c.in-Ok.place in
     let beside = c.in-Ok-read_beside.beside in
-    let beside_is = c.in-Ok-read_beside.ensures.value clean3 v was2 told.2 in
+    let beside_is = c.in-Ok-read_beside.ensures.value clean3 v was2 read.2 in
     edits_removal v t c.args.id c.args.removal.now c.in_ok-entry.entry place.config place.sums c.without_version-sums.result place.head c.left_head-left.result beside.newest beside.since
-    (was3 is_open).0.spells.kept.sound later low allowed (sym (c.in_ok-entry.ensures.value clean1 v was)) told.0 told.1 beside_is.1 c.without_version-sums.ensures told.2 beside_is.0 c.left_head-left.ensures))
+    (was3 is_open).0.spells.kept.sound later told.0.0 allowed (sym (c.in_ok-entry.ensures.value clean1 v was)) read.0 read.1 beside_is.1 c.without_version-sums.ensures read.2 beside_is.0 c.left_head-left.ensures))
     reads c.commit_part-removed.ensures.crash
 
 pub returns-clause-nothing : goal.returns-clause-nothing
@@ -75,11 +73,11 @@ returns-clause-nothing g c clean =
     (λ keeps v was. keeps v (c.in-Ok-read_beside.ensures.read.same clean3 v (c.in-Ok.ensures.read.same clean2 v (c.in_ok-entry.ensures.read.same clean1 v was))))
 
 pub returns-in_err-entry-clause-crash : goal.returns-in_err-entry-clause-crash
-returns-in_err-entry-clause-crash g c given v was =
+returns-in_err-entry-clause-crash g c v was =
     shut_leaves (state g.S.Store c.args.conn.now) (state g.S.Store c.find_entry.new.conn) v c.args.at (change.Remove c.args.id c.args.removal.now) (c.in_err-entry.ensures.read.crash v was)
 
 pub returns-in-Err-clause-crash : goal.returns-in-Err-clause-crash
-returns-in-Err-clause-crash g c given v was =
+returns-in-Err-clause-crash g c v was =
     let old = state g.S.Store c.args.conn.now in
     let h1 = c.find_entry.new.conn in
     let s2 = state g.S.Store c.read_place.new.conn in
@@ -88,7 +86,7 @@ returns-in-Err-clause-crash g c given v was =
     (read_then old (state g.S.Store h1) s2 c.in_ok-entry.ensures.open (c.in_ok-entry.ensures.read.crash v was) (c.in-Err.ensures.read.crash v was1))
 
 pub returns-in-Err-read_beside-clause-crash : goal.returns-in-Err-read_beside-clause-crash
-returns-in-Err-read_beside-clause-crash g c given v was =
+returns-in-Err-read_beside-clause-crash g c v was =
     let old = state g.S.Store c.args.conn.now in
     let h1 = c.find_entry.new.conn in
     let h2 = c.read_place.new.conn in

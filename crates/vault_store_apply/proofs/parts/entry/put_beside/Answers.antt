@@ -2,7 +2,7 @@ use Rattle.std.proofs.Common.{arith}
 use Rattle.sqlite.specs.State.{HasCleanDisk}
 use Rattle.sqlite.specs.Held.{state}
 use Rattle.vault_audit_model.proofs.OutcomeLemmas.{on_ok_then}
-use Rattle.vault_store_edits.proofs.TransactionLemmas.{kept_after, on_err_all}
+use Rattle.vault_store_edits.proofs.TransactionLemmas.{kept_after, on_ok_here, on_err_all}
 use Rattle.vault_store_edits.proofs.ReadyLemmas.{both_done}
 use Rattle.vault_store_edits.proofs.QueryLemmas.{survives_more}
 use Rattle.vault_store_apply.proofs.parts.entry.put_beside.Goals as goal
@@ -25,3 +25,6 @@ returns-clause-part g c = record {
       on_err_all c.set_sums_of.result (c.set_sums_of.ensures.part.kept clean first.0.inside first.1) (λ kept. kept_after old mid new _ first.0 kept);
   survives = survives_more _ _ _ c.put_note_if_given.ensures.part.survives c.set_sums_of.ensures.part.survives;
 }
+
+pub returns-clause-typed : goal.returns-clause-typed
+returns-clause-typed g c = on_ok_here c.set_sums_of.result c.in_ok-put_note_if_given.ensures.typed

@@ -2,7 +2,7 @@ use Rattle.std.proofs.Common.{arith, rules}
 use Rattle.sqlite.specs.State.{HasCleanDisk}
 use Rattle.sqlite.specs.Held.{state}
 use Rattle.vault_audit_model.proofs.OutcomeLemmas.{on_ok_then}
-use Rattle.vault_store_edits.proofs.TransactionLemmas.{kept_after, on_err_here, on_err_all}
+use Rattle.vault_store_edits.proofs.TransactionLemmas.{kept_after, on_ok_here, on_err_here, on_err_all}
 use Rattle.vault_store_edits.proofs.ReadyLemmas.{one_done, both_done}
 use Rattle.vault_store_edits.proofs.QueryLemmas.{survives_more}
 use Rattle.vault_store_apply.proofs.parts.entry.put_history.Goals as goal
@@ -68,3 +68,6 @@ returns-in_err-put_first_setting-clause-part g c = record {
       on_err_here _ (kept_after old s1 new _ d1.0 (kept_after s1 s2 new _ d2.0 (c.in_err-put_first_setting.ensures.part.kept clean d2.0.inside d2.1)));
   survives = survives_more _ _ _ (survives_more _ _ _ c.put_entry.ensures.edit.survives c.put_content_if_given.ensures.part.survives) c.put_first_setting.ensures.part.survives;
 }
+
+pub returns-clause-typed : goal.returns-clause-typed
+returns-clause-typed g c = on_ok_here c.put_first_tenure.result (c.in_ok-put_entry.ensures.limits, rw c.as_slice.ensures at c.in_ok-put_first_setting.ensures.typed)

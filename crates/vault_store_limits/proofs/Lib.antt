@@ -1,2 +1,0 @@
-mod NameLemmas
-mod RuleLemmas
