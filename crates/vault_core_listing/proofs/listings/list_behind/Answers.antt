@@ -7,7 +7,7 @@ pub loop-init : goal.loop-init
 loop-init g c = record {
   leaves = search rules;
   left = λ honest. ap (completed (g.K.Kept.vault c.args.keeper.now) c.args.command.now c.args.page.now) c.in_ok-after.ensures.cases;
-  few = λ honest. let few = few_keys (g.K.Kept.vault c.args.keeper.now) c.args.command.now.bucket c.in_ok-after.after (c.requires honest) in omega arith;
+  few = λ honest. let few = few_keys (g.K.Kept.vault c.args.keeper.now) c.args.command.now.bucket c.in_ok-after.after (g.K.Kept.sound _ honest) in omega arith;
 }
 
 -- no key is left

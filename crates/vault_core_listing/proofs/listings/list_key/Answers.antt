@@ -10,14 +10,14 @@ pub returns-then-page-clause-value : goal.returns-then-page-clause-value
 returns-then-page-clause-value g c = λ honest.
     elim c.then-page.branch [
       | then-page-via-then-page w ↦ sym (filled_full c.args.command.now.most c.args.page.now (asked_at (g.K.Kept.vault c.args.keeper.now) c.args.command.now c.args.key.now) w.if-page.true)
-      | then-page-via-else-page+then-not-has_prefix w ↦ sym (ap (filled c.args.command.now.most c.args.page.now) (without_prefix (g.K.Kept.vault c.args.keeper.now) c.args.command.now c.args.key.now (c.requires honest) (sym w.has_prefix.ensures ∙ w.if-not-has_prefix.true)))
+      | then-page-via-else-page+then-not-has_prefix w ↦ sym (ap (filled c.args.command.now.most c.args.page.now) (without_prefix (g.K.Kept.vault c.args.keeper.now) c.args.command.now c.args.key.now (g.K.Kept.sound _ honest) (sym w.has_prefix.ensures ∙ w.if-not-has_prefix.true)))
     ]
 
 pub loop-held-init : goal.loop-held-init
 loop-held-init g c = record {
   leaves = search rules;
   left = λ honest. all_left (g.K.Kept.vault c.args.keeper.now) c.args.command.now c.args.key.now c.args.page.now c.in_ok-newest_first.newest_first.items c.deref-held-items.result.now
-      (c.requires (c.entries.ensures.leaves.honest honest)) (c.in_ok-newest_first.ensures.value honest) (c.deref-held-items.ensures.value ∙ c.reverse.ensures.items);
+      (g.K.Kept.sound _ (c.entries.ensures.leaves.honest honest)) (c.in_ok-newest_first.ensures.value honest) (c.deref-held-items.ensures.value ∙ c.reverse.ensures.items);
 }
 
 pub loop-held-preserved : goal.loop-held-preserved

@@ -29,7 +29,7 @@ returns-then-len-clause-value g c = λ honest.
           let whole : 256 ≤ length keys = omega (arith, ap length c.as_slice.ensures.value, c.as_slice.ensures.len, c.len.ensures, w.if-len.false) in
           let at : Some c.in-Some.last.now ≡ slice_get keys (length keys - 1) = c.in-Some.ensures.value ∙ ap (λ ks. slice_get ks (length ks - 1)) c.deref.ensures.value in
           past_page v mid c.args.command.now c.args.page.now c.list_keys.new.page c.args.after.now c.in-Some.last.now keys
-          (c.requires (c.keys.ensures.leaves.honest before)) (sym w.is_past.ensures ∙ w.if-is_past.true) c.keys.ensures.leaves.same whole read at now
+          (g.K.Kept.sound _ (c.keys.ensures.leaves.honest before)) (sym w.is_past.ensures ∙ w.if-is_past.true) c.keys.ensures.leaves.same whole read at now
     ]
 
 -- as many came as were asked for

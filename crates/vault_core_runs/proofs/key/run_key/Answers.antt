@@ -1,4 +1,8 @@
 use Rattle.std.proofs.Common.{◌∙◌}
+use Rattle.vault_core_model.specs.declared.halt.Fault.TheVariants as fault
+use Rattle.vault_core_model.specs.declared.halt.Halt.TheVariants as halt
+use Rattle.vault_core_run_laws.specs.KeyRuns.{plan_at}
+use Rattle.vault_core_runs.proofs.Making.{MakesSteps-err, MakesUpTo-fault}
 use Rattle.vault_core_runs.proofs.OverKeys.{planned_as_read, made_as_planned}
 use Rattle.vault_core_runs.proofs.key.run_key.Goals as goal
 
@@ -22,3 +26,14 @@ returns-clause-makes g c = λ h.
     c.entries.ensures.leaves.same (c.requires.given h0)
     (planned_as_read v w b t c.args.key.now c.args.run.now.rules held steps (c.requires.may h0) c.entries.ensures.leaves.same (c.deref.ensures.value ∙ c.in_ok-held.ensures.value h1) (λ rise. c.deref-2.ensures.value ∙ c.in_ok-steps.ensures.plan rise))
     (c.make_steps.ensures.makes h)
+
+-- a fault before any step
+pub returns-in_err-steps-clause-makes : goal.returns-in_err-steps-clause-makes
+returns-in_err-steps-clause-makes g c = λ h.
+    let v = g.K.Kept.vault c.args.keeper.now in
+    let w = g.K.Kept.vault c.entries.new.self in
+    let b = c.args.run.now.bucket in
+    let t = c.args.run.now.at in
+    let ps = plan_at v b t c.args.key.now in
+    MakesSteps-err c.from_residual-in_err-steps.result (halt.Fault fault.Memory) v b t ps c.args.counts.now c.args.counts.now w c.from_residual-in_err-steps.ensures.1
+    (MakesUpTo-fault v b t ps fault.Memory c.args.counts.now w c.entries.ensures.leaves.same)
