@@ -20,7 +20,7 @@ use Rattle.vault_core_model.specs.Allowed.{IsAdmission, IsFirstNote, IsNextSetti
 use Rattle.vault_core_model.specs.Allowed as allowed
 use Rattle.vault_core_model.specs.Checks.{has_period, most_content}
 use Rattle.vault_core_model.specs.IntakeOutcome.{is_line}
-use Rattle.vault_core_model.specs.Sound.{HasItsBytes, IsWholeAs}
+use Rattle.vault_core_model.specs.Sound.{HasItsBytes, IsWholeAs, IsNoted}
 use Rattle.vault_core_model.specs.Vault.{Vault}
 use Rattle.vault_audit_model.specs.Limits.{IsBucketName, IsObjectKey, IsRule, AreRules, IsCause, IsSizedAs, IsEntry, IsSetting, IsNote, IsRemoval}
 use Rattle.vault_store_model.specs.Limits.{IsChangeInLimits}
@@ -56,7 +56,7 @@ settings_in false t (s ∷ r ∷ rs) low first typed = absurd first
 note_sized : (m : Bool) (size : ℕ) (d : Option (List ℕ)) (digest : List ℕ) → IsSizedAs m size d → d ≡ Some digest → (size ≤ most_content) × (length digest ≡ 32)
 note_sized true size d digest is same = absurd (let none : None ≡ Some digest = sym is.1 ∙ same in cc)
 note_sized false size None digest is same = absurd is
-note_sized false size (Some d) digest is same = (is.0, let one : d ≡ digest = cc in subst (λ (x : List ℕ). length x ≡ 32) one is.1)
+note_sized false size (Some d) digest is same = (is.0, (let one : d ≡ digest = cc in subst (λ (x : List ℕ). length x ≡ 32) one is.1))
 
 line_in : (n : ℕ) → IsTrue (is_line n) → (1 ≤ n) × (n ≤ 4294967295)
 line_in n is = (grind (arith, is), grind (arith, is))
@@ -64,7 +64,7 @@ line_in n is = (grind (arith, is), grind (arith, is))
 note_in : (v : Vault) (e : Entry) (note : Option Note) → IsEntry e → IsFirstNote v e note → IfSome note IsTypedNote → IfSome note IsNote
 note_in v e None entry first typed = tt
 note_in v e (Some n) entry first typed =
-    let noted = first.3 in
+    let noted : IsNoted n (Some e) = first.3 in
     let of = note_sized e.marker e.size e.digest n.digest entry.sized noted.3 in
     record {
       bucket = subst IsBucketName noted.0 entry.bucket;
