@@ -64,6 +64,11 @@ class Engine:
             raise EngineError(done.stderr.decode(errors="replace").strip())
         return done.stdout.decode("utf-8")
 
+    def _missing(self, error: OSError) -> EngineError:
+        """Says that the engine can't be started."""
+        why = "is vaultctl installed? $VAULTCTL names another program"
+        return EngineError(f"{self.desk.program}: {error.strerror}: {why}")
+
     def ask(self, do: str, asker: str | None = None, /, **members: Any) -> dict[str, Any]:
         """The value of `ok` in the reply to a line by the desk's caller, or by `asker`; members of None are left out.
 
@@ -130,11 +135,6 @@ class Engine:
         except OSError as error:
             raise self._missing(error) from error
         return self._child
-
-    def _missing(self, error: OSError) -> EngineError:
-        """Says that the engine can't be started."""
-        why = "is vaultctl installed? $VAULTCTL names another program"
-        return EngineError(f"{self.desk.program}: {error.strerror}: {why}")
 
     def _end(self) -> int:
         """Ends the engine, which closes the vault, and returns its status."""
