@@ -10,23 +10,23 @@ use Rattle.std.specs.declared.io.BufReader.{BufReader}
 use Rattle.vaultctl_serve.specs.InTime.{Due, allowed, bytes_of, Comes, in_time, known_in_time}
 use Rattle.vaultctl_serve.specs.Scan.{next}
 use Rattle.vaultctl_serve.specs.declared.scan.Scan.{Scan}
-use Rattle.vaultctl_serve.specs.declared.scan.Scan.TheVariants.{Leading, Within, Fresh, Behind}
+use Rattle.vaultctl_serve.specs.declared.scan.Scan.TheVariants.{Leading, Within, Fresh, Ended}
 
 -- no byte of a request has to come sooner than a first one
 allowed-least : (scan : Scan) → 5_000_000_000 ≤ allowed scan
 allowed-least Leading = lit≤ tt
 allowed-least Within = lit≤ tt
 allowed-least Fresh = lit≤ tt
-allowed-least Behind = lit≤ tt
+allowed-least Ended = lit≤ tt
 
 -- a byte more doesn't shorten the time
 allowed-grows : (scan : Scan) (byte : ℕ) → allowed scan ≤ allowed (next scan byte)
 allowed-grows Leading byte = allowed-least (next Leading byte)
 allowed-grows Within byte = allowed-least (next Within byte)
 allowed-grows Fresh byte = allowed-least (next Fresh byte)
-allowed-grows Behind byte = lit≤ tt
+allowed-grows Ended byte = lit≤ tt
 
--- bytes that all come in time, and what comes behind them
+-- bytes that all come in time, and what comes after them
 pub in_time-given : (scan : Scan) (given later : List Due) (by : ℕ) → by ≤ allowed scan → All (λ due. due.at ≤ by) given
     → in_time scan (given ++ later) ≡ bytes_of given ++ in_time (fold next scan (bytes_of given)) later
 in_time-given scan [] later by within all = refl

@@ -1,4 +1,4 @@
--- A failure is reported once, whatever comes behind it.
+-- A failure is reported once, whatever comes after it.
 use Rattle.std.proofs.Common.{◌≡◌, ◌≢◌, ◌∙◌, ◌≤◌, ℕ, subst, sym, inl, inr, arith}
 use Rattle.vaultctl_serve.specs.Serving.{ReportsOnce}
 
@@ -21,8 +21,8 @@ module _ {T : Type 0} (fails : T → T → Type 0) (since n n' : ℕ) (t u v : T
   ]
 
   -- what came before, and then what is known by whether one had failed
-  pub reports-then : (told : ℕ) → told ≡ since → since ≤ n → n ≤ n' → ReportsOnce fails since n t u → (n ≡ told → ReportsOnce fails told n' u v) → (n ≢ told → v ≡ u) → ReportsOnce fails since n' t v
-  reports-then told is least most before first again =
+  pub reports-then : (first_count : ℕ) → first_count ≡ since → since ≤ n → n ≤ n' → ReportsOnce fails since n t u → (n ≡ first_count → ReportsOnce fails first_count n' u v) → (n ≢ first_count → v ≡ u) → ReportsOnce fails since n' t v
+  reports-then first_count is least most before first again =
       let P : ℕ → Type 0 = λ s. n ≡ s → ReportsOnce fails s n' u v in
       let Q : ℕ → Type 0 = λ s. n ≢ s → v ≡ u in
       elim before [

@@ -1,11 +1,11 @@
--- Steps of connections, one after another, and the readings at which they are made.
+-- Steps of connections, one after another, and the tries in which these are taken.
 use Rattle.std.proofs.Common.{◌≡◌, ◌∙◌, ◌+◌, ◌≤◌, ℕ, List, [], ◌∷◌, ◌++◌, length, append_assoc, Option, None, Some, refl, ap, sym, subst, inl, inr, arith}
 use Rattle.std.proofs.lemmas.List.{length-append}
 use Rattle.vault_core_model.specs.Step.{Reached}
 use Rattle.vault_core_model.specs.Vault.{Vault}
 use Rattle.vault_core_laws.proofs.Runs.{IsRun-append}
 use Rattle.vault_http.specs.Left.{AtMostOne}
-use Rattle.vaultctl_serve.specs.Serving.{ReadsAs, Shows, Stepped, SteppedAt, SteppedOnTime}
+use Rattle.vaultctl_serve.specs.Serving.{Missed, ReadsAs, Stepped, SteppedAt, SteppedOnTime, Taken, Tries, Try}
 
 -- ---- steps
 
@@ -34,52 +34,60 @@ pub Stepped-reached : (most : ℕ) (old new : Vault) → Stepped most old new �
 Stepped-reached most old new stepped before =
     (before.0 ++ stepped.0, before.1 ++ stepped.1, IsRun-append _ _ _ before.0 stepped.0 before.1 stepped.1 before.2 stepped.3)
 
--- ---- steps at readings
+-- ---- steps of tries
 
-SteppedAt-append : (moments more : List (Option ℕ)) (old mid new : Vault) → SteppedAt moments old mid → SteppedAt more mid new → SteppedAt (moments ++ more) old new
+SteppedAt-append : (tries more : List Try) (old mid new : Vault) → SteppedAt tries old mid → SteppedAt more mid new → SteppedAt (tries ++ more) old new
 SteppedAt-append [] more old mid new same second = let P : Vault → Type 0 = λ v. SteppedAt more v new in subst P same second
-SteppedAt-append (moment ∷ moments) more old mid new first second = (first.0, first.1, SteppedAt-append moments more first.0 mid new first.2 second)
+SteppedAt-append (Taken moment ∷ tries) more old mid new first second = (first.0, first.1, SteppedAt-append tries more first.0 mid new first.2 second)
+SteppedAt-append (Missed ∷ tries) more old mid new first second = SteppedAt-append tries more old mid new first second
 
-SteppedAt-stepped : (moments : List (Option ℕ)) (old new : Vault) → SteppedAt moments old new → Stepped (length moments) old new
+SteppedAt-stepped : (tries : List Try) (old new : Vault) → SteppedAt tries old new → Stepped (length tries) old new
 SteppedAt-stepped [] old new same = Stepped-none 0 old new same
-SteppedAt-stepped (moment ∷ moments) old new stepped =
-    Stepped-more (1 + length moments) (length (moment ∷ moments)) old new (omega arith)
-    (Stepped-append 1 (length moments) old stepped.0 new (Stepped-one moment old stepped.0 stepped.1) (SteppedAt-stepped moments stepped.0 new stepped.2))
+SteppedAt-stepped (Taken moment ∷ tries) old new stepped =
+    Stepped-more (1 + length tries) (length (Taken moment ∷ tries)) old new (omega arith)
+    (Stepped-append 1 (length tries) old stepped.0 new (Stepped-one moment old stepped.0 stepped.1) (SteppedAt-stepped tries stepped.0 new stepped.2))
+SteppedAt-stepped (Missed ∷ tries) old new stepped =
+    Stepped-more (length tries) (length (Missed ∷ tries)) old new (omega arith) (SteppedAt-stepped tries old new stepped)
 
--- ---- readings
+-- ---- known tries
 
-pub Shows-none : (before after : Option (List (Option ℕ))) → after ≡ before → Shows before after []
-Shows-none None after same = tt
-Shows-none (Some all) None same = cc
-Shows-none (Some all) (Some later) same = let e : later ≡ all = cc in sym e
+Tries-none : (known : Option (List Try)) → Tries known known []
+Tries-none None = tt
+Tries-none (Some all) = refl
 
-Shows-append : (u v w : Option (List (Option ℕ))) (moments more : List (Option ℕ)) → Shows u v moments → Shows v w more → Shows u w (moments ++ more)
-Shows-append None v w moments more x y = tt
-Shows-append (Some all) None w moments more x y = absurd x
-Shows-append (Some all) (Some later) None moments more x y = absurd y
-Shows-append (Some all) (Some later) (Some last) moments more x y = x ∙ ap (λ (rest : List (Option ℕ)). moments ++ rest) y ∙ sym (append_assoc moments more last)
+Tries-append : (u v w : Option (List Try)) (tries more : List Try) → Tries u v tries → Tries v w more → Tries u w (tries ++ more)
+Tries-append None v w tries more x y = tt
+Tries-append (Some all) None w tries more x y = absurd x
+Tries-append (Some all) (Some later) None tries more x y = absurd y
+Tries-append (Some all) (Some later) (Some last) tries more x y = x ∙ ap (λ (rest : List Try). tries ++ rest) y ∙ sym (append_assoc tries more last)
 
 -- ---- both
 
--- no connection was taken
-pub OnTime-none : (most : ℕ) (before mid after : Option (List (Option ℕ))) (old new : Vault) → Shows before mid [] → after ≡ mid → new ≡ old → SteppedOnTime most before after old new
-OnTime-none most before mid after old new shows stays same = ([], omega arith, Shows-append before mid after [] [] shows (Shows-none mid after stays), same)
+-- none was made
+pub OnTime-none : (known : Option (List Try)) (vault : Vault) → SteppedOnTime 0 known known vault vault
+OnTime-none known vault = ([], refl, Tries-none known, refl)
 
--- one was
-pub OnTime-one : (before after : Option (List (Option ℕ))) (shown moment : Option ℕ) (old new : Vault) → Shows before after (shown ∷ []) → ReadsAs after shown moment → AtMostOne moment old new → SteppedOnTime 1 before after old new
-OnTime-one None after shown moment old new shows reads once = (moment ∷ [], omega arith, tt, (new, once, refl))
-OnTime-one (Some all) None shown moment old new shows reads once = absurd shows
-OnTime-one (Some all) (Some later) shown moment old new shows reads once =
+-- no connection could be taken, and the vault is as it was
+pub OnTime-missed : (before mid after : Option (List Try)) (old new : Vault) → Tries before mid (Missed ∷ []) → after ≡ mid → new ≡ old → SteppedOnTime 1 before after old new
+OnTime-missed before mid after old new tries stays same =
+    let P : Option (List Try) → Type 0 = λ known. Tries before known (Missed ∷ []) in
+    (Missed ∷ [], refl, subst P (sym stays) tries, same)
+
+-- one was taken
+pub OnTime-taken : (before after : Option (List Try)) (shown moment : Option ℕ) (old new : Vault) → Tries before after (Taken shown ∷ []) → ReadsAs after shown moment → AtMostOne moment old new → SteppedOnTime 1 before after old new
+OnTime-taken None after shown moment old new tries reads once = (Taken moment ∷ [], refl, tt, (new, once, refl))
+OnTime-taken (Some all) None shown moment old new tries reads once = absurd tries
+OnTime-taken (Some all) (Some later) shown moment old new tries reads once =
     let P : Option ℕ → Type 0 = λ m. AtMostOne m old new in
-    (shown ∷ [], omega arith, shows, (new, subst P reads once, refl))
+    (Taken shown ∷ [], refl, tries, (new, subst P reads once, refl))
 
-pub OnTime-append : (few more : ℕ) (before mid after : Option (List (Option ℕ))) (old between new : Vault) → SteppedOnTime few before mid old between → SteppedOnTime more mid after between new → SteppedOnTime (few + more) before after old new
-OnTime-append few more before mid after old between new first second = (
+pub OnTime-append : (n m : ℕ) (before mid after : Option (List Try)) (old between new : Vault) → SteppedOnTime n before mid old between → SteppedOnTime m mid after between new → SteppedOnTime (n + m) before after old new
+OnTime-append n m before mid after old between new first second = (
   first.0 ++ second.0,
   omega (arith, length-append first.0 second.0, first.1, second.1),
-  Shows-append before mid after first.0 second.0 first.2 second.2,
+  Tries-append before mid after first.0 second.0 first.2 second.2,
   SteppedAt-append first.0 second.0 old between new first.3 second.3,
 )
 
-pub OnTime-stepped : (most : ℕ) (before after : Option (List (Option ℕ))) (old new : Vault) → SteppedOnTime most before after old new → Stepped most old new
-OnTime-stepped most before after old new timely = Stepped-more (length timely.0) most old new timely.1 (SteppedAt-stepped timely.0 old new timely.3)
+pub OnTime-stepped : (n : ℕ) (before after : Option (List Try)) (old new : Vault) → SteppedOnTime n before after old new → Stepped n old new
+OnTime-stepped n before after old new timely = Stepped-more (length timely.0) n old new (omega (arith, timely.1)) (SteppedAt-stepped timely.0 old new timely.3)

@@ -3,7 +3,7 @@ use Rattle.std.specs.Prelude.{ℕ, ◌≡◌, ◌≤◌, ◌<◌, nat_le, List, 
 use Rattle.std.specs.Option.{option_map}
 use Rattle.vaultctl_serve.specs.Scan.{next}
 use Rattle.vaultctl_serve.specs.declared.scan.Scan.{Scan}
-use Rattle.vaultctl_serve.specs.declared.scan.Scan.TheVariants.{Leading, Within, Fresh, Behind}
+use Rattle.vaultctl_serve.specs.declared.scan.Scan.TheVariants.{Leading, Within, Fresh, Ended}
 
 -- a byte, and when it comes: in nanoseconds from when its connection was taken
 pub record Due : Type 0 where
@@ -19,7 +19,7 @@ abbrev pub allowed : Scan → ℕ
 allowed Leading = 5_000_000_000
 allowed Within = 5_000_000_000
 allowed Fresh = 5_000_000_000
-allowed Behind = 30_000_000_000
+allowed Ended = 30_000_000_000
 
 -- of a request that has come so far, the bytes that come in time, up to the first that doesn't
 abbrev pub in_time : Scan → List Due → List ℕ

@@ -10,33 +10,41 @@ use Rattle.vault_http.specs.Left.{AtMostOne}
 abbrev pub Stepped : ℕ → Vault → Vault → Type 0
 Stepped most old new = (commands : List Timed) × (replies : List Reply) × (length commands ≤ most) × IsRun old commands replies new
 
--- at each of these readings at most one step was made, one after another
-abbrev pub SteppedAt : List (Option ℕ) → Vault → Vault → Type 0
+-- ---- tries to take a connection
+
+-- one try: a connection was taken as the clock showed this, a moment or none; or none could be taken
+pub data Try : Type 0 where
+  Taken : Option ℕ → Try
+  Missed : Try
+
+-- for each connection that was taken at most one step was made, at the clock's reading then, one after another
+abbrev pub SteppedAt : List Try → Vault → Vault → Type 0
 SteppedAt [] old new = new ≡ old
-SteppedAt (moment ∷ later) old new = (mid : Vault) × AtMostOne moment old mid × SteppedAt later mid new
+SteppedAt (Taken moment ∷ later) old new = (mid : Vault) × AtMostOne moment old mid × SteppedAt later mid new
+SteppedAt (Missed ∷ later) old new = SteppedAt later old new
 
--- ---- readings of a clock, where they are known
+-- ---- tries that are known before they are made
 
--- known readings begin with these, and lose them
-abbrev pub Shows : Option (List (Option ℕ)) → Option (List (Option ℕ)) → List (Option ℕ) → Type 0
-Shows None new moments = Unit {0}
-Shows (Some all) None moments = ⊥
-Shows (Some all) (Some later) moments = all ≡ moments ++ later
+-- known tries begin with these, and lose them
+abbrev pub Tries : Option (List Try) → Option (List Try) → List Try → Type 0
+Tries None new tries = Unit {0}
+Tries (Some all) None tries = ⊥
+Tries (Some all) (Some later) tries = all ≡ tries ++ later
 
--- Where a connection was taken, the clock shows the next of the known readings; else they stay.
-abbrev pub IsTaken : {P E : Type 0} → Option (List (Option ℕ)) → Option (List (Option ℕ)) → Option ℕ → Result P E → Type 0
-IsTaken old new shown (Ok peer) = Shows old new (shown ∷ [])
-IsTaken old new shown (Err e) = Shows old new []
+-- a try to take a connection, and what the clock shows then
+abbrev pub IsTried : {P E : Type 0} → Option (List Try) → Option (List Try) → Option ℕ → Result P E → Type 0
+IsTried old new shown (Ok peer) = Tries old new (Taken shown ∷ [])
+IsTried old new shown (Err e) = Tries old new (Missed ∷ [])
 
--- where readings are known, what was read is what the clock shows
-abbrev pub ReadsAs : Option (List (Option ℕ)) → Option ℕ → Option ℕ → Type 0
+-- where tries are known, what was read is what the clock shows
+abbrev pub ReadsAs : Option (List Try) → Option ℕ → Option ℕ → Type 0
 ReadsAs None shown moment = Unit {0}
 ReadsAs (Some all) shown moment = moment ≡ shown
 
--- at most n connections were taken, and each made at most one step, at the clock's reading as it was taken
-abbrev pub SteppedOnTime : ℕ → Option (List (Option ℕ)) → Option (List (Option ℕ)) → Vault → Vault → Type 0
-SteppedOnTime most before after old new =
-    (moments : List (Option ℕ)) × (length moments ≤ most) × Shows before after moments × SteppedAt moments old new
+-- n tries were made, and each connection that was taken made at most one step, at the clock's reading as it was taken
+abbrev pub SteppedOnTime : ℕ → Option (List Try) → Option (List Try) → Vault → Vault → Type 0
+SteppedOnTime n before after old new =
+    (tries : List Try) × (length tries ≡ n) × Tries before after tries × SteppedAt tries old new
 
 -- ---- reports
 

@@ -1,7 +1,7 @@
 //! Connections as they come, and the clock that is read as one is taken.
 ghost use Rattle.std.specs.Prelude.{◌≡◌, ℕ, List, Option, None};
 ghost use Rattle.vault_base.specs.Days.{moment_at};
-ghost use Rattle.vaultctl_serve.specs.Serving.{IsTaken, ReadsAs};
+ghost use Rattle.vaultctl_serve.specs.Serving.{IsTried, ReadsAs, Try};
 
 use crate::clock;
 use crate::deadline::BETWEEN_TRIES;
@@ -15,24 +15,25 @@ pub trait Arrivals {
     /// The other side of a connection.
     type Peer: Peer + Drop;
 
-    /// What the clock shows as each connection to come is taken, where that is known: a moment, or none.
-    ghost readings: { Self → Option (List (Option ℕ)) };
+    /// The tries to take a connection that are to come, where they are known: which of them will have one, and what the
+    /// clock will show then.
+    ghost tries: { Self → Option (List Try) };
 
     /// What the clock shows now: a moment, or none.
     ghost shown: { Self → Option ℕ };
 
     /// Takes the next connection.
     fn take(&mut self) -> io::Result<Self::Peer>
-        ensures { IsTaken (readings self.old) (readings self.new) (shown self.new) result };
+        ensures { IsTried (tries self.old) (tries self.new) (shown self.new) result };
 
     /// The clock's reading now.
     fn reading(&self) -> i64
-        ensures { ReadsAs (readings self.now) (shown self.now) (moment_at result) };
+        ensures { ReadsAs (tries self.now) (shown self.now) (moment_at result) };
 
-    /// Waits a little behind a connection that couldn't be taken, so that a fault that lasts doesn't use up what is to
-    /// be served.
+    /// Waits a little after a connection that couldn't be taken, so that a fault that lasts doesn't use up the count of
+    /// connections.
     fn pause(&mut self)
-        ensures { readings self.new ≡ readings self.old };
+        ensures { tries self.new ≡ tries self.old };
 }
 
 /// The connections of a listener.
@@ -47,7 +48,7 @@ pub struct Listened<'a, C: Clock, L> {
 impl<C: Clock, P: Peer + Drop, L: OpenListener<Stream = P>> Arrivals for Listened<'_, C, L> {
     type Peer = P;
 
-    ghost readings = { λ _. None };
+    ghost tries = { λ _. None };
 
     ghost shown = { λ _. None };
 

@@ -21,7 +21,7 @@ use std::time::{Clock, Instant};
 use vault_core_model::keeper::Keeper;
 use vault_http::{ServeFault, serve_one};
 
-/// Serves the one request of a connection: what is answered is what comes in time, as if nothing came behind it.
+/// Serves the one request of a connection: what is answered is what comes in time, as if nothing came after it.
 ///
 /// The faults are those of `serve_one`. A request that comes too late is a failed read, `Read`, and `Memory` comes too
 /// where there is no room for what is read ahead.
@@ -87,7 +87,7 @@ pub fn serve_connection<C: Clock, P: Peer, K: Keeper>(
 {
     let served = exchange(clock, alloc, peer, keeper, reading);
     if served.is_ok() {
-        // The answer is written, whatever the client does behind it.
+        // The answer is written, whatever the client does after it.
         let _ = linger(clock, peer);
     }
     served

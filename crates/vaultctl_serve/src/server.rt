@@ -21,7 +21,7 @@ fn serve_next<C: Clock, A: Arrivals, K: Keeper>(
     arrivals: &mut A,
     keeper: &mut K,
 )
-    ensures timely { K.is_honest keeper.new → SteppedOnTime 1 (A.readings arrivals.old) (A.readings arrivals.new) (K.vault keeper.old) (K.vault keeper.new) }
+    ensures timely { K.is_honest keeper.new → SteppedOnTime 1 (A.tries arrivals.old) (A.tries arrivals.new) (K.vault keeper.old) (K.vault keeper.new) }
     ensures honest { K.is_honest keeper.new → K.is_honest keeper.old }
     ensures counted { K.count keeper.old ≤ K.count keeper.new }
 {
@@ -45,7 +45,7 @@ fn serve_watched<C: Clock, A: Arrivals, K: Keeper, T: Reporter>(
     since: u64,
     reporter: &mut T,
 )
-    ensures timely { K.is_honest keeper.new → SteppedOnTime 1 (A.readings arrivals.old) (A.readings arrivals.new) (K.vault keeper.old) (K.vault keeper.new) }
+    ensures timely { K.is_honest keeper.new → SteppedOnTime 1 (A.tries arrivals.old) (A.tries arrivals.new) (K.vault keeper.old) (K.vault keeper.new) }
     ensures reported { K.count keeper.old ≡ since → ReportsOnce T.fails since (K.count keeper.new) reporter.old reporter.new }
     // It isn't reported a second time.
     ensures once { K.count keeper.old ≢ since → reporter.new ≡ reporter.old }
@@ -59,8 +59,8 @@ fn serve_watched<C: Clock, A: Arrivals, K: Keeper, T: Reporter>(
     }
 }
 
-/// Takes so many connections, one after another, and serves one request on each, at the clock's reading
-/// when it was taken. Once the vault's device has failed that is reported, once.
+/// Takes `count` connections, one after another, and serves one request on each, at the clock's reading
+/// when it was taken. That the vault's device failed is reported once, when it first does.
 ///
 /// A connection that can't be taken, or whose request isn't served to its end, counts as any other, and
 /// the next one is taken. The head of a request has to come within 5 seconds from when its connection was taken,
@@ -74,8 +74,9 @@ pub fn serve_arrivals<C: Clock, A: Arrivals, K: Keeper, T: Reporter>(
     count: u32,
     reporter: &mut T,
 )
-    // At most one command was carried out for each connection, at the clock's reading as it was taken.
-    ensures timely { K.is_honest keeper.new → SteppedOnTime count (A.readings arrivals.old) (A.readings arrivals.new) (K.vault keeper.old) (K.vault keeper.new) }
+    // `count` times one tried to take a connection, and for each that was taken at most one command was carried out, at
+    // the clock's reading then.
+    ensures timely { K.is_honest keeper.new → SteppedOnTime count (A.tries arrivals.old) (A.tries arrivals.new) (K.vault keeper.old) (K.vault keeper.new) }
     ensures stepped { K.is_honest keeper.new → Stepped count (K.vault keeper.old) (K.vault keeper.new) }
     // A vault that runs lead to from a new one is left as such a vault.
     ensures reached { K.is_honest keeper.new → Reached (K.vault keeper.old) → Reached (K.vault keeper.new) }
@@ -90,7 +91,7 @@ pub fn serve_arrivals<C: Clock, A: Arrivals, K: Keeper, T: Reporter>(
     }
 }
 
-/// Takes so many connections of a listener, as `serve_arrivals`.
+/// Takes `count` connections of a listener, as `serve_arrivals` does.
 pub fn serve_connections<
     C: Clock,
     P: Peer + Drop,
@@ -111,10 +112,10 @@ pub fn serve_connections<
     serve_arrivals(clock, alloc, &mut arrivals, keeper, count, reporter);
 }
 
-/// Serves so many requests at that port of 127.0.0.1, each on a connection of its own, and ends.
+/// Serves `count` requests at that port of 127.0.0.1, each on a connection of its own, and ends.
 ///
-/// Once it listens that is reported, and once the vault's device has failed that is. `Device` comes where the port
-/// can't be had. No fault of a connection or of the device ends it.
+/// That it listens is reported first, and that the vault's device failed is reported once, when it first does.
+/// `Device` comes where the port can't be had. No fault of a connection or of the device ends it.
 pub fn serve<R: Net<Stream = TcpStream> + Clock, K: Keeper, T: Reporter>(
     rt: &R,
     alloc: Global,

@@ -17,7 +17,7 @@ fn allowed(scan: Scan) -> Duration
     ensures { as_nanos result ≡ allowed_by scan }
 {
     match scan {
-        Scan::Behind => Duration::from_millis(REQUEST),
+        Scan::Ended => Duration::from_millis(REQUEST),
         Scan::Leading | Scan::Within | Scan::Fresh => Duration::from_millis(HEAD),
     }
 }
@@ -44,7 +44,7 @@ impl<I: Inbound> TimedRequest<I> {
 }
 
 impl<I: Inbound> Read for TimedRequest<I> {
-    // The bytes that come in time: what comes behind them is never given.
+    // The bytes that come in time: what comes after them is never given.
     ghost remaining = { λ request. known_in_time request.scan (I.coming request.inbound) };
 
     fn read(&mut self, buf: &mut [u8]) -> io::Result<usize> {

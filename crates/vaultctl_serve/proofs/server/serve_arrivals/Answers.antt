@@ -1,17 +1,15 @@
 use Rattle.std.proofs.Common.{refl, inl, arith}
 use Rattle.vaultctl_serve.proofs.ReportLemmas.{reports-then}
-use Rattle.vaultctl_serve.proofs.ServingLemmas.{OnTime-append, OnTime-none, OnTime-stepped, Shows-none, Stepped-more, Stepped-reached}
+use Rattle.vaultctl_serve.proofs.ServingLemmas.{OnTime-append, OnTime-none, OnTime-stepped, Stepped-more, Stepped-reached}
 use Rattle.vaultctl_serve.proofs.server.serve_arrivals.Goals as goal
 
 pub loop-init : goal.loop-init
 loop-init g c =
-    let shown = g.A.Arrivals.readings c.args.arrivals.now in
-    let vault = g.K.Keeper.vault c.args.keeper.now in
     record {
       honest = λ h. h;
       counted = omega arith;
       reported = inl (refl, refl);
-      timely = λ h. OnTime-none 0 shown shown shown vault vault (Shows-none shown shown refl) refl refl;
+      timely = λ h. OnTime-none (g.A.Arrivals.tries c.args.arrivals.now) (g.K.Keeper.vault c.args.keeper.now);
     }
 
 -- the steps so far, and then that of this connection

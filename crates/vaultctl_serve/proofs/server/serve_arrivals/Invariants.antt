@@ -2,11 +2,11 @@ use Rattle.std.proofs.Common.{◌≤◌}
 use Rattle.vaultctl_serve.specs.Serving.{ReportsOnce, SteppedOnTime}
 use Rattle.vaultctl_serve.proofs.server.serve_arrivals.Given as goal
 
--- so many connections made at most so many steps, each at its reading, and a failure was reported once
+-- n tries to take a connection made at most n steps, each at its reading, and a failure was reported once
 abbrev pub invariant-loop : goal.invariant-loop
 invariant-loop g l = record {
   honest : g.K.Keeper.is_honest l.keeper → g.K.Keeper.is_honest l.fn.keeper;
   counted : g.K.Keeper.count l.fn.keeper ≤ g.K.Keeper.count l.keeper;
   reported : ReportsOnce g.T.Reporter.fails (g.K.Keeper.count l.fn.keeper) (g.K.Keeper.count l.keeper) l.fn.reporter l.reporter;
-  timely : g.K.Keeper.is_honest l.keeper → SteppedOnTime l.counter (g.A.Arrivals.readings l.fn.arrivals) (g.A.Arrivals.readings l.arrivals) (g.K.Keeper.vault l.fn.keeper) (g.K.Keeper.vault l.keeper);
+  timely : g.K.Keeper.is_honest l.keeper → SteppedOnTime l.counter (g.A.Arrivals.tries l.fn.arrivals) (g.A.Arrivals.tries l.arrivals) (g.K.Keeper.vault l.fn.keeper) (g.K.Keeper.vault l.keeper);
 }

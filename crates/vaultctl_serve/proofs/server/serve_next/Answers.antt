@@ -1,7 +1,7 @@
 use Rattle.std.proofs.Common.{◌≡◌, ℤ, FitsSigned, rules, subst, to_z, to_z-of_z, of_z, w64}
 use Rattle.vault_base.specs.Days.{moment_at}
 use Rattle.vault_http.specs.Left.{AtMostOne}
-use Rattle.vaultctl_serve.proofs.ServingLemmas.{OnTime-one}
+use Rattle.vaultctl_serve.proofs.ServingLemmas.{OnTime-taken}
 use Rattle.vaultctl_serve.proofs.server.serve_next.Goals as goal
 
 -- the reading is what the clock shows as the connection was taken
@@ -13,4 +13,4 @@ returns-in-Ok-clause-timely g c =
     let fits : FitsSigned w64 reading = search rules in
     let same : to_z w64 (of_z w64 reading) ≡ reading = to_z-of_z fits in
     let P : ℤ → Type 0 = λ z. AtMostOne (moment_at z) old new in
-    λ h. OnTime-one (g.A.Arrivals.readings c.args.arrivals.now) (g.A.Arrivals.readings c.take.new.self) (g.A.Arrivals.shown c.take.new.self) (moment_at reading) old new c.in-Ok.ensures c.reading-reading.ensures (subst P same (c.serve_connection.ensures.once h))
+    λ h. OnTime-taken (g.A.Arrivals.tries c.args.arrivals.now) (g.A.Arrivals.tries c.take.new.self) (g.A.Arrivals.shown c.take.new.self) (moment_at reading) old new c.in-Ok.ensures c.reading-reading.ensures (subst P same (c.serve_connection.ensures.once h))
