@@ -1,11 +1,11 @@
 -- Steps of connections, one after another, and the tries in which these are taken.
-use Rattle.std.proofs.Common.{◌≡◌, ◌∙◌, ◌+◌, ◌≤◌, ℕ, List, [], ◌∷◌, ◌++◌, length, append_assoc, Option, None, Some, refl, ap, sym, subst, inl, inr, arith}
+use Rattle.std.proofs.Common.{◌≡◌, ◌+◌, ◌≤◌, ℕ, List, [], ◌∷◌, ◌++◌, length, Option, None, Some, refl, sym, subst, inl, inr, arith}
 use Rattle.std.proofs.lemmas.List.{length-append}
 use Rattle.vault_core_model.specs.Step.{Reached}
 use Rattle.vault_core_model.specs.Vault.{Vault}
 use Rattle.vault_core_laws.proofs.Runs.{IsRun-append}
 use Rattle.vault_http.specs.Left.{AtMostOne}
-use Rattle.vaultctl_serve.specs.Serving.{Missed, ReadsAs, Stepped, SteppedAt, SteppedOnTime, Taken, Tries, Try}
+use Rattle.vaultctl_serve.specs.Serving.{Missed, Next, ReadsAs, Stepped, SteppedAt, SteppedOnTime, Taken, Tries, Try}
 
 -- ---- steps
 
@@ -55,11 +55,16 @@ Tries-none : (known : Option (List Try)) → Tries known known []
 Tries-none None = tt
 Tries-none (Some all) = refl
 
+Next-append : (all mid later tries more : List Try) → Next all mid tries → Next mid later more → Next all later (tries ++ more)
+Next-append all mid later [] more x y = let P : List Try → Type 0 = λ known. Next known later more in subst P x y
+Next-append [] mid later (try ∷ tries) more x y = (x.0, Next-append [] mid later tries more x.1 y)
+Next-append (known ∷ all) mid later (try ∷ tries) more x y = (x.0, Next-append all mid later tries more x.1 y)
+
 Tries-append : (u v w : Option (List Try)) (tries more : List Try) → Tries u v tries → Tries v w more → Tries u w (tries ++ more)
 Tries-append None v w tries more x y = tt
 Tries-append (Some all) None w tries more x y = absurd x
-Tries-append (Some all) (Some later) None tries more x y = absurd y
-Tries-append (Some all) (Some later) (Some last) tries more x y = x ∙ ap (λ (rest : List Try). tries ++ rest) y ∙ sym (append_assoc tries more last)
+Tries-append (Some all) (Some mid) None tries more x y = absurd y
+Tries-append (Some all) (Some mid) (Some later) tries more x y = Next-append all mid later tries more x y
 
 -- ---- both
 

@@ -1,5 +1,5 @@
 -- What connections may do with a vault, and what is reported of them.
-use Rattle.std.specs.Prelude.{ℕ, ◌≡◌, ◌≢◌, ◌≤◌, ◌⊎◌, List, [], ◌∷◌, ◌++◌, length, Option, Some, None, Result, Ok, Err}
+use Rattle.std.specs.Prelude.{ℕ, ◌≡◌, ◌≢◌, ◌≤◌, ◌⊎◌, List, [], ◌∷◌, length, Option, Some, None, Result, Ok, Err}
 use Rattle.vault_core_model.specs.declared.command.Timed.{Timed}
 use Rattle.vault_core_model.specs.declared.reply.Reply.{Reply}
 use Rattle.vault_core_model.specs.Step.{IsRun}
@@ -25,11 +25,17 @@ SteppedAt (Missed ∷ later) old new = SteppedAt later old new
 
 -- ---- tries that are known before they are made
 
--- known tries begin with these, and lose them
+-- of all known tries these are the next, and then come the later ones; after them all no connection can be taken any more
+abbrev pub Next : List Try → List Try → List Try → Type 0
+Next all later [] = later ≡ all
+Next [] later (try ∷ tries) = (try ≡ Missed) × Next [] later tries
+Next (known ∷ all) later (try ∷ tries) = (try ≡ known) × Next all later tries
+
+-- the same where tries are known
 abbrev pub Tries : Option (List Try) → Option (List Try) → List Try → Type 0
 Tries None new tries = Unit {0}
 Tries (Some all) None tries = ⊥
-Tries (Some all) (Some later) tries = all ≡ tries ++ later
+Tries (Some all) (Some later) tries = Next all later tries
 
 -- a try to take a connection, and what the clock shows then
 abbrev pub IsTried : {P E : Type 0} → Option (List Try) → Option (List Try) → Option ℕ → Result P E → Type 0
