@@ -14,7 +14,7 @@ const COUNT: u32 = 1_000;
 const PUT: &str =
     "PUT /docs/a HTTP/1.1\r\nx-vault-caller: ann\r\ncontent-length: 5\r\nexpect: 100-continue\r\n\r\nhello";
 
-/// Serves so many peers that sent these bytes and are gone.
+/// Serves `COUNT` peers that sent these bytes and are gone.
 fn serve_gone<R: Net<Listener = TcpListener, Stream = TcpStream>, K: Keeper>(
     net: &R,
     alloc: Global,
@@ -28,8 +28,8 @@ fn serve_gone<R: Net<Listener = TcpListener, Stream = TcpStream>, K: Keeper>(
         sent,
         taken: Cell::new(0),
     };
-    let mut told = io::sink();
-    serve_connections(&StandingClock, alloc, &peers, keeper, COUNT, &mut told);
+    let mut reports = io::sink();
+    serve_connections(&StandingClock, alloc, &peers, keeper, COUNT, &mut reports);
     if peers.taken.get() == COUNT {
         return Ok(());
     }
@@ -45,8 +45,8 @@ fn serve_waiting<R: Net<Listener = TcpListener, Stream = TcpStream>, K: Keeper>(
     id: u64,
 ) -> Result<(), Fail> {
     let peer = waiting(net, listener, PUT)?;
-    let mut told = io::sink();
-    serve_connections(&StandingClock, alloc, listener, keeper, 1, &mut told);
+    let mut reports = io::sink();
+    serve_connections(&StandingClock, alloc, listener, keeper, 1, &mut reports);
     let wanted = format!(in alloc;
         "HTTP/1.1 100 Continue\r\n\r\nHTTP/1.1 200 OK\r\ndate: Mon, 15 Jan 2024 10:30:00 GMT\r\nconnection: close\r\ncontent-length: 0\r\nx-amz-version-id: {id}\r\n\r\n"
     )?;

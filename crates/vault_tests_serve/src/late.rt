@@ -1,4 +1,4 @@
-//! Requests that come slowly or not at all, answers that are taken slowly or not at all, and what comes behind an
+//! Requests that come slowly or not at all, answers that are taken slowly or not at all, and what comes after an
 //! answer: how long one waits for each.
 use crate::slow::{MovingClock, Part, SlowPeer, SlowPeers};
 use std::alloc::Global;
@@ -26,7 +26,7 @@ const GET: &str = "GET /docs/a HTTP/1.1\r\nx-vault-caller: ann\r\n\r\n";
 /// How long a peer takes for a byte of its answer that takes it at once.
 const NO_TIME: u64 = 0;
 
-/// These bytes, so many milliseconds behind those before, so often.
+/// These bytes, `pause` milliseconds after those before them, `times` times.
 fn part(pause: u64, bytes: &'static str, times: u32) -> Part {
     Part {
         pause,
@@ -43,7 +43,7 @@ fn each_second(times: u32) -> Part {
     part(1_000, "x", times)
 }
 
-/// Fails where not so many milliseconds have passed.
+/// Fails where another number of milliseconds has passed.
 fn check_passed(clock: &MovingClock, millis: u64) -> Result<(), Fail> {
     if clock.is_at(millis) {
         return Ok(());
@@ -52,8 +52,8 @@ fn check_passed(clock: &MovingClock, millis: u64) -> Result<(), Fail> {
     Err(Fail::new(format_args!("{passed} milliseconds passed, wanted {millis}")))
 }
 
-/// Serves so many connections, of silent peers and then of one that sends this, if any, and takes a byte of its answer
-/// in so many milliseconds. Gives what it took, and fails where not so many milliseconds have passed.
+/// Serves `count` connections, of silent peers and then of one that sends `last`, if any, and takes a byte of its
+/// answer in `pace` milliseconds. Returns what it took, and fails where not `millis` milliseconds have passed.
 fn serve_slow<K: Keeper>(
     alloc: Global,
     keeper: &mut K,
@@ -75,8 +75,8 @@ fn serve_slow<K: Keeper>(
         taken: &taken,
         alloc,
     };
-    let mut told = io::sink();
-    serve_connections(&clock, alloc, &peers, keeper, count, &mut told);
+    let mut reports = io::sink();
+    serve_connections(&clock, alloc, &peers, keeper, count, &mut reports);
     check_passed(&clock, millis)?;
     Ok(String::from_utf8(taken.replace(Vec::new(alloc)))?)
 }
@@ -89,7 +89,7 @@ fn check_end(answer: &str, wanted: &str) -> Result<(), Fail> {
     Err(Fail::new(format_args!("wanted an end {wanted}, got {answer}")))
 }
 
-/// One peer gets no answer, in so many milliseconds, and its request wasn't carried out: a put behind it is the
+/// One peer gets no answer, in `millis` milliseconds, and its request wasn't carried out: a put after it is the
 /// vault's first.
 fn unanswered(rt: &HostRuntime, parts: &[Part], millis: u64) -> Result<(), Fail> {
     let alloc = rt.alloc();
@@ -103,7 +103,7 @@ fn unanswered(rt: &HostRuntime, parts: &[Part], millis: u64) -> Result<(), Fail>
     check_end(answer.as_str(), "x-amz-version-id: 1\r\n\r\n")
 }
 
-/// One peer, over a new vault, has an answer that ends so, in so many milliseconds.
+/// One peer, over a new vault, has an answer that ends so, in `millis` milliseconds.
 fn answered(rt: &HostRuntime, parts: &[Part], millis: u64, end: &str) -> Result<(), Fail> {
     let alloc = rt.alloc();
     let mut keeper = opened(alloc)?;
@@ -113,7 +113,7 @@ fn answered(rt: &HostRuntime, parts: &[Part], millis: u64, end: &str) -> Result<
 
 /// Each of them is waited for for 5 seconds, and the next one has the reading of when it was taken.
 #[test]
-fn behind_silent_peers(rt: HostRuntime) -> Result<(), Fail> {
+fn after_silent_peers(rt: HostRuntime) -> Result<(), Fail> {
     let alloc = rt.alloc();
     let mut keeper = opened(alloc)?;
     let put = [at_once(HEAD), at_once("hello"), at_once("")];
@@ -134,7 +134,7 @@ fn a_head_byte_by_byte(rt: HostRuntime) -> Result<(), Fail> {
     unanswered(&rt, &[at_once("\r\n\n\r\n"), each_second(100)], 5_000)
 }
 
-/// Behind its head a request may take up to 30 seconds in all.
+/// After its head a request may take up to 30 seconds in all.
 #[test]
 fn a_body_byte_by_byte(rt: HostRuntime) -> Result<(), Fail> {
     let put = [at_once(LONGER), each_second(29), at_once("")];
@@ -155,10 +155,10 @@ fn an_answer_byte_by_byte(rt: HostRuntime) -> Result<(), Fail> {
     Ok(())
 }
 
-/// A peer that stays behind its answer is waited for for half a second; one that goes on sending is read for 5
+/// A peer that stays after its answer is waited for for half a second; one that goes on sending is read for 5
 /// seconds. A body that is too large isn't waited for before it is refused.
 #[test]
-fn behind_an_answer(rt: HostRuntime) -> Result<(), Fail> {
+fn after_an_answer(rt: HostRuntime) -> Result<(), Fail> {
     let stays = [at_once(HEAD), at_once("hello")];
     answered(&rt, &stays, 500, "x-amz-version-id: 1\r\n\r\n")?;
     let goes_on = [at_once(TOO_LARGE), part(400, "x", 1_000)];
@@ -168,9 +168,9 @@ fn behind_an_answer(rt: HostRuntime) -> Result<(), Fail> {
     answered(&rt, &ends, 1_200, refused)
 }
 
-/// What comes behind an answer is read so often, and no more.
+/// What comes after an answer is read 65,536 times, and no more.
 #[test]
-fn a_flood_behind_an_answer(rt: HostRuntime) -> Result<(), Fail> {
+fn a_flood_after_an_answer(rt: HostRuntime) -> Result<(), Fail> {
     let alloc = rt.alloc();
     let clock = MovingClock {
         passed: Cell::new(Duration::ZERO),

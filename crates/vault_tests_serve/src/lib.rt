@@ -1,9 +1,13 @@
 //! Tests of the vault served over loopback, clients and server in one process: what is answered, and peers that
-//! are gone before they are answered. And of peers that take their time, by a clock that moves as one waits.
+//! are gone before they are answered. Other peers take their time, by a clock that moves as one waits, and requests
+//! come at known times.
 #![tactic(auto)]
 
 #[cfg(test)]
 mod broken;
+#[cfg(test)]
+mod in_time;
+pub mod known;
 #[cfg(test)]
 mod late;
 #[cfg(test)]

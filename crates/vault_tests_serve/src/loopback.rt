@@ -70,7 +70,7 @@ impl<R: Net<Listener = TcpListener, Stream = TcpStream>> Clock for Loopback<'_, 
     }
 }
 
-/// A listener that fails so many times before it takes a connection.
+/// A listener that fails a number of times before it takes a connection.
 #[derive(Drop)]
 pub struct Failing {
     pub listener: TcpListener,

@@ -25,14 +25,14 @@ const GOT: &str =
 const FAILED: &str =
     "HTTP/1.1 100 Continue\r\n\r\nHTTP/1.1 500 Internal Server Error\r\ndate: Mon, 15 Jan 2024 10:30:00 GMT\r\nconnection: close\r\ncontent-type: application/json\r\ncontent-length: 24\r\n\r\n{\"code\":\"Device\",\"n\":23}";
 
-const TOLD_FAILURE: &str =
+const REPORTED_FAILURE: &str =
     "serving a.vault at 127.0.0.1:0\nserve: the vault's file failed: where requests are answered 500, start the server anew\n";
 
 const NO_TIME: &str =
     "HTTP/1.1 503 Service Unavailable\r\nconnection: close\r\ncontent-type: application/json\r\ncontent-length: 32\r\n\r\n{\"code\":\"ClockOutOfRange\",\"n\":2}";
 
 /// One request a connection, one connection after another. One that sends nothing counts, and gets no
-/// answer; behind the last none is served. Where it listens is told first.
+/// answer; after the last none is served. That it listens is reported first.
 #[test]
 fn serves_as_many_as_it_should(rt: HostRuntime) -> Result<(), Fail> {
     let alloc = rt.alloc();
@@ -44,10 +44,10 @@ fn serves_as_many_as_it_should(rt: HostRuntime) -> Result<(), Fail> {
         clients: Cell::new(Vec::new(alloc)),
         since_1970: Some(READING),
     };
-    let mut told = Vec::new(alloc);
-    assert!(rt; serve(&network, alloc, &mut keeper, "a.vault", 0, 3, &mut told).is_ok());
+    let mut reports = Vec::new(alloc);
+    assert!(rt; serve(&network, alloc, &mut keeper, "a.vault", 0, 3, &mut reports).is_ok());
     assert_eq!(rt;
-        told.as_slice(),
+        reports.as_slice(),
         b"serving a.vault at 127.0.0.1:0\n".as_slice()
     );
     let mut clients = network.clients.replace(Vec::new(alloc));
@@ -57,7 +57,7 @@ fn serves_as_many_as_it_should(rt: HostRuntime) -> Result<(), Fail> {
     answered(alloc, clients, &[STORED, "", GOT])
 }
 
-/// A device that fails twice: each of the two requests is answered 500, and it is told once. Where it fails no more the
+/// A device that fails twice: each of the two requests is answered 500, and it is reported once. Where it fails no more the
 /// next one is served.
 #[test]
 fn a_device_that_fails(rt: HostRuntime) -> Result<(), Fail> {
@@ -70,9 +70,9 @@ fn a_device_that_fails(rt: HostRuntime) -> Result<(), Fail> {
         clients: Cell::new(Vec::new(alloc)),
         since_1970: Some(READING),
     };
-    let mut told = Vec::new(alloc);
-    assert!(rt; serve(&network, alloc, &mut keeper, "a.vault", 0, 3, &mut told).is_ok());
-    assert_eq!(rt; told.as_slice(), TOLD_FAILURE.as_bytes());
+    let mut reports = Vec::new(alloc);
+    assert!(rt; serve(&network, alloc, &mut keeper, "a.vault", 0, 3, &mut reports).is_ok());
+    assert_eq!(rt; reports.as_slice(), REPORTED_FAILURE.as_bytes());
     let clients = network.clients.replace(Vec::new(alloc));
     answered(alloc, clients, &[FAILED, FAILED, STORED])
 }
@@ -89,8 +89,8 @@ fn a_clock_that_cannot_be_read(rt: HostRuntime) -> Result<(), Fail> {
         clients: Cell::new(Vec::new(alloc)),
         since_1970: None,
     };
-    let mut told = Vec::new(alloc);
-    assert!(rt; serve(&network, alloc, &mut keeper, "a.vault", 0, 1, &mut told).is_ok());
+    let mut reports = Vec::new(alloc);
+    assert!(rt; serve(&network, alloc, &mut keeper, "a.vault", 0, 1, &mut reports).is_ok());
     answered(alloc, network.clients.replace(Vec::new(alloc)), &[NO_TIME])
 }
 
@@ -122,8 +122,8 @@ fn a_listener_that_fails(rt: HostRuntime) -> Result<(), Fail> {
     };
     let address = failing.listener.local_addr()?;
     let clients = vec![in alloc; send(&rt, address, PUT)?, send(&rt, address, GET)?]?;
-    let mut told = io::sink();
-    serve_connections(&clock, alloc, &failing, &mut keeper, 4, &mut told);
+    let mut reports = io::sink();
+    serve_connections(&clock, alloc, &failing, &mut keeper, 4, &mut reports);
     assert_eq!(rt; failing.failures.get(), 0);
     answered(alloc, clients, &[STORED, GOT])
 }
@@ -135,24 +135,38 @@ fn a_clock_that_tells_no_time(rt: HostRuntime) -> Result<(), Fail> {
     let mut keeper = opened(alloc)?;
     let listener = TcpListener::bind(&rt, (Ipv4Addr::LOCALHOST, 0))?;
     let unserved = send(&rt, listener.local_addr()?, PUT)?;
-    let mut told = io::sink();
-    serve_connections(&StoppedClock, alloc, &listener, &mut keeper, 1, &mut told);
+    let mut reports = io::sink();
+    serve_connections(
+        &StoppedClock,
+        alloc,
+        &listener,
+        &mut keeper,
+        1,
+        &mut reports,
+    );
     drop(unserved);
     let clients = vec![in alloc; send(&rt, listener.local_addr()?, PUT)?]?;
-    serve_connections(&StandingClock, alloc, &listener, &mut keeper, 1, &mut told);
+    serve_connections(
+        &StandingClock,
+        alloc,
+        &listener,
+        &mut keeper,
+        1,
+        &mut reports,
+    );
     answered(alloc, clients, &[STORED])
 }
 
-/// A port that another listener has can't be had, and nothing is told.
+/// A port that another listener has can't be had, and nothing is reported.
 #[test]
 fn a_port_that_is_taken(rt: HostRuntime) -> Result<(), Fail> {
     let alloc = rt.alloc();
     let mut keeper = opened(alloc)?;
     let listener = TcpListener::bind(&rt, (Ipv4Addr::LOCALHOST, 0))?;
     let port = listener.local_addr()?.port();
-    let mut told = Vec::new(alloc);
-    let served = serve(&rt, alloc, &mut keeper, "a.vault", port, 1, &mut told);
+    let mut reports = Vec::new(alloc);
+    let served = serve(&rt, alloc, &mut keeper, "a.vault", port, 1, &mut reports);
     assert!(rt; served == Err(PortFault::Device));
-    assert!(rt; told.is_empty());
+    assert!(rt; reports.is_empty());
     Ok(())
 }

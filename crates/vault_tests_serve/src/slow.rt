@@ -21,7 +21,7 @@ impl MovingClock {
         self.passed.set(self.passed.get().saturating_add(time));
     }
 
-    /// Whether so many milliseconds have passed.
+    /// Whether `millis` milliseconds have passed.
     pub fn is_at(&self, millis: u64) -> bool {
         self.passed.get() == Duration::from_millis(millis)
     }
@@ -41,7 +41,7 @@ impl Clock for MovingClock {
     }
 }
 
-/// Bytes that come so many milliseconds behind those before them, once or more often. No bytes are the peer's end.
+/// Bytes that come some milliseconds after those before them, once or more often. No bytes are the peer's end.
 #[derive(Clone, Copy)]
 pub struct Part {
     pub pause: u64,
@@ -49,7 +49,7 @@ pub struct Part {
     pub times: u32,
 }
 
-/// A peer that sends its parts one after another, and then nothing, and takes a byte of its answer in so many
+/// A peer that sends its parts one after another, and then nothing, and takes a byte of its answer in `pace`
 /// milliseconds.
 #[derive(Drop)]
 pub struct SlowPeer<'a, 'p> {
@@ -115,7 +115,7 @@ impl Peer for SlowPeer<'_, '_> {
     }
 }
 
-/// A listener to which so many silent peers come, one after another, and then a slow one, if there is one.
+/// A listener to which `silent` silent peers come, one after another, and then a slow one, if there is one.
 #[derive(Drop)]
 pub struct SlowPeers<'a, 'p> {
     pub clock: &'a MovingClock,

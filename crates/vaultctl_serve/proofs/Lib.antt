@@ -1,1 +1,4 @@
+pub mod InTimeLemmas
+pub mod ReportLemmas
 pub mod ServingLemmas
+pub mod WholeLemmas

@@ -1,2 +1,4 @@
+pub mod InTime
 pub mod Scan
 pub mod Serving
+pub mod Whole

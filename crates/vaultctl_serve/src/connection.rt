@@ -1,17 +1,54 @@
 //! One connection, and its one request.
-ghost use Rattle.std.specs.Prelude.{◌≤◌};
-ghost use Rattle.vaultctl_serve.specs.Serving.{Stepped};
+ghost use Rattle.std.specs.Prelude.{ℕ, ◌≡◌, ◌≤◌, List, Option, IfErr, IfSome, OnOk, Err};
+ghost use Rattle.std.specs.Io.KnownBytes.{Appends};
+ghost use Rattle.vault_base.specs.Days.{moment_at};
+ghost use Rattle.vault_core_model.specs.Halts.{RoseOrIsFull};
+ghost use Rattle.vault_http.specs.Exchange.{Served};
+ghost use Rattle.vault_http.specs.Left.{AtMostOne, Left};
+ghost use Rattle.vault_http.specs.Steady.{Steady};
+ghost use Rattle.vault_http.specs.declared.fault.ServeFault.TheVariants as faults;
+ghost use Rattle.vaultctl_serve.specs.InTime.{known_in_time};
+ghost use Rattle.vaultctl_serve.specs.Whole.{WaitsForAll};
+ghost use Rattle.vaultctl_serve.specs.declared.scan.Scan.TheVariants.{Leading};
 
+use crate::inbound::{Inbound, TimedPeer};
 use crate::lingering::linger;
 use crate::peer::Peer;
 use crate::timed::{TimedAnswer, TimedRequest};
 use std::alloc::Global;
-use std::io::BufReader;
-use std::time::Clock;
+use std::io::{BufReader, Write};
+use std::time::{Clock, Instant};
 use vault_core_model::keeper::Keeper;
 use vault_http::{ServeFault, serve_one};
 
-/// Reads the one request of a connection, and answers it.
+/// Serves the one request of a connection: what is answered is what comes in time, as if nothing came after it.
+///
+/// The faults are those of `serve_one`. A request that comes too late is a failed read, `Read`, and `Memory` comes too
+/// where there is no room for what is read ahead.
+pub fn serve_in_time<I: Inbound + Drop, W: Write, K: Keeper>(
+    alloc: Global,
+    inbound: I,
+    writer: &mut W,
+    keeper: &mut K,
+    reading: i64,
+) -> Result<(), ServeFault>
+    ensures ok { K.is_honest keeper.new → OnOk result (IfSome (known_in_time Leading (I.coming inbound)) (λ input. (out : List ℕ) × Served (RoseOrIsFull (K.count keeper.old) (K.count keeper.new)) (moment_at reading) input (K.vault keeper.old) out (K.vault keeper.new) × Appends (W.contents writer.old) (W.contents writer.new) out)) }
+    ensures err { K.is_honest keeper.new → IfErr result (λ e. IfSome (known_in_time Leading (I.coming inbound)) (λ input. (unread : Option (List ℕ)) × Left (RoseOrIsFull (K.count keeper.old) (K.count keeper.new)) e (moment_at reading) input unread (K.vault keeper.old) (K.vault keeper.new) (W.contents writer.old) (W.contents writer.new))) }
+    // A request that isn't whole in time changes nothing.
+    ensures late { K.is_honest keeper.new → IfSome (known_in_time Leading (I.coming inbound)) (λ input. WaitsForAll (moment_at reading) input (K.vault keeper.old) (K.vault keeper.new)) }
+    ensures once { K.is_honest keeper.new → AtMostOne (moment_at reading) (K.vault keeper.old) (K.vault keeper.new) }
+    ensures unread { result ≡ Err faults.Read → K.vault keeper.new ≡ K.vault keeper.old }
+    ensures honest { K.is_honest keeper.new → K.is_honest keeper.old }
+    ensures counted { K.count keeper.old ≤ K.count keeper.new }
+    ensures steady { Steady (K.is_honest keeper.new) result (moment_at reading) (K.vault keeper.old) (K.vault keeper.new) (K.count keeper.old) (K.count keeper.new) (W.contents writer.old) (W.contents writer.new) }
+{
+    let Ok(mut reader) = BufReader::new(alloc, TimedRequest::new(inbound)) else {
+        return Err(ServeFault::Memory);
+    };
+    serve_one(alloc, &mut reader, writer, keeper, reading)
+}
+
+/// Reads the one request of a connection that is taken now, and answers it.
 fn exchange<C: Clock, P: Peer, K: Keeper>(
     clock: &C,
     alloc: Global,
@@ -19,18 +56,17 @@ fn exchange<C: Clock, P: Peer, K: Keeper>(
     keeper: &mut K,
     reading: i64,
 ) -> Result<(), ServeFault>
-    ensures stepped { K.is_honest keeper.new → Stepped 1 (K.vault keeper.old) (K.vault keeper.new) }
+    ensures once { K.is_honest keeper.new → AtMostOne (moment_at reading) (K.vault keeper.old) (K.vault keeper.new) }
+    ensures unread { result ≡ Err faults.Read → K.vault keeper.new ≡ K.vault keeper.old }
     ensures honest { K.is_honest keeper.new → K.is_honest keeper.old }
     ensures counted { K.count keeper.old ≤ K.count keeper.new }
 {
-    let Ok(request) = TimedRequest::new(clock, peer) else {
+    let Ok(since) = Instant::now(clock) else {
         return Err(ServeFault::Read);
     };
-    let Ok(mut reader) = BufReader::new(alloc, request) else {
-        return Err(ServeFault::Memory);
-    };
-    let mut writer = TimedAnswer::new(clock, peer);
-    serve_one(alloc, &mut reader, &mut writer, keeper, reading)
+    let mut answer = TimedAnswer::new(TimedPeer { clock, peer, since });
+    let inbound = TimedPeer { clock, peer, since };
+    serve_in_time(alloc, inbound, &mut answer, keeper, reading)
 }
 
 /// Serves the one request of a connection, which was just taken.
@@ -44,13 +80,14 @@ pub fn serve_connection<C: Clock, P: Peer, K: Keeper>(
     keeper: &mut K,
     reading: i64,
 ) -> Result<(), ServeFault>
-    ensures stepped { K.is_honest keeper.new → Stepped 1 (K.vault keeper.old) (K.vault keeper.new) }
+    ensures once { K.is_honest keeper.new → AtMostOne (moment_at reading) (K.vault keeper.old) (K.vault keeper.new) }
+    ensures unread { result ≡ Err faults.Read → K.vault keeper.new ≡ K.vault keeper.old }
     ensures honest { K.is_honest keeper.new → K.is_honest keeper.old }
     ensures counted { K.count keeper.old ≤ K.count keeper.new }
 {
     let served = exchange(clock, alloc, peer, keeper, reading);
     if served.is_ok() {
-        // The answer is written, whatever the client does behind it.
+        // The answer is written, whatever the client does after it.
         let _ = linger(clock, peer);
     }
     served

@@ -14,10 +14,10 @@ pub const REQUEST: u64 = 30_000;
 /// Milliseconds that one waits in all for a client to take its answer.
 pub const ANSWER: u64 = 10_000;
 
-/// Milliseconds behind an answer in which what still comes is read.
+/// Milliseconds after an answer in which what still comes is read.
 pub const LINGERING: u64 = 5_000;
 
-/// Milliseconds behind an answer that one waits for the next bytes.
+/// Milliseconds after an answer that one waits for the next bytes.
 pub const QUIET: u64 = 500;
 
 /// Milliseconds from one connection that can't be taken to the next try.

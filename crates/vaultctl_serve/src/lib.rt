@@ -2,15 +2,19 @@
 //! which keeps the next one waiting for long.
 #![tactic(auto)]
 
+pub mod arrivals;
 pub mod clock;
 mod connection;
 mod deadline;
 mod fault;
+pub mod inbound;
 pub mod lingering;
 pub mod peer;
+pub mod reporter;
 mod scan;
 mod server;
 pub mod timed;
 
+pub use connection::serve_in_time;
 pub use fault::PortFault;
-pub use server::{serve, serve_connections};
+pub use server::{serve, serve_arrivals, serve_connections};

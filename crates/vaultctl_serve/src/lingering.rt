@@ -1,4 +1,4 @@
-//! What a client still sends behind its answer.
+//! What a client still sends after its answer.
 use crate::deadline::{LINGERING, QUIET, time_left};
 use crate::peer::Peer;
 use std::io;

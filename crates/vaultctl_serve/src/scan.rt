@@ -1,8 +1,8 @@
 //! Where the head of a request ends, as its bytes come in.
-ghost use Rattle.std.specs.Prelude.{◌≡◌, ◌↔◌, IsTrue, fold};
+ghost use Rattle.std.specs.Prelude.{◌≡◌, fold};
 ghost use Rattle.vaultctl_serve.specs.Scan as spec;
 
-/// How far a request has come: its head ends with the first empty line behind one that isn't.
+/// How far a request has come: its head ends with the first empty line after one that isn't.
 #[derive(Clone, Copy, Debug, PartialEq, Eq)]
 pub enum Scan {
     /// Nothing but ends of lines has come.
@@ -11,32 +11,25 @@ pub enum Scan {
     Within,
     /// The line at hand is empty so far.
     Fresh,
-    /// An empty line has gone by.
-    Behind,
+    /// The head has come to its end.
+    Ended,
 }
 
 impl Scan {
-    /// Whether the head has come to its end.
-    pub fn is_behind(self) -> bool
-        ensures { IsTrue result ↔ (self ≡ spec.behind) }
-    {
-        self == Scan::Behind
-    }
-
-    /// The same with one byte more.
+    /// How far it has come with one byte more.
     fn next(self, byte: u8) -> Scan
         ensures { result ≡ spec.next self byte }
     {
         match (self, byte) {
-            (Scan::Behind, _) => Scan::Behind,
-            (Scan::Fresh, b'\n') => Scan::Behind,
+            (Scan::Ended, _) => Scan::Ended,
+            (Scan::Fresh, b'\n') => Scan::Ended,
             (Scan::Within, b'\n') => Scan::Fresh,
             (_, b'\n' | b'\r') => self,
             _ => Scan::Within,
         }
     }
 
-    /// The same with so many bytes more.
+    /// How far it has come with these bytes more.
     pub fn after(self, bytes: &[u8]) -> Scan
         ensures { result ≡ fold spec.next self bytes.now }
     {

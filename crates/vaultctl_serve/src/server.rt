@@ -1,123 +1,144 @@
 //! Connections to a port of this machine, one after another.
-ghost use Rattle.std.specs.Prelude.{◌≡◌, ◌≢◌, ◌≤◌, OnErr};
+ghost use Rattle.std.specs.Prelude.{◌≡◌, ◌≢◌, ◌≤◌, OnOk, OnErr};
 ghost use Rattle.std.specs.Io.KnownBytes.{Keeps};
 ghost use Rattle.vault_core_model.specs.Step.{Reached};
-ghost use Rattle.vaultctl_serve.specs.Serving.{Stepped};
+ghost use Rattle.vaultctl_serve.specs.Serving.{ReportsOnce, Stepped, SteppedOnTime};
 
-use crate::clock::reading;
+use crate::arrivals::{Arrivals, Listened};
 use crate::connection::serve_connection;
-use crate::deadline::BETWEEN_TRIES;
 use crate::fault::PortFault;
 use crate::peer::Peer;
+use crate::reporter::Reporter;
 use std::alloc::Global;
-use std::io::Write;
 use std::net::{Ipv4Addr, Net, OpenListener, TcpListener, TcpStream};
-use std::thread;
-use std::time::{Clock, Duration};
+use std::time::Clock;
 use vault_core_model::keeper::Keeper;
 
-/// Takes the next connection and serves its request, at the clock's reading then. Where none can be taken one
-/// waits a little, so that a fault that lasts doesn't use up what is to be served.
-fn serve_next<C: Clock, P: Peer + Drop, L: OpenListener<Stream = P>, K: Keeper>(
+/// Takes the next connection and serves its request, at the clock's reading then.
+fn serve_next<C: Clock, A: Arrivals, K: Keeper>(
     clock: &C,
     alloc: Global,
-    listener: &L,
+    arrivals: &mut A,
     keeper: &mut K,
 )
-    ensures stepped { K.is_honest keeper.new → Stepped 1 (K.vault keeper.old) (K.vault keeper.new) }
+    ensures timely { K.is_honest keeper.new → SteppedOnTime 1 (A.tries arrivals.old) (A.tries arrivals.new) (K.vault keeper.old) (K.vault keeper.new) }
     ensures honest { K.is_honest keeper.new → K.is_honest keeper.old }
     ensures counted { K.count keeper.old ≤ K.count keeper.new }
 {
-    let Ok((peer, _)) = listener.accept() else {
-        thread::sleep(clock, Duration::from_millis(BETWEEN_TRIES));
-        return;
-    };
-    // A fault of the connection is its own.
-    let _ = serve_connection(clock, alloc, &peer, keeper, reading(clock));
-}
-
-/// Serves the next request. Where that is when the vault's device fails for the first time since it had failed
-/// `since` times, it tells so: what failed may be shut, and then requests are refused until the vault is opened anew.
-fn serve_watched<C: Clock, P: Peer + Drop, L: OpenListener<Stream = P>, K: Keeper, W: Write>(
-    clock: &C,
-    alloc: Global,
-    listener: &L,
-    keeper: &mut K,
-    since: u64,
-    told: &mut W,
-)
-    ensures stepped { K.is_honest keeper.new → Stepped 1 (K.vault keeper.old) (K.vault keeper.new) }
-    ensures honest { K.is_honest keeper.new → K.is_honest keeper.old }
-    ensures counted { K.count keeper.old ≤ K.count keeper.new }
-    ensures untold { K.count keeper.new ≡ since → Keeps (W.contents told.old) (W.contents told.new) }
-    // It isn't told a second time.
-    ensures once { K.count keeper.old ≢ since → Keeps (W.contents told.old) (W.contents told.new) }
-{
-    let had_failed = keeper.faults() != since;
-    serve_next(clock, alloc, listener, keeper);
-    if !had_failed && keeper.faults() != since {
-        let _ = writeln!(
-            told,
-            "serve: the vault's file failed: where requests are answered 500, start the server anew"
-        );
+    match arrivals.take() {
+        Ok(peer) => {
+            let reading = arrivals.reading();
+            // A fault of the connection is its own.
+            let _ = serve_connection(clock, alloc, &peer, keeper, reading);
+        }
+        Err(_) => arrivals.pause(),
     }
 }
 
-/// Takes so many connections, one after another, and serves one request on each, at the clock's reading
-/// when it was taken. Once the vault's device has failed it tells so, by one line.
+/// Serves the next request. Where that is when the vault's device fails for the first time since it had failed
+/// `since` times, that is reported.
+fn serve_watched<C: Clock, A: Arrivals, K: Keeper, T: Reporter>(
+    clock: &C,
+    alloc: Global,
+    arrivals: &mut A,
+    keeper: &mut K,
+    since: u64,
+    reporter: &mut T,
+)
+    ensures timely { K.is_honest keeper.new → SteppedOnTime 1 (A.tries arrivals.old) (A.tries arrivals.new) (K.vault keeper.old) (K.vault keeper.new) }
+    ensures reported { K.count keeper.old ≡ since → ReportsOnce T.fails since (K.count keeper.new) reporter.old reporter.new }
+    // It isn't reported a second time.
+    ensures once { K.count keeper.old ≢ since → reporter.new ≡ reporter.old }
+    ensures honest { K.is_honest keeper.new → K.is_honest keeper.old }
+    ensures counted { K.count keeper.old ≤ K.count keeper.new }
+{
+    let had_failed = keeper.faults() != since;
+    serve_next(clock, alloc, arrivals, keeper);
+    if !had_failed && keeper.faults() != since {
+        reporter.failed();
+    }
+}
+
+/// Takes `count` connections, one after another, and serves one request on each, at the clock's reading
+/// when it was taken. That the vault's device failed is reported once, when it first does.
 ///
 /// A connection that can't be taken, or whose request isn't served to its end, counts as any other, and
 /// the next one is taken. The head of a request has to come within 5 seconds from when its connection was taken,
 /// and all of it within 30; its client has to take the answer within 10 seconds of waiting for it. So no reading is
 /// older than 30 seconds when the request is carried out, and a silent client keeps the next one waiting for 5.
-pub fn serve_connections<
-    C: Clock,
-    P: Peer + Drop,
-    L: OpenListener<Stream = P>,
-    K: Keeper,
-    W: Write,
->(clock: &C, alloc: Global, listener: &L, keeper: &mut K, count: u32, told: &mut W)
-    // At most one command was carried out for each connection.
+pub fn serve_arrivals<C: Clock, A: Arrivals, K: Keeper, T: Reporter>(
+    clock: &C,
+    alloc: Global,
+    arrivals: &mut A,
+    keeper: &mut K,
+    count: u32,
+    reporter: &mut T,
+)
+    // `count` times one tried to take a connection, and for each that was taken at most one command was carried out, at
+    // the clock's reading then.
+    ensures timely { K.is_honest keeper.new → SteppedOnTime count (A.tries arrivals.old) (A.tries arrivals.new) (K.vault keeper.old) (K.vault keeper.new) }
     ensures stepped { K.is_honest keeper.new → Stepped count (K.vault keeper.old) (K.vault keeper.new) }
     // A vault that runs lead to from a new one is left as such a vault.
     ensures reached { K.is_honest keeper.new → Reached (K.vault keeper.old) → Reached (K.vault keeper.new) }
-    // Where no device failed nothing is told.
-    ensures untold { K.count keeper.new ≡ K.count keeper.old → Keeps (W.contents told.old) (W.contents told.new) }
+    // A device that failed is reported, once; where none failed nothing is.
+    ensures reported { ReportsOnce T.fails (K.count keeper.old) (K.count keeper.new) reporter.old reporter.new }
     ensures honest { K.is_honest keeper.new → K.is_honest keeper.old }
     ensures counted { K.count keeper.old ≤ K.count keeper.new }
 {
     let since = keeper.faults();
     for _ in 0..count {
-        serve_watched(clock, alloc, listener, keeper, since, told);
+        serve_watched(clock, alloc, arrivals, keeper, since, reporter);
     }
 }
 
-/// Serves so many requests at that port of 127.0.0.1, each on a connection of its own, and ends.
+/// Takes `count` connections of a listener, as `serve_arrivals` does.
+pub fn serve_connections<
+    C: Clock,
+    P: Peer + Drop,
+    L: OpenListener<Stream = P>,
+    K: Keeper,
+    T: Reporter,
+>(clock: &C, alloc: Global, listener: &L, keeper: &mut K, count: u32, reporter: &mut T)
+    // At most one command was carried out for each connection.
+    ensures stepped { K.is_honest keeper.new → Stepped count (K.vault keeper.old) (K.vault keeper.new) }
+    // A vault that runs lead to from a new one is left as such a vault.
+    ensures reached { K.is_honest keeper.new → Reached (K.vault keeper.old) → Reached (K.vault keeper.new) }
+    // A device that failed is reported, once; where none failed nothing is.
+    ensures reported { ReportsOnce T.fails (K.count keeper.old) (K.count keeper.new) reporter.old reporter.new }
+    ensures honest { K.is_honest keeper.new → K.is_honest keeper.old }
+    ensures counted { K.count keeper.old ≤ K.count keeper.new }
+{
+    let mut arrivals = Listened { clock, listener };
+    serve_arrivals(clock, alloc, &mut arrivals, keeper, count, reporter);
+}
+
+/// Serves `count` requests at that port of 127.0.0.1, each on a connection of its own, and ends.
 ///
-/// Once it listens it tells so by a line, `serving FILE at 127.0.0.1:PORT`, and once the vault's device has failed by
-/// another; a line that can't be written is lost. `Device` comes where the port can't be had. No fault of a connection
-/// or of the device ends it.
-pub fn serve<R: Net<Stream = TcpStream> + Clock, K: Keeper, W: Write>(
+/// That it listens is reported first, and that the vault's device failed is reported once, when it first does.
+/// `Device` comes where the port can't be had. No fault of a connection or of the device ends it.
+pub fn serve<R: Net<Stream = TcpStream> + Clock, K: Keeper, T: Reporter>(
     rt: &R,
     alloc: Global,
     keeper: &mut K,
     file: &str,
     port: u16,
     count: u32,
-    told: &mut W,
+    reporter: &mut T,
 ) -> Result<(), PortFault>
     ensures stepped { K.is_honest keeper.new → Stepped count (K.vault keeper.old) (K.vault keeper.new) }
     ensures reached { K.is_honest keeper.new → Reached (K.vault keeper.old) → Reached (K.vault keeper.new) }
     ensures err { OnErr result (K.vault keeper.new ≡ K.vault keeper.old) }
-    // Where it can't listen it doesn't tell that it does.
-    ensures untold { OnErr result (Keeps (W.contents told.old) (W.contents told.new)) }
+    // That it listens is reported first, and then, once, that the device failed where it did.
+    ensures reported { OnOk result ((between : T) × T.listens reporter.old file.now port between × ReportsOnce T.fails (K.count keeper.old) (K.count keeper.new) between reporter.new) }
+    // Where it can't listen nothing is reported.
+    ensures unreported { OnErr result (reporter.new ≡ reporter.old) }
     ensures honest { K.is_honest keeper.new → K.is_honest keeper.old }
     ensures counted { K.count keeper.old ≤ K.count keeper.new }
 {
     let Ok(listener) = TcpListener::bind(rt, (Ipv4Addr::LOCALHOST, port)) else {
         return Err(PortFault::Device);
     };
-    let _ = writeln!(told, "serving {file} at {}:{port}", Ipv4Addr::LOCALHOST);
-    serve_connections(rt, alloc, &listener, keeper, count, told);
+    reporter.listening(file, port);
+    serve_connections(rt, alloc, &listener, keeper, count, reporter);
     Ok(())
 }

@@ -1,0 +1,95 @@
+-- Nothing changes unless a whole request came.
+use Rattle.std.proofs.Common.{◌≡◌, ◌⊎◌, ℕ, List, [], Bool, true, Option, None, Some, IfSome, IsSome, Result, Ok, Err, IfErr, OnOk, refl, inl, inr}
+use Rattle.std.specs.Io.KnownBytes.{Appends}
+use Rattle.vault_base.specs.declared.refusal.Refusal.{Refusal}
+use Rattle.vault_base.specs.declared.refusal.Refusal.TheVariants as refusal
+use Rattle.vault_core_model.specs.Vault.{Vault}
+use Rattle.vault_http.specs.Command.{body_of, command_of_body}
+use Rattle.vault_http.specs.Exchange.{HeadJudged, Judged, Served, head_asked, is_shown}
+use Rattle.vault_http.specs.Left.{DeniedLeft, Early, HeadLeft, Left, PlanLeft, Stepped}
+use Rattle.vault_http.specs.declared.answer.head.Allow.{Allow}
+use Rattle.vault_http.specs.declared.fault.ServeFault.{ServeFault}
+use Rattle.vault_http.specs.declared.fault.ServeFault.TheVariants as faults
+use Rattle.vault_http_request.specs.declared.order.Order.{Order}
+use Rattle.vault_http_request.specs.declared.plan.Asked.{Asked}
+use Rattle.vault_http_request.specs.declared.plan.Asked.TheVariants as asked
+use Rattle.vault_http_request.specs.declared.plan.Plan.{Plan}
+use Rattle.vault_http_request.specs.declared.terms.Locks.{Locks}
+use Rattle.vaultctl_serve.specs.Whole.{IsBodyWhole, WaitsForAll}
+
+module _ (Failed : Type 0) (at : ℕ) (shown : Bool) (who : List ℕ) (order : Order) (locks : Locks) (old new : Vault) where
+  -- a body that is cut makes no command
+  judged-whole : (body : Option (List ℕ)) (out : List ℕ) → Judged Failed at shown who (command_of_body order locks body) old out new → (new ≡ old) ⊎ IsSome body
+  judged-whole None out judged = inl judged.0
+  judged-whole (Some bytes) out judged = inr refl
+
+  stepped-whole : (body : Option (List ℕ)) → Stepped at who (command_of_body order locks body) old new → IsSome body
+  stepped-whole None stepped = absurd stepped
+  stepped-whole (Some bytes) stepped = refl
+
+module _ (Failed : Type 0) (moment : Option ℕ) (shown : Bool) (rest : List ℕ) (old new : Vault) where
+  head-whole : (said : Result Asked Refusal) (out : List ℕ) → HeadJudged Failed moment shown said rest old out new → (new ≡ old) ⊎ IsBodyWhole said rest
+  head-whole (Ok (asked.Plan plan)) out served =
+      judged-whole Failed plan.at shown plan.terms.caller plan.order plan.terms.locks old new (body_of plan.terms.length rest) served.0 served.2
+  head-whole (Ok (asked.NotAllowed r)) out served = inl served.0
+  head-whole (Err r) out served = inl served.0
+
+  plan-left-whole : (e : ServeFault) (plan : Plan) (unread before after : Option (List ℕ)) → PlanLeft Failed e shown plan rest unread old new before after → (new ≡ old) ⊎ IsSome (body_of plan.terms.length rest)
+  plan-left-whole faults.Read plan unread before after left = inl left.0
+  plan-left-whole faults.Memory plan unread before after left = elim left [
+    | inl early ↦ inl early.0
+    | inr late ↦ elim (late.0) [
+      | inl same ↦ inl same
+      | inr stepped ↦ inr (stepped-whole Failed plan.at shown plan.terms.caller plan.order plan.terms.locks old new (body_of plan.terms.length rest) stepped)
+    ]
+  ]
+  plan-left-whole faults.Write plan unread before after left = elim left [
+    | inl early ↦ inl early.2
+    | inr late ↦ judged-whole Failed plan.at shown plan.terms.caller plan.order plan.terms.locks old new (body_of plan.terms.length rest) late.0 late.2
+  ]
+
+  denied-left-same : (e : ServeFault) (r : Refusal) (allow : Option Allow) (before after : Option (List ℕ)) → DeniedLeft e moment shown r allow old new before after → new ≡ old
+  denied-left-same faults.Read r allow before after left = left.0
+  denied-left-same faults.Memory r allow before after left = left.0
+  denied-left-same faults.Write r allow before after left = left.1.0
+
+  head-left-whole : (e : ServeFault) (said : Result Asked Refusal) (unread before after : Option (List ℕ)) → HeadLeft Failed e moment shown said rest unread old new before after → (new ≡ old) ⊎ IsBodyWhole said rest
+  head-left-whole e (Ok (asked.Plan plan)) unread before after left = plan-left-whole e plan unread before after left
+  head-left-whole e (Ok (asked.NotAllowed r)) unread before after left = inr tt
+  head-left-whole e (Err r) unread before after left = inr tt
+
+module _ (Failed : Type 0) (moment : Option ℕ) (input : List ℕ) (old new : Vault) where
+  early-same : (e : ServeFault) (before after : Option (List ℕ)) → Early e moment input old new before after → new ≡ old
+  early-same faults.Read before after early = early.0
+  early-same faults.Memory before after early = early.0
+  early-same faults.Write before after early = denied-left-same Failed moment true [] old new faults.Write refusal.InvalidArgument None before after early.2
+
+  pub Served-whole : (out : List ℕ) → Served Failed moment input old out new → WaitsForAll moment input old new
+  Served-whole out served = elim served [
+    | inl nothing ↦ inl nothing.2
+    | inr some ↦ elim some [
+      | inl headless ↦ inl headless.2.0
+      | inr headed ↦ elim (head-whole Failed moment (is_shown headed.0.method) headed.1 old new (head_asked moment headed.0) out headed.3) [
+        | inl same ↦ inl same
+        | inr whole ↦ inr (headed.0, headed.1, headed.2, whole)
+      ]
+    ]
+  ]
+
+  pub Left-whole : (e : ServeFault) (unread before after : Option (List ℕ)) → Left Failed e moment input unread old new before after → WaitsForAll moment input old new
+  Left-whole e unread before after left = elim left [
+    | inl early ↦ inl (early-same e before after early)
+    | inr headed ↦ elim (head-left-whole Failed moment (is_shown headed.0.method) headed.1 old new e (head_asked moment headed.0) unread before after headed.3) [
+      | inl same ↦ inl same
+      | inr whole ↦ inr (headed.0, headed.1, headed.2, whole)
+    ]
+  ]
+
+-- of a request that was served, or wasn't to its end
+pub waits-for-all : (Failed : Type 0) (moment : Option ℕ) (known unread : Option (List ℕ)) (old new : Vault) (before after : Option (List ℕ)) (r : Result (Unit {0}) ServeFault)
+    → OnOk r (IfSome known (λ input. (out : List ℕ) × Served Failed moment input old out new × Appends before after out))
+    → IfErr r (λ e. IfSome known (λ input. Left Failed e moment input unread old new before after))
+    → IfSome known (λ input. WaitsForAll moment input old new)
+waits-for-all Failed moment None unread old new before after r ok err = tt
+waits-for-all Failed moment (Some input) unread old new before after (Ok t) ok err = Served-whole Failed moment input old new ok.0 ok.1
+waits-for-all Failed moment (Some input) unread old new before after (Err e) ok err = Left-whole Failed moment input old new e unread before after err

@@ -1,0 +1,28 @@
+use Rattle.std.proofs.Common.{refl, inl, arith}
+use Rattle.vaultctl_serve.proofs.ReportLemmas.{reports-then}
+use Rattle.vaultctl_serve.proofs.ServingLemmas.{OnTime-append, OnTime-none, OnTime-stepped, Stepped-more, Stepped-reached}
+use Rattle.vaultctl_serve.proofs.server.serve_arrivals.Goals as goal
+
+pub loop-init : goal.loop-init
+loop-init g c =
+    record {
+      honest = λ h. h;
+      counted = omega arith;
+      reported = inl (refl, refl);
+      timely = λ h. OnTime-none (g.A.Arrivals.tries c.args.arrivals.now) (g.K.Kept.vault c.args.keeper.now);
+    }
+
+-- the steps so far, and then that of this connection
+pub loop-preserved : goal.loop-preserved
+loop-preserved g c = record {
+  honest = λ h. c.loop.invariant.honest (c.serve_watched.ensures.honest h);
+  counted = omega (arith, c.loop.invariant.counted, c.serve_watched.ensures.counted);
+  reported = reports-then g.T.Reporter.fails _ _ _ _ _ _ _ c.faults-since.ensures c.loop.invariant.counted c.serve_watched.ensures.counted c.loop.invariant.reported c.serve_watched.ensures.reported c.serve_watched.ensures.once;
+  timely = λ h. OnTime-append c.loop.counter 1 _ _ _ _ _ _ (c.loop.invariant.timely (c.serve_watched.ensures.honest h)) (c.serve_watched.ensures.timely h);
+}
+
+pub returns-clause-stepped : goal.returns-clause-stepped
+returns-clause-stepped g c = λ h. Stepped-more c.loop.counter c.args.count _ _ (omega arith) (OnTime-stepped _ _ _ _ _ (c.loop.invariant.timely h))
+
+pub returns-clause-reached : goal.returns-clause-reached
+returns-clause-reached g c = λ h before. Stepped-reached _ _ _ (OnTime-stepped _ _ _ _ _ (c.loop.invariant.timely h)) before
