@@ -68,13 +68,15 @@ pub struct SqlKeeper<S: Alter> {
 }
 
 impl<S: Alter> SqlKeeper<S> {
+    ghost use Rattle.vault_store.specs.VaultOf.{vault_of};
+
     /// A keeper over a connection, outside any transaction, whose tables are sound.
     pub(crate) fn over(alloc: Global, conn: Connection<S>) -> SqlKeeper<S>
         requires settled { conn.in_transaction ≡ false }
         requires sound { HasCleanDisk (state S.Store conn) → IsSettled (state S.Store conn) }
         ensures same { result.conn ≡ conn }
         ensures counted { result.faults ≡ 0 }
-        ensures keeps { HasCleanDisk (state S.Store conn) → AreSound (state S.Store conn).now (kept_vault S.Store result.opening.at.items result.opening.known result.made.items) }
+        ensures keeps { HasCleanDisk (state S.Store conn) → AreSound (state S.Store conn).now (vault_of S.Store result) }
     {
         let opening = remember(&conn);
         SqlKeeper {
@@ -89,7 +91,7 @@ impl<S: Alter> SqlKeeper<S> {
     /// The connection, as it stands. It takes no memory.
     pub fn into_connection(self) -> Connection<S>
         ensures same { result ≡ self.conn }
-        ensures stands { ∥ (HasCleanDisk (state S.Store result) → StandsFor (state S.Store result) (kept_vault S.Store self.opening.at.items self.opening.known self.made.items)) ∥₁ }
+        ensures stands { ∥ (HasCleanDisk (state S.Store result) → StandsFor (state S.Store result) (vault_of S.Store self)) ∥₁ }
     {
         let SqlKeeper {
             conn,
@@ -111,11 +113,11 @@ impl<S: Alter> SqlKeeper<S> {
         mut conn: Connection<S>,
     ) -> Result<SqlKeeper<S>, (Refusal, Connection<S>)>
         // The vault that the keeper stands for is the one that the tables spell, and they are as they were.
-        ensures sound { IfOk result (λ k. HasCleanDisk (state S.Store k.conn) → AreSound (state S.Store k.conn).now (kept_vault S.Store k.opening.at.items k.opening.known k.made.items)) }
+        ensures sound { IfOk result (λ k. HasCleanDisk (state S.Store k.conn) → AreSound (state S.Store k.conn).now (vault_of S.Store k)) }
         ensures same { IfOk result (λ k. HasCleanDisk (state S.Store k.conn) → IsUnchanged (state S.Store conn) (state S.Store k.conn)) }
         ensures crash { IfOk result (λ k. Survives (state S.Store conn) (state S.Store k.conn) (λ _. ⊥)) }
         // A crash leaves that vault after that, and nothing else.
-        ensures alone { IfOk result (λ k. HasCleanDisk (state S.Store k.conn) → LeavesAlone (state S.Store k.conn) (kept_vault S.Store k.opening.at.items k.opening.known k.made.items)) }
+        ensures alone { IfOk result (λ k. HasCleanDisk (state S.Store k.conn) → LeavesAlone (state S.Store k.conn) (vault_of S.Store k)) }
         ensures counted { IfOk result (λ k. k.faults ≡ 0) }
         ensures told { IfErr result (λ e. IsTold e.0) }
         // A store that works, outside a transaction, is never told as one that failed.
@@ -146,7 +148,7 @@ impl<S: Alter> SqlKeeper<S> {
         alloc: Global,
         mut conn: Connection<S>,
     ) -> Result<SqlKeeper<S>, (Refusal, Connection<S>)>
-        ensures opening { IfOk result (λ k. HasCleanDisk (state S.Store k.conn) → kept_vault S.Store k.opening.at.items k.opening.known k.made.items ≡ opening) }
+        ensures opening { IfOk result (λ k. HasCleanDisk (state S.Store k.conn) → vault_of S.Store k ≡ opening) }
         ensures sound { IfOk result (λ k. HasCleanDisk (state S.Store k.conn) → AreSound (state S.Store k.conn).now opening) }
         // A crash leaves a new vault after that, and nothing else.
         ensures alone { IfOk result (λ k. HasCleanDisk (state S.Store k.conn) → LeavesAlone (state S.Store k.conn) opening) }
@@ -172,17 +174,17 @@ impl<S: Alter> SqlKeeper<S> {
     ///
     /// `Memory` where the store wanted memory. `Device` where it refused for another cause.
     pub fn make(&mut self, at: Moment, change: &Change) -> Result<(), Fault>
-        requires in_time { HasCleanDisk (state S.Store self.old.conn) → (kept_vault S.Store self.old.opening.at.items self.old.opening.known self.old.made.items).last ≤ at }
-        requires allowed { HasCleanDisk (state S.Store self.old.conn) → Allows (kept_vault S.Store self.old.opening.at.items self.old.opening.known self.old.made.items) at change.now }
-        ensures ok { OnOk result (kept_vault S.Store self.new.opening.at.items self.new.opening.known self.new.made.items ≡ changed (kept_vault S.Store self.old.opening.at.items self.old.opening.known self.old.made.items) at change.now) }
-        ensures err { OnErr result (kept_vault S.Store self.new.opening.at.items self.new.opening.known self.new.made.items ≡ kept_vault S.Store self.old.opening.at.items self.old.opening.known self.old.made.items) }
+        requires in_time { HasCleanDisk (state S.Store self.old.conn) → (vault_of S.Store self.old).last ≤ at }
+        requires allowed { HasCleanDisk (state S.Store self.old.conn) → Allows (vault_of S.Store self.old) at change.now }
+        ensures ok { OnOk result (vault_of S.Store self.new ≡ changed (vault_of S.Store self.old) at change.now) }
+        ensures err { OnErr result (vault_of S.Store self.new ≡ vault_of S.Store self.old) }
         ensures honest { HasCleanDisk (state S.Store self.new.conn) → HasCleanDisk (state S.Store self.old.conn) }
         ensures counted { self.old.faults ≤ self.new.faults }
         ensures device { result ≡ Err Fault.Device → RoseOrIsFull self.old.faults self.new.faults }
         ensures steady { is_device_given result ≡ false → self.new.faults ≡ self.old.faults }
         // A crash leaves what it could leave before, or the vault with the change; once that is acknowledged, this vault alone.
-        ensures crash { HasCleanDisk (state S.Store self.new.conn) → ∥ Survives (state S.Store self.old.conn) (state S.Store self.new.conn) (IsFoundIn (changed (kept_vault S.Store self.old.opening.at.items self.old.opening.known self.old.made.items) at change.now)) ∥₁ }
-        ensures alone { HasCleanDisk (state S.Store self.new.conn) → OnOk result (∥ LeavesAlone (state S.Store self.new.conn) (kept_vault S.Store self.new.opening.at.items self.new.opening.known self.new.made.items) ∥₁) }
+        ensures crash { HasCleanDisk (state S.Store self.new.conn) → ∥ Survives (state S.Store self.old.conn) (state S.Store self.new.conn) (IsFoundIn (changed (vault_of S.Store self.old) at change.now)) ∥₁ }
+        ensures alone { HasCleanDisk (state S.Store self.new.conn) → OnOk result (∥ LeavesAlone (state S.Store self.new.conn) (vault_of S.Store self.new) ∥₁) }
         ensures open { HasCleanDisk (state S.Store self.new.conn) → OnOk result (IsTrue (state S.Store self.new.conn).is_open) }
     {
         match apply_change(&mut self.conn, self.alloc, at, change) {
@@ -196,9 +198,11 @@ impl<S: Alter> SqlKeeper<S> {
 }
 
 impl<S: Alter> Keeper for SqlKeeper<S> {
+    ghost use Rattle.vault_store.specs.VaultOf.{vault_of};
+
     ghost is_honest = { λ k. HasCleanDisk (state S.Store k.conn) };
 
-    ghost vault = { λ k. kept_vault S.Store k.opening.at.items k.opening.known k.made.items };
+    ghost vault = { λ k. vault_of S.Store k };
 
     ghost count = { λ k. k.faults };
 
@@ -350,17 +354,17 @@ impl<S: Alter> Keeper for SqlKeeper<S> {
     }
 
     fn apply(&mut self, at: Moment, change: &Change) -> Result<(), Fault>
-        requires in_time { HasCleanDisk (state S.Store self.old.conn) → (kept_vault S.Store self.old.opening.at.items self.old.opening.known self.old.made.items).last ≤ at }
-        requires allowed { HasCleanDisk (state S.Store self.old.conn) → Allows (kept_vault S.Store self.old.opening.at.items self.old.opening.known self.old.made.items) at change.now }
-        ensures ok { OnOk result (kept_vault S.Store self.new.opening.at.items self.new.opening.known self.new.made.items ≡ changed (kept_vault S.Store self.old.opening.at.items self.old.opening.known self.old.made.items) at change.now) }
-        ensures err { OnErr result (kept_vault S.Store self.new.opening.at.items self.new.opening.known self.new.made.items ≡ kept_vault S.Store self.old.opening.at.items self.old.opening.known self.old.made.items) }
+        requires in_time { HasCleanDisk (state S.Store self.old.conn) → (vault_of S.Store self.old).last ≤ at }
+        requires allowed { HasCleanDisk (state S.Store self.old.conn) → Allows (vault_of S.Store self.old) at change.now }
+        ensures ok { OnOk result (vault_of S.Store self.new ≡ changed (vault_of S.Store self.old) at change.now) }
+        ensures err { OnErr result (vault_of S.Store self.new ≡ vault_of S.Store self.old) }
         ensures honest { HasCleanDisk (state S.Store self.new.conn) → HasCleanDisk (state S.Store self.old.conn) }
         ensures counted { self.old.faults ≤ self.new.faults }
         ensures device { result ≡ Err Fault.Device → RoseOrIsFull self.old.faults self.new.faults }
         ensures steady { is_device_given result ≡ false → self.new.faults ≡ self.old.faults }
         // What `make` says of a crash.
-        ensures crash { HasCleanDisk (state S.Store self.new.conn) → ∥ Survives (state S.Store self.old.conn) (state S.Store self.new.conn) (IsFoundIn (changed (kept_vault S.Store self.old.opening.at.items self.old.opening.known self.old.made.items) at change.now)) ∥₁ }
-        ensures alone { HasCleanDisk (state S.Store self.new.conn) → OnOk result (∥ LeavesAlone (state S.Store self.new.conn) (kept_vault S.Store self.new.opening.at.items self.new.opening.known self.new.made.items) ∥₁) }
+        ensures crash { HasCleanDisk (state S.Store self.new.conn) → ∥ Survives (state S.Store self.old.conn) (state S.Store self.new.conn) (IsFoundIn (changed (vault_of S.Store self.old) at change.now)) ∥₁ }
+        ensures alone { HasCleanDisk (state S.Store self.new.conn) → OnOk result (∥ LeavesAlone (state S.Store self.new.conn) (vault_of S.Store self.new) ∥₁) }
         ensures open { HasCleanDisk (state S.Store self.new.conn) → OnOk result (IsTrue (state S.Store self.new.conn).is_open) }
     {
         self.make(at, change)
