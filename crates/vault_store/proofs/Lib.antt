@@ -1,4 +1,3 @@
-pub mod SoundProp
 pub mod KeptLemmas
 mod AcknowledgedLemmas
 mod RollbackLemmas

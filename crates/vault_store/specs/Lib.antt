@@ -1,4 +1,6 @@
 pub mod Kept
+pub mod Left
+pub mod VaultOf
 pub mod Acknowledged
 pub mod Migrated
 pub mod Tables

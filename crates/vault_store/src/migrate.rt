@@ -11,9 +11,10 @@ ghost use Rattle.vault_audit_model.specs.Spells.{AreSound, AreSoundAs};
 ghost use Rattle.vault_audit_model.specs.Tables.{no_schema};
 ghost use Rattle.vault_store_apply.specs.Left.{LeavesAlone};
 ghost use Rattle.vault_store_create.specs.Create.{IsFault};
-ghost use Rattle.vault_store.specs.Kept.{kept_vault, IsSettled};
+ghost use Rattle.vault_store.specs.Kept.{IsSettled};
 ghost use Rattle.vault_store.specs.Migrated.{IsMigrated};
 ghost use Rattle.vault_store.specs.Tables.{HasTablesOf, IsAtRest, IsUndone};
+ghost use Rattle.vault_store.specs.VaultOf.{vault_of};
 
 use crate::look::{end_transaction, look_as, note_rest};
 use crate::sql_keeper::SqlKeeper;
@@ -214,11 +215,11 @@ impl<S: Alter> SqlKeeper<S> {
         // The old tables spell a vault, and it is the one that the keeper stands for,
         ensures spelled { IfOk result (λ k. HasCleanDisk (state O.Store old.new) → (v : Vault) × AreSoundAs edition (state O.Store old.old).now v) }
         ensures vault { IfOk result (λ k. HasCleanDisk (state O.Store old.new) → HasCleanDisk (state S.Store k.conn)
-            → (v : Vault) → AreSoundAs edition (state O.Store old.old).now v → kept_vault S.Store k.opening.at.items k.opening.known k.made.items ≡ v) }
+            → (v : Vault) → AreSoundAs edition (state O.Store old.old).now v → vault_of S.Store k ≡ v) }
         // as do the new tables.
-        ensures sound { IfOk result (λ k. HasCleanDisk (state S.Store k.conn) → AreSound (state S.Store k.conn).now (kept_vault S.Store k.opening.at.items k.opening.known k.made.items)) }
+        ensures sound { IfOk result (λ k. HasCleanDisk (state S.Store k.conn) → AreSound (state S.Store k.conn).now (vault_of S.Store k)) }
         // A crash leaves that vault after that, and nothing else.
-        ensures alone { IfOk result (λ k. HasCleanDisk (state S.Store k.conn) → LeavesAlone (state S.Store k.conn) (kept_vault S.Store k.opening.at.items k.opening.known k.made.items)) }
+        ensures alone { IfOk result (λ k. HasCleanDisk (state S.Store k.conn) → LeavesAlone (state S.Store k.conn) (vault_of S.Store k)) }
         ensures counted { IfOk result (λ k. k.faults ≡ 0) }
         ensures told { IfErr result (λ e. e.0 ≢ Refusal.NameTaken → IsTold e.0) }
         ensures damaged { IfErr result (λ e. HasCleanDisk (state O.Store old.new) → (t : Table) → e.0 ≡ Refusal.Damaged t → (v : Vault) → ¬ AreSoundAs edition (state O.Store old.old).now v) }

@@ -1,5 +1,5 @@
 //! A keeper over the tables of a connection.
-ghost use Rattle.std.specs.Prelude.{◌≡◌, ◌≢◌, ◌≤◌, false, Err, IsTrue, IfOk, IfErr, IsErrAnd, OnOk, OnErr};
+ghost use Rattle.std.specs.Prelude.{◌≡◌, ◌≢◌, ◌≤◌, [], ◌∷◌, ◌++◌, false, Err, IsTrue, IfOk, IfErr, IsErrAnd, OnOk, OnErr};
 ghost use Rattle.sqlite.specs.Held.{state};
 ghost use Rattle.sqlite.specs.State.{HasCleanDisk, IsUnchanged, Survives};
 ghost use Rattle.vault_base.specs.declared.refusal.Table.{Table};
@@ -11,15 +11,17 @@ ghost use Rattle.vault_core_model.specs.Vault.{Vault, opening};
 ghost use Rattle.vault_core_model.specs.Allowed.{Allows};
 ghost use Rattle.vault_core_model.specs.Change.{changed};
 ghost use Rattle.vault_core_model.specs.Halts.{is_device_given};
-ghost use Rattle.vault_core_model.specs.Leaves.{RoseOrIsFull};
+ghost use Rattle.vault_core_model.specs.Leaves.{count_after};
 ghost use Rattle.vault_store_apply.specs.Left.{IsFoundIn, LeavesAlone};
 ghost use Rattle.vault_audit_model.specs.Spells.{AreSound};
 ghost use Rattle.vault_store.specs.Kept.{kept_vault, IsSettled, StandsFor};
+ghost use Rattle.vault_store.specs.Left.{IsKept, LeavesOneOf};
 ghost use Rattle.vault_store.specs.Tables.{HasTablesOf};
 
 use crate::blame::blame;
 use crate::look::look;
 use crate::opening::{Opening, remember};
+use crate::shut::refuse_shut;
 use http_server::Log;
 use sqlite::{Alter, Connection};
 use std::alloc::Global;
@@ -32,6 +34,7 @@ use vault_base::refusal::Refusal;
 use vault_core_model::change::Change;
 use vault_core_model::halt::Fault;
 use vault_core_model::keeper::{Keeper, Sink};
+use vault_core_model::kept::Kept;
 use vault_core_model::records::{
     BucketConfig, Caller, Entry, Head, LastSetting, Note, Settings, Tenures,
 };
@@ -55,49 +58,66 @@ use vault_tally::row::Row;
 ///
 /// Which vault it stands for is what its tables told when it was opened, with the changes made since;
 /// only proofs read that. While its disk returns what was written and no failure has shut the
-/// connection, the tables are sound and spell that vault.
+/// connection, the tables are sound and spell that vault. A crash leaves that vault, or that with one more
+/// change, which was refused after the last one that was made; only proofs read which ones these are.
 ///
 /// It can't be let go of but by `into_connection`, so a store is closed, or handed on, wherever it ends.
 pub struct SqlKeeper<S: Alter> {
     conn: Connection<S>,
+    // Whether a failure may have shut the connection.
+    doubted: bool,
     faults: u64,
     alloc: Global,
     opening: Opening<S>,
     made: Log<Moment, Change>,
+    // The changes that were refused since the last one that was made.
+    refused: Log<Moment, Change>,
     ghost settled: { conn.in_transaction ≡ false },
-    ghost stands: { ∥ (HasCleanDisk (state S.Store conn) → StandsFor (state S.Store conn) (kept_vault S.Store opening.at.items opening.known made.items)) ∥₁ },
+    ghost sure: { doubted ≡ false → HasCleanDisk (state S.Store conn) → IsTrue (state S.Store conn).is_open },
+    ghost kept: { ∥ (HasCleanDisk (state S.Store conn) → IsKept (state S.Store conn) (kept_vault S.Store opening.at.items opening.known made.items) refused.items) ∥₁ },
 }
 
 impl<S: Alter> SqlKeeper<S> {
+    ghost use Rattle.vault_store.specs.VaultOf.{vault_of};
+
     /// A keeper over a connection, outside any transaction, whose tables are sound.
     pub(crate) fn over(alloc: Global, conn: Connection<S>) -> SqlKeeper<S>
         requires settled { conn.in_transaction ≡ false }
         requires sound { HasCleanDisk (state S.Store conn) → IsSettled (state S.Store conn) }
+        requires alone { HasCleanDisk (state S.Store conn) → (v : Vault) → AreSound (state S.Store conn).now v → LeavesAlone (state S.Store conn) v }
         ensures same { result.conn ≡ conn }
         ensures counted { result.faults ≡ 0 }
-        ensures keeps { HasCleanDisk (state S.Store conn) → AreSound (state S.Store conn).now (kept_vault S.Store result.opening.at.items result.opening.known result.made.items) }
+        ensures keeps { HasCleanDisk (state S.Store conn) → AreSound (state S.Store conn).now (vault_of S.Store result) }
     {
         let opening = remember(&conn);
+        let made = Log::new();
+        let refused = Log::new();
         SqlKeeper {
             conn,
+            doubted: false,
             faults: 0,
             alloc,
             opening,
-            made: Log::new(),
+            made,
+            refused,
         }
     }
 
     /// The connection, as it stands. It takes no memory.
     pub fn into_connection(self) -> Connection<S>
         ensures same { result ≡ self.conn }
-        ensures stands { ∥ (HasCleanDisk (state S.Store result) → StandsFor (state S.Store result) (kept_vault S.Store self.opening.at.items self.opening.known self.made.items)) ∥₁ }
+        ensures stands { ∥ (HasCleanDisk (state S.Store result) → StandsFor (state S.Store result) (vault_of S.Store self)) ∥₁ }
+        // A crash leaves that vault, or that with one change more, which was refused after all that it has.
+        ensures crash { ∥ (HasCleanDisk (state S.Store result) → LeavesOneOf (state S.Store result) (vault_of S.Store self) self.refused.items) ∥₁ }
     {
         let SqlKeeper {
             conn,
+            doubted: _,
             faults: _,
             alloc: _,
             opening: _,
             made: _,
+            refused: _,
         } = self;
         conn
     }
@@ -112,11 +132,11 @@ impl<S: Alter> SqlKeeper<S> {
         mut conn: Connection<S>,
     ) -> Result<SqlKeeper<S>, (Refusal, Connection<S>)>
         // The vault that the keeper stands for is the one that the tables spell, and they are as they were.
-        ensures sound { IfOk result (λ k. HasCleanDisk (state S.Store k.conn) → AreSound (state S.Store k.conn).now (kept_vault S.Store k.opening.at.items k.opening.known k.made.items)) }
+        ensures sound { IfOk result (λ k. HasCleanDisk (state S.Store k.conn) → AreSound (state S.Store k.conn).now (vault_of S.Store k)) }
         ensures same { IfOk result (λ k. HasCleanDisk (state S.Store k.conn) → IsUnchanged (state S.Store conn) (state S.Store k.conn)) }
         ensures crash { IfOk result (λ k. Survives (state S.Store conn) (state S.Store k.conn) (λ _. ⊥)) }
         // A crash leaves that vault after that, and nothing else.
-        ensures alone { IfOk result (λ k. HasCleanDisk (state S.Store k.conn) → LeavesAlone (state S.Store k.conn) (kept_vault S.Store k.opening.at.items k.opening.known k.made.items)) }
+        ensures alone { IfOk result (λ k. HasCleanDisk (state S.Store k.conn) → LeavesAlone (state S.Store k.conn) (vault_of S.Store k)) }
         ensures counted { IfOk result (λ k. k.faults ≡ 0) }
         ensures told { IfErr result (λ e. IsTold e.0) }
         // A store that works, outside a transaction, is never told as one that failed.
@@ -147,7 +167,7 @@ impl<S: Alter> SqlKeeper<S> {
         alloc: Global,
         mut conn: Connection<S>,
     ) -> Result<SqlKeeper<S>, (Refusal, Connection<S>)>
-        ensures opening { IfOk result (λ k. HasCleanDisk (state S.Store k.conn) → kept_vault S.Store k.opening.at.items k.opening.known k.made.items ≡ opening) }
+        ensures opening { IfOk result (λ k. HasCleanDisk (state S.Store k.conn) → vault_of S.Store k ≡ opening) }
         ensures sound { IfOk result (λ k. HasCleanDisk (state S.Store k.conn) → AreSound (state S.Store k.conn).now opening) }
         // A crash leaves a new vault after that, and nothing else.
         ensures alone { IfOk result (λ k. HasCleanDisk (state S.Store k.conn) → LeavesAlone (state S.Store k.conn) opening) }
@@ -173,121 +193,171 @@ impl<S: Alter> SqlKeeper<S> {
     ///
     /// `Memory` where the store wanted memory. `Device` where it refused for another cause.
     pub fn make(&mut self, at: Moment, change: &Change) -> Result<(), Fault>
-        requires in_time { HasCleanDisk (state S.Store self.old.conn) → (kept_vault S.Store self.old.opening.at.items self.old.opening.known self.old.made.items).last ≤ at }
-        requires allowed { HasCleanDisk (state S.Store self.old.conn) → Allows (kept_vault S.Store self.old.opening.at.items self.old.opening.known self.old.made.items) at change.now }
-        ensures ok { OnOk result (kept_vault S.Store self.new.opening.at.items self.new.opening.known self.new.made.items ≡ changed (kept_vault S.Store self.old.opening.at.items self.old.opening.known self.old.made.items) at change.now) }
-        ensures err { OnErr result (kept_vault S.Store self.new.opening.at.items self.new.opening.known self.new.made.items ≡ kept_vault S.Store self.old.opening.at.items self.old.opening.known self.old.made.items) }
+        requires in_time { HasCleanDisk (state S.Store self.old.conn) → (vault_of S.Store self.old).last ≤ at }
+        requires allowed { HasCleanDisk (state S.Store self.old.conn) → Allows (vault_of S.Store self.old) at change.now }
+        ensures ok { OnOk result (vault_of S.Store self.new ≡ changed (vault_of S.Store self.old) at change.now) }
+        ensures err { OnErr result (vault_of S.Store self.new ≡ vault_of S.Store self.old) }
         ensures honest { HasCleanDisk (state S.Store self.new.conn) → HasCleanDisk (state S.Store self.old.conn) }
-        ensures counted { self.old.faults ≤ self.new.faults }
-        ensures device { result ≡ Err Fault.Device → RoseOrIsFull self.old.faults self.new.faults }
-        ensures steady { is_device_given result ≡ false → self.new.faults ≡ self.old.faults }
+        ensures counted { self.new.faults ≡ count_after self.old.faults (is_device_given result) }
+        // Which changes were refused since the last one that was made.
+        ensures forgotten { OnOk result (self.new.refused.items ≡ []) }
+        ensures refused { OnErr result (self.new.refused.items ≡ self.old.refused.items ++ (at, change.now) ∷ []) }
         // A crash leaves what it could leave before, or the vault with the change; once that is acknowledged, this vault alone.
-        ensures crash { HasCleanDisk (state S.Store self.new.conn) → ∥ Survives (state S.Store self.old.conn) (state S.Store self.new.conn) (IsFoundIn (changed (kept_vault S.Store self.old.opening.at.items self.old.opening.known self.old.made.items) at change.now)) ∥₁ }
-        ensures alone { HasCleanDisk (state S.Store self.new.conn) → OnOk result (∥ LeavesAlone (state S.Store self.new.conn) (kept_vault S.Store self.new.opening.at.items self.new.opening.known self.new.made.items) ∥₁) }
+        ensures crash { HasCleanDisk (state S.Store self.new.conn) → ∥ Survives (state S.Store self.old.conn) (state S.Store self.new.conn) (IsFoundIn (changed (vault_of S.Store self.old) at change.now)) ∥₁ }
+        ensures alone { HasCleanDisk (state S.Store self.new.conn) → OnOk result (∥ LeavesAlone (state S.Store self.new.conn) (vault_of S.Store self.new) ∥₁) }
         ensures open { HasCleanDisk (state S.Store self.new.conn) → OnOk result (IsTrue (state S.Store self.new.conn).is_open) }
     {
         match apply_change(&mut self.conn, self.alloc, at, change) {
             Ok(()) => {
                 self.made = self.made.and(&at, change);
+                self.refused = Log::new();
+                self.doubted = false;
                 Ok(())
             }
-            Err(error) => Err(blame(&mut self.faults, error)),
+            Err(error) => {
+                self.refused = self.refused.and(&at, change);
+                Err(blame(&mut self.faults, &mut self.doubted, error))
+            }
+        }
+    }
+
+    /// Makes sure that the connection is open, where a failure may have shut it: no clause says what a crash
+    /// leaves after a read of a connection that is shut.
+    ///
+    /// `Memory` where the store wanted memory. `Device` where it refused for another cause.
+    fn check_open(&mut self) -> Result<(), Fault>
+        ensures open { HasCleanDisk (state S.Store self.new.conn) → OnOk result (IsTrue (state S.Store self.new.conn).is_open) }
+        ensures same { vault_of S.Store self.new ≡ vault_of S.Store self.old }
+        ensures honest { HasCleanDisk (state S.Store self.new.conn) → HasCleanDisk (state S.Store self.old.conn) }
+        ensures counted { self.new.faults ≡ count_after self.old.faults (is_device_given result) }
+    {
+        if !self.doubted {
+            return Ok(());
+        }
+        match refuse_shut(&mut self.conn) {
+            Ok(()) => {
+                self.doubted = false;
+                Ok(())
+            }
+            Err(error) => Err(blame(&mut self.faults, &mut self.doubted, error)),
         }
     }
 }
 
-impl<S: Alter> Keeper for SqlKeeper<S> {
+impl<S: Alter> Kept for SqlKeeper<S> {
+    ghost use Rattle.std.proofs.Math.Logic.{∥∥₁_elim};
+    ghost use Rattle.vault_core_laws.proofs.SoundProp.{Sound-prop};
+    ghost use Rattle.vault_store.specs.VaultOf.{vault_of};
+
     ghost is_honest = { λ k. HasCleanDisk (state S.Store k.conn) };
 
-    ghost vault = { λ k. kept_vault S.Store k.opening.at.items k.opening.known k.made.items };
+    ghost vault = { λ k. vault_of S.Store k };
 
     ghost count = { λ k. k.faults };
+
+    ghost sound = { λ k honest. ∥∥₁_elim k.kept (Sound-prop _) (λ kept. (kept honest).sound) };
+}
+
+impl<S: Alter> Keeper for SqlKeeper<S> {
+    ghost use Rattle.vault_store.specs.VaultOf.{vault_of};
 
     fn faults(&self) -> u64 {
         self.faults
     }
 
     fn last(&mut self) -> Result<Moment, Fault> {
+        self.check_open()?;
         match read_last(&mut self.conn) {
             Ok(found) => Ok(found),
-            Err(error) => Err(blame(&mut self.faults, error)),
+            Err(error) => Err(blame(&mut self.faults, &mut self.doubted, error)),
         }
     }
 
     fn next_id(&mut self) -> Result<u64, Fault> {
+        self.check_open()?;
         match read_next_id(&mut self.conn) {
             Ok(found) => Ok(found),
-            Err(error) => Err(blame(&mut self.faults, error)),
+            Err(error) => Err(blame(&mut self.faults, &mut self.doubted, error)),
         }
     }
 
     fn caller(&mut self, name: &CallerName) -> Result<Option<Caller>, Fault> {
+        self.check_open()?;
         match read_caller(&mut self.conn, name) {
             Ok(found) => Ok(found),
-            Err(error) => Err(blame(&mut self.faults, error)),
+            Err(error) => Err(blame(&mut self.faults, &mut self.doubted, error)),
         }
     }
 
     fn dept(&mut self, name: &DeptName) -> Result<bool, Fault> {
+        self.check_open()?;
         match has_department(&mut self.conn, name) {
             Ok(found) => Ok(found),
-            Err(error) => Err(blame(&mut self.faults, error)),
+            Err(error) => Err(blame(&mut self.faults, &mut self.doubted, error)),
         }
     }
 
     fn bucket(&mut self, name: &BucketName) -> Result<Option<BucketConfig>, Fault> {
+        self.check_open()?;
         match read_bucket(&mut self.conn, name) {
             Ok(found) => Ok(found),
-            Err(error) => Err(blame(&mut self.faults, error)),
+            Err(error) => Err(blame(&mut self.faults, &mut self.doubted, error)),
         }
     }
 
     fn rules(&mut self, bucket: &BucketName) -> Result<Option<RuleSet>, Fault> {
+        self.check_open()?;
         match read_rules(&mut self.conn, self.alloc, bucket) {
             Ok(found) => Ok(found),
-            Err(error) => Err(blame(&mut self.faults, error)),
+            Err(error) => Err(blame(&mut self.faults, &mut self.doubted, error)),
         }
     }
 
     fn head(&mut self, bucket: &BucketName, key: &ObjectKey) -> Result<Option<Head>, Fault> {
+        self.check_open()?;
         match read_head(&mut self.conn, bucket, key) {
             Ok(found) => Ok(found),
-            Err(error) => Err(blame(&mut self.faults, error)),
+            Err(error) => Err(blame(&mut self.faults, &mut self.doubted, error)),
         }
     }
 
     fn entries(&mut self, bucket: &BucketName, key: &ObjectKey) -> Result<Vec<Held>, Fault> {
+        self.check_open()?;
         match read_entries(&mut self.conn, self.alloc, bucket, key) {
             Ok(found) => Ok(found),
-            Err(error) => Err(blame(&mut self.faults, error)),
+            Err(error) => Err(blame(&mut self.faults, &mut self.doubted, error)),
         }
     }
 
     fn entry(&mut self, id: VersionId) -> Result<Option<Entry>, Fault> {
+        self.check_open()?;
         match read_entry(&mut self.conn, id) {
             Ok(found) => Ok(found),
-            Err(error) => Err(blame(&mut self.faults, error)),
+            Err(error) => Err(blame(&mut self.faults, &mut self.doubted, error)),
         }
     }
 
     fn setting(&mut self, id: VersionId) -> Result<Option<LastSetting>, Fault> {
+        self.check_open()?;
         match read_setting(&mut self.conn, id) {
             Ok(found) => Ok(found),
-            Err(error) => Err(blame(&mut self.faults, error)),
+            Err(error) => Err(blame(&mut self.faults, &mut self.doubted, error)),
         }
     }
 
     fn settings(&mut self, id: VersionId) -> Result<Settings, Fault> {
+        self.check_open()?;
         match read_settings(&mut self.conn, self.alloc, id) {
             Ok(found) => Ok(found),
-            Err(error) => Err(blame(&mut self.faults, error)),
+            Err(error) => Err(blame(&mut self.faults, &mut self.doubted, error)),
         }
     }
 
     fn content(&mut self, id: VersionId) -> Result<Option<Content>, Fault> {
+        self.check_open()?;
         match read_content(&mut self.conn, id) {
             Ok(found) => Ok(found),
-            Err(error) => Err(blame(&mut self.faults, error)),
+            Err(error) => Err(blame(&mut self.faults, &mut self.doubted, error)),
         }
     }
 
@@ -297,9 +367,10 @@ impl<S: Alter> Keeper for SqlKeeper<S> {
         after: &KeyPrefix,
         most: u32,
     ) -> Result<Vec<ObjectKey>, Fault> {
+        self.check_open()?;
         match read_keys(&mut self.conn, self.alloc, bucket, after, most) {
             Ok(found) => Ok(found),
-            Err(error) => Err(blame(&mut self.faults, error)),
+            Err(error) => Err(blame(&mut self.faults, &mut self.doubted, error)),
         }
     }
 
@@ -309,59 +380,69 @@ impl<S: Alter> Keeper for SqlKeeper<S> {
         batch: &BatchName,
         line: u32,
     ) -> Result<Option<Note>, Fault> {
+        self.check_open()?;
         match read_note(&mut self.conn, bucket, batch, line) {
             Ok(found) => Ok(found),
-            Err(error) => Err(blame(&mut self.faults, error)),
+            Err(error) => Err(blame(&mut self.faults, &mut self.doubted, error)),
         }
     }
 
     fn walk_removed<T: Sink>(&mut self, sink: &mut T) -> Result<bool, Fault> {
+        self.check_open()?;
         match walk_removed(&mut self.conn, sink) {
-            Ok(found) => Ok(found),
-            Err(error) => Err(blame(&mut self.faults, error)),
+            Ok(found) => {
+                // No clause of the walk says that it leaves the connection open.
+                self.doubted = true;
+                Ok(found)
+            }
+            Err(error) => Err(blame(&mut self.faults, &mut self.doubted, error)),
         }
     }
 
     fn moves(&mut self) -> Result<u32, Fault> {
+        self.check_open()?;
         match read_moves(&mut self.conn) {
             Ok(found) => Ok(found),
-            Err(error) => Err(blame(&mut self.faults, error)),
+            Err(error) => Err(blame(&mut self.faults, &mut self.doubted, error)),
         }
     }
 
     fn tenures(&mut self, id: VersionId) -> Result<Tenures, Fault> {
+        self.check_open()?;
         match read_tenures(&mut self.conn, self.alloc, id) {
             Ok(found) => Ok(found),
-            Err(error) => Err(blame(&mut self.faults, error)),
+            Err(error) => Err(blame(&mut self.faults, &mut self.doubted, error)),
         }
     }
 
     fn bucket_held(&mut self, bucket: &BucketName) -> Result<(u64, u64), Fault> {
+        self.check_open()?;
         match read_bucket_held(&mut self.conn, self.alloc, bucket) {
             Ok(found) => Ok(found),
-            Err(error) => Err(blame(&mut self.faults, error)),
+            Err(error) => Err(blame(&mut self.faults, &mut self.doubted, error)),
         }
     }
 
     fn totals(&mut self, dept: &DeptName) -> Result<Row, Fault> {
+        self.check_open()?;
         match read_totals(&mut self.conn, dept) {
             Ok(found) => Ok(found),
-            Err(error) => Err(blame(&mut self.faults, error)),
+            Err(error) => Err(blame(&mut self.faults, &mut self.doubted, error)),
         }
     }
 
     fn apply(&mut self, at: Moment, change: &Change) -> Result<(), Fault>
-        requires in_time { HasCleanDisk (state S.Store self.old.conn) → (kept_vault S.Store self.old.opening.at.items self.old.opening.known self.old.made.items).last ≤ at }
-        requires allowed { HasCleanDisk (state S.Store self.old.conn) → Allows (kept_vault S.Store self.old.opening.at.items self.old.opening.known self.old.made.items) at change.now }
-        ensures ok { OnOk result (kept_vault S.Store self.new.opening.at.items self.new.opening.known self.new.made.items ≡ changed (kept_vault S.Store self.old.opening.at.items self.old.opening.known self.old.made.items) at change.now) }
-        ensures err { OnErr result (kept_vault S.Store self.new.opening.at.items self.new.opening.known self.new.made.items ≡ kept_vault S.Store self.old.opening.at.items self.old.opening.known self.old.made.items) }
+        requires in_time { HasCleanDisk (state S.Store self.old.conn) → (vault_of S.Store self.old).last ≤ at }
+        requires allowed { HasCleanDisk (state S.Store self.old.conn) → Allows (vault_of S.Store self.old) at change.now }
+        ensures ok { OnOk result (vault_of S.Store self.new ≡ changed (vault_of S.Store self.old) at change.now) }
+        ensures err { OnErr result (vault_of S.Store self.new ≡ vault_of S.Store self.old) }
         ensures honest { HasCleanDisk (state S.Store self.new.conn) → HasCleanDisk (state S.Store self.old.conn) }
-        ensures counted { self.old.faults ≤ self.new.faults }
-        ensures device { result ≡ Err Fault.Device → RoseOrIsFull self.old.faults self.new.faults }
-        ensures steady { is_device_given result ≡ false → self.new.faults ≡ self.old.faults }
-        // What `make` says of a crash.
-        ensures crash { HasCleanDisk (state S.Store self.new.conn) → ∥ Survives (state S.Store self.old.conn) (state S.Store self.new.conn) (IsFoundIn (changed (kept_vault S.Store self.old.opening.at.items self.old.opening.known self.old.made.items) at change.now)) ∥₁ }
-        ensures alone { HasCleanDisk (state S.Store self.new.conn) → OnOk result (∥ LeavesAlone (state S.Store self.new.conn) (kept_vault S.Store self.new.opening.at.items self.new.opening.known self.new.made.items) ∥₁) }
+        ensures counted { self.new.faults ≡ count_after self.old.faults (is_device_given result) }
+        // What `make` says of refused changes and of a crash.
+        ensures forgotten { OnOk result (self.new.refused.items ≡ []) }
+        ensures refused { OnErr result (self.new.refused.items ≡ self.old.refused.items ++ (at, change.now) ∷ []) }
+        ensures crash { HasCleanDisk (state S.Store self.new.conn) → ∥ Survives (state S.Store self.old.conn) (state S.Store self.new.conn) (IsFoundIn (changed (vault_of S.Store self.old) at change.now)) ∥₁ }
+        ensures alone { HasCleanDisk (state S.Store self.new.conn) → OnOk result (∥ LeavesAlone (state S.Store self.new.conn) (vault_of S.Store self.new) ∥₁) }
         ensures open { HasCleanDisk (state S.Store self.new.conn) → OnOk result (IsTrue (state S.Store self.new.conn).is_open) }
     {
         self.make(at, change)

@@ -41,6 +41,7 @@ pub fn read_content<S: Alter>(
 ) -> Result<Option<Content>, Error>
     ensures value { HasCleanDisk (state S.Store conn.new) → IfOk result (λ found. (v : Vault) → Keeps (state S.Store conn.old) v → found ≡ content_of v id) }
     ensures read { OnlyReads S.Store conn.old conn.new }
+    ensures open { IsOpenIfOk S.Store conn.new result }
 {
     let rows = query_rows(
         conn,

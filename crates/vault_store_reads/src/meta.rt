@@ -38,6 +38,7 @@ pub fn read_last<S: Alter>(conn: &mut Connection<S>) -> Result<Moment, Error>
     // Every vault that is kept is sound.
     ensures sound { HasCleanDisk (state S.Store conn.new) → OnOk result ((v : Vault) → Keeps (state S.Store conn.old) v → Sound v) }
     ensures read { OnlyReads S.Store conn.old conn.new }
+    ensures open { IsOpenIfOk S.Store conn.new result }
 {
     let meta = read_meta(conn)?;
     Ok(meta.last)
@@ -47,6 +48,7 @@ pub fn read_last<S: Alter>(conn: &mut Connection<S>) -> Result<Moment, Error>
 pub fn read_next_id<S: Alter>(conn: &mut Connection<S>) -> Result<u64, Error>
     ensures value { HasCleanDisk (state S.Store conn.new) → IfOk result (λ id. (v : Vault) → Keeps (state S.Store conn.old) v → id ≡ next_id v) }
     ensures read { OnlyReads S.Store conn.old conn.new }
+    ensures open { IsOpenIfOk S.Store conn.new result }
 {
     let meta = read_meta(conn)?;
     Ok(meta.next)

@@ -18,6 +18,7 @@ use vault_tally::row::Row as Sums;
 pub fn has_department<S: Alter>(conn: &mut Connection<S>, name: &DeptName) -> Result<bool, Error>
     ensures value { HasCleanDisk (state S.Store conn.new) → IfOk result (λ found. (v : Vault) → Keeps (state S.Store conn.old) v → found ≡ has_department v name.now) }
     ensures read { OnlyReads S.Store conn.old conn.new }
+    ensures open { IsOpenIfOk S.Store conn.new result }
 {
     let rows = query_rows(
         conn,
@@ -62,6 +63,7 @@ pub fn read_caller<S: Alter>(
 ) -> Result<Option<Caller>, Error>
     ensures value { HasCleanDisk (state S.Store conn.new) → IfOk result (λ found. (v : Vault) → Keeps (state S.Store conn.old) v → found ≡ caller_of v name.now) }
     ensures read { OnlyReads S.Store conn.old conn.new }
+    ensures open { IsOpenIfOk S.Store conn.new result }
 {
     let rows = query_rows(
         conn,

@@ -126,6 +126,7 @@ pub fn find_entries<S: Alter>(
 ) -> Result<Vec<Held>, Error>
     ensures value { HasCleanDisk (state S.Store conn.new) → IfOk result (λ held. (v : Vault) → Keeps (state S.Store conn.old) v → held.items ≡ entries_of v bucket.now key.now) }
     ensures read { ReadsQuietly S.Store conn.old conn.new }
+    ensures open { IsOpenIfOk S.Store conn.new result }
 {
     let entries = find_bare(conn, alloc, bucket, key)?;
     with_locks(conn, alloc, &entries)

@@ -29,6 +29,7 @@ pub fn read_setting<S: Alter>(
 ) -> Result<Option<LastSetting>, Error>
     ensures value { HasCleanDisk (state S.Store conn.new) → IfOk result (λ found. (v : Vault) → Keeps (state S.Store conn.old) v → found ≡ setting_of v id) }
     ensures read { OnlyReads S.Store conn.old conn.new }
+    ensures open { IsOpenIfOk S.Store conn.new result }
 {
     find_setting(conn, id)
 }
@@ -41,6 +42,7 @@ pub fn read_tenures<S: Alter>(
 ) -> Result<Tenures, Error>
     ensures value { HasCleanDisk (state S.Store conn.new) → IfOk result (λ found. (v : Vault) → Keeps (state S.Store conn.old) v → found ≡ tenures_of v id) }
     ensures read { OnlyReads S.Store conn.old conn.new }
+    ensures open { IsOpenIfOk S.Store conn.new result }
 {
     let rows = tenure_rows(conn, id)?;
     decode_tenures(alloc, &rows)
@@ -53,6 +55,7 @@ pub fn read_last_tenure<S: Alter>(
 ) -> Result<Option<Tenure>, Error>
     ensures value { HasCleanDisk (state S.Store conn.new) → IfOk result (λ found. (v : Vault) → Keeps (state S.Store conn.old) v → found ≡ last_tenure_of v id) }
     ensures read { OnlyReads S.Store conn.old conn.new }
+    ensures open { IsOpenIfOk S.Store conn.new result }
 {
     find_last_tenure(conn, id)
 }
@@ -84,6 +87,7 @@ pub fn read_rules<S: Alter>(
 ) -> Result<Option<RuleSet>, Error>
     ensures value { HasCleanDisk (state S.Store conn.new) → IfOk result (λ found. (v : Vault) → Keeps (state S.Store conn.old) v → found ≡ rules_of v bucket.now) }
     ensures read { OnlyReads S.Store conn.old conn.new }
+    ensures open { IsOpenIfOk S.Store conn.new result }
 {
     let rows = rule_rows(conn, bucket)?;
     decode_rules(alloc, &rows)
@@ -99,6 +103,7 @@ pub fn read_keys<S: Alter>(
 ) -> Result<Vec<ObjectKey>, Error>
     ensures value { HasCleanDisk (state S.Store conn.new) → IfOk result (λ keys. (v : Vault) → Keeps (state S.Store conn.old) v → keys.items ≡ keys_after v bucket.now after.now most) }
     ensures read { OnlyReads S.Store conn.old conn.new }
+    ensures open { IsOpenIfOk S.Store conn.new result }
 {
     let rows = key_rows(conn, bucket, after, most)?;
     decode_keys(alloc, &rows)
@@ -113,6 +118,7 @@ pub fn read_entries<S: Alter>(
 ) -> Result<Vec<Held>, Error>
     ensures value { HasCleanDisk (state S.Store conn.new) → IfOk result (λ held. (v : Vault) → Keeps (state S.Store conn.old) v → held.items ≡ entries_of v bucket.now key.now) }
     ensures read { OnlyReads S.Store conn.old conn.new }
+    ensures open { IsOpenIfOk S.Store conn.new result }
 {
     find_entries(conn, alloc, bucket, key)
 }
@@ -139,6 +145,7 @@ pub fn read_settings<S: Alter>(
 ) -> Result<Settings, Error>
     ensures value { HasCleanDisk (state S.Store conn.new) → IfOk result (λ found. (v : Vault) → Keeps (state S.Store conn.old) v → found ≡ settings_of v id) }
     ensures read { OnlyReads S.Store conn.old conn.new }
+    ensures open { IsOpenIfOk S.Store conn.new result }
 {
     let rows = settings_rows(conn, id)?;
     decode_settings(alloc, &rows)

@@ -70,6 +70,7 @@ pub fn last_tenure_rows<S: Alter>(
 pub fn tenure_rows<S: Alter>(conn: &mut Connection<S>, id: VersionId) -> Result<Vec<Row>, Error>
     ensures rows { HasCleanDisk (state S.Store conn.new) → IfOk result (λ rows. (v : Vault) → Keeps (state S.Store conn.old) v → (tenures : List TenureRow) × (rows.items ≡ map tenure_row tenures) × (map (λ x. x.tenure) tenures ≡ tenures_of v id)) }
     ensures read { OnlyReads S.Store conn.old conn.new }
+    ensures open { IsOpenIfOk S.Store conn.new result }
 {
     query_rows(
         conn,
@@ -98,6 +99,7 @@ pub fn sized_rows<S: Alter>(
 pub fn rule_rows<S: Alter>(conn: &mut Connection<S>, bucket: &BucketName) -> Result<Vec<Row>, Error>
     ensures rows { HasCleanDisk (state S.Store conn.new) → IfOk result (λ rows. (v : Vault) → Keeps (state S.Store conn.old) v → (rules : List RuleRow) × (rows.items ≡ map rule_row rules) × (set_of rules ≡ rules_of v bucket.now)) }
     ensures read { OnlyReads S.Store conn.old conn.new }
+    ensures open { IsOpenIfOk S.Store conn.new result }
 {
     query_rows(
         conn,
@@ -133,6 +135,7 @@ pub fn key_rows<S: Alter>(
 ) -> Result<Vec<Row>, Error>
     ensures rows { HasCleanDisk (state S.Store conn.new) → IfOk result (λ rows. (v : Vault) → Keeps (state S.Store conn.old) v → rows.items ≡ map key_row (keys_after v bucket.now after.now most)) }
     ensures read { OnlyReads S.Store conn.old conn.new }
+    ensures open { IsOpenIfOk S.Store conn.new result }
 {
     query_rows(
         conn,
@@ -163,6 +166,7 @@ pub fn newest_rows<S: Alter>(
 pub fn settings_rows<S: Alter>(conn: &mut Connection<S>, id: VersionId) -> Result<Vec<Row>, Error>
     ensures rows { HasCleanDisk (state S.Store conn.new) → IfOk result (λ rows. (v : Vault) → Keeps (state S.Store conn.old) v → (settings : List SettingRow) × (rows.items ≡ map setting_row settings) × (map (λ x. x.setting) settings ≡ settings_of v id)) }
     ensures read { OnlyReads S.Store conn.old conn.new }
+    ensures open { IsOpenIfOk S.Store conn.new result }
 {
     query_rows(
         conn,
