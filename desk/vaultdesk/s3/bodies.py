@@ -24,7 +24,9 @@ TRAILER = 4_096  # bytes of a trailer
 PIECE = 65_536  # bytes that are read at once
 PATIENCE = 120  # seconds for a whole body
 CHUNK = re.compile(rb"([0-9A-Fa-f]{1,8})(?:;chunk-signature=([0-9a-f]{64}))?")
-TOO_LARGE = "a version has at most 1,048,576 bytes: cut the content into parts of your own; multipart isn't taken"
+CONTENT = 1_048_576  # bytes of a version
+DOCUMENT = 4_194_304  # bytes of an XML document
+TOO_LARGE = f"a version has at most {CONTENT:,} bytes: cut the content into parts of your own; multipart isn't taken"
 
 
 class Source(Protocol):
@@ -43,6 +45,11 @@ class Body:
 
     content: bytes
     checksums: Mapping[str, str]
+
+
+def _too_large(most: int) -> Fault:
+    words = TOO_LARGE if most == CONTENT else f"the body of this request has at most {most:,} bytes"
+    return Fault("EntityTooLarge", words)
 
 
 def _cut() -> Fault:
@@ -167,7 +174,7 @@ def _chunks(source: Source, chain: Chain | None, most: int, deadline: float) -> 
             raise _cut()
         size = int(found[1], 16)
         if len(content) + size > most:
-            raise Fault("EntityTooLarge", TOO_LARGE)
+            raise _too_large(most)
         chunk = b"".join(_pieces(source, size, deadline))
         if chain:
             chain.chunk(chunk, found[2].decode())
@@ -260,7 +267,7 @@ def read(request: Request, signed: Signed, key: bytes, most: int, begin: Callabl
     if is_chunked and not is_streamed:
         raise Fault("InvalidRequest", "content-encoding is aws-chunked, and x-amz-content-sha256 says another form")
     if declared(request) > most:
-        raise Fault("EntityTooLarge", TOO_LARGE)
+        raise _too_large(most)
     source = _framed(request, _Begun(begin))
     deadline = time.monotonic() + PATIENCE
     trailer: dict[str, str] = {}
@@ -303,4 +310,4 @@ def _plain(source: Counted | Chunked, most: int, deadline: float) -> bytes:
             return content
         content += found
         if len(content) > most:
-            raise Fault("EntityTooLarge", TOO_LARGE)
+            raise _too_large(most)

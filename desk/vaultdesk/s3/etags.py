@@ -11,6 +11,7 @@ import hashlib
 import re
 import threading
 from pathlib import Path
+from typing import TextIO
 
 from vaultdesk.errors import DeskError
 from vaultdesk.output import say
@@ -30,14 +31,23 @@ class Etags:
         self.path = path
         self.turn = threading.Lock()
         self.known: dict[int, tuple[str, str]] = {}
-        try:
-            for line in path.open(encoding="ascii", errors="replace") if path and path.exists() else ():
-                found = LINE.fullmatch(line)
-                if found:
-                    self.known[int(found[1])] = found[2], found[3]
-            self.file = path.open("a", encoding="ascii") if path else None
-        except OSError as error:
-            raise DeskError(f"{path}: {error.strerror}") from error
+        self.file: TextIO | None = None
+        if path:
+            try:
+                self._read(path)
+            except OSError as error:
+                raise DeskError(f"{path}: {error.strerror}") from error
+
+    def _read(self, path: Path) -> None:
+        """Reads what is noted, and goes on behind it; what isn't a line is read past."""
+        text = path.read_text(encoding="ascii", errors="replace") if path.exists() else ""
+        for line in text.splitlines(keepends=True):
+            found = LINE.fullmatch(line)
+            if found:
+                self.known[int(found[1])] = found[2], found[3]
+        self.file = path.open("a", encoding="ascii")
+        if text and not text.endswith("\n"):
+            self.file.write("\n")
 
     def find(self, version: int, admitted: str) -> str | None:
         """The MD5 of the version that was admitted then, if it is noted."""

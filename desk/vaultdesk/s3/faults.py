@@ -60,7 +60,7 @@ class Fault(Exception):
     @property
     def status(self) -> int:
         """The status of the answer."""
-        return STATUSES.get(self.code, 404 if self.code.startswith("NoSuch") or self.code.endswith("NotFound") else 400)
+        return STATUSES.get(self.code, 404 if self.code.startswith("NoSuch") or "NotFound" in self.code else 400)
 
 
 def not_there(what: str) -> Fault:

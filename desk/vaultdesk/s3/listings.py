@@ -149,7 +149,7 @@ def _token_of(key: str) -> str:
 
 def _key_of(token: str) -> str:
     try:
-        return base64.urlsafe_b64decode(token.encode("ascii")).decode("utf-8")
+        return base64.b64decode(token, altchars=b"-_", validate=True).decode("utf-8")
     except ValueError as error:
         raise Fault("InvalidArgument", "continuation-token is none of this gateway's") from error
 

@@ -7,12 +7,10 @@ from dataclasses import dataclass
 
 from vaultdesk.s3 import bodies, buckets, heads, lifecycle, listings, locks, objects
 from vaultdesk.s3.asked import Asked
+from vaultdesk.s3.bodies import CONTENT, DOCUMENT
 from vaultdesk.s3.faults import Fault, not_there
 from vaultdesk.s3.request import Answer, Request
 from vaultdesk.s3.settings import Settings
-
-CONTENT = 1_048_576  # bytes of a version
-DOCUMENT = 4_194_304  # bytes of an XML document
 
 
 def _nothing(_: Request, __: Settings) -> set[str]:

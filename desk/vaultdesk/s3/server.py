@@ -76,6 +76,10 @@ class Handler(http.server.BaseHTTPRequestHandler):
     def _has_body(self) -> bool:
         return self.headers.get("Content-Length", "0") != "0" or "Transfer-Encoding" in self.headers
 
+    def _may_send(self) -> bool:
+        """Whether more may come of the request: what is left of a body is no next request."""
+        return self._has_body() or self.command in ("PUT", "POST")
+
     def _read(self) -> Request:
         """The head as it came. `Fault` where it can't be read."""
         # BaseHTTPRequestHandler.path has slashes taken away in front; what is signed has them.
@@ -96,7 +100,7 @@ class Handler(http.server.BaseHTTPRequestHandler):
                     self.close_connection = True
             except Fault as fault:
                 answer, caller, code = of_fault(fault, request), fault.caller, fault.code
-                self.close_connection = self.close_connection or self._has_body()
+                self.close_connection = self.close_connection or self._may_send()
             self._send(answer)
         self.server.note(f"{caller} {self.command} {_noted(self.requestline.split()[1])} {answer.status} {code}")
 
@@ -115,7 +119,7 @@ class Handler(http.server.BaseHTTPRequestHandler):
         first = f"HTTP/1.1 {answer.status} {HTTPStatus(answer.status).phrase}"
         head = "\r\n".join([first, *(f"{name}: {value}" for name, value in headers.items()), "", ""])
         self.wfile.write(head.encode("latin-1") + answer.body)
-        if self.close_connection and self._has_body():
+        if self.close_connection and self._may_send():
             self._linger()
 
     def _linger(self) -> None:

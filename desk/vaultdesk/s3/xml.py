@@ -36,8 +36,10 @@ class Element:
         return [it for it in self.children if it.name == name]
 
     def value(self, name: str) -> str | None:
-        """The text of the element of that name in it, if there is one."""
+        """The text of the element of that name in it, if there is one. `Fault` where it has elements in it."""
         found = self.find(name)
+        if found is not None and found.children:
+            raise malformed(f"{name} has a text, and no elements")
         return None if found is None else found.text
 
     def only(self, *names: str) -> None:
