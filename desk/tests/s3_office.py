@@ -121,9 +121,19 @@ class GatewayTest(OfficeTest):
 
     PRESIGNED = False
     DROPPED: frozenset[str] = frozenset()
+    made: dict[str, bytes] = {}  # the files of the vault, which is made once for all tests
 
-    def setUp(self) -> None:
-        super().setUp()
+    def make(self) -> None:
+        """Makes the vault, or a copy of one that was made."""
+        if not self.made:
+            super().make()
+            self.make_others()
+            self.made.update({it: Path(f"{self.file}{it}").read_bytes() for it in ("", "-wal")})
+        for name, content in self.made.items():
+            Path(f"{self.file}{name}").write_bytes(content)
+
+    def make_others(self) -> None:
+        """Makes the callers beside `ann`."""
         plain = ["put", "get", "list", "delete", "delete-version"]
         self.lines(
             {"do": "add-caller", "as": "registrar", "caller": "bea", "dept": "records", "rights": plain},
@@ -131,6 +141,9 @@ class GatewayTest(OfficeTest):
             {"do": "add-caller", "as": "registrar", "caller": "cid", "dept": "court", "rights": plain},
             {"do": "add-bucket", "as": "registrar", "bucket": "cases", "dept": "court"},
         )
+
+    def setUp(self) -> None:
+        super().setUp()
         text = "".join(
             f'[{name}]\ncaller = "{caller}"\nsecret = "{SECRET}"\n'
             for name, caller in ((ANN, "ann"), (BEA, "bea"), (CID, "cid"))

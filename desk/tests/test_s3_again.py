@@ -7,6 +7,7 @@ import io
 import os
 import signal
 import socket
+import sqlite3
 import subprocess
 import sys
 import threading
@@ -45,8 +46,8 @@ class Again(GatewayTest):
 
     def test_another_put_of_that_id_is_refused(self) -> None:
         self.done("PUT", "/docs/a", b"hello", ONCE)
-        for target, body, lock in (("/docs/a", b"other", False), ("/docs/b", b"hello", False), ("/docs/a", b"hello", True)):
-            headers = {**LOCK, **ONCE} if lock else ONCE
+        others = (("/docs/a", b"other", ONCE), ("/docs/b", b"hello", ONCE), ("/docs/a", b"hello", {**LOCK, **ONCE}))
+        for target, body, headers in others:
             self.refused("InvalidRequest", 400, self.ask("PUT", target, body, headers))
         self.assertEqual(len(self.entries()), 1)
         # Another caller's id is another one.
@@ -208,3 +209,11 @@ class Programs(GatewayTest):
         with self.assertRaises(AssertionError) as failed:
             self.begin()
         self.assertRegex(str(failed.exception), "another program|Device|locked")
+
+    def test_a_damaged_vault_keeps_it_from_starting(self) -> None:
+        self.stop()
+        with contextlib.closing(sqlite3.connect(self.file)) as base, base:
+            base.execute("UPDATE meta SET next = 99")
+        with self.assertRaises(AssertionError) as failed:
+            self.begin()
+        self.assertIn("Damaged", str(failed.exception))

@@ -256,7 +256,7 @@ class Delete(GatewayTest):
     def test_what_isnt_the_document(self) -> None:
         before = self.entries()
         many = b"<Delete>" + b"<Object><Key>a</Key></Object>" * 1_001 + b"</Delete>"
-        conditional = b"<Delete><Object><Key>a</Key><ETag>x</ETag></Object></Delete>"
+        conditional = b"<Delete><Object><Key>b</Key></Object><Object><Key>a</Key><ETag>x</ETag></Object></Delete>"
         entity = b'<!DOCTYPE a [<!ENTITY e "a">]><Delete><Object><Key>&e;</Key></Object></Delete>'
         deep = b"<Delete>" + b"<a>" * 20 + b"</a>" * 20 + b"</Delete>"
         for body, code in ((many, "MalformedXML"), (b"<Delete/>", "MalformedXML"), (b"", "MalformedXML"),

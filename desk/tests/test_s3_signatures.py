@@ -201,10 +201,10 @@ class Refused(GatewayTest):
         for extra in ("x-amz-object-lock-legal-hold: ON", "x-amz-bypass-governance-retention: true"):
             raw = self.put().replace(b"\r\nAuthorization", f"\r\n{extra}\r\nAuthorization".encode())
             self.refused("AccessDenied", 403, self.send(raw)[0])
-        twice = self.put(x_amz_object_lock_legal_hold="ON").replace(
-            b"\r\nAuthorization", b"\r\nx-amz-object-lock-legal-hold: OFF\r\nAuthorization"
-        )
-        self.refused("SignatureDoesNotMatch", 403, self.send(twice)[0])
+        for place in (b"\r\nAuthorization", b"\r\nhost"):
+            twice = b"\r\nx-amz-object-lock-legal-hold: OFF" + place
+            raw = self.put(x_amz_object_lock_legal_hold="ON").replace(place, twice)
+            self.refused("SignatureDoesNotMatch", 403, self.send(raw)[0])
 
     def test_the_host_has_to_be_signed(self) -> None:
         digest = "2cf24dba5fb0a30e26e83b2ac5b9e29e1b161e5c1fa7425e73043362938b9824"

@@ -241,7 +241,6 @@ def delete(asked: Asked) -> Answer:
 
 def _result(asked: Asked, it: xml.Element) -> xml.Node:
     """What became of one key of DeleteObjects."""
-    it.only("Key", "VersionId")
     key, version = it.value("Key"), it.value("VersionId")
     if key is None:
         raise xml.malformed("an Object has a Key")
