@@ -4,6 +4,7 @@ from __future__ import annotations
 
 import contextlib
 import json
+import os
 import subprocess
 import tempfile
 from collections.abc import Iterator, Mapping
@@ -19,6 +20,7 @@ READS = (
     "get", "head", "get-retention", "get-hold", "get-default", "get-rules", "list-versions", "report", "certificate",
 )  # fmt: skip
 PAGE = 1_000  # entries in one reply of a listing, at most
+MOST_SAID = 1_048_576  # bytes of what the engine says of refused lines that are kept
 
 
 class Engine:
@@ -85,6 +87,11 @@ class Engine:
         stopped = reply["stopped"]
         raise EngineError(f"the run stopped after {stopped['changes']} changes, which stand: {stopped['fault']}")
 
+    @property
+    def last_reading(self) -> str:
+        """The reading of the last line."""
+        return self.at or self._latest
+
     def look_at_date(self) -> None:
         """`UsageError` where a change would be dated more than a day ahead of the machine's clock."""
         if self.at and self.at > moments.tomorrow() and not self.is_copy:
@@ -113,6 +120,7 @@ class Engine:
     def _exchange(self, line: str) -> Mapping[str, Any]:
         child = self._child or self._start()
         assert child.stdin and child.stdout
+        self._forget_said()
         try:
             child.stdin.write(line + "\n")
             child.stdin.flush()
@@ -129,12 +137,21 @@ class Engine:
         self._said = tempfile.TemporaryFile("w+", encoding="utf-8", errors="replace")
         words = [self.desk.program, "replay", str(self.desk.file)]
         try:
+            # In a group of its own: an interrupt at the terminal reaches the desk alone, which closes the vault.
             self._child = subprocess.Popen(
-                words, stdin=subprocess.PIPE, stdout=subprocess.PIPE, stderr=self._said, encoding="utf-8"
+                words, 0, None, subprocess.PIPE, subprocess.PIPE, self._said, encoding="utf-8", process_group=0
             )
         except OSError as error:
             raise self._missing(error) from error
         return self._child
+
+    def _forget_said(self) -> None:
+        """Lets go of what was said of lines long ago: an engine that is open for months would fill the disk."""
+        assert self._said
+        place = self._said.fileno()
+        if os.lseek(place, 0, os.SEEK_CUR) > MOST_SAID:  # the engine's end of the file is this one's, too
+            os.ftruncate(place, 0)
+            os.lseek(place, 0, os.SEEK_SET)
 
     def _end(self) -> int:
         """Ends the engine, which closes the vault, and returns its status."""

@@ -20,10 +20,12 @@ class EngineError(DeskError):
 
 
 class Refused(DeskError):
-    """The engine refused a line. `code`, `number` and `reason` are those of its reply."""
+    """The engine refused a line. `code`, `number` and `reason` are those of its reply; `is_below_marker` says that a
+    delete marker is on top of the key."""
 
-    def __init__(self, code: str, number: int, reason: str, text: str) -> None:
+    def __init__(self, code: str, number: int, reason: str, text: str, is_below_marker: bool = False) -> None:
         super().__init__(text)
         self.code = code
         self.number = number
         self.reason = reason
+        self.is_below_marker = is_below_marker

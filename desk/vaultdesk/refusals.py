@@ -52,4 +52,5 @@ def refused(error: Mapping[str, Any]) -> Refused:
     """The refusal of a reply as an exception, which says its name and what it means."""
     code, reason = str(error.get("code")), str(error.get("reason", ""))
     name = f"{code} {reason}".rstrip()
-    return Refused(code, int(error.get("n", 0)), reason, f"{name}: {words_of(error)}")
+    text = f"{name}: {words_of(error)}"
+    return Refused(code, int(error.get("n", 0)), reason, text, bool(error.get("marker")))

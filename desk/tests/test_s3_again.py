@@ -1,0 +1,219 @@
+"""What is sent again, at once, cut, or to an engine that ends: one version for each put, and none that is lost."""
+
+from __future__ import annotations
+
+import contextlib
+import io
+import os
+import signal
+import socket
+import sqlite3
+import subprocess
+import sys
+import threading
+import time
+from concurrent.futures import ThreadPoolExecutor
+from pathlib import Path
+
+from tests.office import PROGRAM
+from tests.s3_office import ANN, BEA, GatewayTest, read_replies, request
+from vaultdesk import engine
+from vaultdesk.s3 import server
+
+LOCK = {"x-amz-object-lock-mode": "COMPLIANCE", "x-amz-object-lock-retain-until-date": "2034-01-01T00:00:00Z"}
+ONCE = {"amz-sdk-invocation-id": "d969f1fc-afca-45f4-93cf-bb107518bc68"}
+
+
+class Again(GatewayTest):
+    def test_a_put_that_is_sent_again_is_one_version(self) -> None:
+        first = self.done("PUT", "/docs/a", b"hello", {**LOCK, **ONCE})
+        again = self.done("PUT", "/docs/a", b"hello", {**LOCK, **ONCE, "amz-sdk-request": "attempt=2"})
+        self.assertEqual(again.headers["x-amz-version-id"], first.headers["x-amz-version-id"])
+        self.assertEqual(again.headers["etag"], first.headers["etag"])
+        self.assertEqual(len(self.entries()), 1)
+        # The same content that is put anew is another version.
+        self.done("PUT", "/docs/a", b"hello", {**LOCK, "amz-sdk-invocation-id": "another"})
+        self.done("PUT", "/docs/a", b"hello", {**LOCK, **ONCE}, who=ANN)
+        self.assertEqual(len(self.entries()), 2)
+
+    def test_also_after_the_gateway_was_started_anew(self) -> None:
+        first = self.done("PUT", "/docs/a", b"hello", ONCE)
+        self.stop()
+        self.start()
+        again = self.done("PUT", "/docs/a", b"hello", ONCE)
+        self.assertEqual(again.headers["x-amz-version-id"], first.headers["x-amz-version-id"])
+        self.assertEqual(len(self.entries()), 1)
+
+    def test_another_put_of_that_id_is_refused(self) -> None:
+        self.done("PUT", "/docs/a", b"hello", ONCE)
+        others = (("/docs/a", b"other", ONCE), ("/docs/b", b"hello", ONCE), ("/docs/a", b"hello", {**LOCK, **ONCE}))
+        for target, body, headers in others:
+            self.refused("InvalidRequest", 400, self.ask("PUT", target, body, headers))
+        self.assertEqual(len(self.entries()), 1)
+        # Another caller's id is another one.
+        self.done("PUT", "/docs/a", b"other", ONCE, who=BEA)
+        self.assertEqual(len(self.entries()), 2)
+
+    def test_a_copy_that_is_sent_again(self) -> None:
+        self.done("PUT", "/docs/a", b"hello")
+        given = {"x-amz-copy-source": "/docs/a", **ONCE}
+        ids = [self.done("PUT", "/docs/b", b"", given).headers["x-amz-version-id"] for _ in range(2)]
+        self.assertEqual((ids, len(self.entries())), (["2", "2"], 2))
+
+    def test_an_answer_that_is_cut(self) -> None:
+        whole = request("PUT", "/docs/a", b"hello", ONCE)
+        with self.connected() as connection:
+            connection.sendall(whole)
+            connection.setsockopt(socket.SOL_SOCKET, socket.SO_LINGER, b"\1\0\0\0\0\0\0\0")
+        deadline = time.monotonic() + 30
+        while not self.entries() and time.monotonic() < deadline:
+            time.sleep(0.05)
+        self.assertEqual(self.send(whole)[0].headers["x-amz-version-id"], "1")
+        self.assertEqual(len(self.entries()), 1)
+
+    def test_an_engine_that_ends_is_started_anew(self) -> None:
+        self.done("PUT", "/docs/a", b"hello", ONCE)
+        child = self.door.engine._child
+        assert child
+        child.kill()
+        child.wait()
+        with contextlib.redirect_stderr(io.StringIO()):
+            self.refused("InternalError", 500, self.ask("PUT", "/docs/b", b"hello"))
+        self.assertEqual(self.done("PUT", "/docs/a", b"hello", ONCE).headers["x-amz-version-id"], "1")
+        self.assertEqual(self.done("PUT", "/docs/b", b"hello").headers["x-amz-version-id"], "2")
+
+    def test_what_the_engine_says_of_refusals_doesnt_fill_the_disk(self) -> None:
+        kept, engine.MOST_SAID = engine.MOST_SAID, 1_000
+        self.addCleanup(setattr, engine, "MOST_SAID", kept)
+        for number in range(60):
+            self.assertEqual(self.ask("GET", f"/docs/none{number}").code, "NoSuchKey")
+        assert self.door.engine._said
+        self.assertLess(os.fstat(self.door.engine._said.fileno()).st_size, 1_500)
+
+
+class AtOnce(GatewayTest):
+    def test_a_hundred(self) -> None:
+        def put(number: int) -> int:
+            once = {"amz-sdk-invocation-id": str(number % 50)}
+            return self.ask("PUT", f"/docs/{number:03}", b"x" * number, once).status
+
+        with ThreadPoolExecutor(100) as pool:
+            statuses = list(pool.map(put, range(100)))
+        # Of two that have one id, the one that came first is put, and the other is refused.
+        self.assertEqual(sorted(statuses), [200] * 50 + [400] * 50)
+        found = self.entries()
+        self.assertEqual([it["size"] for it in found], [int(it["key"]) for it in found])
+        self.assertEqual(len(found), 50)
+
+    def test_the_same_put_a_hundred_times(self) -> None:
+        with ThreadPoolExecutor(100) as pool:
+            done = list(pool.map(lambda _: self.done("PUT", "/docs/a", b"hello", {**LOCK, **ONCE}), range(100)))
+        self.assertEqual({it.headers["x-amz-version-id"] for it in done}, {"1"})
+        self.assertEqual(len(self.entries()), 1)
+
+    def test_connections_that_are_too_many_are_told_so(self) -> None:
+        with contextlib.ExitStack() as held:
+            for _ in range(server.CONNECTIONS):
+                held.enter_context(self.connected()).sendall(request("GET", "/docs"))
+            deadline = time.monotonic() + 30
+            while True:
+                with self.connected() as connection, contextlib.suppress(OSError):
+                    connection.sendall(request("GET", "/docs"))
+                    status = next(read_replies(connection.recv(65_536)), None)
+                    if status and status.status == 503:
+                        break
+                self.assertLess(time.monotonic(), deadline)
+        deadline = time.monotonic() + 30
+        while self.ask_or_none() != 200:
+            self.assertLess(time.monotonic(), deadline)
+
+    def ask_or_none(self) -> int:
+        try:
+            return self.ask("GET", "/docs").status
+        except (OSError, ValueError):
+            return 0
+
+
+class Heads(GatewayTest):
+    def test_what_is_no_request(self) -> None:
+        for raw in (
+            b"nonsense\r\n\r\n", b"GET /docs HTTP/9.9\r\n\r\n", b"GET docs HTTP/1.1\r\nhost: a\r\n\r\n",
+            b"GET http://vault/docs HTTP/1.1\r\nhost: a\r\n\r\n", b"PATCH /docs HTTP/1.1\r\nhost: a\r\n\r\n",
+            b"GET /docs HTTP/1.1\r\nno header\r\nhost: a\r\n\r\n", b"GET /" + b"a" * 70_000 + b" HTTP/1.1\r\n\r\n",
+            b"GET /docs?a=1&a=2 HTTP/1.1\r\nhost: a\r\n\r\n",
+            b"GET /docs HTTP/1.1\r\n" + b"".join(b"x%d: y\r\n" % it for it in range(200)) + b"\r\n",
+        ):  # fmt: skip
+            with self.subTest(raw[:40]):
+                got = self.send(raw)[0]
+                self.assertIn(got.status, (400, 501))
+                self.assertIn(b"<Error>", got.body)
+        self.assertEqual(self.ask("GET", "/docs").status, 200)
+
+    def test_what_comes_after_a_refused_body_is_no_request(self) -> None:
+        hidden = request("PUT", "/docs/hidden", b"hello")
+        outer = request("PUT", "/docs/a", hidden, {"x-amz-meta-a": "b"})
+        self.assertEqual([it.status for it in self.send(outer)], [400])
+        self.assertEqual(self.entries(), [])
+
+    def test_a_client_that_goes_away_disturbs_nobody(self) -> None:
+        whole = request("PUT", "/docs/a", b"hello")
+        for cut in (1, 40, len(whole) - 1):
+            with self.connected() as connection:
+                connection.sendall(whole[:cut])
+        self.assertEqual(self.ask("GET", "/docs").status, 200)
+        self.assertEqual(self.entries(), [])
+
+
+class Programs(GatewayTest):
+    """The gateway as a program."""
+
+    def begin(self) -> tuple[subprocess.Popen[str], int, list[str]]:
+        desk = Path(__file__).resolve().parents[1] / "bin" / "vaultdesk"
+        text = f'vault = "{self.file}"\nkeys = "{self.keys}"\nport = 0\n'
+        words = [sys.executable, str(desk), "s3", "serve", "--settings", self.written("s3.toml", text.encode())]
+        environment = {**os.environ, "VAULTCTL": PROGRAM}
+        child = subprocess.Popen(words, stderr=subprocess.PIPE, encoding="utf-8", env=environment)
+        assert child.stderr
+        self.addCleanup(child.stderr.close)
+        self.addCleanup(child.wait)
+        self.addCleanup(child.kill)
+        said: list[str] = []
+        for line in child.stderr:
+            said.append(line)
+            if line.startswith("serving"):
+                threading.Thread(target=said.extend, args=(child.stderr,), daemon=True).start()
+                return child, int(line.rsplit(":", 1)[1]), said
+        self.fail("".join(said))
+
+    def test_it_says_what_isnt_locked_serves_and_ends_by_a_signal(self) -> None:
+        self.stop()
+        self.lines({"do": "set-default", "bucket": "docs", "mode": "GOVERNANCE", "days": 3})
+        for stop in (signal.SIGTERM, signal.SIGINT):
+            child, port, said = self.begin()
+            self.assertIn("bucket cases has no default retention", "".join(said))
+            self.assertNotIn("bucket docs", "".join(said))
+            raw = b"GET /docs?X-Amz-Signature=" + b"0" * 64 + b" HTTP/1.1\r\nhost: a\r\n\r\n"
+            with socket.create_connection(("127.0.0.1", port), timeout=60) as connection:
+                connection.sendall(raw)
+                self.assertIn(b"403", connection.recv(65_536))
+                child.send_signal(stop)
+                self.assertEqual(child.wait(60), 0)
+            noted = "".join(said)
+            self.assertIn("- GET /docs?X-Amz-Signature=.. 403 AccessDenied", noted)
+            self.assertNotIn("0" * 64, noted)
+        self.assertFalse(Path(f"{self.file}-wal").exists() and Path(f"{self.file}-wal").stat().st_size > 100)
+        self.start()
+
+    def test_what_keeps_it_from_starting(self) -> None:
+        self.done("GET", "/docs")  # the vault is open, in this process's gateway
+        with self.assertRaises(AssertionError) as failed:
+            self.begin()
+        self.assertRegex(str(failed.exception), "another program|Device|locked")
+
+    def test_a_damaged_vault_keeps_it_from_starting(self) -> None:
+        self.stop()
+        with contextlib.closing(sqlite3.connect(self.file)) as base, base:
+            base.execute("UPDATE meta SET next = 99")
+        with self.assertRaises(AssertionError) as failed:
+            self.begin()
+        self.assertIn("Damaged", str(failed.exception))

@@ -1,0 +1,172 @@
+"""Retentions, legal holds, defaults and rules over the gateway: each refusal is the engine's."""
+
+from __future__ import annotations
+
+from tests.s3_office import BEA, GatewayTest
+
+END = "2034-01-01T00:00:00Z"
+LATER, EARLIER = "2035-01-01T00:00:00Z", "2030-01-01T00:00:00Z"
+BYPASS = {"x-amz-bypass-governance-retention": "true"}
+
+
+def retention(mode: str, until: str) -> bytes:
+    """The document of a retention."""
+    return f"<Retention><Mode>{mode}</Mode><RetainUntilDate>{until}</RetainUntilDate></Retention>".encode()
+
+
+def default(inner: str) -> bytes:
+    """The document of a default retention."""
+    text = f"<Rule><DefaultRetention>{inner}</DefaultRetention></Rule>" if inner else ""
+    enabled = "<ObjectLockEnabled>Enabled</ObjectLockEnabled>"
+    return f"<ObjectLockConfiguration>{enabled}{text}</ObjectLockConfiguration>".encode()
+
+
+class Locks(GatewayTest):
+    def locked(self, mode: str, until: str = END, key: str = "a") -> None:
+        headers = {"x-amz-object-lock-mode": mode, "x-amz-object-lock-retain-until-date": until}
+        self.done("PUT", f"/docs/{key}", b"hello", headers)
+
+    def refused_so(self, reason: str, method: str, target: str, body: bytes = b"",
+                   headers: dict[str, str] | None = None) -> None:
+        """The engine refuses it for that reason, and the version is as it was."""
+        before = self.door.ask("ann", "get", bucket="docs", key="a").value
+        reply = self.ask(method, target, body, headers)
+        self.refused("AccessDenied", 403, reply)
+        self.assertTrue(reply.all("Message")[0].startswith(f"{reason}: "), reply.body)
+        self.assertEqual(self.door.ask("ann", "get", bucket="docs", key="a").value, before)
+
+    def test_compliance(self) -> None:
+        self.locked("COMPLIANCE")
+        got = self.done("GET", "/docs/a")
+        self.assertEqual(got.headers["x-amz-object-lock-mode"], "COMPLIANCE")
+        self.assertEqual(got.headers["x-amz-object-lock-retain-until-date"], END)
+        for headers in (None, BYPASS):
+            self.refused_so("retention-compliance", "DELETE", "/docs/a?versionId=1", headers=headers)
+            for document in (retention("COMPLIANCE", EARLIER), retention("GOVERNANCE", LATER)):
+                self.refused_so("retention-compliance", "PUT", "/docs/a?retention", document, headers)
+        self.done("PUT", "/docs/a?retention&versionId=1", retention("COMPLIANCE", LATER))
+        found = self.done("GET", "/docs/a?retention")
+        self.assertEqual((found.all("Mode"), found.all("RetainUntilDate")), (["COMPLIANCE"], [LATER]))
+
+    def test_governance_and_its_bypass(self) -> None:
+        self.locked("GOVERNANCE")
+        self.refused_so("retention-governance", "DELETE", "/docs/a?versionId=1")
+        self.refused_so("retention-governance", "PUT", "/docs/a?retention", retention("GOVERNANCE", EARLIER))
+        without = self.ask("DELETE", "/docs/a?versionId=1", headers=BYPASS, who=BEA)
+        self.refused("AccessDenied", 403, without)
+        self.done("PUT", "/docs/a?retention", retention("GOVERNANCE", EARLIER), BYPASS)
+        self.refused("InvalidArgument", 400, self.ask("DELETE", "/docs/a?versionId=1", headers={**BYPASS, **{
+            "x-amz-bypass-governance-retention": "yes"}}))
+        many = b"<Delete><Object><Key>a</Key><VersionId>1</VersionId></Object></Delete>"
+        self.assertEqual(self.done("POST", "/docs?delete", many).all("Code"), ["AccessDenied"])
+        self.assertEqual(len(self.entries()), 1)
+        self.assertEqual(self.done("POST", "/docs?delete", many, BYPASS).all("Code"), [])
+        self.assertEqual(self.entries(), [])
+
+    def test_a_legal_hold(self) -> None:
+        self.done("PUT", "/docs/a", b"hello")
+        self.assertEqual(self.done("GET", "/docs/a?legal-hold").all("Status"), ["OFF"])
+        hold = b'<LegalHold xmlns="http://s3.amazonaws.com/doc/2006-03-01/"><Status>ON</Status></LegalHold>'
+        self.refused("AccessDenied", 403, self.ask("PUT", "/docs/a?legal-hold", hold, who=BEA))
+        self.done("PUT", "/docs/a?legal-hold", hold)
+        self.assertEqual(self.done("GET", "/docs/a?legal-hold&versionId=1").all("Status"), ["ON"])
+        self.refused_so("legal-hold", "DELETE", "/docs/a?versionId=1", headers=BYPASS)
+        self.done("PUT", "/docs/a?legal-hold", hold.replace(b"ON", b"OFF"))
+        self.done("DELETE", "/docs/a?versionId=1")
+        self.assertEqual(self.entries(), [])
+
+    def test_parts_of_a_second_are_rounded_up(self) -> None:
+        for number, (given, kept) in enumerate((
+            ("2034-01-01T00:00:00.000Z", END), ("2034-01-01T00:00:00.000001Z", "2034-01-01T00:00:01Z"),
+            ("2033-12-31T23:59:59.999Z", END), ("2034-01-01T01:00:00.5+01:00", "2034-01-01T00:00:01Z"),
+            ("2034-01-01T01:00:00+01:00", END),
+        )):  # fmt: skip
+            self.locked("COMPLIANCE", given, f"k{number}")
+            told = self.door.ask("ann", "head", bucket="docs", key=f"k{number}").value
+            self.assertEqual(told["retention"]["until"], kept, given)
+
+    def test_no_retention_and_none_that_is_empty(self) -> None:
+        self.done("PUT", "/docs/a", b"hello")
+        self.refused("NoSuchObjectLockConfiguration", 404, self.ask("GET", "/docs/a?retention"))
+        for body, code in (
+            (b"<Retention/>", "InvalidRequest"), (b"<Retention><Mode>GOVERNANCE</Mode></Retention>", "InvalidRequest"),
+            (retention("governance", END), "InvalidArgument"),
+            (retention("GOVERNANCE", "2034-01-01"), "InvalidArgument"),
+            (retention("GOVERNANCE", "2020-01-01T00:00:00Z"), "InvalidArgument"), (b"<Retention>", "MalformedXML"),
+            (retention("GOVERNANCE", END).replace(b"</Retention>", b"<More/></Retention>"), "NotImplemented"),
+            (retention("GOVERNANCE", END).replace(b"</Mode>", b"<More/></Mode>"), "MalformedXML"),
+            (retention("GOVERNANCE", END).replace(b"<Mode>", b"<Mode>COMPLIANCE</Mode><Mode>"), "MalformedXML"),
+        ):  # fmt: skip
+            self.assertEqual(self.ask("PUT", "/docs/a?retention", body).code, code, body)
+        self.refused("NoSuchObjectLockConfiguration", 404, self.ask("GET", "/docs/a?retention"))
+
+    def test_a_default(self) -> None:
+        found = self.done("GET", "/docs?object-lock")
+        self.assertEqual((found.all("ObjectLockEnabled"), found.all("Mode")), (["Enabled"], []))
+        self.done("PUT", "/docs?object-lock", default("<Mode>COMPLIANCE</Mode><Years>2</Years>"))
+        found = self.done("GET", "/docs?object-lock")
+        self.assertEqual((found.all("Mode"), found.all("Years")), (["COMPLIANCE"], ["2"]))
+        self.done("PUT", "/docs/a", b"hello")
+        self.assertEqual(self.done("GET", "/docs/a?retention").all("RetainUntilDate"), ["2026-01-15T10:00:00Z"])
+        for inner, code in (
+            ("<Mode>COMPLIANCE</Mode>", "InvalidArgument"), ("<Days>3</Days>", "MalformedXML"),
+            ("<Mode>COMPLIANCE</Mode><Days>3</Days><Years>1</Years>", "InvalidArgument"),
+            ("<Mode>COMPLIANCE</Mode><Days>0</Days>", "InvalidArgument"),
+            ("<Mode>COMPLIANCE</Mode><Days>x</Days>", "InvalidArgument"),
+        ):  # fmt: skip
+            self.assertEqual(self.ask("PUT", "/docs?object-lock", default(inner)).code, code, inner)
+        self.assertEqual(self.done("GET", "/docs?object-lock").all("Years"), ["2"])
+        self.done("PUT", "/docs?object-lock", default(""))
+        self.assertEqual(self.done("GET", "/docs?object-lock").all("Mode"), [])
+        self.refused("AccessDenied", 403, self.ask("PUT", "/docs?object-lock", default(""), who=BEA))
+
+
+RULES = (
+    b"<LifecycleConfiguration><Rule><Filter><And><Prefix>2024/</Prefix><ObjectSizeGreaterThan>3</ObjectSizeGreaterThan>"
+    b"</And></Filter><Status>Enabled</Status><Expiration><Days>30</Days></Expiration></Rule><Rule><ID>old</ID><Prefix/>"
+    b"<Status>Disabled</Status><NoncurrentVersionExpiration><NoncurrentDays>7</NoncurrentDays><NewerNoncurrentVersions>"
+    b"2</NewerNoncurrentVersions></NoncurrentVersionExpiration></Rule></LifecycleConfiguration>"
+)
+
+
+class Lifecycle(GatewayTest):
+    def test_rules_are_the_engines(self) -> None:
+        self.refused("NoSuchLifecycleConfiguration", 404, self.ask("GET", "/docs?lifecycle"))
+        self.done("PUT", "/docs?lifecycle", RULES)
+        wanted = [
+            {"ID": "rule-1", "Prefix": "2024/", "Status": "Enabled", "ObjectSizeGreaterThan": 3,
+             "Expiration": {"Days": 30}},
+            {"ID": "old", "Prefix": "", "Status": "Disabled",
+             "NoncurrentVersionExpiration": {"NoncurrentDays": 7, "NewerNoncurrentVersions": 2}},
+        ]  # fmt: skip
+        self.assertEqual(self.door.ask("ann", "get-rules", bucket="docs").value["rules"], wanted)
+        told = self.done("GET", "/docs?lifecycle").body
+        self.done("PUT", "/docs?lifecycle", told)
+        self.assertEqual(self.door.ask("ann", "get-rules", bucket="docs").value["rules"], wanted)
+        self.refused("AccessDenied", 403, self.ask("PUT", "/docs?lifecycle", RULES, who=BEA))
+        self.assertEqual(self.done("DELETE", "/docs?lifecycle").status, 204)
+        self.refused("NoSuchLifecycleConfiguration", 404, self.ask("GET", "/docs?lifecycle"))
+
+    def test_a_rule_is_carried_out(self) -> None:
+        self.done("PUT", "/docs/2024/a", b"hello")
+        self.done("PUT", "/docs?lifecycle", RULES)
+        self.stop()
+        self.assertEqual(self.lines({"do": "run", "bucket": "docs"}, at="2024-03-01T00:00:00Z")[0]["ok"]["marked"], 1)
+        self.at = "2024-03-01T00:00:00Z"
+        self.start()
+        self.assertEqual(self.done("GET", "/docs?list-type=2").all("Key"), [])
+
+    def test_what_the_vault_hasnt_is_refused(self) -> None:
+        for old, new, code in (
+            (b"<Days>30</Days>", b"<Date>2030-01-01T00:00:00Z</Date>", "NotImplemented"),
+            (b"<And>", b"<And><Tag><Key>a</Key><Value>b</Value></Tag>", "NotImplemented"),
+            (b"<Expiration>", b"<Transition><Days>1</Days></Transition><Expiration>", "NotImplemented"),
+            (b"<Expiration>", b"<AbortIncompleteMultipartUpload/><Expiration>", "NotImplemented"),
+            (b"<Status>Enabled</Status>", b"", "MalformedXML"),
+            (b"Enabled", b"On", "InvalidArgument"),
+            (b"<Days>30</Days>", b"<Days>0</Days>", "InvalidArgument"),
+            (b"<Days>30</Days>", b"<ExpiredObjectDeleteMarker>yes</ExpiredObjectDeleteMarker>", "MalformedXML"),
+            (b"<ID>old</ID>", b"<ID>rule-1</ID>", "InvalidArgument"),
+        ):  # fmt: skip
+            self.assertEqual(self.ask("PUT", "/docs?lifecycle", RULES.replace(old, new)).code, code, new)
+        self.refused("NoSuchLifecycleConfiguration", 404, self.ask("GET", "/docs?lifecycle"))

@@ -1,0 +1,52 @@
+"""A request whose signature is right: who asks, of which vault, and the content that came with it."""
+
+from __future__ import annotations
+
+from collections.abc import Sequence
+from dataclasses import dataclass
+from typing import Any
+
+from vaultdesk.s3 import xml
+from vaultdesk.s3.bodies import Body
+from vaultdesk.s3.door import Door
+from vaultdesk.s3.etags import Etags
+from vaultdesk.s3.request import Answer, Request
+from vaultdesk.s3.settings import Settings
+
+
+@dataclass(frozen=True)
+class Vault:
+    """What the gateway stands before: the way to the engine, noted ETags, settings, and the names of all buckets."""
+
+    door: Door
+    etags: Etags
+    settings: Settings
+    buckets: Sequence[str]
+
+
+@dataclass(frozen=True)
+class Asked:
+    """A request of a caller."""
+
+    request: Request
+    caller: str
+    body: Body
+    vault: Vault
+
+    @property
+    def place(self) -> dict[str, str]:
+        """The members of a line that say which key is meant."""
+        return {"bucket": self.request.bucket, "key": self.request.key}
+
+    def ask(self, do: str, **members: Any) -> dict[str, Any]:
+        """What the engine answers to a line of the caller. `Fault` where it refuses."""
+        return self.vault.door.ask(self.caller, do, **members).value
+
+    def document(self, name: str) -> xml.Element:
+        """The body as XML. `Fault` where it isn't a document of that name."""
+        return xml.read(self.body.content, name)
+
+
+def xml_answer(name: str, content: xml.Content) -> Answer:
+    """An answer whose body is a document of that name."""
+    return Answer(200, {"Content-Type": "application/xml"}, xml.write(name, content))

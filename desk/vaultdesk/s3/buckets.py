@@ -1,0 +1,70 @@
+"""Buckets: which there are, and what S3 asks of one beside its contents and rules."""
+
+from __future__ import annotations
+
+from vaultdesk.s3 import heads, xml
+from vaultdesk.s3.asked import Asked, xml_answer
+from vaultdesk.s3.faults import Fault
+from vaultdesk.s3.request import Answer
+
+# When a bucket was made isn't kept by the vault, and clients want a date.
+UNKNOWN = "1970-01-01T00:00:00.000Z"
+# What a bucket hasn't, and how S3 says so.
+ABSENT = {
+    "policy": "NoSuchBucketPolicy",
+    "cors": "NoSuchCORSConfiguration",
+    "tagging": "NoSuchTagSet",
+    "encryption": "ServerSideEncryptionConfigurationNotFoundError",
+    "website": "NoSuchWebsiteConfiguration",
+    "replication": "ReplicationConfigurationNotFoundError",
+}
+
+
+def _is_own(asked: Asked, bucket: str) -> bool:
+    """Whether a bucket is one of the caller's department, by what the engine answers to a list of one entry."""
+    try:
+        asked.ask("list-versions", bucket=bucket, most=1)
+    except Fault as fault:
+        if fault.code in ("SlowDown", "InternalError"):
+            raise
+        return fault.message.startswith("right:list")
+    return True
+
+
+def list_all(asked: Asked) -> Answer:
+    """The buckets of the caller's department."""
+    found: list[xml.Node] = [
+        ("Bucket", [("Name", it), ("CreationDate", UNKNOWN)]) for it in asked.vault.buckets if _is_own(asked, it)
+    ]
+    owner: xml.Node = ("Owner", [("ID", heads.OWNER), ("DisplayName", heads.OWNER)])
+    return xml_answer("ListAllMyBucketsResult", [owner, ("Buckets", found)])
+
+
+def head(asked: Asked) -> Answer:
+    """Whether a bucket is there, for who may list it."""
+    asked.ask("list-versions", bucket=asked.request.bucket, most=1)
+    return Answer(200, {"x-amz-bucket-region": asked.vault.settings.region})
+
+
+def create(asked: Asked) -> Answer:
+    """Makes no bucket: one that is the caller's already is answered as that."""
+    if _is_own(asked, asked.request.bucket):
+        raise Fault("BucketAlreadyOwnedByYou", "the bucket is there")
+    raise Fault("InvalidRequest", "buckets are made by the registrar (vaultdesk buckets --add), and not over S3")
+
+
+def location(asked: Asked) -> Answer:
+    """The region, which is the same for all buckets."""
+    region = asked.vault.settings.region
+    return xml_answer("LocationConstraint", "" if region == "us-east-1" else region)
+
+
+def versioning(_: Asked) -> Answer:
+    """That versions are kept, which every bucket does."""
+    return xml_answer("VersioningConfiguration", [("Status", "Enabled")])
+
+
+def absent(asked: Asked) -> Answer:
+    """What no bucket has."""
+    name = next(it for it in ABSENT if it in asked.request.query)
+    raise Fault(ABSENT[name], f"a bucket has no {name}")

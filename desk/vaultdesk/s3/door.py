@@ -1,0 +1,65 @@
+"""The way to the engine: a line of a caller, and its answer."""
+
+from __future__ import annotations
+
+import threading
+from contextlib import suppress
+from dataclasses import dataclass
+from typing import Any, Protocol
+
+from vaultdesk.engine import Engine
+from vaultdesk.errors import EngineError, Refused
+from vaultdesk.output import say
+from vaultdesk.s3.faults import Fault, of_engine, of_refusal
+
+PATIENCE = 60  # seconds that a request waits for those before it
+
+
+@dataclass(frozen=True)
+class Told:
+    """The value of `ok` in the engine's answer, and the reading of its line."""
+
+    value: dict[str, Any]
+    at: str
+
+
+class Door(Protocol):
+    """What carries lines to a vault."""
+
+    def ask(self, caller: str, do: str, **members: Any) -> Told:
+        """What the engine answers to a line of that caller. `Fault` where it refuses, or gives no answer."""
+
+    def close(self) -> None:
+        """Ends it; the vault is closed where nobody else has it."""
+
+
+class OwnEngine:
+    """An engine of the gateway's own, which answers one line after another. One that ended is started again."""
+
+    def __init__(self, engine: Engine) -> None:
+        self.engine = engine
+        self.turn = threading.Lock()
+
+    def open(self) -> None:
+        """Opens the vault now, and not as the first request comes. `EngineError` where it can't be."""
+        with suppress(Refused):
+            self.engine.ask("get-default", "registrar", bucket="none")
+
+    def ask(self, caller: str, do: str, **members: Any) -> Told:
+        """What the engine answers. `Fault` where it refuses, gives no answer, or others take too long."""
+        if not self.turn.acquire(timeout=PATIENCE):
+            raise Fault("SlowDown", f"the vault was busy for {PATIENCE} seconds")
+        try:
+            return Told(self.engine.ask(do, caller, **members), self.engine.last_reading)
+        except Refused as refusal:
+            raise of_refusal(refusal) from refusal
+        except EngineError as error:
+            say(f"vaultdesk s3: {error}")
+            raise of_engine(error) from error
+        finally:
+            self.turn.release()
+
+    def close(self) -> None:
+        """Closes the vault, after the line that is under way."""
+        with self.turn:
+            self.engine.close()

@@ -1,0 +1,82 @@
+"""The MD5 of each version's content, which clients take ETags for.
+
+The vault keeps SHA-256. A version's content never changes, so its MD5 is noted in a file as the content goes through: a
+line `ID ADMITTED MD5` for each. It may be lost: then contents are read again as they are asked for. The moment of its
+admission tells a version from one that had its number before an older copy of the vault was put back.
+"""
+
+from __future__ import annotations
+
+import hashlib
+import re
+import threading
+from pathlib import Path
+from typing import TextIO
+
+from vaultdesk.errors import DeskError
+from vaultdesk.output import say
+
+LINE = re.compile(r"(\d{1,10}) (\d{4}-\d\d-\d\dT\d\d:\d\d:\d\dZ) ([0-9a-f]{32})\n")
+
+
+def md5_of(content: bytes) -> str:
+    """The MD5 of a content, in hex digits."""
+    return hashlib.md5(content, usedforsecurity=False).hexdigest()
+
+
+class Etags:
+    """What is noted of versions: in a file, or in memory alone where none is named."""
+
+    def __init__(self, path: Path | None) -> None:
+        self.path = path
+        self.turn = threading.Lock()
+        self.known: dict[int, tuple[str, str]] = {}
+        self.file: TextIO | None = None
+        if path:
+            try:
+                self._read(path)
+            except OSError as error:
+                raise DeskError(f"{path}: {error.strerror}") from error
+
+    def _read(self, path: Path) -> None:
+        """Reads what is noted, and goes on behind it; what isn't a line is read past."""
+        text = path.read_text(encoding="ascii", errors="replace") if path.exists() else ""
+        for line in text.splitlines(keepends=True):
+            found = LINE.fullmatch(line)
+            if found:
+                self.known[int(found[1])] = found[2], found[3]
+        self.file = path.open("a", encoding="ascii")
+        if text and not text.endswith("\n"):
+            self.file.write("\n")
+
+    def find(self, version: int, admitted: str) -> str | None:
+        """The MD5 of the version that was admitted then, if it is noted."""
+        there, md5 = self.known.get(version, ("", ""))
+        return md5 if there == admitted else None
+
+    def note(self, version: int, admitted: str, content: bytes) -> str:
+        """Notes the MD5 of a version's content, and returns it. A file that can't be written is given up."""
+        md5 = md5_of(content)
+        with self.turn:
+            if self.known.get(version) == (admitted, md5):
+                return md5
+            self.known[version] = admitted, md5
+            if self.file:
+                try:
+                    self.file.write(f"{version} {admitted} {md5}\n")
+                    self.file.flush()
+                except OSError as error:
+                    say(f"vaultdesk s3: {self.path}: {error.strerror}: no more ETags are noted there")
+                    self.file = None
+        return md5
+
+    def close(self) -> None:
+        """Closes the file."""
+        with self.turn:
+            if self.file:
+                self.file.close()
+
+
+def listed(version: int, md5: str | None) -> str:
+    """The ETag of a version in a list: where the MD5 isn't noted, one whose form tells clients not to compare it."""
+    return f'"{md5}"' if md5 else f'"{version:032x}-1"'

@@ -1,0 +1,75 @@
+"""Carries out one request: who asks, what for, and S3's answer."""
+
+from __future__ import annotations
+
+import secrets
+import time
+from collections.abc import Callable
+from dataclasses import replace
+
+from vaultdesk.errors import DeskError
+from vaultdesk.output import say, shown
+from vaultdesk.s3 import bodies, heads, routes, signature, xml
+from vaultdesk.s3.asked import Asked, Vault
+from vaultdesk.s3.faults import Fault
+from vaultdesk.s3.keys import Key, Keys
+from vaultdesk.s3.request import Answer, Request
+from vaultdesk.s3.signature import Signed
+
+
+class Gateway:
+    """Translates requests for a vault into lines of the engine, for the callers of a file of keys."""
+
+    def __init__(self, vault: Vault, keys: Keys, clock: Callable[[], float] = time.time) -> None:
+        self.vault = vault
+        self.keys = keys
+        self.clock = clock
+
+    def _key_of(self, signed: Signed) -> Key:
+        try:
+            found = self.keys.find(signed.access_key)
+        except DeskError as error:
+            say(f"vaultdesk s3: {error}")
+            raise Fault("InternalError", "the gateway can't read its access keys") from error
+        if found is None:
+            raise Fault("InvalidAccessKeyId", "there is no such access key")
+        return found
+
+    def who(self, request: Request) -> tuple[str, Signed, bytes]:
+        """The caller whose access key signs the request, what it says of that, and the key that signs its chunks.
+
+        `Fault` where the signature isn't right."""
+        signed = signature.read(request, self.vault.settings.presigned)
+        found = self._key_of(signed)
+        key = signature.signing_key(found.secret, signed)
+        signature.check(request, signed, key, self.clock())
+        return found.caller, signed, key
+
+    def carry_out(self, request: Request, begin: Callable[[], bodies.Source]) -> tuple[str, Answer]:
+        """The caller, and the answer. `begin` has the client send its body. `Fault` where the request is refused."""
+        caller, signed, key = self.who(request)
+        try:
+            call = routes.call_of(request)
+            heads.look_at_names(request, call.look(request, self.vault.settings))
+            body = bodies.read(request, signed, key, call.most, begin)
+            return caller, call.do(Asked(request, caller, body, self.vault))
+        except Fault as fault:
+            fault.caller = caller
+            raise
+
+
+def of_fault(fault: Fault, request: Request | None) -> Answer:
+    """S3's answer to a request that is refused."""
+    if fault.status == 304:
+        return Answer(304, fault.headers)
+    identity = secrets.token_hex(8)
+    target = shown(request.path) if request else ""
+    said: list[xml.Node] = [("Code", fault.code), ("Message", fault.message)]
+    nodes = [*said, ("Resource", target), ("RequestId", identity)]
+    body = xml.write("Error", nodes).replace(f' xmlns="{xml.NAMESPACE}"'.encode(), b"", 1)
+    return Answer(fault.status, {"Content-Type": "application/xml", **fault.headers}, body)
+
+
+def without_body(answer: Answer) -> Answer:
+    """The answer to a HEAD: the headers that a GET would have."""
+    return replace(answer, headers={"Content-Length": str(len(answer.body)), **answer.headers}, body=b"")

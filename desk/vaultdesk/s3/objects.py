@@ -1,0 +1,271 @@
+"""Versions: put, copied, read, and deleted."""
+
+from __future__ import annotations
+
+import datetime as dt
+import email.utils
+import hashlib
+import re
+from collections.abc import Mapping
+from dataclasses import replace
+from typing import Any, NamedTuple
+
+from vaultdesk.s3 import etags, heads, xml
+from vaultdesk.s3.asked import Asked, xml_answer
+from vaultdesk.s3.checksums import base64_of
+from vaultdesk.s3.faults import Fault
+from vaultdesk.s3.request import Answer, Request, number, read as read_request
+
+MOST_DELETED = 1_000  # keys of one DeleteObjects
+RANGE = re.compile(r"bytes=(\d*)-(\d*)")
+DESCRIBING = (
+    "cache-control", "content-disposition", "content-encoding", "content-language", "content-type", "expires",
+)  # fmt: skip
+OVERRIDES = {f"response-{it}": it for it in DESCRIBING}
+TO_ITSELF = (
+    "This copy request is illegal because it is trying to copy an object to itself without changing the object's "
+    "metadata, storage class, website redirect location or encryption attributes."
+)
+
+
+def _date(moment: str) -> str:
+    """A moment of the engine as headers have it."""
+    return email.utils.format_datetime(dt.datetime.fromisoformat(moment.replace("Z", "+00:00")), usegmt=True)
+
+
+# ---- put
+
+
+def _batch(asked: Asked) -> str | None:
+    """The intake batch of a put that may be sent again: the engine admits its line once, whoever restarts meanwhile."""
+    invocation = asked.request.headers.get("amz-sdk-invocation-id")
+    if not invocation:
+        return None
+    named = f"{asked.caller}\n{invocation}".encode("latin-1")
+    return f"s3-{hashlib.sha256(named).hexdigest()[:40]}"
+
+
+class Admitted(NamedTuple):
+    """A version that was put: its number, the MD5 of its content, and when it was admitted."""
+
+    version: int
+    md5: str
+    moment: str
+
+
+def _admitted(asked: Asked, content: bytes) -> Admitted:
+    """Has a content admitted with the locks that are asked for."""
+    if xml.UNWRITABLE.search(asked.request.key):
+        raise Fault("InvalidArgument", "no list could show a key with U+FFFE or U+FFFF")
+    members = {**asked.place, "hex": content.hex(), **heads.locks_of(asked.request)}
+    batch = _batch(asked)
+    once = {"batch": batch, "line": 1} if batch else {}
+    told = asked.vault.door.ask(asked.caller, "intake" if batch else "put", **members, **once)
+    version = int(told.value["version_id"])
+    if told.value.get("again"):
+        # Admitted by an earlier request; it may be gone by now, so nothing more is asked of it.
+        return Admitted(version, etags.md5_of(content), told.at)
+    return Admitted(version, asked.vault.etags.note(version, told.at, content), told.at)
+
+
+def put(asked: Asked) -> Answer:
+    """A new version of a key."""
+    done = _admitted(asked, asked.body.content)
+    return Answer(200, {"ETag": f'"{done.md5}"', "x-amz-version-id": str(done.version), **asked.body.checksums})
+
+
+def _source(text: str) -> Request:
+    """What a copy is made of, as a request for it."""
+    path, _, version = text.partition("?versionId=")
+    query = f"?versionId={version}" if version else ""
+    source = read_request("GET", f"/{path.removeprefix('/')}{query}", [])
+    if "?" in path or not source.key:
+        raise Fault("InvalidArgument", "x-amz-copy-source is BUCKET/KEY, or BUCKET/KEY?versionId=ID")
+    return source
+
+
+def copy(asked: Asked) -> Answer:
+    """A new version with the content of another one, and with the locks that the request asks for."""
+    headers = asked.request.headers
+    source = _source(headers["x-amz-copy-source"])
+    if (source.bucket, source.key) == (asked.request.bucket, asked.request.key) and not source.version:
+        raise Fault("InvalidRequest", TO_ITSELF)
+    found = asked.ask("get", bucket=source.bucket, key=source.key, **source.version)
+    content = bytes.fromhex(found["hex"])
+    prefix = "x-amz-copy-source-"
+    conditions = {name.removeprefix(prefix): value for name, value in headers.items() if name.startswith(prefix)}
+    if _condition(conditions, etags.md5_of(content), found["admitted"]):
+        raise Fault("PreconditionFailed", "the source isn't what x-amz-copy-source-if says")
+    done = _admitted(asked, content)
+    answer = xml_answer("CopyObjectResult", [("LastModified", stamp(done.moment)), ("ETag", f'"{done.md5}"')])
+    ids = {"x-amz-version-id": str(done.version), "x-amz-copy-source-version-id": str(found["version_id"])}
+    return replace(answer, headers={**answer.headers, **ids})
+
+
+def stamp(moment: str) -> str:
+    """A moment of the engine as S3's XML has it."""
+    return moment.replace("Z", ".000Z")
+
+
+# ---- get and head
+
+
+def _is_listed(tags: str, md5: str) -> bool:
+    return tags.strip() == "*" or any(it.strip().removeprefix("W/").strip('"') == md5 for it in tags.split(","))
+
+
+def _is_later(admitted: str, date: str) -> bool | None:
+    """Whether it was admitted after a date; none where that is no date, which S3 reads past."""
+    try:
+        given = email.utils.parsedate_to_datetime(date)
+    except ValueError:
+        return None
+    if given.tzinfo is None:
+        given = given.replace(tzinfo=dt.timezone.utc)
+    return dt.datetime.fromisoformat(admitted.replace("Z", "+00:00")) > given
+
+
+def _condition(headers: Mapping[str, str], md5: str, admitted: str) -> int:
+    """412 or 304 where a condition of the request says so, else 0 (RFC 9110, 13.2.2)."""
+    if "if-match" in headers:
+        if not _is_listed(headers["if-match"], md5):
+            return 412
+    elif "if-unmodified-since" in headers and _is_later(admitted, headers["if-unmodified-since"]):
+        return 412
+    if "if-none-match" in headers:
+        return 304 if _is_listed(headers["if-none-match"], md5) else 0
+    if "if-modified-since" in headers and _is_later(admitted, headers["if-modified-since"]) is False:
+        return 304
+    return 0
+
+
+def _range(request: Request, size: int, md5: str) -> tuple[int, int] | None:
+    """The first byte and the one after the last of the range that is asked for; none: the whole.
+
+    `Fault` where it lies outside. Several ranges are answered by the whole, as by S3."""
+    text = request.headers.get("range")
+    found = RANGE.fullmatch(text) if text else None
+    if not found or (found[1] == "" and found[2] == ""):
+        return None
+    if "if-range" in request.headers and not _is_listed(request.headers["if-range"], md5):
+        return None
+    if found[1] == "":
+        first, last = max(0, size - int(found[2])), size - 1
+    else:
+        first, last = int(found[1]), min(int(found[2]) if found[2] else size - 1, size - 1)
+        if found[2] and int(found[2]) < first:
+            return None
+    if first > last:
+        raise Fault("InvalidRange", "the content has no such bytes", {"Content-Range": f"bytes */{size}"})
+    return first, last + 1
+
+
+def _headers(asked: Asked, told: Mapping[str, Any], md5: str) -> dict[str, str]:
+    """The headers of a version's answer."""
+    headers = {
+        "Accept-Ranges": "bytes",
+        "Content-Type": "application/octet-stream",
+        "ETag": f'"{md5}"',
+        "Last-Modified": _date(told["admitted"]),
+        "x-amz-version-id": str(told["version_id"]),
+        "x-amz-object-lock-legal-hold": told["hold"],
+    }
+    if told["retention"]:
+        headers["x-amz-object-lock-mode"] = told["retention"]["mode"]
+        headers["x-amz-object-lock-retain-until-date"] = told["retention"]["until"]
+    for name, header in OVERRIDES.items():
+        value = asked.request.query.get(name)
+        if value is not None:
+            if not (value.isascii() and value.isprintable()):
+                raise Fault("InvalidArgument", f"{name} can't be sent in a header")
+            headers[header.title()] = value
+    return headers
+
+
+def _told(asked: Asked) -> tuple[dict[str, Any], bytes, str]:
+    """What the engine says of the version that is meant, its content, which is empty for a HEAD, and its MD5."""
+    line: dict[str, Any] = {**asked.place, **asked.request.version}
+    if asked.request.method == "HEAD":
+        told = asked.ask("head", **line)
+        md5 = asked.vault.etags.find(told["version_id"], told["admitted"])
+        if md5:
+            return told, b"", md5
+        line["id"] = told["version_id"]
+    told = asked.ask("get", **line)
+    content = bytes.fromhex(told["hex"])
+    return told, content, asked.vault.etags.note(told["version_id"], told["admitted"], content)
+
+
+def get(asked: Asked) -> Answer:
+    """A version: its content or a part of it, or for HEAD its headers alone."""
+    request = asked.request
+    told, content, md5 = _told(asked)
+    headers = _headers(asked, told, md5)
+    status = _condition(request.headers, md5, told["admitted"])
+    if status == 304:
+        return Answer(304, {it: headers[it] for it in ("ETag", "Last-Modified", "x-amz-version-id")})
+    if status:
+        raise Fault("PreconditionFailed", "the version isn't what the condition says")
+    part = _range(request, told["size"], md5)
+    if part is None:
+        if request.headers.get("x-amz-checksum-mode", "").upper() == "ENABLED":
+            headers["x-amz-checksum-sha256"] = base64_of(bytes.fromhex(told["sha256"]))
+            headers["x-amz-checksum-type"] = "FULL_OBJECT"
+        first, end = 0, told["size"]
+    else:
+        first, end = part
+        headers["Content-Range"] = f"bytes {first}-{end - 1}/{told['size']}"
+    headers["Content-Length"] = str(end - first)
+    return Answer(200 if part is None else 206, headers, b"" if request.method == "HEAD" else content[first:end])
+
+
+# ---- delete
+
+
+def _deleted(asked: Asked, place: Mapping[str, Any], bypass: Mapping[str, Any]) -> dict[str, Any]:
+    """Puts a delete marker on top of a key, or removes the version that is named."""
+    if "id" in place:
+        return asked.ask("delete-version", **place, **bypass)
+    return asked.ask("delete", **place)
+
+
+def delete(asked: Asked) -> Answer:
+    """A delete marker on top of a key, or the end of one version."""
+    request = asked.request
+    done = _deleted(asked, {**asked.place, **request.version}, request.bypass)
+    headers = {"x-amz-version-id": str(done["version_id"])}
+    if done["delete_marker"]:
+        headers["x-amz-delete-marker"] = "true"
+    return Answer(204, headers)
+
+
+def _result(asked: Asked, it: xml.Element) -> xml.Node:
+    """What became of one key of DeleteObjects."""
+    key, version = it.value("Key"), it.value("VersionId")
+    if key is None:
+        raise xml.malformed("an Object has a Key")
+    named: list[xml.Node] = [("Key", key), *([("VersionId", version)] if version is not None else [])]
+    try:
+        place = {"bucket": asked.request.bucket, "key": key}
+        one = {} if version is None else {"id": number(version, "VersionId")}
+        done = _deleted(asked, {**place, **one}, asked.request.bypass)
+    except Fault as fault:
+        return "Error", [*named, ("Code", fault.code), ("Message", fault.message)]
+    if done["delete_marker"]:
+        named += [("DeleteMarker", True), ("DeleteMarkerVersionId", str(done["version_id"]))]
+    return "Deleted", named
+
+
+def delete_many(asked: Asked) -> Answer:
+    """Up to 1,000 keys or versions, one after another; of each it is said what became of it."""
+    document = asked.document("Delete")
+    document.only("Object", "Quiet")
+    objects = document.all("Object")
+    if not 1 <= len(objects) <= MOST_DELETED:
+        raise xml.malformed(f"there are 1 to {MOST_DELETED} Objects")
+    for it in objects:
+        it.only("Key", "VersionId")
+    results = [_result(asked, it) for it in objects]
+    if document.value("Quiet") == "true":
+        results = [it for it in results if it[0] == "Error"]
+    return xml_answer("DeleteResult", results)

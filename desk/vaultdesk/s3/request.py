@@ -1,0 +1,93 @@
+"""A request as it came, and an answer."""
+
+from __future__ import annotations
+
+import urllib.parse
+from collections.abc import Mapping, Sequence
+from dataclasses import dataclass, field
+
+from vaultdesk.s3.faults import Fault
+
+
+@dataclass(frozen=True)
+class Answer:
+    """A status, headers, and a body; of a HEAD the body isn't sent, and its length is."""
+
+    status: int = 200
+    headers: Mapping[str, str] = field(default_factory=dict)
+    body: bytes = b""
+
+
+def _text(part: str, is_form: bool = False) -> str:
+    """What a part of a target stands for. `Fault` where it isn't UTF-8."""
+    raw = part.replace("+", " ") if is_form else part
+    try:
+        return urllib.parse.unquote_to_bytes(raw.encode("latin-1")).decode("utf-8")
+    except UnicodeError as error:
+        raise Fault("InvalidURI", "the target isn't UTF-8 in percent-encoding") from error
+
+
+def _pairs(query: str) -> list[tuple[str, str]]:
+    parts = [it.partition("=") for it in query.split("&") if it]
+    return [(_text(name, is_form=True), _text(value, is_form=True)) for name, _, value in parts]
+
+
+def _joined(headers: Sequence[tuple[str, str]]) -> dict[str, str]:
+    """Values by lower-case names; those of a name that stands twice are joined, so that none counts alone."""
+    joined: dict[str, str] = {}
+    for name, value in headers:
+        lower = name.lower()
+        value = value.strip(" \t")
+        joined[lower] = f"{joined[lower]},{value}" if lower in joined else value
+    return joined
+
+
+@dataclass(frozen=True)
+class Request:
+    """The head of a request. `path` and `raw_query` stand as they came, as signatures are made of them."""
+
+    method: str
+    path: str
+    raw_query: str
+    headers: Mapping[str, str]
+    pairs: Sequence[tuple[str, str]]
+    bucket: str
+    key: str
+
+    @property
+    def query(self) -> dict[str, str]:
+        """The values of the query by their names, each of which stands once."""
+        return dict(self.pairs)
+
+    @property
+    def version(self) -> dict[str, int]:
+        """The member `id` of a line, if a version is named. `Fault` where no version has such an id."""
+        text = self.query.get("versionId")
+        return {} if text is None else {"id": number(text, "versionId")}
+
+    @property
+    def bypass(self) -> dict[str, bool]:
+        """The member `bypass` of a line, if it is asked for."""
+        text = self.headers.get("x-amz-bypass-governance-retention", "false").lower()
+        if text not in ("true", "false"):
+            raise Fault("InvalidArgument", "x-amz-bypass-governance-retention is true or false")
+        return {"bypass": True} if text == "true" else {}
+
+
+def number(text: str, name: str) -> int:
+    """A whole number, as the engine takes one. `Fault` where it is none."""
+    if not (text.isascii() and text.isdecimal() and len(text) <= 10):
+        raise Fault("InvalidArgument", f"{name} is no whole number")
+    return int(text)
+
+
+def read(method: str, target: str, headers: Sequence[tuple[str, str]]) -> Request:
+    """The request of a head. `Fault` where its target can't be read, or a name of its query stands twice."""
+    path, _, raw_query = target.partition("?")
+    if not path.startswith("/") or "#" in target:
+        raise Fault("InvalidURI", "the target is a path with its query")
+    pairs = _pairs(raw_query)
+    if len({name for name, _ in pairs}) < len(pairs):
+        raise Fault("InvalidArgument", "a name stands twice in the query")
+    bucket, _, key = path[1:].partition("/")
+    return Request(method, path, raw_query, _joined(headers), pairs, _text(bucket), _text(key))

@@ -1,0 +1,231 @@
+"""The gateway's server: connections, heads of requests, and answers as bytes."""
+
+from __future__ import annotations
+
+import http.server
+import io
+import re
+import secrets
+import socket
+import socketserver
+import ssl
+import sys
+import threading
+import time
+from contextlib import suppress
+from http import HTTPStatus
+from typing import Any
+
+from vaultdesk import moments
+from vaultdesk.output import say, shown
+from vaultdesk.s3 import request as requests
+from vaultdesk.s3.bodies import Source
+from vaultdesk.s3.faults import Fault
+from vaultdesk.s3.gateway import Gateway, of_fault, without_body
+from vaultdesk.s3.request import Answer, Request
+from vaultdesk.s3.settings import Settings
+
+CONNECTIONS = 128  # at once; one more is answered that it should come later
+PATIENCE = 60  # seconds for the next bytes of a client
+LINGER = 5  # seconds in which a body that isn't wanted is read past, so that the answer arrives
+PAST = 33_554_432  # bytes of it, at most
+BUSY = b"HTTP/1.1 503 Service Unavailable\r\nConnection: close\r\nContent-Length: 0\r\n\r\n"
+
+
+def _noted(target: str) -> str:
+    """A target for the log: without a signature, with which whoever reads the log could ask the same."""
+    return shown(re.sub("(?<=[?&]X-Amz-Signature=)[^&]*", "..", target))
+
+
+class _Arriving:
+    """The bytes of a connection as they come."""
+
+    def __init__(self, file: io.BufferedReader) -> None:
+        self.file = file
+
+    def read(self, most: int, /) -> bytes:
+        """The next bytes that come."""
+        return self.file.read1(most)
+
+    def readline(self, most: int, /) -> bytes:
+        """The next line."""
+        return self.file.readline(most)
+
+
+class Handler(http.server.BaseHTTPRequestHandler):
+    """One connection, with one request after another."""
+
+    protocol_version = "HTTP/1.1"
+    timeout = PATIENCE
+    disable_nagle_algorithm = True
+    server: Server
+    rfile: io.BufferedReader
+    is_begun = False
+
+    def handle_expect_100(self) -> bool:
+        """The client goes on once the head has nothing that is refused."""
+        return True
+
+    def _begin(self) -> Source:
+        """Has the client send its body."""
+        self.is_begun = True
+        if self.headers.get("Expect", "").lower() == "100-continue" and self.request_version != "HTTP/1.0":
+            self.wfile.write(b"HTTP/1.1 100 Continue\r\n\r\n")
+        return _Arriving(self.rfile)
+
+    def _has_body(self) -> bool:
+        return self.headers.get("Content-Length", "0") != "0" or "Transfer-Encoding" in self.headers
+
+    def _may_send(self) -> bool:
+        """Whether more may come of the request: what is left of a body is no next request."""
+        return self._has_body() or self.command in ("PUT", "POST")
+
+    def _read(self) -> Request:
+        """The head as it came. `Fault` where it can't be read."""
+        # BaseHTTPRequestHandler.path has slashes taken away in front; what is signed has them.
+        target = self.requestline.split()[1]
+        if self.headers.defects or self.headers.get_payload():
+            raise Fault("InvalidRequest", "the head has a line that is no header")
+        return requests.read(self.command, target, list(self.headers.items()))
+
+    def _answer(self) -> None:
+        """Carries out the request, answers it, and notes it in the log."""
+        request, caller, code = None, "-", "-"
+        self.is_begun = False
+        with self.server.at_work():
+            try:
+                request = self._read()
+                caller, answer = self.server.gateway.carry_out(request, self._begin)
+                if self._has_body() and not self.is_begun:
+                    self.close_connection = True
+            except Fault as fault:
+                answer, caller, code = of_fault(fault, request), fault.caller, fault.code
+                self.close_connection = self.close_connection or self._may_send()
+            self._send(answer)
+        self.server.note(f"{caller} {self.command} {_noted(self.requestline.split()[1])} {answer.status} {code}")
+
+    def _send(self, answer: Answer) -> None:
+        if self.command == "HEAD":
+            answer = without_body(answer)
+        headers = {
+            "Date": self.date_time_string(),
+            "Server": "vaultdesk",
+            "x-amz-request-id": secrets.token_hex(8),
+            "Connection": "close" if self.close_connection else "keep-alive",
+            **answer.headers,
+        }
+        if answer.status not in (204, 304):
+            headers.setdefault("Content-Length", str(len(answer.body)))
+        first = f"HTTP/1.1 {answer.status} {HTTPStatus(answer.status).phrase}"
+        head = "\r\n".join([first, *(f"{name}: {value}" for name, value in headers.items()), "", ""])
+        self.wfile.write(head.encode("latin-1") + answer.body)
+        if self.close_connection and self._may_send():
+            self._linger()
+
+    def _linger(self) -> None:
+        """Reads past what the client still sends: a connection that is closed before would lose it the answer."""
+        with suppress(OSError):
+            self.connection.shutdown(socket.SHUT_WR) if not isinstance(self.connection, ssl.SSLSocket) else None
+            self.connection.settimeout(1)
+            deadline, left = time.monotonic() + LINGER, PAST
+            while left > 0 and time.monotonic() < deadline:
+                found = self.rfile.read1(65_536)
+                if not found:
+                    break
+                left -= len(found)
+
+    do_GET = do_HEAD = do_PUT = do_POST = do_DELETE = _answer
+
+    def send_error(self, code: int, message: str | None = None, explain: str | None = None) -> None:
+        """What isn't a head of a request that is taken."""
+        self.close_connection = True
+        fault = Fault("NotImplemented" if code == 501 else "InvalidRequest", message or "the head can't be read")
+        answer = of_fault(fault, None)
+        self.headers = self.headers if hasattr(self, "headers") else self.MessageClass()
+        self.command = self.command or "-"
+        self._send(answer)
+        self.server.note(f"- {shown(self.requestline)} {answer.status} {fault.code}")
+
+    def log_message(self, format: str, *args: Any) -> None:
+        """What `http.server` would say; each request has its line already."""
+
+
+class Server(socketserver.ThreadingTCPServer):
+    """Listens, with a thread for each connection."""
+
+    allow_reuse_address = True
+    daemon_threads = True
+    block_on_close = False
+    request_queue_size = CONNECTIONS
+
+    def __init__(self, settings: Settings, gateway: Gateway, is_quiet: bool) -> None:
+        self.gateway = gateway
+        self.is_quiet = is_quiet
+        self.places = threading.BoundedSemaphore(CONNECTIONS)
+        self.working = 0
+        self.idle = threading.Condition()
+        self.context: ssl.SSLContext | None = None
+        if settings.certificate:
+            self.context = ssl.SSLContext(ssl.PROTOCOL_TLS_SERVER)
+            self.context.load_cert_chain(settings.certificate, settings.certificate_key)
+        super().__init__((settings.address, settings.port), Handler)
+
+    def at_work(self) -> _Work:
+        """For the time of one request: `wait_idle` waits for it."""
+        return _Work(self)
+
+    def wait_idle(self, seconds: float) -> None:
+        """Waits for the requests that are under way."""
+        with self.idle:
+            self.idle.wait_for(lambda: self.working == 0, seconds)
+
+    def note(self, line: str) -> None:
+        """A line of the log: when, who, what, and how it was answered."""
+        if not self.is_quiet:
+            say(f"{moments.now()} {line}")
+
+    def process_request(self, request: Any, client_address: Any) -> None:
+        """Gives a connection its thread, where there is room."""
+        if self.places.acquire(blocking=False):
+            super().process_request(request, client_address)
+            return
+        with suppress(OSError):
+            request.settimeout(0)
+            request.sendall(BUSY)
+        self.shutdown_request(request)
+
+    def process_request_thread(self, request: Any, client_address: Any) -> None:
+        """A connection, in its thread."""
+        try:
+            super().process_request_thread(request, client_address)
+        finally:
+            self.places.release()
+
+    def finish_request(self, request: Any, client_address: Any) -> None:
+        """Serves a connection; with TLS, once it is agreed on."""
+        if self.context is None:
+            super().finish_request(request, client_address)
+            return
+        request.settimeout(PATIENCE)
+        with self.context.wrap_socket(request, server_side=True) as secured:
+            super().finish_request(secured, client_address)
+
+    def handle_error(self, request: Any, client_address: Any) -> None:
+        """A connection that broke is its client's matter; anything else is said."""
+        error = sys.exc_info()[1]
+        if not isinstance(error, OSError):
+            say(f"vaultdesk s3: {type(error).__name__}: {error}")
+
+
+class _Work:
+    def __init__(self, server: Server) -> None:
+        self.server = server
+
+    def __enter__(self) -> None:
+        with self.server.idle:
+            self.server.working += 1
+
+    def __exit__(self, *_: object) -> None:
+        with self.server.idle:
+            self.server.working -= 1
+            self.server.idle.notify_all()

@@ -1,0 +1,148 @@
+"""The words of `vaultdesk s3`: serving, and the access keys."""
+
+from __future__ import annotations
+
+import argparse
+import signal
+import threading
+from pathlib import Path
+
+from vaultdesk import config, reading
+from vaultdesk.asking import add_yes, confirm
+from vaultdesk.engine import Engine
+from vaultdesk.errors import DeskError, UsageError
+from vaultdesk.output import print_json, print_table, say
+from vaultdesk.s3 import keys, settings
+from vaultdesk.s3.asked import Vault
+from vaultdesk.s3.door import OwnEngine
+from vaultdesk.s3.etags import Etags
+from vaultdesk.s3.gateway import Gateway
+from vaultdesk.s3.keys import Keys
+from vaultdesk.s3.server import Server
+from vaultdesk.s3.settings import Settings
+
+LAST_ANSWERS = 10  # seconds for requests that are under way as it ends
+ABOUT = """A gateway for clients of Amazon S3: boto3, aws, s3cmd, rclone and others as they come. It translates their
+requests for one vault and decides nothing: each refusal is the engine's. It is tried and not proved."""
+SERVE = """Serves a vault to clients of S3, until it is stopped by SIGTERM or SIGINT. It has the vault to itself
+meanwhile: no server and no other command runs on it. What each setting means, what works and what is refused, is on
+docs/S3.md."""
+KEY = """Lists the access keys, adds one, or removes one. A client signs with an access key and its secret, and asks as
+the caller whose key it is. The secret is printed as the key is added, and never again. A gateway that runs takes the
+change over with the next request."""
+
+
+def _has_default(file: Path) -> dict[str, bool]:
+    """The buckets of a vault, and whether each has a default retention."""
+    return {str(name): bool(mode) for name, mode in reading.rows(file, "SELECT name, mode FROM buckets ORDER BY name")}
+
+
+def _say_unlocked(buckets: dict[str, bool]) -> None:
+    """Says which buckets take in what nothing guards."""
+    for bucket, has_default in buckets.items():
+        if not has_default:
+            why = "what a client puts there without lock headers, as rclone, s3cmd and aws s3 do, isn't locked"
+            say(f"vaultdesk s3: bucket {bucket} has no default retention: {why}")
+
+
+def serve(words: argparse.Namespace) -> int:
+    """Serves a vault to clients of S3."""
+    given = settings.read(Path(words.settings))
+    there = Keys(given.keys)
+    desk = config.Desk(config.program(), config.settings().file_of(given.vault))
+    buckets = _has_default(desk.file)
+    etags = Etags(given.etags)
+    door = OwnEngine(Engine(desk))
+    door.open()
+    vault = Vault(door, etags, given, list(buckets))
+    with _listening(given, Gateway(vault, there), words.quiet) as server:
+        _say_unlocked(buckets)
+        scheme = "https" if given.certificate else "http"
+        say(f"serving {desk.file} to clients of S3 at {scheme}://{given.address}:{server.server_address[1]}")
+        _serve_until_stopped(server)
+    door.close()
+    etags.close()
+    return 0
+
+
+def _listening(given: Settings, gateway: Gateway, is_quiet: bool) -> Server:
+    try:
+        return Server(given, gateway, is_quiet)
+    except OSError as error:
+        raise DeskError(f"{given.address}:{given.port}: {error.strerror or error}") from error
+
+
+def _serve_until_stopped(server: Server) -> None:
+    """Serves until a signal comes, and answers then what is under way."""
+
+    def stop(*_: object) -> None:
+        threading.Thread(target=server.shutdown).start()
+
+    for it in (signal.SIGTERM, signal.SIGINT):
+        signal.signal(it, stop)
+    server.serve_forever()
+    server.wait_idle(LAST_ANSWERS)
+
+
+# ---- access keys
+
+
+def _add(words: argparse.Namespace, path: Path, there: dict[str, keys.Key]) -> None:
+    """Adds a key of the caller that is named, and prints its secret."""
+    if not words.name:
+        raise UsageError("whose key? vaultdesk s3 key add CALLER")
+    name, made = keys.new(words.name)
+    keys.write(path, {**there, name: made})
+    if words.json:
+        print_json({"caller": made.caller, "access_key": name, "secret": made.secret})
+    else:
+        print(f"access key  {name}\nsecret      {made.secret}")
+        say(f"The secret of {made.caller} is shown this once: give it to the client, and keep it nowhere else.")
+
+
+def _remove(words: argparse.Namespace, path: Path, there: dict[str, keys.Key]) -> None:
+    """Removes a key: who signs with it is let in no more."""
+    found = there.pop(words.name, None)
+    if found is None:
+        raise DeskError(f"{words.name or 'no key'} isn't in {path}: vaultdesk s3 key list has the keys")
+    if words.dry_run:
+        print(f"the key {words.name} of {found.caller} would be removed")
+        return
+    confirm(words, f"the key {words.name} of {found.caller} is good no more")
+    keys.write(path, there)
+
+
+def key(words: argparse.Namespace) -> int:
+    """Lists, adds or removes access keys."""
+    path = settings.read(Path(words.settings)).keys
+    there = keys.read(path) if path.exists() else {}
+    if words.action == "list":
+        rows = [{"access key": name, "caller": it.caller} for name, it in sorted(there.items())]
+        print_table(rows, ("access key", "caller"), words.json)
+    elif words.action == "add":
+        _add(words, path, there)
+    else:
+        _remove(words, path, there)
+    return 0
+
+
+def add(commands: argparse._SubParsersAction[argparse.ArgumentParser], common: argparse.ArgumentParser) -> None:
+    """Adds the subcommands to the desk's words."""
+    made = commands.add_parser("s3", help="a gateway for clients of Amazon S3: serve, key", description=ABOUT)
+    kinds = made.add_subparsers(dest="kind", required=True, metavar="KIND")
+    text = f"the gateway's settings (TOML); left out: {settings.PLACE}"
+
+    example = "Example: vaultdesk s3 serve --settings /etc/vaultctl/s3.toml"
+    it = kinds.add_parser("serve", help="serve a vault to clients of S3", description=SERVE, epilog=example)
+    it.add_argument("--settings", metavar="FILE", default=settings.PLACE, help=text)
+    it.add_argument("--quiet", action="store_true", help="write no line for each request to standard error")
+    it.set_defaults(do=serve)
+
+    example = "Examples: vaultdesk s3 key add ann; vaultdesk s3 key list"
+    what = "list, add or remove access keys"
+    it = kinds.add_parser("key", parents=[common], help=what, description=KEY, epilog=example)
+    it.add_argument("action", metavar="ACTION", choices=("list", "add", "remove"), help="what is done")
+    it.add_argument("name", metavar="NAME", nargs="?", help="the caller whose key is added, or the key that is removed")
+    it.add_argument("--settings", metavar="FILE", default=settings.PLACE, help=text)
+    add_yes(it)
+    it.set_defaults(do=key)
