@@ -1,5 +1,5 @@
 -- One failure more of a keeper whose files are watched.
-use Rattle.std.proofs.Common.{◌≡◌, ◌+◌, ◌<◌, ◌≤◌, ℕ, Bool, true, false, refl, arith}
+use Rattle.std.proofs.Common.{◌≡◌, ◌+◌, ℕ, Bool, true, false, refl, arith}
 use Rattle.std.specs.Prelude.{min, nat_lt, if◌then◌else◌}
 use Rattle.std.proofs.lemmas.Bool.Decides.{nat_tests}
 use Rattle.vault_core_model.specs.Leaves.{count_after, largest_count}
@@ -8,7 +8,7 @@ use Rattle.vaultctl_machine_places.specs.Watched.{failures}
 -- where the keeper below reports one, the count rises as its own does
 pub failed_below : (below refused : ℕ) (failed : Bool) → failures (count_after below failed) refused ≡ count_after (failures below refused) failed
 failed_below below refused false = refl
-failed_below below refused true = cases (nat_lt below largest_count) refl (nat_lt (failures below refused) largest_count) refl
+failed_below below refused true = cases (nat_lt below largest_count) (nat_lt (failures below refused) largest_count) refl refl
   where
     cases : (a b : Bool) → nat_lt below largest_count ≡ a → nat_lt (failures below refused) largest_count ≡ b
         → min ((if a then below + 1 else below) + refused) largest_count ≡ (if b then failures below refused + 1 else failures below refused)
