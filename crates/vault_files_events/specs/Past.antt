@@ -3,7 +3,7 @@ use Rattle.std.specs.Prelude.{ℕ, List, Option, option_map}
 use Rattle.vault_core_model.specs.declared.records.History.{History}
 use Rattle.vault_core_evidence.specs.Events.{Event, events_asked_of}
 use Rattle.vault_files_events.specs.Adds.{history_by}
-use Rattle.vault_files_events.specs.declared.history.Past.{Past}
+use Rattle.vault_files_events.specs.declared.past.Past.{Past}
 
 -- a history without its bytes
 abbrev pub past_of : Option History → Option Past
