@@ -1,7 +1,7 @@
 //! One row of a list.
 ghost use Rattle.std.specs.Prelude.{◌≡◌, ◌≢◌, ◌≤◌, ◌⊎◌, false, IfOk, IfErr, OnErr, option_map};
 ghost use Rattle.csv.specs.Records.{fields_of};
-ghost use Rattle.vault_core_model.specs.Leaves.{Leaves};
+ghost use Rattle.vault_core_model.specs.Leaves.{Leaves, RoseOrIsFull};
 ghost use Rattle.vault_core_model.specs.Halts.{ChecksAs, is_device_reply};
 ghost use Rattle.vault_core_model.specs.declared.command.Command.TheVariants.{Intake as AsIntake};
 ghost use Rattle.vault_core_model.specs.declared.halt.Fault.TheVariants as faults;
@@ -138,6 +138,7 @@ fn carried_out<K: Keeper>(
 }
 
 /// Takes in the file of a row. A fault of the row is its reply.
+#[tactic(auto, using(vault_core_model::proofs::Counts::rose, vault_core_model::proofs::Counts::stays, vault_core_model::proofs::Counts::no_less))]
 pub(crate) fn take_row<K: Keeper, F: Folder>(
     alloc: Global,
     keeper: &mut K,
