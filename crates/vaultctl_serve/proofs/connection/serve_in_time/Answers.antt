@@ -1,7 +1,7 @@
 use Rattle.std.proofs.Common.{◌≡◌, ℕ, ℤ, List, Option, IfErr, IfSome, OnOk, ap, subst, to_z-of_z}
 use Rattle.std.specs.Io.KnownBytes.{Appends}
 use Rattle.vault_base.specs.Days.{moment_at}
-use Rattle.vault_core_model.specs.Halts.{RoseOrIsFull}
+use Rattle.vault_core_model.specs.Leaves.{RoseOrIsFull}
 use Rattle.vault_http.specs.Exchange.{Served}
 use Rattle.vault_http.specs.Left.{Left}
 use Rattle.vault_http.specs.Steady.{Steady}
