@@ -1,12 +1,13 @@
 -- Which batches were taken in, by bucket: how many lines were admitted, their bytes, and when the first and the last came.
 SELECT
     intake.bucket AS bucket,
-    batch,
+    -- Each put of an SDK of S3 is a batch of its own (docs/S3.md): they are shown as one.
+    CASE WHEN batch GLOB 's3-*' AND length(batch) = 43 THEN 's3-*' ELSE batch END AS batch,
     count(*) AS lines,
     sum(intake.size) AS bytes,
     strftime('%Y-%m-%dT%H:%M:%SZ', min(admitted), 'unixepoch') AS first,
     strftime('%Y-%m-%dT%H:%M:%SZ', max(admitted), 'unixepoch') AS last
 FROM intake
 JOIN entries USING (id)
-GROUP BY intake.bucket, batch
-ORDER BY intake.bucket, batch;
+GROUP BY 1, 2
+ORDER BY 1, 2;

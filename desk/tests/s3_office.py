@@ -175,7 +175,7 @@ class GatewayTest(OfficeTest):
     @contextlib.contextmanager
     def connected(self) -> Iterator[socket.socket]:
         """A connection to the gateway."""
-        with socket.create_connection(("127.0.0.1", self.server.server_address[1]), timeout=60) as connection:
+        with socket.create_connection(("127.0.0.1", self.server.server_address[1]), timeout=300) as connection:
             yield connection
 
     def send(self, requests: bytes) -> list[Reply]:

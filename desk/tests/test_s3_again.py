@@ -17,7 +17,7 @@ from pathlib import Path
 
 from tests.office import PROGRAM
 from tests.s3_office import ANN, BEA, GatewayTest, read_replies, request
-from vaultdesk import engine
+from vaultdesk import engine, reading
 from vaultdesk.s3 import server
 
 LOCK = {"x-amz-object-lock-mode": "COMPLIANCE", "x-amz-object-lock-retain-until-date": "2034-01-01T00:00:00Z"}
@@ -43,6 +43,10 @@ class Again(GatewayTest):
         again = self.done("PUT", "/docs/a", b"hello", ONCE)
         self.assertEqual(again.headers["x-amz-version-id"], first.headers["x-amz-version-id"])
         self.assertEqual(len(self.entries()), 1)
+        self.stop()
+        shown = reading.query(self.file, "batches")
+        self.assertEqual([(it["bucket"], it["batch"], it["lines"]) for it in shown], [("docs", "s3-*", 1)])
+        self.start()
 
     def test_another_put_of_that_id_is_refused(self) -> None:
         self.done("PUT", "/docs/a", b"hello", ONCE)
@@ -65,7 +69,7 @@ class Again(GatewayTest):
         with self.connected() as connection:
             connection.sendall(whole)
             connection.setsockopt(socket.SOL_SOCKET, socket.SO_LINGER, b"\1\0\0\0\0\0\0\0")
-        deadline = time.monotonic() + 30
+        deadline = time.monotonic() + 300
         while not self.entries() and time.monotonic() < deadline:
             time.sleep(0.05)
         self.assertEqual(self.send(whole)[0].headers["x-amz-version-id"], "1")
@@ -115,7 +119,7 @@ class AtOnce(GatewayTest):
         with contextlib.ExitStack() as held:
             for _ in range(server.CONNECTIONS):
                 held.enter_context(self.connected()).sendall(request("GET", "/docs"))
-            deadline = time.monotonic() + 30
+            deadline = time.monotonic() + 300
             while True:
                 with self.connected() as connection, contextlib.suppress(OSError):
                     connection.sendall(request("GET", "/docs"))
@@ -123,7 +127,7 @@ class AtOnce(GatewayTest):
                     if status and status.status == 503:
                         break
                 self.assertLess(time.monotonic(), deadline)
-        deadline = time.monotonic() + 30
+        deadline = time.monotonic() + 300
         while self.ask_or_none() != 200:
             self.assertLess(time.monotonic(), deadline)
 
@@ -193,11 +197,11 @@ class Programs(GatewayTest):
             self.assertIn("bucket cases has no default retention", "".join(said))
             self.assertNotIn("bucket docs", "".join(said))
             raw = b"GET /docs?X-Amz-Signature=" + b"0" * 64 + b" HTTP/1.1\r\nhost: a\r\n\r\n"
-            with socket.create_connection(("127.0.0.1", port), timeout=60) as connection:
+            with socket.create_connection(("127.0.0.1", port), timeout=300) as connection:
                 connection.sendall(raw)
                 self.assertIn(b"403", connection.recv(65_536))
                 child.send_signal(stop)
-                self.assertEqual(child.wait(60), 0)
+                self.assertEqual(child.wait(300), 0)
             noted = "".join(said)
             self.assertIn("- GET /docs?X-Amz-Signature=.. 403 AccessDenied", noted)
             self.assertNotIn("0" * 64, noted)
