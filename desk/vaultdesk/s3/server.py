@@ -101,6 +101,12 @@ class Handler(http.server.BaseHTTPRequestHandler):
             except Fault as fault:
                 answer, caller, code = of_fault(fault, request), fault.caller, fault.code
                 self.close_connection = self.close_connection or self._may_send()
+            except OSError:
+                raise
+            except Exception as error:
+                say(f"vaultdesk s3: {type(error).__name__}: {error}")
+                unknown = Fault("InternalError", "the gateway met what it doesn't know: its log says what")
+                answer, code, self.close_connection = of_fault(unknown, request), unknown.code, True
             self._send(answer)
         self.server.note(f"{caller} {self.command} {_noted(self.requestline.split()[1])} {answer.status} {code}")
 
