@@ -30,6 +30,7 @@ NOW = 1_795_828_320  # 2026-11-28T01:12:00Z, of the gateway: when the kept reque
 DATE = "20261128T011200Z"
 SECRET = "a-secret-for-tests-alone-0123456789abcdef"
 ANN, BEA, CID = "VKTESTKEYOFANNANN234", "VKTESTKEYOFBEABEA234", "VKTESTKEYOFCIDCID234"
+# What clients sent on 28 November 2026: boto3 1.43.11, aws 2.9.19, s3cmd 2.3.0, rclone 1.60.1.
 KEPT = Path(__file__).parent / "s3_requests"
 EMPTY = hashlib.sha256(b"").hexdigest()
 

@@ -14,6 +14,7 @@ import threading
 import time
 from concurrent.futures import ThreadPoolExecutor
 from pathlib import Path
+from unittest import mock
 
 from tests.office import PROGRAM
 from tests.s3_office import ANN, BEA, GatewayTest, read_replies, request
@@ -85,6 +86,24 @@ class Again(GatewayTest):
             self.refused("InternalError", 500, self.ask("PUT", "/docs/b", b"hello"))
         self.assertEqual(self.done("PUT", "/docs/a", b"hello", ONCE).headers["x-amz-version-id"], "1")
         self.assertEqual(self.done("PUT", "/docs/b", b"hello").headers["x-amz-version-id"], "2")
+
+    def test_what_comes_as_the_gateway_ends_opens_the_vault_no_more(self) -> None:
+        with self.connected() as connection:
+            connection.sendall(request("GET", "/docs"))
+            self.assertIn(b" 200 ", connection.recv(65_536))
+            self.stop()
+            connection.sendall(request("PUT", "/docs/a", b"hello"))
+            self.assertIn(b" 503 ", connection.recv(65_536))
+            self.assertIsNone(self.door.engine._child)
+        self.start()
+        self.assertEqual(self.entries(), [])
+
+    def test_what_nobody_thought_of_is_answered(self) -> None:
+        broken = mock.patch.object(self.door.engine, "ask", side_effect=KeyError("hex"))
+        with broken, contextlib.redirect_stderr(io.StringIO()) as said:
+            self.refused("InternalError", 500, self.ask("GET", "/docs/a"))
+        self.assertIn("KeyError", said.getvalue())
+        self.assertEqual(self.ask("GET", "/docs").status, 200)
 
     def test_what_the_engine_says_of_refusals_doesnt_fill_the_disk(self) -> None:
         kept, engine.MOST_SAID = engine.MOST_SAID, 1_000

@@ -163,6 +163,7 @@ class Lifecycle(GatewayTest):
             (b"<Expiration>", b"<Transition><Days>1</Days></Transition><Expiration>", "NotImplemented"),
             (b"<Expiration>", b"<AbortIncompleteMultipartUpload/><Expiration>", "NotImplemented"),
             (b"<Status>Enabled</Status>", b"", "MalformedXML"),
+            (b"<Status>Enabled</Status>", b"<Prefix>a/</Prefix><Status>Enabled</Status>", "MalformedXML"),
             (b"Enabled", b"On", "InvalidArgument"),
             (b"<Days>30</Days>", b"<Days>0</Days>", "InvalidArgument"),
             (b"<Days>30</Days>", b"<ExpiredObjectDeleteMarker>yes</ExpiredObjectDeleteMarker>", "MalformedXML"),

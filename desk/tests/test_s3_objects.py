@@ -69,6 +69,8 @@ class Put(GatewayTest):
                           ("\x7f", "InvalidArgument"), ("a" * 1_025, "KeyTooLongError")):
             self.refused(code, 400, self.ask("PUT", f"/docs/{quoted(key)}", b"hello"))
         self.refused("InvalidURI", 400, self.ask("PUT", "/docs/%FF", b"hello"))
+        self.refused("InvalidBucketName", 400, self.ask("PUT", "//docs/a", b"hello"))
+        self.refused("InvalidBucketName", 400, self.ask("GET", "//docs"))
         self.assertEqual(self.entries(), [])
 
     def test_what_cant_be_kept_is_refused(self) -> None:

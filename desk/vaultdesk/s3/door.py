@@ -39,6 +39,7 @@ class OwnEngine:
     def __init__(self, engine: Engine) -> None:
         self.engine = engine
         self.turn = threading.Lock()
+        self.is_closed = False
 
     def open(self) -> None:
         """Opens the vault now, and not as the first request comes. `EngineError` where it can't be."""
@@ -50,6 +51,8 @@ class OwnEngine:
         if not self.turn.acquire(timeout=PATIENCE):
             raise Fault("SlowDown", f"the vault was busy for {PATIENCE} seconds")
         try:
+            if self.is_closed:
+                raise Fault("SlowDown", "the gateway ends")
             return Told(self.engine.ask(do, caller, **members), self.engine.last_reading)
         except Refused as refusal:
             raise of_refusal(refusal) from refusal
@@ -60,6 +63,7 @@ class OwnEngine:
             self.turn.release()
 
     def close(self) -> None:
-        """Closes the vault, after the line that is under way."""
+        """Closes the vault, after the line that is under way; whoever asks later opens it no more."""
         with self.turn:
+            self.is_closed = True
             self.engine.close()

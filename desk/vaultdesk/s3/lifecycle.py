@@ -22,6 +22,8 @@ def _filtered(rule: xml.Element) -> dict[str, Any]:
     place = rule.find("Filter")
     if place is None:
         return {"Prefix": rule.value("Prefix") or ""}
+    if rule.find("Prefix"):
+        raise xml.malformed("a Rule has a Filter or a Prefix")
     place.only("And", "Prefix", *SIZES)
     both = place.find("And")
     if both:

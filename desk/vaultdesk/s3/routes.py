@@ -98,6 +98,8 @@ METHODS = ("GET", "HEAD", "PUT", "POST", "DELETE")
 
 
 def _target(request: Request) -> str:
+    if not request.bucket and request.key:
+        raise Fault("InvalidBucketName", "the path is /BUCKET or /BUCKET/KEY")
     if not request.bucket:
         return "service"
     return "key" if request.key else "bucket"

@@ -101,6 +101,12 @@ class Handler(http.server.BaseHTTPRequestHandler):
             except Fault as fault:
                 answer, caller, code = of_fault(fault, request), fault.caller, fault.code
                 self.close_connection = self.close_connection or self._may_send()
+            except OSError:
+                raise
+            except Exception as error:
+                say(f"vaultdesk s3: {type(error).__name__}: {error}")
+                unknown = Fault("InternalError", "the gateway met what it doesn't know: its log says what")
+                answer, code, self.close_connection = of_fault(unknown, request), unknown.code, True
             self._send(answer)
         self.server.note(f"{caller} {self.command} {_noted(self.requestline.split()[1])} {answer.status} {code}")
 
@@ -125,7 +131,8 @@ class Handler(http.server.BaseHTTPRequestHandler):
     def _linger(self) -> None:
         """Reads past what the client still sends: a connection that is closed before would lose it the answer."""
         with suppress(OSError):
-            self.connection.shutdown(socket.SHUT_WR) if not isinstance(self.connection, ssl.SSLSocket) else None
+            if self.server.context is None:
+                self.connection.shutdown(socket.SHUT_WR)
             self.connection.settimeout(1)
             deadline, left = time.monotonic() + LINGER, PAST
             while left > 0 and time.monotonic() < deadline:
@@ -182,7 +189,8 @@ class Server(socketserver.ThreadingTCPServer):
     def note(self, line: str) -> None:
         """A line of the log: when, who, what, and how it was answered."""
         if not self.is_quiet:
-            say(f"{moments.now()} {line}")
+            with suppress(OSError):  # whoever read the log is gone
+                say(f"{moments.now()} {line}")
 
     def process_request(self, request: Any, client_address: Any) -> None:
         """Gives a connection its thread, where there is room."""

@@ -25,8 +25,8 @@ LAST_ANSWERS = 10  # seconds for requests that are under way as it ends
 ABOUT = """A gateway for clients of Amazon S3: boto3, aws, s3cmd, rclone and others as they come. It translates their
 requests for one vault and decides nothing: each refusal is the engine's. It is tried and not proved."""
 SERVE = """Serves a vault to clients of S3, until it is stopped by SIGTERM or SIGINT. It has the vault to itself
-meanwhile: no server and no other command runs on it. What each setting means, what works and what is refused, is on
-docs/S3.md."""
+meanwhile: no server and no other command runs on it. docs/S3.md says what each setting means, what works and what is
+refused."""
 KEY = """Lists the access keys, adds one, or removes one. A client signs with an access key and its secret, and asks as
 the caller whose key it is. The secret is printed as the key is added, and never again. A gateway that runs takes the
 change over with the next request."""
