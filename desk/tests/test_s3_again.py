@@ -178,6 +178,15 @@ class Heads(GatewayTest):
         self.assertEqual([it.status for it in self.send(outer)], [400])
         self.assertEqual(self.entries(), [])
 
+    def test_a_client_from_which_nothing_comes_is_left(self) -> None:
+        with mock.patch.object(server.Handler, "timeout", 0.3):
+            for begun in (b"", b"GET /docs HTTP/1.1\r\n", request("PUT", "/docs/a", b"hello")[:-1]):
+                with self.connected() as connection:
+                    connection.sendall(begun)
+                    while connection.recv(65_536):
+                        pass
+        self.assertEqual(self.entries(), [])
+
     def test_a_client_that_goes_away_disturbs_nobody(self) -> None:
         whole = request("PUT", "/docs/a", b"hello")
         for cut in (1, 40, len(whole) - 1):

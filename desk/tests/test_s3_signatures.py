@@ -107,6 +107,14 @@ class Kept(GatewayTest):
         self.assertEqual((told["hex"], told["hold"]), (b"a deed".hex(), "ON"))
         self.assertEqual(told["retention"], {"mode": "COMPLIANCE", "until": "2034-01-01T00:00:00Z"})
 
+    def test_a_put_that_somebody_sends_again(self) -> None:
+        whole = self.kept("boto3-put")
+        versions = {self.send(whole)[-1].headers["x-amz-version-id"] for _ in range(3)}
+        self.assertEqual((versions, len(self.entries())), ({"1"}, 1))
+        self.now = NOW + 1_000
+        self.refused("RequestTimeTooSkewed", 403, self.send(whole)[-1])
+        self.assertEqual(len(self.entries()), 1)
+
     def test_boto3_over_tls_sends_chunks_within_chunks(self) -> None:
         self.assertEqual(self.one("boto3-put-tls"), 200)
         told = self.door.ask("ann", "get", bucket="docs", key="deeds/b").value
