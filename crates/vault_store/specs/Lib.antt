@@ -1,4 +1,5 @@
 pub mod Kept
+pub mod Left
 pub mod VaultOf
 pub mod Acknowledged
 pub mod Migrated

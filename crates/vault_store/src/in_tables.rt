@@ -1,15 +1,18 @@
 //! Commands carried out over a vault in tables, from tables to tables.
 
-ghost use Rattle.std.specs.Prelude.{◌≡◌, ◌≢◌, ◌⊎◌, false, IfOk, IfErr};
+ghost use Rattle.std.specs.Prelude.{◌≡◌, ◌≢◌, ◌⊎◌, ℕ, List, false, IfOk, IfErr};
 ghost use Rattle.sqlite.specs.Held.{state};
 ghost use Rattle.sqlite.specs.State.{HasCleanDisk, Survives};
 ghost use Rattle.vault_base.specs.declared.refusal.Table.{Table};
+ghost use Rattle.vault_core_model.specs.declared.change.Change.{Change};
 ghost use Rattle.vault_core_model.specs.Step.{IsRun};
 ghost use Rattle.vault_core_model.specs.Vault.{Vault};
 ghost use Rattle.vault_audit.specs.Health.{IsHealthy};
 ghost use Rattle.vault_audit.specs.Whole.{IsTold};
 ghost use Rattle.vault_audit_model.specs.Spells.{AreSound};
+ghost use Rattle.vault_store_apply.specs.Left.{LeavesAlone};
 ghost use Rattle.vault_store.specs.Kept.{StandsFor};
+ghost use Rattle.vault_store.specs.Left.{LeavesOneOf};
 
 use crate::sql_keeper::SqlKeeper;
 use sqlite::{Alter, Connection};
@@ -29,9 +32,9 @@ pub fn run_in_tables<S: Alter>(
     conn: Connection<S>,
     commands: &[Timed],
 ) -> Result<(Vec<Reply>, Connection<S>), (Refusal, Connection<S>)>
-    // The replies are those of the machine from the vault that the tables spelled, and while the connection is open they spell the vault that it comes to.
+    // The replies are those of the machine from the vault that the tables spelled, and while the connection is open they spell the vault that it comes to. A crash leaves that, or it with one change more, which was refused.
     ensures run { IfOk result (λ done. HasCleanDisk (state S.Store done.1) → (v : Vault) → AreSound (state S.Store conn).now v →
-        ∥ ((w : Vault) × IsRun v commands.now done.0.items w × StandsFor (state S.Store done.1) w) ∥₁) }
+        ∥ ((w : Vault) × IsRun v commands.now done.0.items w × StandsFor (state S.Store done.1) w × (refused : List (ℕ × Change)) × LeavesOneOf (state S.Store done.1) w refused) ∥₁) }
     // Commands are carried out over sound tables alone.
     ensures sound { IfOk result (λ done. HasCleanDisk (state S.Store done.1) → (v : Vault) × AreSound (state S.Store conn).now v) }
     ensures told { IfErr result (λ e. IsTold e.0) }
@@ -39,9 +42,10 @@ pub fn run_in_tables<S: Alter>(
     ensures healthy { conn.in_transaction ≡ false → IfErr result (λ e. IsHealthy (state S.Store e.1) → e.0 ≢ Refusal.Device) }
     // What is told as damaged spells no vault.
     ensures damaged { IfErr result (λ e. HasCleanDisk (state S.Store e.1) → (t : Table) → e.0 ≡ Refusal.Damaged t → (v : Vault) → ¬ AreSound (state S.Store conn).now v) }
-    // Where it is refused, a crash leaves nothing but what it could leave before, or the tables spelled a vault and spell it still.
+    // Where it is refused, a crash leaves nothing but what it could leave before, or the tables spelled a vault and spell it still, and a crash leaves that alone.
     ensures refused { IfErr result (λ e. HasCleanDisk (state S.Store e.1) →
-        ∥ Survives (state S.Store conn) (state S.Store e.1) (λ _. ⊥) ⊎ ((v : Vault) × AreSound (state S.Store conn).now v × StandsFor (state S.Store e.1) v) ∥₁) }
+        ∥ Survives (state S.Store conn) (state S.Store e.1) (λ _. ⊥)
+        ⊎ ((v : Vault) × AreSound (state S.Store conn).now v × StandsFor (state S.Store e.1) v × LeavesAlone (state S.Store e.1) v) ∥₁) }
 {
     let mut keeper = match SqlKeeper::open(alloc, conn) {
         Ok(keeper) => keeper,

@@ -7,16 +7,21 @@ pub mod in_tables;
 mod look;
 mod migrate;
 pub mod opening;
+mod shut;
 pub mod sql_keeper;
 
-ghost use Rattle.vault_store.specs.Acknowledged.{FindsAcknowledged};
+ghost use Rattle.vault_store.specs.Acknowledged.{FindsWhatIsLeft, FindsWhatIsKept, FindsTheRun};
 
 use sqlite::Alter;
 pub use vault_store_create::create;
 
-/// From an exit where a crash leaves one vault, and whatever the next calls of `apply` answer: an opening
-/// behind a crash finds sound tables, of that vault with all changes that were acknowledged since, or with
-/// one more, whose call was refused after them.
+/// Of each keeper, whatever was asked of it and whatever it answered: an opening after a crash finds sound
+/// tables, of its vault, which has all changes that were acknowledged, or of that with one change more, which
+/// was refused after them. So it finds the machine's vault after the commands that were carried out, or that
+/// with one change more.
 pub fn openings_find_what_was_acknowledged<S: Alter, T: Alter>()
-    ensures { FindsAcknowledged S.Store T.Store }
+    // Of a connection of which a crash leaves a vault, or it with one of some changes: what is handed on.
+    ensures left { FindsWhatIsLeft S.Store T.Store }
+    ensures kept { FindsWhatIsKept S.Store T.Store }
+    ensures run { FindsTheRun S.Store T.Store }
 {}

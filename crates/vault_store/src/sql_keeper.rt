@@ -1,5 +1,5 @@
 //! A keeper over the tables of a connection.
-ghost use Rattle.std.specs.Prelude.{◌≡◌, ◌≢◌, ◌≤◌, false, Err, IsTrue, IfOk, IfErr, IsErrAnd, OnOk, OnErr};
+ghost use Rattle.std.specs.Prelude.{◌≡◌, ◌≢◌, ◌≤◌, [], ◌∷◌, ◌++◌, false, Err, IsTrue, IfOk, IfErr, IsErrAnd, OnOk, OnErr};
 ghost use Rattle.sqlite.specs.Held.{state};
 ghost use Rattle.sqlite.specs.State.{HasCleanDisk, IsUnchanged, Survives};
 ghost use Rattle.vault_base.specs.declared.refusal.Table.{Table};
@@ -14,11 +14,13 @@ ghost use Rattle.vault_core_model.specs.Halts.{is_device_given, RoseOrIsFull};
 ghost use Rattle.vault_store_apply.specs.Left.{IsFoundIn, LeavesAlone};
 ghost use Rattle.vault_audit_model.specs.Spells.{AreSound};
 ghost use Rattle.vault_store.specs.Kept.{kept_vault, IsSettled, StandsFor};
+ghost use Rattle.vault_store.specs.Left.{IsKept, LeavesOneOf};
 ghost use Rattle.vault_store.specs.Tables.{HasTablesOf};
 
 use crate::blame::blame;
 use crate::look::look;
 use crate::opening::{Opening, remember};
+use crate::shut::refuse_shut;
 use http_server::Log;
 use sqlite::{Alter, Connection};
 use std::alloc::Global;
@@ -54,17 +56,23 @@ use vault_tally::row::Row;
 ///
 /// Which vault it stands for is what its tables told when it was opened, with the changes made since;
 /// only proofs read that. While its disk returns what was written and no failure has shut the
-/// connection, the tables are sound and spell that vault.
+/// connection, the tables are sound and spell that vault. A crash leaves that vault, or that with one more
+/// change, which was refused after the last one that was made; only proofs read which ones these are.
 ///
 /// It can't be let go of but by `into_connection`, so a store is closed, or handed on, wherever it ends.
 pub struct SqlKeeper<S: Alter> {
     conn: Connection<S>,
+    // Whether a failure may have shut the connection.
+    doubted: bool,
     faults: u64,
     alloc: Global,
     opening: Opening<S>,
     made: Log<Moment, Change>,
+    // The changes that were refused since the last one that was made.
+    refused: Log<Moment, Change>,
     ghost settled: { conn.in_transaction ≡ false },
-    ghost stands: { ∥ (HasCleanDisk (state S.Store conn) → StandsFor (state S.Store conn) (kept_vault S.Store opening.at.items opening.known made.items)) ∥₁ },
+    ghost sure: { doubted ≡ false → HasCleanDisk (state S.Store conn) → IsTrue (state S.Store conn).is_open },
+    ghost kept: { ∥ (HasCleanDisk (state S.Store conn) → IsKept (state S.Store conn) (kept_vault S.Store opening.at.items opening.known made.items) refused.items) ∥₁ },
 }
 
 impl<S: Alter> SqlKeeper<S> {
@@ -74,17 +82,22 @@ impl<S: Alter> SqlKeeper<S> {
     pub(crate) fn over(alloc: Global, conn: Connection<S>) -> SqlKeeper<S>
         requires settled { conn.in_transaction ≡ false }
         requires sound { HasCleanDisk (state S.Store conn) → IsSettled (state S.Store conn) }
+        requires alone { HasCleanDisk (state S.Store conn) → (v : Vault) → AreSound (state S.Store conn).now v → LeavesAlone (state S.Store conn) v }
         ensures same { result.conn ≡ conn }
         ensures counted { result.faults ≡ 0 }
         ensures keeps { HasCleanDisk (state S.Store conn) → AreSound (state S.Store conn).now (vault_of S.Store result) }
     {
         let opening = remember(&conn);
+        let made = Log::new();
+        let refused = Log::new();
         SqlKeeper {
             conn,
+            doubted: false,
             faults: 0,
             alloc,
             opening,
-            made: Log::new(),
+            made,
+            refused,
         }
     }
 
@@ -92,13 +105,17 @@ impl<S: Alter> SqlKeeper<S> {
     pub fn into_connection(self) -> Connection<S>
         ensures same { result ≡ self.conn }
         ensures stands { ∥ (HasCleanDisk (state S.Store result) → StandsFor (state S.Store result) (vault_of S.Store self)) ∥₁ }
+        // A crash leaves that vault, or that with one change more, which was refused after all that it has.
+        ensures crash { ∥ (HasCleanDisk (state S.Store result) → LeavesOneOf (state S.Store result) (vault_of S.Store self) self.refused.items) ∥₁ }
     {
         let SqlKeeper {
             conn,
+            doubted: _,
             faults: _,
             alloc: _,
             opening: _,
             made: _,
+            refused: _,
         } = self;
         conn
     }
@@ -182,6 +199,9 @@ impl<S: Alter> SqlKeeper<S> {
         ensures counted { self.old.faults ≤ self.new.faults }
         ensures device { result ≡ Err Fault.Device → RoseOrIsFull self.old.faults self.new.faults }
         ensures steady { is_device_given result ≡ false → self.new.faults ≡ self.old.faults }
+        // Which changes were refused since the last one that was made.
+        ensures forgotten { OnOk result (self.new.refused.items ≡ []) }
+        ensures refused { OnErr result (self.new.refused.items ≡ self.old.refused.items ++ (at, change.now) ∷ []) }
         // A crash leaves what it could leave before, or the vault with the change; once that is acknowledged, this vault alone.
         ensures crash { HasCleanDisk (state S.Store self.new.conn) → ∥ Survives (state S.Store self.old.conn) (state S.Store self.new.conn) (IsFoundIn (changed (vault_of S.Store self.old) at change.now)) ∥₁ }
         ensures alone { HasCleanDisk (state S.Store self.new.conn) → OnOk result (∥ LeavesAlone (state S.Store self.new.conn) (vault_of S.Store self.new) ∥₁) }
@@ -190,9 +210,39 @@ impl<S: Alter> SqlKeeper<S> {
         match apply_change(&mut self.conn, self.alloc, at, change) {
             Ok(()) => {
                 self.made = self.made.and(&at, change);
+                self.refused = Log::new();
+                self.doubted = false;
                 Ok(())
             }
-            Err(error) => Err(blame(&mut self.faults, error)),
+            Err(error) => {
+                self.refused = self.refused.and(&at, change);
+                Err(blame(&mut self.faults, &mut self.doubted, error))
+            }
+        }
+    }
+
+    /// Makes sure that the connection is open, where a failure may have shut it: no clause says what a crash
+    /// leaves after a read of a connection that is shut.
+    ///
+    /// `Memory` where the store wanted memory. `Device` where it refused for another cause.
+    fn check_open(&mut self) -> Result<(), Fault>
+        ensures open { HasCleanDisk (state S.Store self.new.conn) → OnOk result (IsTrue (state S.Store self.new.conn).is_open) }
+        ensures same { vault_of S.Store self.new ≡ vault_of S.Store self.old }
+        ensures uncounted { OnOk result (self.new.faults ≡ self.old.faults) }
+        ensures honest { HasCleanDisk (state S.Store self.new.conn) → HasCleanDisk (state S.Store self.old.conn) }
+        ensures counted { self.old.faults ≤ self.new.faults }
+        ensures device { result ≡ Err Fault.Device → RoseOrIsFull self.old.faults self.new.faults }
+        ensures steady { is_device_given result ≡ false → self.new.faults ≡ self.old.faults }
+    {
+        if !self.doubted {
+            return Ok(());
+        }
+        match refuse_shut(&mut self.conn) {
+            Ok(()) => {
+                self.doubted = false;
+                Ok(())
+            }
+            Err(error) => Err(blame(&mut self.faults, &mut self.doubted, error)),
         }
     }
 }
@@ -211,86 +261,98 @@ impl<S: Alter> Keeper for SqlKeeper<S> {
     }
 
     fn last(&mut self) -> Result<Moment, Fault> {
+        self.check_open()?;
         match read_last(&mut self.conn) {
             Ok(found) => Ok(found),
-            Err(error) => Err(blame(&mut self.faults, error)),
+            Err(error) => Err(blame(&mut self.faults, &mut self.doubted, error)),
         }
     }
 
     fn next_id(&mut self) -> Result<u64, Fault> {
+        self.check_open()?;
         match read_next_id(&mut self.conn) {
             Ok(found) => Ok(found),
-            Err(error) => Err(blame(&mut self.faults, error)),
+            Err(error) => Err(blame(&mut self.faults, &mut self.doubted, error)),
         }
     }
 
     fn caller(&mut self, name: &CallerName) -> Result<Option<Caller>, Fault> {
+        self.check_open()?;
         match read_caller(&mut self.conn, name) {
             Ok(found) => Ok(found),
-            Err(error) => Err(blame(&mut self.faults, error)),
+            Err(error) => Err(blame(&mut self.faults, &mut self.doubted, error)),
         }
     }
 
     fn dept(&mut self, name: &DeptName) -> Result<bool, Fault> {
+        self.check_open()?;
         match has_department(&mut self.conn, name) {
             Ok(found) => Ok(found),
-            Err(error) => Err(blame(&mut self.faults, error)),
+            Err(error) => Err(blame(&mut self.faults, &mut self.doubted, error)),
         }
     }
 
     fn bucket(&mut self, name: &BucketName) -> Result<Option<BucketConfig>, Fault> {
+        self.check_open()?;
         match read_bucket(&mut self.conn, name) {
             Ok(found) => Ok(found),
-            Err(error) => Err(blame(&mut self.faults, error)),
+            Err(error) => Err(blame(&mut self.faults, &mut self.doubted, error)),
         }
     }
 
     fn rules(&mut self, bucket: &BucketName) -> Result<Option<RuleSet>, Fault> {
+        self.check_open()?;
         match read_rules(&mut self.conn, self.alloc, bucket) {
             Ok(found) => Ok(found),
-            Err(error) => Err(blame(&mut self.faults, error)),
+            Err(error) => Err(blame(&mut self.faults, &mut self.doubted, error)),
         }
     }
 
     fn head(&mut self, bucket: &BucketName, key: &ObjectKey) -> Result<Option<Head>, Fault> {
+        self.check_open()?;
         match read_head(&mut self.conn, bucket, key) {
             Ok(found) => Ok(found),
-            Err(error) => Err(blame(&mut self.faults, error)),
+            Err(error) => Err(blame(&mut self.faults, &mut self.doubted, error)),
         }
     }
 
     fn entries(&mut self, bucket: &BucketName, key: &ObjectKey) -> Result<Vec<Held>, Fault> {
+        self.check_open()?;
         match read_entries(&mut self.conn, self.alloc, bucket, key) {
             Ok(found) => Ok(found),
-            Err(error) => Err(blame(&mut self.faults, error)),
+            Err(error) => Err(blame(&mut self.faults, &mut self.doubted, error)),
         }
     }
 
     fn entry(&mut self, id: VersionId) -> Result<Option<Entry>, Fault> {
+        self.check_open()?;
         match read_entry(&mut self.conn, id) {
             Ok(found) => Ok(found),
-            Err(error) => Err(blame(&mut self.faults, error)),
+            Err(error) => Err(blame(&mut self.faults, &mut self.doubted, error)),
         }
     }
 
     fn setting(&mut self, id: VersionId) -> Result<Option<LastSetting>, Fault> {
+        self.check_open()?;
         match read_setting(&mut self.conn, id) {
             Ok(found) => Ok(found),
-            Err(error) => Err(blame(&mut self.faults, error)),
+            Err(error) => Err(blame(&mut self.faults, &mut self.doubted, error)),
         }
     }
 
     fn settings(&mut self, id: VersionId) -> Result<Settings, Fault> {
+        self.check_open()?;
         match read_settings(&mut self.conn, self.alloc, id) {
             Ok(found) => Ok(found),
-            Err(error) => Err(blame(&mut self.faults, error)),
+            Err(error) => Err(blame(&mut self.faults, &mut self.doubted, error)),
         }
     }
 
     fn content(&mut self, id: VersionId) -> Result<Option<Content>, Fault> {
+        self.check_open()?;
         match read_content(&mut self.conn, id) {
             Ok(found) => Ok(found),
-            Err(error) => Err(blame(&mut self.faults, error)),
+            Err(error) => Err(blame(&mut self.faults, &mut self.doubted, error)),
         }
     }
 
@@ -300,9 +362,10 @@ impl<S: Alter> Keeper for SqlKeeper<S> {
         after: &KeyPrefix,
         most: u32,
     ) -> Result<Vec<ObjectKey>, Fault> {
+        self.check_open()?;
         match read_keys(&mut self.conn, self.alloc, bucket, after, most) {
             Ok(found) => Ok(found),
-            Err(error) => Err(blame(&mut self.faults, error)),
+            Err(error) => Err(blame(&mut self.faults, &mut self.doubted, error)),
         }
     }
 
@@ -312,44 +375,54 @@ impl<S: Alter> Keeper for SqlKeeper<S> {
         batch: &BatchName,
         line: u32,
     ) -> Result<Option<Note>, Fault> {
+        self.check_open()?;
         match read_note(&mut self.conn, bucket, batch, line) {
             Ok(found) => Ok(found),
-            Err(error) => Err(blame(&mut self.faults, error)),
+            Err(error) => Err(blame(&mut self.faults, &mut self.doubted, error)),
         }
     }
 
     fn walk_removed<T: Sink>(&mut self, sink: &mut T) -> Result<bool, Fault> {
+        self.check_open()?;
         match walk_removed(&mut self.conn, sink) {
-            Ok(found) => Ok(found),
-            Err(error) => Err(blame(&mut self.faults, error)),
+            Ok(found) => {
+                // No clause of the walk says that it leaves the connection open.
+                self.doubted = true;
+                Ok(found)
+            }
+            Err(error) => Err(blame(&mut self.faults, &mut self.doubted, error)),
         }
     }
 
     fn moves(&mut self) -> Result<u32, Fault> {
+        self.check_open()?;
         match read_moves(&mut self.conn) {
             Ok(found) => Ok(found),
-            Err(error) => Err(blame(&mut self.faults, error)),
+            Err(error) => Err(blame(&mut self.faults, &mut self.doubted, error)),
         }
     }
 
     fn tenures(&mut self, id: VersionId) -> Result<Tenures, Fault> {
+        self.check_open()?;
         match read_tenures(&mut self.conn, self.alloc, id) {
             Ok(found) => Ok(found),
-            Err(error) => Err(blame(&mut self.faults, error)),
+            Err(error) => Err(blame(&mut self.faults, &mut self.doubted, error)),
         }
     }
 
     fn bucket_held(&mut self, bucket: &BucketName) -> Result<(u64, u64), Fault> {
+        self.check_open()?;
         match read_bucket_held(&mut self.conn, self.alloc, bucket) {
             Ok(found) => Ok(found),
-            Err(error) => Err(blame(&mut self.faults, error)),
+            Err(error) => Err(blame(&mut self.faults, &mut self.doubted, error)),
         }
     }
 
     fn totals(&mut self, dept: &DeptName) -> Result<Row, Fault> {
+        self.check_open()?;
         match read_totals(&mut self.conn, dept) {
             Ok(found) => Ok(found),
-            Err(error) => Err(blame(&mut self.faults, error)),
+            Err(error) => Err(blame(&mut self.faults, &mut self.doubted, error)),
         }
     }
 
@@ -362,7 +435,9 @@ impl<S: Alter> Keeper for SqlKeeper<S> {
         ensures counted { self.old.faults ≤ self.new.faults }
         ensures device { result ≡ Err Fault.Device → RoseOrIsFull self.old.faults self.new.faults }
         ensures steady { is_device_given result ≡ false → self.new.faults ≡ self.old.faults }
-        // What `make` says of a crash.
+        // What `make` says of refused changes and of a crash.
+        ensures forgotten { OnOk result (self.new.refused.items ≡ []) }
+        ensures refused { OnErr result (self.new.refused.items ≡ self.old.refused.items ++ (at, change.now) ∷ []) }
         ensures crash { HasCleanDisk (state S.Store self.new.conn) → ∥ Survives (state S.Store self.old.conn) (state S.Store self.new.conn) (IsFoundIn (changed (vault_of S.Store self.old) at change.now)) ∥₁ }
         ensures alone { HasCleanDisk (state S.Store self.new.conn) → OnOk result (∥ LeavesAlone (state S.Store self.new.conn) (vault_of S.Store self.new) ∥₁) }
         ensures open { HasCleanDisk (state S.Store self.new.conn) → OnOk result (IsTrue (state S.Store self.new.conn).is_open) }

@@ -1,14 +1,18 @@
 use Rattle.std.proofs.Common.{sym, subst, inr}
-use Rattle.std.proofs.Math.Logic.{∥∥₁_map}
+use Rattle.std.proofs.Math.Logic.{∥∥₁_elim, ∥∥₁_map}
 use Rattle.std.specs.Prelude.{◌≡◌}
+use Rattle.sqlite_trees.specs.declared.store.Store.{Ghosts}
 use Rattle.sqlite.specs.Effect.{Database}
-use Rattle.sqlite.specs.Held.{state}
+use Rattle.sqlite.specs.Held.{Held, state}
 use Rattle.sqlite.specs.State.{HasCleanDisk}
 use Rattle.vault_core_model.specs.Step.{IsRun}
 use Rattle.vault_core_model.specs.Vault.{Vault}
 use Rattle.vault_audit_laws.proofs.Uniqueness.{same_vault}
 use Rattle.vault_audit_model.specs.Spells.{AreSound}
-use Rattle.vault_store.specs.Kept.{kept_vault, StandsFor}
+use Rattle.vault_store.specs.declared.sql_keeper.SqlKeeper.{SqlKeeper}
+use Rattle.vault_store.specs.Kept.{StandsFor}
+use Rattle.vault_store_apply.specs.Left.{LeavesAlone}
+use Rattle.vault_store.specs.VaultOf.{vault_of}
 use Rattle.vault_store.proofs.in_tables.run_in_tables.Goals as goal
 
 pub returns-in-Ok-run-clause-run : goal.returns-in-Ok-run-clause-run
@@ -19,9 +23,10 @@ returns-in-Ok-run-clause-run g c clean v is =
     let there = c.in-Ok.ensures.sound before in
     let here = subst (λ db. AreSound db v) (sym (c.in-Ok.ensures.same before).0.now_is) is in
     let same = same_vault _ _ v there.spells here.spells in
-    let w = kept_vault g.S.Store last.opening.at.items last.opening.known last.made.items in
-    ∥∥₁_map c.into_connection.ensures.stands (λ stands.
-    (w, subst (λ u. IsRun u c.args.commands.now c.in-Ok-run.replies.items w) same (c.in-Ok-run.ensures.run after), stands clean))
+    let w = vault_of g.S.Store last in
+    ∥∥₁_elim c.into_connection.ensures.stands squash₁ (λ stands.
+    ∥∥₁_map c.into_connection.ensures.crash (λ crash.
+    (w, subst (λ u. IsRun u c.args.commands.now c.in-Ok-run.replies.items w) same (c.in-Ok-run.ensures.run after), stands clean, last.refused.items, crash clean)))
 
 -- what was sound before an opening that changed nothing
 sound-before : (a b : Database) (v : Vault) → a ≡ b → AreSound a v → AreSound b v
@@ -33,6 +38,13 @@ returns-in-Ok-run-clause-sound g c clean =
     let before = c.run.ensures.honest after in
     (_, sound-before _ _ _ (c.in-Ok.ensures.same before).0.now_is (c.in-Ok.ensures.sound before))
 
+-- a crash leaves the same of what is the same
+same-left : {S : Type 0} (g : Ghosts S) (a b : Held S) (v : Vault) → a ≡ b → LeavesAlone (state g b) v → LeavesAlone (state g a) v
+same-left g a b v same alone = subst (λ h. LeavesAlone (state g h) v) (sym same) alone
+
+same-keeper : {S : Type 0} (g : Ghosts S) (k l : SqlKeeper S g) (v : Vault) → k ≡ l → LeavesAlone (state g l.conn) v → LeavesAlone (state g k.conn) v
+same-keeper {S} g k l v same alone = subst (λ (m : SqlKeeper S g). LeavesAlone (state g m.conn) v) (sym same) alone
+
 pub returns-in-Err-run-clause-refused : goal.returns-in-Err-run-clause-refused
 returns-in-Err-run-clause-refused g c clean =
     let after = subst (λ h. HasCleanDisk (state g.S.Store h)) c.into_connection-in-Err-run.ensures.same clean in
@@ -42,4 +54,5 @@ returns-in-Err-run-clause-refused g c clean =
       _,
       sound-before _ _ _ (c.in-Ok.ensures.same before).0.now_is (c.in-Ok.ensures.sound before),
       subst (λ u. StandsFor (state g.S.Store c.into_connection-in-Err-run.result) u) c.in-Err-run.ensures.err (stands clean),
+      same-left g.S.Store _ _ _ c.into_connection-in-Err-run.ensures.same (same-keeper g.S.Store _ _ _ c.in-Err-run.ensures.untouched (c.in-Ok.ensures.alone before)),
     ))

@@ -8,6 +8,11 @@ use Rattle.vault_store_apply.specs.Left.{IsFoundIn, LeavesAlone}
 use Rattle.vault_store.proofs.CreateLemmas.{opening_found, leaves_opening}
 use Rattle.vault_store.proofs.sql_keeper.SqlKeeper.create.Goals as goal
 
+pub over-requires-clause-alone : goal.over-requires-clause-alone
+over-requires-clause-alone g c clean v is =
+    let made = c.in-Ok.ensures.opening clean in
+    subst (LeavesAlone (state g.S.Store c.fill.new.conn)) (sym (same_vault _ _ opening is.spells made.spells)) (λ trees may. opening_found trees (c.in-Ok.ensures.alone clean trees may))
+
 pub returns-in-Ok-clause-sound : goal.returns-in-Ok-clause-sound
 returns-in-Ok-clause-sound g c clean =
     subst (λ h. HasCleanDisk (state g.S.Store h) → AreSound (state g.S.Store h).now opening) (sym c.over.ensures.same) c.in-Ok.ensures.opening clean

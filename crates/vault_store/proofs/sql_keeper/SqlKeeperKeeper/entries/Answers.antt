@@ -1,23 +1,23 @@
-use Rattle.std.proofs.Math.Logic.{∥∥₁_elim, ∥∥₁_map}
+use Rattle.std.proofs.Common.{sym, ◌∙◌}
+use Rattle.std.proofs.Math.Logic.{∥∥₁_elim}
 use Rattle.std.specs.Coded.{Coded-set, coded_list}
 use Rattle.vault_rules.specs.contracts.plan.Held as held
+use Rattle.vault_store.proofs.KeptLemmas.{read_kept}
 use Rattle.vault_store.proofs.sql_keeper.SqlKeeperKeeper.entries.Goals as goal
 
 pub invariant_of-self : goal.invariant_of-self
 invariant_of-self g c = record {
-  settled = c.read_entries.ensures.read.mode c.args.self.now.settled;
-  stands = ∥∥₁_map c.args.self.now.stands (λ stands clean.
-      let it = stands (c.read_entries.ensures.read.honest clean) in
-      record { sound = it.sound; keeps = c.read_entries.ensures.read.same clean _ it.keeps });
+  settled = c.read_entries.ensures.read.mode c.check_open.new.self.settled;
+  sure = λ _ clean. c.in-Ok.ensures.open clean;
+  kept = read_kept g.S.Store _ _ _ _ c.read_entries.ensures.read c.in_ok-check_open.ensures.open c.check_open.new.self.kept;
 }
 
 pub invariant_of-self-in-Err : goal.invariant_of-self-in-Err
 invariant_of-self-in-Err g c = record {
-  settled = c.read_entries.ensures.read.mode c.args.self.now.settled;
-  stands = ∥∥₁_map c.args.self.now.stands (λ stands clean.
-      let it = stands (c.read_entries.ensures.read.honest clean) in
-      record { sound = it.sound; keeps = c.read_entries.ensures.read.same clean _ it.keeps });
+  settled = c.read_entries.ensures.read.mode c.check_open.new.self.settled;
+  sure = λ sure. absurd (let both = sym c.blame.ensures.doubted ∙ sure in cc);
+  kept = read_kept g.S.Store _ _ _ _ c.read_entries.ensures.read c.in_ok-check_open.ensures.open c.check_open.new.self.kept;
 }
 
 pub returns-in-Ok-clause-value : goal.returns-in-Ok-clause-value
-returns-in-Ok-clause-value g c clean = ∥∥₁_elim c.args.self.now.stands (Coded-set (coded_list held.the_row.coded) _ _) (λ stands. c.in-Ok.ensures.value clean _ (stands (c.read_entries.ensures.read.honest clean)).keeps)
+returns-in-Ok-clause-value g c clean = rw c.in_ok-check_open.ensures.same at (∥∥₁_elim c.check_open.new.self.kept (Coded-set (coded_list held.the_row.coded) _ _) (λ kept. c.in-Ok.ensures.value clean _ (kept (c.read_entries.ensures.read.honest clean)).keeps))

@@ -1,35 +1,39 @@
-use Rattle.std.proofs.Common.{subst}
+use Rattle.std.proofs.Common.{Ok, sym, subst, ◌∙◌}
 use Rattle.std.proofs.Math.Logic.{∥∥₁_map}
 use Rattle.vault_core_model.specs.Handing.{Hands}
 use Rattle.vault_core_model.specs.Reads.{removed_entries}
-use Rattle.vault_store.specs.Kept.{kept_vault}
+use Rattle.vault_store.specs.VaultOf.{vault_of}
+use Rattle.vault_store_reads.proofs.HandLemmas.{none_taken}
 use Rattle.vault_store_reads.specs.Handed.{as_fault}
+use Rattle.vault_store.proofs.KeptLemmas.{read_kept}
 use Rattle.vault_store.proofs.sql_keeper.SqlKeeperKeeper.walk_removed.Goals as goal
 
 pub invariant_of-self : goal.invariant_of-self
 invariant_of-self g c = record {
-  settled = c.walk_removed.ensures.read.mode c.args.self.now.settled;
-  stands = ∥∥₁_map c.args.self.now.stands (λ stands clean.
-      let it = stands (c.walk_removed.ensures.read.honest clean) in
-      record { sound = it.sound; keeps = c.walk_removed.ensures.read.same clean _ it.keeps });
+  settled = c.walk_removed.ensures.read.mode c.check_open.new.self.settled;
+  sure = λ sure. absurd (let both = sure in cc);
+  kept = read_kept g.S.Store _ _ _ _ c.walk_removed.ensures.read c.in_ok-check_open.ensures.open c.check_open.new.self.kept;
 }
 
 pub invariant_of-self-in-Err : goal.invariant_of-self-in-Err
 invariant_of-self-in-Err g c = record {
-  settled = c.walk_removed.ensures.read.mode c.args.self.now.settled;
-  stands = ∥∥₁_map c.args.self.now.stands (λ stands clean.
-      let it = stands (c.walk_removed.ensures.read.honest clean) in
-      record { sound = it.sound; keeps = c.walk_removed.ensures.read.same clean _ it.keeps });
+  settled = c.walk_removed.ensures.read.mode c.check_open.new.self.settled;
+  sure = λ sure. absurd (let both = sym c.blame.ensures.doubted ∙ sure in cc);
+  kept = read_kept g.S.Store _ _ _ _ c.walk_removed.ensures.read c.in_ok-check_open.ensures.open c.check_open.new.self.kept;
 }
+
+pub returns-in_err-check_open-clause-value : goal.returns-in_err-check_open-clause-value
+returns-in_err-check_open-clause-value g c clean = none_taken g.T.Sink.takes c.args.sink.now (removed_entries (vault_of g.S.Store c.args.self.now))
 
 pub returns-in-Ok-clause-value : goal.returns-in-Ok-clause-value
 returns-in-Ok-clause-value g c clean =
-    let v = kept_vault g.S.Store c.args.self.now.opening.at.items c.args.self.now.opening.known c.args.self.now.made.items in
-    subst (λ r. Hands g.T.Sink.takes c.args.sink.now (removed_entries v) (as_fault r) c.walk_removed.new.sink) c.in-Ok.is
-    (c.walk_removed.ensures.value clean v (∥∥₁_map c.args.self.now.stands (λ stands. (stands (c.walk_removed.ensures.read.honest clean)).keeps)))
+    let v = vault_of g.S.Store c.check_open.new.self in
+    subst (λ w. Hands g.T.Sink.takes c.args.sink.now (removed_entries w) (Ok c.in-Ok.found) c.walk_removed.new.sink) c.in_ok-check_open.ensures.same
+    (subst (λ r. Hands g.T.Sink.takes c.args.sink.now (removed_entries v) (as_fault r) c.walk_removed.new.sink) c.in-Ok.is
+    (c.walk_removed.ensures.value clean v (∥∥₁_map c.check_open.new.self.kept (λ kept. (kept (c.walk_removed.ensures.read.honest clean)).keeps))))
 
 pub returns-in-Err-clause-value : goal.returns-in-Err-clause-value
 returns-in-Err-clause-value g c clean =
-    let v = kept_vault g.S.Store c.args.self.now.opening.at.items c.args.self.now.opening.known c.args.self.now.made.items in
-    subst (λ r. Hands g.T.Sink.takes c.args.sink.now (removed_entries v) (as_fault r) c.walk_removed.new.sink) c.in-Err.is
-    (c.walk_removed.ensures.value clean v (∥∥₁_map c.args.self.now.stands (λ stands. (stands (c.walk_removed.ensures.read.honest clean)).keeps)))
+    let v = vault_of g.S.Store c.check_open.new.self in
+    rw c.in_ok-check_open.ensures.same at (subst (λ r. Hands g.T.Sink.takes c.args.sink.now (removed_entries v) (as_fault r) c.walk_removed.new.sink) c.in-Err.is
+    (c.walk_removed.ensures.value clean v (∥∥₁_map c.check_open.new.self.kept (λ kept. (kept (c.walk_removed.ensures.read.honest clean)).keeps))))

@@ -1,0 +1,12 @@
+use Rattle.std.proofs.Common.{[]}
+use Rattle.sqlite.specs.Held.{state}
+use Rattle.vault_store_apply.proofs.ReadLemmas.{unchanged_keeps, refused_keeps}
+use Rattle.vault_store.proofs.shut.refuse_shut.Goals as goal
+
+pub returns-clause-same : goal.returns-clause-same
+returns-clause-same g c clean v was =
+    unchanged_keeps (state g.S.Store c.args.conn.now) (state g.S.Store c.prepare.new.self) v (c.in_ok-_statement.ensures.ok clean).1 was
+
+pub returns-in_err-_statement-clause-same : goal.returns-in_err-_statement-clause-same
+returns-in_err-_statement-clause-same g c clean v was =
+    refused_keeps (state g.S.Store c.args.conn.now) (state g.S.Store c.prepare.new.self) _ [] _ v (c.in_err-_statement.ensures.err clean []) was

@@ -1,0 +1,17 @@
+use Rattle.std.proofs.Common.{sym, ◌∙◌}
+use Rattle.vault_store.proofs.KeptLemmas.{quietly_kept}
+use Rattle.vault_store.proofs.sql_keeper.SqlKeeper.check_open.Goals as goal
+
+pub invariant_of-self : goal.invariant_of-self
+invariant_of-self g c = record {
+  settled = c.refuse_shut.ensures.mode c.args.self.now.settled;
+  sure = λ _ clean. c.in-Ok.ensures.open clean;
+  kept = quietly_kept _ _ _ _ c.refuse_shut.ensures.honest c.refuse_shut.ensures.same c.refuse_shut.ensures.survives c.args.self.now.kept;
+}
+
+pub invariant_of-self-in-Err : goal.invariant_of-self-in-Err
+invariant_of-self-in-Err g c = record {
+  settled = c.refuse_shut.ensures.mode c.args.self.now.settled;
+  sure = λ sure. absurd (let both = sym c.blame.ensures.doubted ∙ sure in cc);
+  kept = quietly_kept _ _ _ _ c.refuse_shut.ensures.honest c.refuse_shut.ensures.same c.refuse_shut.ensures.survives c.args.self.now.kept;
+}
