@@ -1,6 +1,9 @@
-use Rattle.std.proofs.Common.{Ok, sym, subst, ◌∙◌}
+use Rattle.std.proofs.Common.{Bool, List, Result, Ok, Err, sym, subst, ◌∙◌}
+use Rattle.std.specs.Prelude.{IsErrAnd}
 use Rattle.std.proofs.Math.Logic.{∥∥₁_map}
-use Rattle.vault_core_model.specs.Handing.{Hands, TakesSome}
+use Rattle.vault_core_model.specs.declared.halt.Fault.{Fault}
+use Rattle.vault_core_model.specs.declared.records.Entry.{Entry}
+use Rattle.vault_core_model.specs.Handing.{Hands, Taking}
 use Rattle.vault_core_model.specs.Reads.{removed_entries}
 use Rattle.vault_store.specs.VaultOf.{vault_of}
 use Rattle.vault_store_reads.proofs.HandLemmas.{none_taken}
@@ -22,8 +25,13 @@ invariant_of-self-in-Err g c = record {
   kept = read_kept g.S.Store _ _ _ _ c.walk_removed.ensures.read c.in_ok-check_open.ensures.open c.check_open.new.self.kept;
 }
 
+-- a fault before anything was handed on
+nothing_handed : {T : Type 0} {P : Fault → Type 0} (takes : Taking T) (sink : T) (es : List Entry) (r : Result Bool Fault) → IsErrAnd r P → Hands takes sink es r sink
+nothing_handed takes sink es (Ok b) fails = absurd fails
+nothing_handed takes sink es (Err f) fails = none_taken takes sink es
+
 pub returns-in_err-check_open-clause-value : goal.returns-in_err-check_open-clause-value
-returns-in_err-check_open-clause-value g c clean = none_taken g.T.Sink.takes c.args.sink.now (removed_entries (vault_of g.S.Store c.args.self.now))
+returns-in_err-check_open-clause-value g c clean = nothing_handed g.T.Sink.takes c.args.sink.now (removed_entries (vault_of g.S.Store c.args.self.now)) c.from_residual.result c.from_residual.ensures.1
 
 pub returns-in-Ok-clause-value : goal.returns-in-Ok-clause-value
 returns-in-Ok-clause-value g c clean =
@@ -35,6 +43,5 @@ returns-in-Ok-clause-value g c clean =
 pub returns-in-Err-clause-value : goal.returns-in-Err-clause-value
 returns-in-Err-clause-value g c clean =
     let v = vault_of g.S.Store c.check_open.new.self in
-    subst (λ w. TakesSome g.T.Sink.takes c.args.sink.now (removed_entries w) c.walk_removed.new.sink) c.in_ok-check_open.ensures.same
-    (subst (λ r. Hands g.T.Sink.takes c.args.sink.now (removed_entries v) (as_fault r) c.walk_removed.new.sink) c.in-Err.is
+    rw c.in_ok-check_open.ensures.same at (subst (λ r. Hands g.T.Sink.takes c.args.sink.now (removed_entries v) (as_fault r) c.walk_removed.new.sink) c.in-Err.is
     (c.walk_removed.ensures.value clean v (∥∥₁_map c.check_open.new.self.kept (λ kept. (kept (c.walk_removed.ensures.read.honest clean)).keeps))))
