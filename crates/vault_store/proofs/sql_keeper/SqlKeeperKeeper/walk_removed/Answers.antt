@@ -26,12 +26,12 @@ invariant_of-self-in-Err g c = record {
 }
 
 -- a fault before anything was handed on
-nothing_handed : {T : Type 0} {P : Fault → Type 0} (takes : Taking T) (sink : T) (es : List Entry) (r : Result Bool Fault) → IsErrAnd r P → Hands takes sink es r sink
-nothing_handed takes sink es (Ok b) fails = absurd fails
-nothing_handed takes sink es (Err f) fails = none_taken takes sink es
+nothing_handed : {T : Type 0} (P : Fault → Type 0) (takes : Taking T) (sink : T) (es : List Entry) (r : Result Bool Fault) → IsErrAnd r P → Hands takes sink es r sink
+nothing_handed P takes sink es (Ok b) fails = absurd fails
+nothing_handed P takes sink es (Err f) fails = none_taken takes sink es
 
 pub returns-in_err-check_open-clause-value : goal.returns-in_err-check_open-clause-value
-returns-in_err-check_open-clause-value g c clean = nothing_handed g.T.Sink.takes c.args.sink.now (removed_entries (vault_of g.S.Store c.args.self.now)) c.from_residual.result c.from_residual.ensures.1
+returns-in_err-check_open-clause-value g c clean = nothing_handed _ g.T.Sink.takes c.args.sink.now (removed_entries (vault_of g.S.Store c.args.self.now)) c.from_residual.result c.from_residual.ensures.1
 
 pub returns-in-Ok-clause-value : goal.returns-in-Ok-clause-value
 returns-in-Ok-clause-value g c clean =
