@@ -1,4 +1,5 @@
 mod AskedLemmas
+mod HonestLemmas
 mod IntakeLemmas
 mod StatusLemmas
 mod TellingLemmas
