@@ -1,4 +1,3 @@
-mod AskedLemmas
-mod IntakeLemmas
+mod DoneLemmas
 mod StatusLemmas
 mod TellingLemmas

@@ -1,0 +1,3 @@
+pub mod AnsweredLemmas
+pub mod AskedLemmas
+pub mod IntakeLemmas

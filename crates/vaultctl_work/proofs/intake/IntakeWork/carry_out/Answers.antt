@@ -1,0 +1,4 @@
+use Rattle.vaultctl_work.proofs.intake.IntakeWork.carry_out.Goals as goal
+
+pub returns-clause-told : goal.returns-clause-told
+returns-clause-told g c = (c.take_in_list.ensures.told, c.take_in_list.ensures.reader, c.take_in_list.ensures.device)
