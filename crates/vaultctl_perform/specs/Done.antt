@@ -33,7 +33,7 @@ given_by (job.Migrate j) given = with_copied given
 given_by (job.Replay j) given = given_for j.file given
 given_by _ given = with_opened given
 
-module _ {D E : Type 0} {g : Ghosts D} {h : Ghosts E} (image : Image) where
+module _ {D : Type 0} {g : Ghosts D} (image : Image) where
   -- what is asked was done with the vault that was found in the file
   abbrev pub IsAskedDone : Result Asked Refusal → List (Held (FileStore D g) × Bool) → List (Held (FileStore D g) × Bool) → Option (List ℕ) → Option (List ℕ) → Type 0
   IsAskedDone said old new before after = IsOkAnd said (λ asked. Carries image old new (λ v w. IsStepDone asked Done v w before after))
@@ -46,23 +46,24 @@ module _ {D E : Type 0} {g : Ghosts D} {h : Ghosts E} (image : Image) where
   abbrev pub IsReplayed : ReplayJob → List (Held (FileStore D g) × Bool) → List (Held (FileStore D g) × Bool) → Option (List ℕ) → Option (List ℕ) → Option (List ℕ) → Option (List ℕ) → Type 0
   IsReplayed j = IsScriptDone j.file
 
+module _ {D E : Type 0} {g : Ghosts D} {h : Ghosts E} (image : Image) where
   -- by the connections that were closed before and after, those of copies too, what was left of the input, and what was printed
   abbrev pub IsDoneInFiles : Job → List (Held (FileStore D g) × Bool) → List (Held (FileStore D g) × Bool) → List (Held (FileStore E h) × Bool) → List (Held (FileStore E h) × Bool)
       → Option (List ℕ) → Option (List ℕ) → Option (List ℕ) → Option (List ℕ) → Type 0
   IsDoneInFiles (job.Init j) old new none copies input left before after = Closes old new (λ conn. HasCleanDisk (file_state conn) → ∥ StandsFor (file_state conn) opening ∥₁)
-  IsDoneInFiles (job.Dept j) old new none copies input left before after = IsAskedDone (dept_of j) old new before after
-  IsDoneInFiles (job.Caller j) old new none copies input left before after = IsAskedDone (caller_of j) old new before after
-  IsDoneInFiles (job.Bucket j) old new none copies input left before after = IsAskedDone (bucket_of j) old new before after
-  IsDoneInFiles (job.Move j) old new none copies input left before after = IsAskedDone (move_bucket_of j) old new before after
+  IsDoneInFiles (job.Dept j) old new none copies input left before after = IsAskedDone image (dept_of j) old new before after
+  IsDoneInFiles (job.Caller j) old new none copies input left before after = IsAskedDone image (caller_of j) old new before after
+  IsDoneInFiles (job.Bucket j) old new none copies input left before after = IsAskedDone image (bucket_of j) old new before after
+  IsDoneInFiles (job.Move j) old new none copies input left before after = IsAskedDone image (move_bucket_of j) old new before after
   IsDoneInFiles (job.Intake j) old new none copies input left before after = IsOkAnd (intake_of j) (λ asked. Carries image old new (λ v w. IsIntakeDone asked Done v w before after))
-  IsDoneInFiles (job.Run j) old new none copies input left before after = IsAskedDone (run_of j) old new before after
-  IsDoneInFiles (job.Report j) old new none copies input left before after = IsAskedDone (report_of j) old new before after
-  IsDoneInFiles (job.Certificate j) old new none copies input left before after = IsAskedDone (certificate_of j) old new before after
+  IsDoneInFiles (job.Run j) old new none copies input left before after = IsAskedDone image (run_of j) old new before after
+  IsDoneInFiles (job.Report j) old new none copies input left before after = IsAskedDone image (report_of j) old new before after
+  IsDoneInFiles (job.Certificate j) old new none copies input left before after = IsAskedDone image (certificate_of j) old new before after
   IsDoneInFiles (job.Register j) old new none copies input left before after = Carries image old new (λ v w. IsRegistered v w before after)
   IsDoneInFiles (job.Verify j) old new none copies input left before after = Carries image old new (λ v w. w ≡ v)
   IsDoneInFiles (job.Events j) old new none copies input left before after = IsOkAnd (events_of j) (λ asked. Carries image old new (λ v w. AreEventsTold asked v w before after))
   IsDoneInFiles (job.Seal j) old new none copies input left before after = IsOkAnd (seal_of j) (λ asked. Carries image old new (λ v w. IsSealDone asked Done v w before after))
   IsDoneInFiles (job.Lawful j) old new none copies input left before after = Carries image old new (λ v w. IsJudgedDone Done v w before after)
-  IsDoneInFiles (job.Replay j) old new none copies input left before after = IsReplayed j old new input left before after
+  IsDoneInFiles (job.Replay j) old new none copies input left before after = IsReplayed image j old new input left before after
   IsDoneInFiles (job.Serve j) old new none copies input left before after = Carries image old new (λ v w. IsServed j v w)
   IsDoneInFiles (job.Migrate j) old new none copies input left before after = Copies image old new none copies
