@@ -65,7 +65,7 @@ class Keys(OfficeTest):
     def test_a_disk_that_is_full_leaves_the_old_keys(self) -> None:
         self.key("add", "ann", "--json")
         before = self.keys.read_bytes()
-        with unittest.mock.patch("os.fchown", side_effect=OSError(28, "No space left on device")):
+        with unittest.mock.patch("os.chown", side_effect=OSError(28, "No space left on device")):
             self.assertEqual(self.desk("s3", "key", "add", "bea", "--settings", self.settings, at=None).status, 1)
         self.assertEqual(self.keys.read_bytes(), before)
         self.assertEqual([it.name for it in self.folder.iterdir() if it.name.startswith(".keys")], [])

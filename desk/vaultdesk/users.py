@@ -11,7 +11,6 @@ import grp
 import os
 import subprocess
 import sys
-import tempfile
 from pathlib import Path
 
 from vaultdesk import conf, config, reading
@@ -19,6 +18,7 @@ from vaultdesk.asking import add_yes, confirm
 from vaultdesk.errors import DeskError, UsageError
 from vaultdesk.output import print_json, print_table
 from vaultdesk.owner import Owner, owner_of
+from vaultdesk.replacing import write_anew
 
 NGINX = "www-data"  # the group as which Debian's nginx reads
 ABOUT = """Looks after the file of the users whom nginx lets in (auth_basic_user_file). Each line has a name, which has
@@ -57,20 +57,12 @@ def _placed(path: Path) -> tuple[int, Owner]:
 def write_users(path: Path, users: dict[str, str]) -> None:
     """Writes the file anew, so that nginx reads the old one or the new one."""
     mode, owner = _placed(path)
-    try:
-        descriptor, name = tempfile.mkstemp(dir=path.parent, prefix=f".{path.name}-")
-        new = Path(name)
-        try:
-            with open(descriptor, "w", encoding="utf-8") as file:
-                file.writelines(f"{user}:{digest}\n" for user, digest in users.items())
-                os.fchmod(descriptor, mode)
-            owner.give(new)
-            new.replace(path)
-        except BaseException:
-            new.unlink(missing_ok=True)
-            raise
-    except OSError as error:
-        raise DeskError(f"{path}: {error.strerror}") from error
+
+    def place(new: Path) -> None:
+        new.chmod(mode)
+        owner.give(new)
+
+    write_anew(path, "".join(f"{user}:{digest}\n" for user, digest in users.items()), place)
 
 
 def digest_of(password: str) -> str:

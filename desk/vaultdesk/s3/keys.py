@@ -11,7 +11,6 @@ import json
 import os
 import re
 import secrets
-import tempfile
 import tomllib
 from collections.abc import Mapping
 from dataclasses import dataclass
@@ -19,6 +18,7 @@ from pathlib import Path
 
 from vaultdesk import conf
 from vaultdesk.errors import DeskError, UsageError
+from vaultdesk.replacing import write_anew
 
 KEY = re.compile(r"[A-Za-z0-9]{16,64}")
 LETTERS = "ABCDEFGHIJKLMNOPQRSTUVWXYZ234567"
@@ -51,23 +51,15 @@ def read(path: Path) -> dict[str, Key]:
 
 
 def write(path: Path, keys: Mapping[str, Key]) -> None:
-    """Writes the file anew, with mode 0600. `DeskError` where it can't be written."""
+    """Writes the file anew, with mode 0600 and the owner that it had. `DeskError` where it can't be written."""
     lines = [f'[{name}]\ncaller = "{it.caller}"\nsecret = {json.dumps(it.secret)}\n' for name, it in keys.items()]
-    try:
-        owner = path.stat() if path.exists() else None
-        descriptor, name = tempfile.mkstemp(dir=path.parent, prefix=f".{path.name}-")  # made with mode 0600
-        new = Path(name)
-        try:
-            with open(descriptor, "w", encoding="utf-8") as file:
-                file.write("\n".join(lines))
-                if owner:
-                    os.fchown(descriptor, owner.st_uid, owner.st_gid)
-            new.replace(path)
-        except BaseException:
-            new.unlink(missing_ok=True)
-            raise
-    except OSError as error:
-        raise DeskError(f"{path}: {error.strerror}") from error
+
+    def place(new: Path) -> None:
+        if path.exists():
+            old = path.stat()
+            os.chown(new, old.st_uid, old.st_gid)
+
+    write_anew(path, "\n".join(lines), place)
 
 
 def new(caller: str) -> tuple[str, Key]:
