@@ -1,2 +1,4 @@
+mod ClosingLemmas
 mod FoundLemmas
 mod MigrationLemmas
+mod OpeningLemmas

@@ -1,4 +1,6 @@
+pub mod Closings
 pub mod Editions
 pub mod Files
+pub mod Openings
 pub mod Places
 pub mod Faults

@@ -1,6 +1,7 @@
 //! What the program uses of the machine: its terminal, and vaults in files.
 #![tactic(auto)]
 
+pub mod crashes;
 mod editions;
 mod looks;
 pub mod migration;

@@ -9,7 +9,7 @@ ghost use Rattle.vault_audit_model.specs.declared.schema.Edition.{Edition};
 ghost use Rattle.vault_audit_model.specs.Spells.{AreSound, AreSoundAs};
 ghost use Rattle.vault_base.specs.declared.refusal.Table.{Table};
 ghost use Rattle.vault_core_model.specs.Vault.{Vault};
-ghost use Rattle.vault_store.specs.Kept.{kept_vault};
+ghost use Rattle.vault_store.specs.VaultOf.{vault_of};
 ghost use Rattle.vaultctl_machine.specs.Faults.{refusal_of};
 ghost use Rattle.vaultctl_machine.specs.Files.{AreSoundEarlier, IsFoundEarlier, IsHeldAs};
 ghost use Rattle.vaultctl_machine.specs.Places.{after_a_look, with_one_given};
@@ -55,8 +55,8 @@ fn copy<O: Alter, S: Alter>(
     ensures clean { HasCleanDisk (state O.Store result.source) → HasCleanDisk (state O.Store source) }
     // The tables that were found spell the vault that the keeper stands for, and so do the new ones.
     ensures found { IfOk result.outcome (λ k. HasCleanDisk (state O.Store result.source) → HasCleanDisk (state S.Store k.conn)
-        → AreSoundAs edition (state O.Store source).now (kept_vault S.Store k.opening.at.items k.opening.known k.made.items)) }
-    ensures sound { IfOk result.outcome (λ k. HasCleanDisk (state S.Store k.conn) → AreSound (state S.Store k.conn).now (kept_vault S.Store k.opening.at.items k.opening.known k.made.items)) }
+        → AreSoundAs edition (state O.Store source).now (vault_of S.Store k)) }
+    ensures sound { IfOk result.outcome (λ k. HasCleanDisk (state S.Store k.conn) → AreSound (state S.Store k.conn).now (vault_of S.Store k)) }
     ensures damaged { IfErr result.outcome (λ e. HasCleanDisk (state O.Store result.source) → (t : Table) → e.0 ≡ Refusal.Damaged t → (v : Vault) → ¬ AreSoundAs edition (state O.Store source).now v) }
 {
     let mut source = source;
@@ -72,8 +72,8 @@ fn copy_earlier<O: Alter, S: Alter>(
 ) -> Copied<O, S>
     ensures clean { HasCleanDisk (state O.Store result.source) → HasCleanDisk (state O.Store source) }
     ensures found { IfOk result.outcome (λ k. HasCleanDisk (state O.Store result.source) → HasCleanDisk (state S.Store k.conn)
-        → AreSoundEarlier (state O.Store source).now (kept_vault S.Store k.opening.at.items k.opening.known k.made.items)) }
-    ensures sound { IfOk result.outcome (λ k. HasCleanDisk (state S.Store k.conn) → AreSound (state S.Store k.conn).now (kept_vault S.Store k.opening.at.items k.opening.known k.made.items)) }
+        → AreSoundEarlier (state O.Store source).now (vault_of S.Store k)) }
+    ensures sound { IfOk result.outcome (λ k. HasCleanDisk (state S.Store k.conn) → AreSound (state S.Store k.conn).now (vault_of S.Store k)) }
     // Tables that are sound as those of one of the two are never told as damaged.
     ensures undamaged { (v : Vault) → AreSoundEarlier (state O.Store source).now v
         → IfErr result.outcome (λ e. HasCleanDisk (state O.Store result.source) → (t : Table) → e.0 ≢ Refusal.Damaged t) }
@@ -91,8 +91,8 @@ fn copy_to_file<O: Alter, B: Start>(
 ) -> Copied<O, VaultStore<B>>
     ensures clean { HasCleanDisk (state O.Store result.source) → HasCleanDisk (state O.Store source) }
     ensures found { IfOk result.outcome (λ k. HasCleanDisk (state O.Store result.source) → HasCleanDisk (file_state k.conn)
-        → AreSoundEarlier (state O.Store source).now (kept_vault over_files k.opening.at.items k.opening.known k.made.items)) }
-    ensures sound { IfOk result.outcome (λ k. HasCleanDisk (file_state k.conn) → AreSound (file_state k.conn).now (kept_vault over_files k.opening.at.items k.opening.known k.made.items)) }
+        → AreSoundEarlier (state O.Store source).now (vault_of over_files k)) }
+    ensures sound { IfOk result.outcome (λ k. HasCleanDisk (file_state k.conn) → AreSound (file_state k.conn).now (vault_of over_files k)) }
     ensures undamaged { (v : Vault) → AreSoundEarlier (state O.Store source).now v
         → IfErr result.outcome (λ e. HasCleanDisk (state O.Store result.source) → (t : Table) → e.0 ≢ Refusal.Damaged t) }
 {
@@ -107,8 +107,8 @@ fn copy_file<A: Start, B: Start>(
 ) -> Copied<VaultStore<A>, VaultStore<B>>
     ensures clean { HasCleanDisk (file_state result.source) → HasCleanDisk (file_state source) }
     ensures found { IfOk result.outcome (λ k. HasCleanDisk (file_state result.source) → HasCleanDisk (file_state k.conn)
-        → AreSoundEarlier (file_state source).now (kept_vault over_files k.opening.at.items k.opening.known k.made.items)) }
-    ensures sound { IfOk result.outcome (λ k. HasCleanDisk (file_state k.conn) → AreSound (file_state k.conn).now (kept_vault over_files k.opening.at.items k.opening.known k.made.items)) }
+        → AreSoundEarlier (file_state source).now (vault_of over_files k)) }
+    ensures sound { IfOk result.outcome (λ k. HasCleanDisk (file_state k.conn) → AreSound (file_state k.conn).now (vault_of over_files k)) }
     ensures undamaged { (v : Vault) → AreSoundEarlier (file_state source).now v
         → IfErr result.outcome (λ e. HasCleanDisk (file_state result.source) → (t : Table) → e.0 ≢ Refusal.Damaged t) }
 {
@@ -137,11 +137,11 @@ fn copy_into<A: Start, B: Start>(
 ) -> Result<Migrated<VaultStore<A>, VaultStore<B>>, Unopened>
     requires opened { HasCleanDisk (file_state found.conn) → IsOpened found.conn }
     requires found { HasCleanDisk (file_state found.conn) → FindsIn (image_at A.Start) (file_state found.conn) }
-    ensures sound { IfOk result (λ m. HasCleanDisk (file_state m.vault.conn) → AreSound (file_state m.vault.conn).now (kept_vault over_files m.vault.opening.at.items m.vault.opening.known m.vault.made.items)) }
+    ensures sound { IfOk result (λ m. HasCleanDisk (file_state m.vault.conn) → AreSound (file_state m.vault.conn).now (vault_of over_files m.vault)) }
     ensures found { IfOk result (λ m. HasCleanDisk (file_state m.source) → HasCleanDisk (file_state m.vault.conn)
-        → IsFoundEarlier (image_at A.Start) (kept_vault over_files m.vault.opening.at.items m.vault.opening.known m.vault.made.items)) }
+        → IsFoundEarlier (image_at A.Start) (vault_of over_files m.vault)) }
     ensures held { (n : Edition) (v : Vault) → IsHeldAs n (image_at A.Start) v → IfOk result (λ m. HasCleanDisk (file_state m.source) → HasCleanDisk (file_state m.vault.conn)
-        → kept_vault over_files m.vault.opening.at.items m.vault.opening.known m.vault.made.items ≡ v) }
+        → vault_of over_files m.vault ≡ v) }
 {
     let Opened { conn, before } = found;
     let Opened {
@@ -182,11 +182,11 @@ fn copy_at<A: Start, B: Start>(
     new: &str,
     starts: Starts<A, B>,
 ) -> Result<Migrated<VaultStore<A>, VaultStore<B>>, Unopened>
-    ensures sound { IfOk result (λ m. HasCleanDisk (file_state m.vault.conn) → AreSound (file_state m.vault.conn).now (kept_vault over_files m.vault.opening.at.items m.vault.opening.known m.vault.made.items)) }
+    ensures sound { IfOk result (λ m. HasCleanDisk (file_state m.vault.conn) → AreSound (file_state m.vault.conn).now (vault_of over_files m.vault)) }
     ensures found { IfOk result (λ m. HasCleanDisk (file_state m.source) → HasCleanDisk (file_state m.vault.conn)
-        → IsFoundEarlier (image_at A.Start) (kept_vault over_files m.vault.opening.at.items m.vault.opening.known m.vault.made.items)) }
+        → IsFoundEarlier (image_at A.Start) (vault_of over_files m.vault)) }
     ensures held { (n : Edition) (v : Vault) → IsHeldAs n (image_at A.Start) v → IfOk result (λ m. HasCleanDisk (file_state m.source) → HasCleanDisk (file_state m.vault.conn)
-        → kept_vault over_files m.vault.opening.at.items m.vault.opening.known m.vault.made.items ≡ v) }
+        → vault_of over_files m.vault ≡ v) }
 {
     let Starts { first, second } = starts;
     let target = match site_for_new(rt, new) {
@@ -239,13 +239,13 @@ impl<'a> Machine<'a> {
         // It is counted just where there is a copy.
         ensures counted { OnOk result (self.new.given ≡ with_one_given self.old.given) }
         ensures uncounted { OnErr result (self.new.given ≡ self.old.given) }
-        ensures sound { IfOk result (λ m. HasCleanDisk (file_state m.vault.conn) → AreSound (file_state m.vault.conn).now (kept_vault over_files m.vault.opening.at.items m.vault.opening.known m.vault.made.items)) }
+        ensures sound { IfOk result (λ m. HasCleanDisk (file_state m.vault.conn) → AreSound (file_state m.vault.conn).now (vault_of over_files m.vault)) }
         // The vault of the copy is the one that the tables spell which were found in the old files.
         ensures found { IfOk result (λ m. HasCleanDisk (file_state m.source) → HasCleanDisk (file_state m.vault.conn)
-            → IsFoundEarlier (image_at A.Start) (kept_vault over_files m.vault.opening.at.items m.vault.opening.known m.vault.made.items)) }
+            → IsFoundEarlier (image_at A.Start) (vault_of over_files m.vault)) }
         // Where these held a vault, it is that one.
         ensures held { (n : Edition) (v : Vault) → IsHeldAs n (image_at A.Start) v → IfOk result (λ m. HasCleanDisk (file_state m.source) → HasCleanDisk (file_state m.vault.conn)
-            → kept_vault over_files m.vault.opening.at.items m.vault.opening.known m.vault.made.items ≡ v) }
+            → vault_of over_files m.vault ≡ v) }
     {
         let rt = self.look();
         let migrated = copy_at(rt, old, new, starts);

@@ -1,16 +1,21 @@
 //! Vaults in files.
-ghost use Rattle.std.specs.Prelude.{◌≡◌, IfOk, OnOk, OnErr};
+ghost use Rattle.std.specs.Prelude.{◌≡◌, IfOk, IfSome, OnOk, OnErr};
+ghost use Rattle.sqlite.specs.Closing.{IsCopied};
 ghost use Rattle.sqlite.specs.Files.{file_state, over_files, IsOpened};
 ghost use Rattle.sqlite.specs.Held.{state};
 ghost use Rattle.sqlite.specs.Start.{FindsIn};
 ghost use Rattle.sqlite.specs.State.{HasCleanDisk, IsUnchanged, Survives};
 ghost use Rattle.sqlite_wal.specs.Files.{image_at};
+ghost use Rattle.sqlite_wal.specs.Reads.{AreClean};
 ghost use Rattle.vault_audit_model.specs.Spells.{AreSound};
 ghost use Rattle.vault_core_model.specs.Vault.{Vault, opening};
-ghost use Rattle.vault_store.specs.Kept.{kept_vault};
+ghost use Rattle.vault_store.specs.VaultOf.{vault_of};
+ghost use Rattle.vault_store_apply.specs.Left.{LeavesAlone};
+ghost use Rattle.vaultctl_machine.specs.Closings.{HoldVault};
 ghost use Rattle.vaultctl_machine.specs.Faults as spec;
 ghost use Rattle.vaultctl_machine.specs.Faults.{refusal_of};
 ghost use Rattle.vaultctl_machine.specs.Files.{IsFoundIn, IsHeldIn};
+ghost use Rattle.vaultctl_machine.specs.Openings.{IsOpenedFrom};
 ghost use Rattle.vaultctl_machine.specs.Places.{after_a_look, with_one_given};
 
 use crate::editions::why_unsound;
@@ -19,7 +24,8 @@ use crate::site::Site;
 use crate::stores::before::Before;
 use crate::stores::{self, Opened};
 use crate::unopened::{Unopened, with_cause};
-use sqlite::{Alter, Connection, Error, ErrorCode, FileFrom, FileStore, Start};
+use sqlite::{Alter, Connection, Error, ErrorCode, FileFrom, FileStore, Files, Start};
+use sqlite_disk::Disk;
 use std::alloc::Global;
 use std::io::{self, ErrorKind};
 use vault_base::refusal::{Refusal, Table};
@@ -179,16 +185,34 @@ fn why_refused(refusal: Refusal, unsound: Cause, had_no_room: bool) -> Option<Ca
     }
 }
 
-/// Closes a connection, so that all that it committed stands in its file.
+/// Closes a connection, so that all that it committed stands in its file, and gives the two files back.
 ///
-/// Where that fails, what was committed stands in the log beside the file, and the next open finds it there.
-fn close<S: Start>(conn: Connection<VaultStore<S>>) {
-    let _ = conn.close();
+/// None where that fails: then what was committed stands in the log beside the file, and the next open finds it there.
+fn close<D: Disk + Drop>(conn: Connection<FileStore<D>>) -> Option<Files<D>>
+    ensures copied { IfSome result (λ files. AreClean D.Disk files.log files.db → IsCopied conn files) }
+{
+    match conn.close_files() {
+        Ok(files) => Some(files),
+        Err((_, store)) => {
+            drop(store.close());
+            None
+        }
+    }
 }
 
-/// Closes a vault.
+/// Closes a vault, so that all that it committed stands in its file, and gives the file and its log back.
+///
+/// None where that fails, as with `close`.
+pub fn close_keeper<D: Disk + Drop>(vault: SqlKeeper<FileStore<D>>) -> Option<Files<D>>
+    // The file holds the vault, with its log and without, and whatever a crash leaves of the two.
+    ensures held { IfSome result (HoldVault vault) }
+{
+    close(vault.into_connection())
+}
+
+/// Closes a vault in files.
 pub fn close_vault<S: Start>(vault: FileVault<S>) {
-    close(vault.into_connection());
+    drop(close_keeper(vault));
 }
 
 /// The vault in the tables of a connection, over any store. It says no more than what one in files has to say.
@@ -196,9 +220,10 @@ fn open_in<S: Alter>(
     alloc: Global,
     conn: Connection<S>,
 ) -> Result<SqlKeeper<S>, (Refusal, Connection<S>)>
-    ensures sound { IfOk result (λ k. HasCleanDisk (state S.Store k.conn) → AreSound (state S.Store k.conn).now (kept_vault S.Store k.opening.at.items k.opening.known k.made.items)) }
+    ensures sound { IfOk result (λ k. HasCleanDisk (state S.Store k.conn) → AreSound (state S.Store k.conn).now (vault_of S.Store k)) }
     ensures same { IfOk result (λ k. HasCleanDisk (state S.Store k.conn) → IsUnchanged (state S.Store conn) (state S.Store k.conn)) }
     ensures crash { IfOk result (λ k. Survives (state S.Store conn) (state S.Store k.conn) (λ _. ⊥)) }
+    ensures alone { IfOk result (λ k. HasCleanDisk (state S.Store k.conn) → LeavesAlone (state S.Store k.conn) (vault_of S.Store k)) }
 {
     SqlKeeper::open(alloc, conn)
 }
@@ -210,9 +235,11 @@ fn found_in<S: Start>(
 ) -> Result<FileVault<S>, Unopened>
     requires opened { HasCleanDisk (file_state found.conn) → IsOpened found.conn }
     requires found { HasCleanDisk (file_state found.conn) → FindsIn (image_at S.Start) (file_state found.conn) }
-    ensures sound { IfOk result (λ vault. HasCleanDisk (file_state vault.conn) → AreSound (file_state vault.conn).now (kept_vault over_files vault.opening.at.items vault.opening.known vault.made.items)) }
-    ensures found { IfOk result (λ vault. HasCleanDisk (file_state vault.conn) → IsFoundIn (image_at S.Start) (kept_vault over_files vault.opening.at.items vault.opening.known vault.made.items)) }
-    ensures held { (v : Vault) → IsHeldIn (image_at S.Start) v → IfOk result (λ vault. HasCleanDisk (file_state vault.conn) → kept_vault over_files vault.opening.at.items vault.opening.known vault.made.items ≡ v) }
+    ensures sound { IfOk result (λ vault. HasCleanDisk (file_state vault.conn) → AreSound (file_state vault.conn).now (vault_of over_files vault)) }
+    ensures found { IfOk result (λ vault. HasCleanDisk (file_state vault.conn) → IsFoundIn (image_at S.Start) (vault_of over_files vault)) }
+    ensures held { (v : Vault) → IsHeldIn (image_at S.Start) v → IfOk result (λ vault. HasCleanDisk (file_state vault.conn) → vault_of over_files vault ≡ v) }
+    ensures opened { IfOk result (λ vault. HasCleanDisk (file_state vault.conn) → IsOpenedFrom (image_at S.Start) (file_state vault.conn)) }
+    ensures alone { IfOk result (λ vault. HasCleanDisk (file_state vault.conn) → LeavesAlone (file_state vault.conn) (vault_of over_files vault)) }
 {
     let Opened { conn, before } = found;
     match open_in(site.runtime().alloc(), conn) {
@@ -229,8 +256,9 @@ fn create_in<S: Alter>(
     alloc: Global,
     conn: Connection<S>,
 ) -> Result<SqlKeeper<S>, (Refusal, Connection<S>)>
-    ensures opening { IfOk result (λ k. HasCleanDisk (state S.Store k.conn) → kept_vault S.Store k.opening.at.items k.opening.known k.made.items ≡ opening) }
+    ensures opening { IfOk result (λ k. HasCleanDisk (state S.Store k.conn) → vault_of S.Store k ≡ opening) }
     ensures sound { IfOk result (λ k. HasCleanDisk (state S.Store k.conn) → AreSound (state S.Store k.conn).now opening) }
+    ensures alone { IfOk result (λ k. HasCleanDisk (state S.Store k.conn) → LeavesAlone (state S.Store k.conn) opening) }
 {
     SqlKeeper::create(alloc, conn)
 }
@@ -240,8 +268,9 @@ fn made_in<S: Start>(
     site: &Site<'_>,
     empty: Opened<VaultStore<S>>,
 ) -> Result<FileVault<S>, Unopened>
-    ensures opening { IfOk result (λ vault. HasCleanDisk (file_state vault.conn) → kept_vault over_files vault.opening.at.items vault.opening.known vault.made.items ≡ opening) }
+    ensures opening { IfOk result (λ vault. HasCleanDisk (file_state vault.conn) → vault_of over_files vault ≡ opening) }
     ensures sound { IfOk result (λ vault. HasCleanDisk (file_state vault.conn) → AreSound (file_state vault.conn).now opening) }
+    ensures alone { IfOk result (λ vault. HasCleanDisk (file_state vault.conn) → LeavesAlone (file_state vault.conn) opening) }
 {
     let Opened { conn, before } = empty;
     match create_in(site.runtime().alloc(), conn) {
@@ -254,9 +283,11 @@ fn made_in<S: Start>(
 ///
 /// The errors are those of `Machine::open`.
 fn opened_at<S: Start>(rt: &HostRuntime, path: &str, start: S) -> Result<FileVault<S>, Unopened>
-    ensures sound { IfOk result (λ vault. HasCleanDisk (file_state vault.conn) → AreSound (file_state vault.conn).now (kept_vault over_files vault.opening.at.items vault.opening.known vault.made.items)) }
-    ensures found { IfOk result (λ vault. HasCleanDisk (file_state vault.conn) → IsFoundIn (image_at S.Start) (kept_vault over_files vault.opening.at.items vault.opening.known vault.made.items)) }
-    ensures held { (v : Vault) → IsHeldIn (image_at S.Start) v → IfOk result (λ vault. HasCleanDisk (file_state vault.conn) → kept_vault over_files vault.opening.at.items vault.opening.known vault.made.items ≡ v) }
+    ensures sound { IfOk result (λ vault. HasCleanDisk (file_state vault.conn) → AreSound (file_state vault.conn).now (vault_of over_files vault)) }
+    ensures found { IfOk result (λ vault. HasCleanDisk (file_state vault.conn) → IsFoundIn (image_at S.Start) (vault_of over_files vault)) }
+    ensures held { (v : Vault) → IsHeldIn (image_at S.Start) v → IfOk result (λ vault. HasCleanDisk (file_state vault.conn) → vault_of over_files vault ≡ v) }
+    ensures opened { IfOk result (λ vault. HasCleanDisk (file_state vault.conn) → IsOpenedFrom (image_at S.Start) (file_state vault.conn)) }
+    ensures alone { IfOk result (λ vault. HasCleanDisk (file_state vault.conn) → LeavesAlone (file_state vault.conn) (vault_of over_files vault)) }
 {
     let site = match site_there(rt, path) {
         Ok(site) => site,
@@ -272,8 +303,9 @@ fn opened_at<S: Start>(rt: &HostRuntime, path: &str, start: S) -> Result<FileVau
 ///
 /// The errors are those of `Machine::make`.
 fn made_at<S: Start>(rt: &HostRuntime, path: &str, start: S) -> Result<FileVault<S>, Unopened>
-    ensures opening { IfOk result (λ vault. HasCleanDisk (file_state vault.conn) → kept_vault over_files vault.opening.at.items vault.opening.known vault.made.items ≡ opening) }
+    ensures opening { IfOk result (λ vault. HasCleanDisk (file_state vault.conn) → vault_of over_files vault ≡ opening) }
     ensures sound { IfOk result (λ vault. HasCleanDisk (file_state vault.conn) → AreSound (file_state vault.conn).now opening) }
+    ensures alone { IfOk result (λ vault. HasCleanDisk (file_state vault.conn) → LeavesAlone (file_state vault.conn) opening) }
 {
     let site = match site_for_new(rt, path) {
         Ok(site) => site,
@@ -334,11 +366,15 @@ impl<'a> Machine<'a> {
         // It is counted just where there is one.
         ensures counted { OnOk result (self.new.given ≡ with_one_given self.old.given) }
         ensures uncounted { OnErr result (self.new.given ≡ self.old.given) }
-        ensures sound { IfOk result (λ vault. HasCleanDisk (file_state vault.conn) → AreSound (file_state vault.conn).now (kept_vault over_files vault.opening.at.items vault.opening.known vault.made.items)) }
+        ensures sound { IfOk result (λ vault. HasCleanDisk (file_state vault.conn) → AreSound (file_state vault.conn).now (vault_of over_files vault)) }
         // The vault that is opened is the one that the tables spell which were found in the files.
-        ensures found { IfOk result (λ vault. HasCleanDisk (file_state vault.conn) → IsFoundIn (image_at S.Start) (kept_vault over_files vault.opening.at.items vault.opening.known vault.made.items)) }
+        ensures found { IfOk result (λ vault. HasCleanDisk (file_state vault.conn) → IsFoundIn (image_at S.Start) (vault_of over_files vault)) }
         // Where the files held a vault, it is that one.
-        ensures held { (v : Vault) → IsHeldIn (image_at S.Start) v → IfOk result (λ vault. HasCleanDisk (file_state vault.conn) → kept_vault over_files vault.opening.at.items vault.opening.known vault.made.items ≡ v) }
+        ensures held { (v : Vault) → IsHeldIn (image_at S.Start) v → IfOk result (λ vault. HasCleanDisk (file_state vault.conn) → vault_of over_files vault ≡ v) }
+        // Where they hold what a crash left of another connection's files, this one is the next opening (`openings_follow`).
+        ensures opened { IfOk result (λ vault. HasCleanDisk (file_state vault.conn) → IsOpenedFrom (image_at S.Start) (file_state vault.conn)) }
+        // A crash leaves that vault after that, and nothing else.
+        ensures alone { IfOk result (λ vault. HasCleanDisk (file_state vault.conn) → LeavesAlone (file_state vault.conn) (vault_of over_files vault)) }
     {
         let rt = self.look();
         let opened = opened_at(rt, path, start);
@@ -356,8 +392,10 @@ impl<'a> Machine<'a> {
         // It is counted just where there is one.
         ensures counted { OnOk result (self.new.given ≡ with_one_given self.old.given) }
         ensures uncounted { OnErr result (self.new.given ≡ self.old.given) }
-        ensures opening { IfOk result (λ vault. HasCleanDisk (file_state vault.conn) → kept_vault over_files vault.opening.at.items vault.opening.known vault.made.items ≡ opening) }
+        ensures opening { IfOk result (λ vault. HasCleanDisk (file_state vault.conn) → vault_of over_files vault ≡ opening) }
         ensures sound { IfOk result (λ vault. HasCleanDisk (file_state vault.conn) → AreSound (file_state vault.conn).now opening) }
+        // A crash leaves a new vault after that, and nothing else.
+        ensures alone { IfOk result (λ vault. HasCleanDisk (file_state vault.conn) → LeavesAlone (file_state vault.conn) opening) }
     {
         let rt = self.look();
         let made = made_at(rt, path, start);
