@@ -53,3 +53,6 @@ module _ {D : Type 0} {g : Ghosts D} (keeper : SqlKeeper (FileStore D g) over_fi
 
   pub hold_if_copied : (conn : Held (FileStore D g)) (r : Option (Files D)) → conn ≡ keeper.conn → Stands conn → AreCopies conn r → IfSome r (HoldVault keeper)
   hold_if_copied conn r same stands copied = hold_copies r (subst Stands same stands) (subst (λ c. AreCopies c r) same copied)
+
+  pub stands_for : (conn : Held (FileStore D g)) → conn ≡ keeper.conn → Stands conn → Stands keeper.conn
+  stands_for conn same stands = subst Stands same stands

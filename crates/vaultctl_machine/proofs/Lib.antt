@@ -1,3 +1,4 @@
+pub mod CarriedLemmas
 mod ClosingLemmas
 mod FoundLemmas
 mod MigrationLemmas

@@ -1,6 +1,7 @@
 pub mod Closings
 pub mod Editions
 pub mod Files
+pub mod Given
 pub mod Openings
 pub mod Places
 pub mod Faults

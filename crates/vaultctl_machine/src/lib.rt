@@ -3,6 +3,7 @@
 
 pub mod crashes;
 mod editions;
+pub mod given;
 mod looks;
 pub mod migration;
 mod site;

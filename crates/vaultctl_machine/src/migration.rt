@@ -1,5 +1,5 @@
 //! Vaults of an earlier edition, copied into new files.
-ghost use Rattle.std.specs.Prelude.{◌≡◌, ◌≢◌, IfOk, IfErr, OnOk, OnErr};
+ghost use Rattle.std.specs.Prelude.{◌≡◌, ◌≢◌, ◌∷◌, ◌++◌, [], true, IfOk, IfErr, OnOk, OnErr};
 ghost use Rattle.sqlite.specs.Files.{file_state, over_files, IsOpened};
 ghost use Rattle.sqlite.specs.Held.{state};
 ghost use Rattle.sqlite.specs.Start.{FindsIn};
@@ -9,10 +9,12 @@ ghost use Rattle.vault_audit_model.specs.declared.schema.Edition.{Edition};
 ghost use Rattle.vault_audit_model.specs.Spells.{AreSound, AreSoundAs};
 ghost use Rattle.vault_base.specs.declared.refusal.Table.{Table};
 ghost use Rattle.vault_core_model.specs.Vault.{Vault};
+ghost use Rattle.vault_store.specs.Kept.{StandsFor};
 ghost use Rattle.vault_store.specs.VaultOf.{vault_of};
 ghost use Rattle.vaultctl_machine.specs.Faults.{refusal_of};
 ghost use Rattle.vaultctl_machine.specs.Files.{AreSoundEarlier, IsFoundEarlier, IsHeldAs};
-ghost use Rattle.vaultctl_machine.specs.Places.{after_a_look, with_one_given};
+ghost use Rattle.vaultctl_machine.specs.Given.{with_copied};
+ghost use Rattle.vaultctl_machine.specs.Places.{after_a_look};
 
 use crate::editions::{edition_of, why_uncopied};
 use crate::looks::{is_one_file, looked_at};
@@ -22,7 +24,8 @@ use crate::stores::Opened;
 use crate::stores::before::Before;
 use crate::unopened::Unopened;
 use crate::vaults::{
-    Machine, VaultStore, close_vault, connect_new, connect_there, refused, site_for_new, site_there,
+    FileVault, Machine, VaultStore, close_keeper, connect_new, connect_there, refused, site_for_new,
+    site_there,
 };
 use sqlite::{Alter, Connection, Start};
 use std::alloc::Global;
@@ -113,11 +116,6 @@ fn copy_file<A: Start, B: Start>(
         → IfErr result.outcome (λ e. HasCleanDisk (file_state result.source) → (t : Table) → e.0 ≢ Refusal.Damaged t) }
 {
     copy_to_file(alloc, source, new)
-}
-
-/// Lets go of a connection, and writes nothing more: its files stay as they are.
-fn let_go<S: Start>(conn: Connection<VaultStore<S>>) {
-    drop(conn.into_store().close());
 }
 
 /// Lets go of a connection. Its files are as they were before it was opened.
@@ -211,14 +209,7 @@ fn copy_at<A: Start, B: Start>(
     }
 }
 
-/// Closes a vault that was copied, and leaves the files that it was copied from as they are.
-pub fn close_migrated<A: Start, B: Start>(migrated: Migrated<VaultStore<A>, VaultStore<B>>) {
-    let Migrated { source, vault } = migrated;
-    close_vault(vault);
-    let_go(source);
-}
-
-impl<'a> Machine<'a> {
+impl<'a, A: Start, B: Start> Machine<'a, VaultStore<A>, VaultStore<B>> {
     /// Copies the vault in a file of the first or the second edition, at `old`, into a file at `new` that isn't there, is
     /// empty, or is a store without a table. `starts` stands for what the two files and their logs hold.
     ///
@@ -229,16 +220,15 @@ impl<'a> Machine<'a> {
     /// both are one file. With each of the errors the files are as they were, but for an
     /// empty one that was made at `new` and couldn't be opened. With a copy the file at `old` isn't changed; beside it a log
     /// without a change may be left.
-    pub fn migrate<A: Start, B: Start>(
+    pub fn migrate(
         &mut self,
         old: &str,
         new: &str,
         starts: Starts<A, B>,
     ) -> Result<Migrated<VaultStore<A>, VaultStore<B>>, Unopened>
-        ensures looked { self.new.looked ≡ after_a_look self.old.looked }
         // It is counted just where there is a copy.
-        ensures counted { OnOk result (self.new.given ≡ with_one_given self.old.given) }
-        ensures uncounted { OnErr result (self.new.given ≡ self.old.given) }
+        ensures counted { OnOk result (self.new ≡ record self.old { looked = after_a_look self.old.looked; given = with_copied self.old.given }) }
+        ensures uncounted { OnErr result (self.new ≡ record self.old { looked = after_a_look self.old.looked }) }
         ensures sound { IfOk result (λ m. HasCleanDisk (file_state m.vault.conn) → AreSound (file_state m.vault.conn).now (vault_of over_files m.vault)) }
         // The vault of the copy is the one that the tables spell which were found in the old files.
         ensures found { IfOk result (λ m. HasCleanDisk (file_state m.source) → HasCleanDisk (file_state m.vault.conn)
@@ -248,8 +238,48 @@ impl<'a> Machine<'a> {
             → vault_of over_files m.vault ≡ v) }
     {
         let rt = self.look();
-        let migrated = copy_at(rt, old, new, starts);
-        self.count(&migrated);
-        migrated
+        match copy_at(rt, old, new, starts) {
+            Ok(migrated) => {
+                self.count_copy();
+                Ok(migrated)
+            }
+            Err(cause) => Err(cause),
+        }
+    }
+
+    /// Lets go of the connection to the files that were copied, and writes nothing more there.
+    fn let_go(&mut self, source: Connection<VaultStore<A>>)
+        ensures closed { self.new.closed.items ≡ self.old.closed.items ++ (source, true) ∷ [] }
+        ensures looked { self.new.looked ≡ self.old.looked }
+        ensures given { self.new.given ≡ self.old.given }
+        ensures copies { self.new.copies ≡ self.old.copies }
+    {
+        self.closed = self.closed.and(&source, &true);
+        drop(source.into_store().close());
+    }
+
+    /// Closes a copy as `close` does the first vault.
+    fn close_copy(&mut self, vault: FileVault<B>)
+        ensures copies { self.new.copies.items ≡ self.old.copies.items ++ (vault.conn, true) ∷ [] }
+        ensures stands { ∥ (HasCleanDisk (file_state vault.conn) → StandsFor (file_state vault.conn) (vault_of over_files vault)) ∥₁ }
+        ensures looked { self.new.looked ≡ self.old.looked }
+        ensures given { self.new.given ≡ self.old.given }
+        ensures closed { self.new.closed ≡ self.old.closed }
+    {
+        drop(close_keeper(&mut self.copies, vault));
+    }
+
+    /// Closes a vault that was copied, and leaves the files that it was copied from as they are.
+    pub fn close_migrated(&mut self, migrated: Migrated<VaultStore<A>, VaultStore<B>>)
+        // Both connections are remembered.
+        ensures closed { self.new.closed.items ≡ self.old.closed.items ++ (migrated.source, true) ∷ [] }
+        ensures copies { self.new.copies.items ≡ self.old.copies.items ++ (migrated.vault.conn, true) ∷ [] }
+        ensures stands { ∥ (HasCleanDisk (file_state migrated.vault.conn) → StandsFor (file_state migrated.vault.conn) (vault_of over_files migrated.vault)) ∥₁ }
+        ensures looked { self.new.looked ≡ self.old.looked }
+        ensures given { self.new.given ≡ self.old.given }
+    {
+        let Migrated { source, vault } = migrated;
+        self.close_copy(vault);
+        self.let_go(source);
     }
 }

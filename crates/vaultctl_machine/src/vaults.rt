@@ -1,5 +1,5 @@
 //! Vaults in files.
-ghost use Rattle.std.specs.Prelude.{◌≡◌, IfOk, IfSome, OnOk, OnErr};
+ghost use Rattle.std.specs.Prelude.{◌≡◌, ◌∷◌, ◌++◌, [], true, IfOk, IfSome, OnOk, OnErr};
 ghost use Rattle.sqlite.specs.Closing.{IsCopied};
 ghost use Rattle.sqlite.specs.Files.{file_state, over_files, IsOpened};
 ghost use Rattle.sqlite.specs.Held.{state};
@@ -9,21 +9,25 @@ ghost use Rattle.sqlite_wal.specs.Files.{image_at};
 ghost use Rattle.sqlite_wal.specs.Reads.{AreClean};
 ghost use Rattle.vault_audit_model.specs.Spells.{AreSound};
 ghost use Rattle.vault_core_model.specs.Vault.{Vault, opening};
+ghost use Rattle.vault_store.specs.Kept.{StandsFor};
 ghost use Rattle.vault_store.specs.VaultOf.{vault_of};
 ghost use Rattle.vault_store_apply.specs.Left.{LeavesAlone};
 ghost use Rattle.vaultctl_machine.specs.Closings.{HoldVault};
 ghost use Rattle.vaultctl_machine.specs.Faults as spec;
 ghost use Rattle.vaultctl_machine.specs.Faults.{refusal_of};
 ghost use Rattle.vaultctl_machine.specs.Files.{IsFoundIn, IsHeldIn};
+ghost use Rattle.vaultctl_machine.specs.Given.{with_copied, with_made, with_opened};
 ghost use Rattle.vaultctl_machine.specs.Openings.{IsOpenedFrom};
-ghost use Rattle.vaultctl_machine.specs.Places.{after_a_look, with_one_given};
+ghost use Rattle.vaultctl_machine.specs.Places.{after_a_look};
 
 use crate::editions::why_unsound;
+use crate::given::Given;
 use crate::looks::{cause_of_kind, looked_at};
 use crate::site::Site;
 use crate::stores::before::Before;
 use crate::stores::{self, Opened};
 use crate::unopened::{Unopened, with_cause};
+use http_server::Log;
 use sqlite::{Alter, Connection, Error, ErrorCode, FileFrom, FileStore, Files, Start};
 use sqlite_disk::Disk;
 use std::alloc::Global;
@@ -40,13 +44,24 @@ pub type VaultStore<S> = FileStore<FileFrom<S>>;
 /// A vault in files.
 pub type FileVault<S> = SqlKeeper<VaultStore<S>>;
 
-/// The files of the machine, how many vaults were looked for there, and how many were given out: opened, made or copied.
+/// The files of the machine: how many vaults were looked for there, and how many were given out. A job may open one vault,
+/// and a second, each in a store of its own.
+///
+/// It remembers the connection of each vault that was closed, as it was then; only proofs read that.
 #[derive(Drop)]
-pub struct Machine<'a> {
+pub struct Machine<'a, S: Alter, T: Alter> {
     rt: &'a HostRuntime,
     looked: u64,
-    given: u64,
+    given: Given,
+    /// Those of the first vault, or of the one that was copied.
+    pub(crate) closed: Log<Connection<S>, bool>,
+    /// Those of the copies.
+    pub(crate) copies: Log<Connection<T>, bool>,
 }
+
+/// The files of the machine, where a job may open one vault in files that held what `A` says, and another in files that
+/// held what `B` says.
+pub type FileMachine<'a, A, B> = Machine<'a, VaultStore<A>, VaultStore<B>>;
 
 /// What a failure to open a file is reported as, where a vault should be in it.
 fn unopened(error: Error) -> Refusal
@@ -200,19 +215,20 @@ fn close<D: Disk + Drop>(conn: Connection<FileStore<D>>) -> Option<Files<D>>
     }
 }
 
-/// Closes a vault, so that all that it committed stands in its file, and gives the file and its log back.
+/// Closes a vault, and remembers its connection.
 ///
 /// None where that fails, as with `close`.
-pub fn close_keeper<D: Disk + Drop>(vault: SqlKeeper<FileStore<D>>) -> Option<Files<D>>
-    // The file holds the vault, with its log and without, and whatever a crash leaves of the two.
+pub(crate) fn close_keeper<D: Disk + Drop>(
+    closed: &mut Log<Connection<FileStore<D>>, bool>,
+    vault: SqlKeeper<FileStore<D>>,
+) -> Option<Files<D>>
+    ensures closed { closed.new.items ≡ closed.old.items ++ (vault.conn, true) ∷ [] }
+    ensures stands { ∥ (HasCleanDisk (file_state vault.conn) → StandsFor (file_state vault.conn) (vault_of over_files vault)) ∥₁ }
     ensures held { IfSome result (HoldVault vault) }
 {
-    close(vault.into_connection())
-}
-
-/// Closes a vault in files.
-pub fn close_vault<S: Start>(vault: FileVault<S>) {
-    drop(close_keeper(vault));
+    let conn = vault.into_connection();
+    *closed = closed.and(&conn, &true);
+    close(conn)
 }
 
 /// The vault in the tables of a connection, over any store. It says no more than what one in files has to say.
@@ -317,16 +333,20 @@ fn made_at<S: Start>(rt: &HostRuntime, path: &str, start: S) -> Result<FileVault
     }
 }
 
-impl<'a> Machine<'a> {
+impl<'a, S: Alter, T: Alter> Machine<'a, S, T> {
     /// The files of a machine, where no vault was looked for yet.
-    pub fn new(rt: &'a HostRuntime) -> Machine<'a>
+    pub fn new(rt: &'a HostRuntime) -> Machine<'a, S, T>
         ensures looked { result.looked ≡ 0 }
-        ensures given { result.given ≡ 0 }
+        ensures given { result.given ≡ record { opened = 0; made = 0; copied = 0 } }
+        ensures closed { result.closed.items ≡ [] }
+        ensures copies { result.copies.items ≡ [] }
     {
         Machine {
             rt,
             looked: 0,
-            given: 0,
+            given: Given::none(),
+            closed: Log::new(),
+            copies: Log::new(),
         }
     }
 
@@ -337,49 +357,49 @@ impl<'a> Machine<'a> {
 
     /// Counts that a vault is looked for, and answers the runtime.
     pub(crate) fn look(&mut self) -> &'a HostRuntime
-        ensures looked { self.new.looked ≡ after_a_look self.old.looked }
-        ensures given { self.new.given ≡ self.old.given }
+        ensures { self.new ≡ record self.old { looked = after_a_look self.old.looked } }
     {
         self.looked = self.looked.saturating_add(1);
         self.rt
     }
 
-    /// Counts a vault that is given out, if there is one.
-    pub(crate) fn count<V>(&mut self, found: &Result<V, Unopened>)
-        ensures given { OnOk found.now (self.new.given ≡ with_one_given self.old.given) }
-        ensures none { OnErr found.now (self.new.given ≡ self.old.given) }
-        ensures looked { self.new.looked ≡ self.old.looked }
+    /// Counts a copy that is given out.
+    pub(crate) fn count_copy(&mut self)
+        ensures { self.new ≡ record self.old { given = with_copied self.old.given } }
     {
-        if found.is_ok() {
-            self.given = self.given.saturating_add(1);
-        }
+        self.given = self.given.with_copied();
     }
+}
 
+impl<'a, A: Start, B: Start> Machine<'a, VaultStore<A>, VaultStore<B>> {
     /// Opens the vault in a file: its tables have to be sound. `start` stands for what the file and its log hold.
     ///
     /// `Damaged` with the first table that isn't; with `meta` where the file isn't there or is empty, or is no store
     /// of tables whose rows keep its own schema. With each of the errors the file and its log are as they were,
     /// and none is made. `Memory` where memory was refused, `Device` where the file can't be read, and
     /// `Held` where another program has it.
-    pub fn open<S: Start>(&mut self, path: &str, start: S) -> Result<FileVault<S>, Unopened>
-        ensures looked { self.new.looked ≡ after_a_look self.old.looked }
+    pub fn open(&mut self, path: &str, start: A) -> Result<FileVault<A>, Unopened>
         // It is counted just where there is one.
-        ensures counted { OnOk result (self.new.given ≡ with_one_given self.old.given) }
-        ensures uncounted { OnErr result (self.new.given ≡ self.old.given) }
+        ensures counted { OnOk result (self.new ≡ record self.old { looked = after_a_look self.old.looked; given = with_opened self.old.given }) }
+        ensures uncounted { OnErr result (self.new ≡ record self.old { looked = after_a_look self.old.looked }) }
         ensures sound { IfOk result (λ vault. HasCleanDisk (file_state vault.conn) → AreSound (file_state vault.conn).now (vault_of over_files vault)) }
         // The vault that is opened is the one that the tables spell which were found in the files.
-        ensures found { IfOk result (λ vault. HasCleanDisk (file_state vault.conn) → IsFoundIn (image_at S.Start) (vault_of over_files vault)) }
+        ensures found { IfOk result (λ vault. HasCleanDisk (file_state vault.conn) → IsFoundIn (image_at A.Start) (vault_of over_files vault)) }
         // Where the files held a vault, it is that one.
-        ensures held { (v : Vault) → IsHeldIn (image_at S.Start) v → IfOk result (λ vault. HasCleanDisk (file_state vault.conn) → vault_of over_files vault ≡ v) }
+        ensures held { (v : Vault) → IsHeldIn (image_at A.Start) v → IfOk result (λ vault. HasCleanDisk (file_state vault.conn) → vault_of over_files vault ≡ v) }
         // Where they hold what a crash left of another connection's files, this one is the next opening (`openings_follow`).
-        ensures opened { IfOk result (λ vault. HasCleanDisk (file_state vault.conn) → IsOpenedFrom (image_at S.Start) (file_state vault.conn)) }
+        ensures opened { IfOk result (λ vault. HasCleanDisk (file_state vault.conn) → IsOpenedFrom (image_at A.Start) (file_state vault.conn)) }
         // A crash leaves that vault after that, and nothing else.
         ensures alone { IfOk result (λ vault. HasCleanDisk (file_state vault.conn) → LeavesAlone (file_state vault.conn) (vault_of over_files vault)) }
     {
         let rt = self.look();
-        let opened = opened_at(rt, path, start);
-        self.count(&opened);
-        opened
+        match opened_at(rt, path, start) {
+            Ok(vault) => {
+                self.given = self.given.with_opened();
+                Ok(vault)
+            }
+            Err(cause) => Err(cause),
+        }
     }
 
     /// Makes a new vault in a file that isn't there or is empty. `start` stands for what the file and its log hold.
@@ -387,19 +407,39 @@ impl<'a> Machine<'a> {
     /// `NameTaken` where something is in it, or changes may be in the log beside it, and both are left as they are.
     /// `Memory` where memory was refused, `Device` where the file can't be made, and `Held` where another program
     /// has it.
-    pub fn make<S: Start>(&mut self, path: &str, start: S) -> Result<FileVault<S>, Unopened>
-        ensures looked { self.new.looked ≡ after_a_look self.old.looked }
+    pub fn make(&mut self, path: &str, start: A) -> Result<FileVault<A>, Unopened>
         // It is counted just where there is one.
-        ensures counted { OnOk result (self.new.given ≡ with_one_given self.old.given) }
-        ensures uncounted { OnErr result (self.new.given ≡ self.old.given) }
+        ensures counted { OnOk result (self.new ≡ record self.old { looked = after_a_look self.old.looked; given = with_made self.old.given }) }
+        ensures uncounted { OnErr result (self.new ≡ record self.old { looked = after_a_look self.old.looked }) }
         ensures opening { IfOk result (λ vault. HasCleanDisk (file_state vault.conn) → vault_of over_files vault ≡ opening) }
         ensures sound { IfOk result (λ vault. HasCleanDisk (file_state vault.conn) → AreSound (file_state vault.conn).now opening) }
         // A crash leaves a new vault after that, and nothing else.
         ensures alone { IfOk result (λ vault. HasCleanDisk (file_state vault.conn) → LeavesAlone (file_state vault.conn) opening) }
     {
         let rt = self.look();
-        let made = made_at(rt, path, start);
-        self.count(&made);
-        made
+        match made_at(rt, path, start) {
+            Ok(vault) => {
+                self.given = self.given.with_made();
+                Ok(vault)
+            }
+            Err(cause) => Err(cause),
+        }
+    }
+
+    /// Closes the vault that was opened or made, so that all that it committed stands in its file, and gives the file and
+    /// its log back, which nobody else has before they are dropped.
+    ///
+    /// None where that fails: then what was committed stands in the log beside the file, and the next open finds it there.
+    pub fn close(&mut self, vault: FileVault<A>) -> Option<Files<FileFrom<A>>>
+        // Its connection is remembered, which stands for the vault.
+        ensures closed { self.new.closed.items ≡ self.old.closed.items ++ (vault.conn, true) ∷ [] }
+        ensures stands { ∥ (HasCleanDisk (file_state vault.conn) → StandsFor (file_state vault.conn) (vault_of over_files vault)) ∥₁ }
+        ensures looked { self.new.looked ≡ self.old.looked }
+        ensures given { self.new.given ≡ self.old.given }
+        ensures copies { self.new.copies ≡ self.old.copies }
+        // The file holds the vault, also without its log, and whatever a crash leaves of the two.
+        ensures held { IfSome result (HoldVault vault) }
+    {
+        close_keeper(&mut self.closed, vault)
     }
 }
