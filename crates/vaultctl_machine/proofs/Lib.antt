@@ -3,3 +3,4 @@ mod ClosingLemmas
 mod FoundLemmas
 mod MigrationLemmas
 mod OpeningLemmas
+mod RefusalLemmas

@@ -4,4 +4,5 @@ pub mod Files
 pub mod Given
 pub mod Openings
 pub mod Places
+pub mod Refusals
 pub mod Faults

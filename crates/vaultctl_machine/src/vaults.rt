@@ -1,5 +1,5 @@
 //! Vaults in files.
-ghost use Rattle.std.specs.Prelude.{◌≡◌, ◌∷◌, ◌++◌, [], true, IfOk, IfSome, OnOk, OnErr};
+ghost use Rattle.std.specs.Prelude.{◌≡◌, ◌≢◌, ◌⊎◌, ◌∷◌, ◌++◌, [], true, false, IfOk, IfErr, IfSome, OnOk, OnErr};
 ghost use Rattle.sqlite.specs.Closing.{IsCopied};
 ghost use Rattle.sqlite.specs.Files.{file_state, over_files, IsOpened};
 ghost use Rattle.sqlite.specs.Held.{state};
@@ -7,18 +7,26 @@ ghost use Rattle.sqlite.specs.Start.{FindsIn};
 ghost use Rattle.sqlite.specs.State.{HasCleanDisk, IsUnchanged, Survives};
 ghost use Rattle.sqlite_wal.specs.Files.{image_at};
 ghost use Rattle.sqlite_wal.specs.Reads.{AreClean};
+ghost use Rattle.vault_audit.specs.Health.{IsHealthy};
+ghost use Rattle.vault_audit.specs.Whole.{IsTold};
 ghost use Rattle.vault_audit_model.specs.Spells.{AreSound};
+ghost use Rattle.vault_audit_model.specs.Tables.{no_schema};
+ghost use Rattle.vault_base.specs.declared.refusal.Table.{Table as AnyTable};
 ghost use Rattle.vault_core_model.specs.Vault.{Vault, opening};
 ghost use Rattle.vault_store.specs.Kept.{StandsFor};
+ghost use Rattle.vault_store.specs.Create.{IsFault};
+ghost use Rattle.vault_store.specs.Tables.{HasTablesOf};
 ghost use Rattle.vault_store.specs.VaultOf.{vault_of};
 ghost use Rattle.vault_store_apply.specs.Left.{LeavesAlone};
-ghost use Rattle.vaultctl_machine.specs.Closings.{HoldVault};
+ghost use Rattle.vault_store_apply.specs.Left as trees;
+ghost use Rattle.vaultctl_machine.specs.Closings.{Closes, HoldVault};
 ghost use Rattle.vaultctl_machine.specs.Faults as spec;
 ghost use Rattle.vaultctl_machine.specs.Faults.{refusal_of};
 ghost use Rattle.vaultctl_machine.specs.Files.{IsFoundIn, IsHeldIn};
 ghost use Rattle.vaultctl_machine.specs.Given.{with_copied, with_made, with_opened};
 ghost use Rattle.vaultctl_machine.specs.Openings.{IsOpenedFrom};
 ghost use Rattle.vaultctl_machine.specs.Places.{after_a_look};
+ghost use Rattle.vaultctl_machine.specs.Refusals.{IsRefusedOver, IsUnmade, IsUnmadeOver, LetsGo};
 
 use crate::editions::why_unsound;
 use crate::given::Given;
@@ -47,7 +55,8 @@ pub type FileVault<S> = SqlKeeper<VaultStore<S>>;
 /// The files of the machine: how many vaults were looked for there, and how many were given out. A job may open one vault,
 /// and a second, each in a store of its own.
 ///
-/// It remembers the connection of each vault that was closed, as it was then; only proofs read that.
+/// It remembers the connection of each vault that was closed, and of each that was refused, as it was then; only proofs
+/// read that.
 #[derive(Drop)]
 pub struct Machine<'a, S: Alter, T: Alter> {
     rt: &'a HostRuntime,
@@ -57,6 +66,10 @@ pub struct Machine<'a, S: Alter, T: Alter> {
     pub(crate) closed: Log<Connection<S>, bool>,
     /// Those of the copies.
     pub(crate) copies: Log<Connection<T>, bool>,
+    /// Those in which no vault was opened, made, or found to be copied.
+    pub(crate) refused: Log<Connection<S>, bool>,
+    /// Those in which no copy was made.
+    pub(crate) uncopied: Log<Connection<T>, bool>,
 }
 
 /// The files of the machine, where a job may open one vault in files that held what `A` says, and another in files that
@@ -65,7 +78,8 @@ pub type FileMachine<'a, A, B> = Machine<'a, VaultStore<A>, VaultStore<B>>;
 
 /// What a failure to open a file is reported as, where a vault should be in it.
 fn unopened(error: Error) -> Refusal
-    ensures { result ≡ spec.unopened_of error }
+    ensures exact { result ≡ spec.unopened_of error }
+    ensures told { IsTold result }
 {
     match error {
         Error::SqliteFailure(ErrorCode::OutOfMemory) => Refusal::Memory,
@@ -78,7 +92,8 @@ fn unopened(error: Error) -> Refusal
 
 /// What a failure to open a file is reported as, where a new vault is to be made in it.
 pub(crate) fn unmade(error: Error) -> Refusal
-    ensures { result ≡ spec.unmade_of error }
+    ensures exact { result ≡ spec.unmade_of error }
+    ensures told { IsUnmade result }
 {
     match unopened(error) {
         Refusal::Damaged(_) => Refusal::NameTaken,
@@ -88,7 +103,8 @@ pub(crate) fn unmade(error: Error) -> Refusal
 
 /// Why the files at a path aren't opened, where the failure is reported as that unless another program has them.
 pub(crate) fn cause(error: Error, told: Refusal) -> Unopened
-    ensures { result ≡ spec.cause_of error told }
+    ensures exact { result ≡ spec.cause_of error told }
+    ensures refusal { (refusal_of result ≡ Refusal.Device) ⊎ (refusal_of result ≡ told) }
 {
     match error {
         Error::SqliteFailure(ErrorCode::DatabaseBusy) => Unopened::Held,
@@ -99,7 +115,9 @@ pub(crate) fn cause(error: Error, told: Refusal) -> Unopened
 }
 
 /// What it is reported as that one can't see what stands at a path.
-fn unseen(error: io::Error) -> Unopened {
+fn unseen(error: io::Error) -> Unopened
+    ensures { IsFault (refusal_of result) }
+{
     if error.kind() == ErrorKind::OutOfMemory {
         return Unopened::Refused(Refusal::Memory);
     }
@@ -107,7 +125,9 @@ fn unseen(error: io::Error) -> Unopened {
 }
 
 /// What it is reported as that no file can be made at a path.
-fn unmakable(error: io::Error) -> Unopened {
+fn unmakable(error: io::Error) -> Unopened
+    ensures { IsFault (refusal_of result) }
+{
     match unseen(error) {
         Unopened::Refused(Refusal::Device) => with_cause(
             Refusal::Device,
@@ -118,7 +138,9 @@ fn unmakable(error: io::Error) -> Unopened {
 }
 
 /// The files at a path where tables may be, or why none can be there.
-pub(crate) fn site_there<'a>(rt: &'a HostRuntime, path: &'a str) -> Result<Site<'a>, Unopened> {
+pub(crate) fn site_there<'a>(rt: &'a HostRuntime, path: &'a str) -> Result<Site<'a>, Unopened>
+    ensures { IfErr result (λ e. IsTold (refusal_of e)) }
+{
     match place_at(rt, path) {
         Ok(place) if place.may_hold_tables() => Ok(Site::new(rt, path, place)),
         Ok(_) => Err(Unopened::Refused(without_tables())),
@@ -127,7 +149,9 @@ pub(crate) fn site_there<'a>(rt: &'a HostRuntime, path: &'a str) -> Result<Site<
 }
 
 /// The files at a path where a vault may be made, or why none can be.
-pub(crate) fn site_for_new<'a>(rt: &'a HostRuntime, path: &'a str) -> Result<Site<'a>, Unopened> {
+pub(crate) fn site_for_new<'a>(rt: &'a HostRuntime, path: &'a str) -> Result<Site<'a>, Unopened>
+    ensures { IfErr result (λ e. IsUnmade (refusal_of e)) }
+{
     match place_at(rt, path) {
         Ok(place) if place.may_be_made() => Ok(Site::new(rt, path, place)),
         Ok(_) => Err(Unopened::Refused(Refusal::NameTaken)),
@@ -146,6 +170,7 @@ pub(crate) fn connect_there<S: Start>(
 ) -> Result<Opened<VaultStore<S>>, Unopened>
     ensures opened { IfOk result (λ it. HasCleanDisk (file_state it.conn) → IsOpened it.conn) }
     ensures found { IfOk result (λ it. HasCleanDisk (file_state it.conn) → FindsIn (image_at S.Start) (file_state it.conn)) }
+    ensures told { IfErr result (λ e. IsTold (refusal_of e)) }
 {
     match stores::connect_there(site, start) {
         Ok(opened) => Ok(opened),
@@ -160,7 +185,10 @@ pub(crate) fn connect_there<S: Start>(
 pub(crate) fn connect_new<S: Start>(
     site: &Site<'_>,
     start: S,
-) -> Result<Opened<VaultStore<S>>, Unopened> {
+) -> Result<Opened<VaultStore<S>>, Unopened>
+    ensures opened { IfOk result (λ it. HasCleanDisk (file_state it.conn) → IsOpened it.conn) }
+    ensures told { IfErr result (λ e. IsUnmade (refusal_of e)) }
+{
     if let Err(error) = site.make_file() {
         return Err(unmakable(error));
     }
@@ -170,25 +198,32 @@ pub(crate) fn connect_new<S: Start>(
     }
 }
 
-/// Lets go of a connection whose vault was refused. Its files are as they were: no commit is copied into the file.
-///
-/// What it is reported as; with the cause of a damage, which is `unsound` where `meta` isn't sound, and of a failure.
-pub(crate) fn refused<S: Start>(
+/// Lets go of a connection, and remembers it. Its files are as they were before it was opened: no commit is copied into
+/// the file. The answer is whether a write of it found no room.
+pub(crate) fn let_go<S: Start>(
+    refused: &mut Log<Connection<VaultStore<S>>, bool>,
     site: &Site<'_>,
-    refusal: Refusal,
-    unsound: Cause,
     conn: Connection<VaultStore<S>>,
     before: &Before,
-) -> Unopened
-    ensures { refusal_of result ≡ refusal }
+) -> bool
+    ensures { refused.new.items ≡ refused.old.items ++ (conn, true) ∷ [] }
 {
+    *refused = refused.and(&conn, &true);
     let files = conn.into_store().close();
     let had_no_room = files.tally().refused > 0;
     site.leave(files, before);
+    had_no_room
+}
+
+/// Why a vault was refused that was looked at, or made, in an open store: what it is reported as, with the cause of a damage,
+/// which is `unsound` where `meta` isn't sound, and of a failure.
+pub(crate) fn refused(refusal: Refusal, unsound: Cause, had_no_room: bool) -> Unopened
+    ensures { refusal_of result ≡ refusal }
+{
     with_cause(refusal, why_refused(refusal, unsound, had_no_room))
 }
 
-/// Why a vault was refused that was looked at, or made, in an open store.
+/// The cause of such a refusal.
 fn why_refused(refusal: Refusal, unsound: Cause, had_no_room: bool) -> Option<Cause> {
     match refusal {
         Refusal::Damaged(Table::Meta) => Some(unsound),
@@ -240,12 +275,17 @@ fn open_in<S: Alter>(
     ensures same { IfOk result (λ k. HasCleanDisk (state S.Store k.conn) → IsUnchanged (state S.Store conn) (state S.Store k.conn)) }
     ensures crash { IfOk result (λ k. Survives (state S.Store conn) (state S.Store k.conn) (λ _. ⊥)) }
     ensures alone { IfOk result (λ k. HasCleanDisk (state S.Store k.conn) → LeavesAlone (state S.Store k.conn) (vault_of S.Store k)) }
+    ensures told { IfErr result (λ e. IsTold e.0) }
+    ensures healthy { conn.in_transaction ≡ false → IfErr result (λ e. IsHealthy (state S.Store e.1) → e.0 ≢ Refusal.Device) }
+    ensures damaged { IfErr result (λ e. HasCleanDisk (state S.Store e.1) → (t : AnyTable) → e.0 ≡ Refusal.Damaged t → (v : Vault) → ¬ AreSound (state S.Store conn).now v) }
+    ensures harmless { IfErr result (λ e. Survives (state S.Store conn) (state S.Store e.1) (λ _. ⊥)) }
 {
     SqlKeeper::open(alloc, conn)
 }
 
 /// The vault in the tables of a connection that was opened just now. Where they aren't sound, the files are as they were.
 fn found_in<S: Start>(
+    lost: &mut Log<Connection<VaultStore<S>>, bool>,
     site: &Site<'_>,
     found: Opened<VaultStore<S>>,
 ) -> Result<FileVault<S>, Unopened>
@@ -256,13 +296,17 @@ fn found_in<S: Start>(
     ensures held { (v : Vault) → IsHeldIn (image_at S.Start) v → IfOk result (λ vault. HasCleanDisk (file_state vault.conn) → vault_of over_files vault ≡ v) }
     ensures opened { IfOk result (λ vault. HasCleanDisk (file_state vault.conn) → IsOpenedFrom (image_at S.Start) (file_state vault.conn)) }
     ensures alone { IfOk result (λ vault. HasCleanDisk (file_state vault.conn) → LeavesAlone (file_state vault.conn) (vault_of over_files vault)) }
+    ensures told { IfErr result (λ e. IsTold (refusal_of e)) }
+    ensures lost { IfErr result (λ e. Closes lost.old.items lost.new.items (λ conn. IsRefusedOver (image_at S.Start) (file_state conn) (refusal_of e))) }
+    ensures kept { OnOk result (lost.new ≡ lost.old) }
 {
     let Opened { conn, before } = found;
     match open_in(site.runtime().alloc(), conn) {
         Ok(vault) => Ok(vault),
         Err((refusal, conn)) => {
             let unsound = why_unsound(conn.schema());
-            Err(refused(site, refusal, unsound, conn, &before))
+            let had_no_room = let_go(lost, site, conn, &before);
+            Err(refused(refusal, unsound, had_no_room))
         }
     }
 }
@@ -275,42 +319,62 @@ fn create_in<S: Alter>(
     ensures opening { IfOk result (λ k. HasCleanDisk (state S.Store k.conn) → vault_of S.Store k ≡ opening) }
     ensures sound { IfOk result (λ k. HasCleanDisk (state S.Store k.conn) → AreSound (state S.Store k.conn).now opening) }
     ensures alone { IfOk result (λ k. HasCleanDisk (state S.Store k.conn) → LeavesAlone (state S.Store k.conn) opening) }
+    ensures free { IfErr result (λ e. e.0 ≡ Refusal.NameTaken → (state S.Store conn).now.schema ≢ no_schema) }
+    ensures faults { IfErr result (λ e. IsUnmade e.0) }
+    ensures harmless { IfErr result (λ e. Survives (state S.Store conn) (state S.Store e.1) (trees.IsFoundIn opening)) }
+    ensures tables { conn.in_transaction ≡ false → IfErr result (λ e. HasCleanDisk (state S.Store e.1) → HasTablesOf (state S.Store conn) (state S.Store e.1)) }
 {
     SqlKeeper::create(alloc, conn)
 }
 
 /// A new vault in the empty store of a connection. Where none can be made there, the files are as they were.
 fn made_in<S: Start>(
+    lost: &mut Log<Connection<VaultStore<S>>, bool>,
     site: &Site<'_>,
     empty: Opened<VaultStore<S>>,
 ) -> Result<FileVault<S>, Unopened>
+    requires opened { HasCleanDisk (file_state empty.conn) → IsOpened empty.conn }
     ensures opening { IfOk result (λ vault. HasCleanDisk (file_state vault.conn) → vault_of over_files vault ≡ opening) }
     ensures sound { IfOk result (λ vault. HasCleanDisk (file_state vault.conn) → AreSound (file_state vault.conn).now opening) }
     ensures alone { IfOk result (λ vault. HasCleanDisk (file_state vault.conn) → LeavesAlone (file_state vault.conn) opening) }
+    ensures told { IfErr result (λ e. IsUnmade (refusal_of e)) }
+    ensures lost { IfErr result (λ e. Closes lost.old.items lost.new.items (λ conn. IsUnmadeOver (file_state conn) (refusal_of e))) }
+    ensures kept { OnOk result (lost.new ≡ lost.old) }
 {
     let Opened { conn, before } = empty;
     match create_in(site.runtime().alloc(), conn) {
         Ok(vault) => Ok(vault),
-        Err((refusal, conn)) => Err(refused(site, refusal, Cause::Taken, conn, &before)),
+        Err((refusal, conn)) => {
+            let had_no_room = let_go(lost, site, conn, &before);
+            Err(refused(refusal, Cause::Taken, had_no_room))
+        }
     }
 }
 
 /// The vault in the files at a path.
 ///
 /// The errors are those of `Machine::open`.
-fn opened_at<S: Start>(rt: &HostRuntime, path: &str, start: S) -> Result<FileVault<S>, Unopened>
+fn opened_at<S: Start>(
+    lost: &mut Log<Connection<VaultStore<S>>, bool>,
+    rt: &HostRuntime,
+    path: &str,
+    start: S,
+) -> Result<FileVault<S>, Unopened>
     ensures sound { IfOk result (λ vault. HasCleanDisk (file_state vault.conn) → AreSound (file_state vault.conn).now (vault_of over_files vault)) }
     ensures found { IfOk result (λ vault. HasCleanDisk (file_state vault.conn) → IsFoundIn (image_at S.Start) (vault_of over_files vault)) }
     ensures held { (v : Vault) → IsHeldIn (image_at S.Start) v → IfOk result (λ vault. HasCleanDisk (file_state vault.conn) → vault_of over_files vault ≡ v) }
     ensures opened { IfOk result (λ vault. HasCleanDisk (file_state vault.conn) → IsOpenedFrom (image_at S.Start) (file_state vault.conn)) }
     ensures alone { IfOk result (λ vault. HasCleanDisk (file_state vault.conn) → LeavesAlone (file_state vault.conn) (vault_of over_files vault)) }
+    ensures told { IfErr result (λ e. IsTold (refusal_of e)) }
+    ensures lost { IfErr result (λ e. LetsGo lost.old.items lost.new.items (λ conn. IsRefusedOver (image_at S.Start) (file_state conn) (refusal_of e))) }
+    ensures kept { OnOk result (lost.new ≡ lost.old) }
 {
     let site = match site_there(rt, path) {
         Ok(site) => site,
         Err(cause) => return Err(looked_at(rt, path, cause)),
     };
     match connect_there(&site, start) {
-        Ok(opened) => found_in(&site, opened),
+        Ok(opened) => found_in(lost, &site, opened),
         Err(cause) => Err(looked_at(rt, path, cause)),
     }
 }
@@ -318,17 +382,25 @@ fn opened_at<S: Start>(rt: &HostRuntime, path: &str, start: S) -> Result<FileVau
 /// A new vault in the files at a path.
 ///
 /// The errors are those of `Machine::make`.
-fn made_at<S: Start>(rt: &HostRuntime, path: &str, start: S) -> Result<FileVault<S>, Unopened>
+fn made_at<S: Start>(
+    lost: &mut Log<Connection<VaultStore<S>>, bool>,
+    rt: &HostRuntime,
+    path: &str,
+    start: S,
+) -> Result<FileVault<S>, Unopened>
     ensures opening { IfOk result (λ vault. HasCleanDisk (file_state vault.conn) → vault_of over_files vault ≡ opening) }
     ensures sound { IfOk result (λ vault. HasCleanDisk (file_state vault.conn) → AreSound (file_state vault.conn).now opening) }
     ensures alone { IfOk result (λ vault. HasCleanDisk (file_state vault.conn) → LeavesAlone (file_state vault.conn) opening) }
+    ensures told { IfErr result (λ e. IsUnmade (refusal_of e)) }
+    ensures lost { IfErr result (λ e. LetsGo lost.old.items lost.new.items (λ conn. IsUnmadeOver (file_state conn) (refusal_of e))) }
+    ensures kept { OnOk result (lost.new ≡ lost.old) }
 {
     let site = match site_for_new(rt, path) {
         Ok(site) => site,
         Err(cause) => return Err(looked_at(rt, path, cause)),
     };
     match connect_new(&site, start) {
-        Ok(opened) => made_in(&site, opened),
+        Ok(opened) => made_in(lost, &site, opened),
         Err(cause) => Err(looked_at(rt, path, cause)),
     }
 }
@@ -340,6 +412,8 @@ impl<'a, S: Alter, T: Alter> Machine<'a, S, T> {
         ensures given { result.given ≡ record { opened = 0; made = 0; copied = 0 } }
         ensures closed { result.closed.items ≡ [] }
         ensures copies { result.copies.items ≡ [] }
+        ensures refused { result.refused.items ≡ [] }
+        ensures uncopied { result.uncopied.items ≡ [] }
     {
         Machine {
             rt,
@@ -347,6 +421,8 @@ impl<'a, S: Alter, T: Alter> Machine<'a, S, T> {
             given: Given::none(),
             closed: Log::new(),
             copies: Log::new(),
+            refused: Log::new(),
+            uncopied: Log::new(),
         }
     }
 
@@ -381,7 +457,7 @@ impl<'a, A: Start, B: Start> Machine<'a, VaultStore<A>, VaultStore<B>> {
     pub fn open(&mut self, path: &str, start: A) -> Result<FileVault<A>, Unopened>
         // It is counted just where there is one.
         ensures counted { OnOk result (self.new ≡ record self.old { looked = after_a_look self.old.looked; given = with_opened self.old.given }) }
-        ensures uncounted { OnErr result (self.new ≡ record self.old { looked = after_a_look self.old.looked }) }
+        ensures uncounted { OnErr result (self.new ≡ record self.old { looked = after_a_look self.old.looked; refused = self.new.refused }) }
         ensures sound { IfOk result (λ vault. HasCleanDisk (file_state vault.conn) → AreSound (file_state vault.conn).now (vault_of over_files vault)) }
         // The vault that is opened is the one that the tables spell which were found in the files.
         ensures found { IfOk result (λ vault. HasCleanDisk (file_state vault.conn) → IsFoundIn (image_at A.Start) (vault_of over_files vault)) }
@@ -391,9 +467,12 @@ impl<'a, A: Start, B: Start> Machine<'a, VaultStore<A>, VaultStore<B>> {
         ensures opened { IfOk result (λ vault. HasCleanDisk (file_state vault.conn) → IsOpenedFrom (image_at A.Start) (file_state vault.conn)) }
         // A crash leaves that vault after that, and nothing else.
         ensures alone { IfOk result (λ vault. HasCleanDisk (file_state vault.conn) → LeavesAlone (file_state vault.conn) (vault_of over_files vault)) }
+        ensures told { IfErr result (λ e. IsTold (refusal_of e)) }
+        // A store that was opened and works isn't reported as a failed device, nor one that holds a sound vault as damaged.
+        ensures refused { IfErr result (λ e. LetsGo self.old.refused.items self.new.refused.items (λ conn. IsRefusedOver (image_at A.Start) (file_state conn) (refusal_of e))) }
     {
         let rt = self.look();
-        match opened_at(rt, path, start) {
+        match opened_at(&mut self.refused, rt, path, start) {
             Ok(vault) => {
                 self.given = self.given.with_opened();
                 Ok(vault)
@@ -410,14 +489,17 @@ impl<'a, A: Start, B: Start> Machine<'a, VaultStore<A>, VaultStore<B>> {
     pub fn make(&mut self, path: &str, start: A) -> Result<FileVault<A>, Unopened>
         // It is counted just where there is one.
         ensures counted { OnOk result (self.new ≡ record self.old { looked = after_a_look self.old.looked; given = with_made self.old.given }) }
-        ensures uncounted { OnErr result (self.new ≡ record self.old { looked = after_a_look self.old.looked }) }
+        ensures uncounted { OnErr result (self.new ≡ record self.old { looked = after_a_look self.old.looked; refused = self.new.refused }) }
         ensures opening { IfOk result (λ vault. HasCleanDisk (file_state vault.conn) → vault_of over_files vault ≡ opening) }
         ensures sound { IfOk result (λ vault. HasCleanDisk (file_state vault.conn) → AreSound (file_state vault.conn).now opening) }
         // A crash leaves a new vault after that, and nothing else.
         ensures alone { IfOk result (λ vault. HasCleanDisk (file_state vault.conn) → LeavesAlone (file_state vault.conn) opening) }
+        ensures told { IfErr result (λ e. IsUnmade (refusal_of e)) }
+        // A store that was opened and is reported as taken has something in it.
+        ensures refused { IfErr result (λ e. LetsGo self.old.refused.items self.new.refused.items (λ conn. IsUnmadeOver (file_state conn) (refusal_of e))) }
     {
         let rt = self.look();
-        match made_at(rt, path, start) {
+        match made_at(&mut self.refused, rt, path, start) {
             Ok(vault) => {
                 self.given = self.given.with_made();
                 Ok(vault)
@@ -437,6 +519,8 @@ impl<'a, A: Start, B: Start> Machine<'a, VaultStore<A>, VaultStore<B>> {
         ensures looked { self.new.looked ≡ self.old.looked }
         ensures given { self.new.given ≡ self.old.given }
         ensures copies { self.new.copies ≡ self.old.copies }
+        ensures refused { self.new.refused ≡ self.old.refused }
+        ensures uncopied { self.new.uncopied ≡ self.old.uncopied }
         // The file holds the vault, also without its log, and whatever a crash leaves of the two.
         ensures held { IfSome result (HoldVault vault) }
     {
