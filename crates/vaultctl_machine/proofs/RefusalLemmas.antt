@@ -20,13 +20,29 @@ use Rattle.vault_core_model.specs.Vault.{Vault}
 use Rattle.vault_store.specs.Tables.{HasTablesOf}
 use Rattle.vaultctl_machine.proofs.FoundLemmas.{was_clean}
 use Rattle.vaultctl_machine.specs.Closings.{Closes}
+use Rattle.vaultctl_machine.specs.Faults.{ReportsFailure, refusal_of}
 use Rattle.vaultctl_machine.specs.Files.{AreSoundEarlier, AreTreesAs, IsWholeAs}
-use Rattle.vaultctl_machine.specs.Refusals.{IsRefusedOver, IsUncopiedFrom, IsUnmadeOver}
+use Rattle.vaultctl_machine.specs.Refusals.{IsRefusedOver, IsUncopiedFrom, IsUnmadeOver, Reports}
+use Rattle.vaultctl_machine.specs.declared.unopened.Unopened.{Unopened}
 
--- a refusal that is one of two
-pub either : (P : Refusal → Type 0) (a r x : Refusal) → (x ≡ a) ⊎ (x ≡ r) → P a → P r → P x
-either P a r x (inl is) at_a at_r = subst P (sym is) at_a
-either P a r x (inr is) at_a at_r = subst P (sym is) at_r
+-- ---- what is reported
+
+module _ (P : Refusal → Type 0) (x : Unopened) where
+  pub reports_as : (r : Refusal) → refusal_of x ≡ r → ReportsFailure x → P r → Reports P x
+  reports_as r is failure holds = record { told = subst P (sym is) holds; failure = failure }
+
+  -- one of two
+  pub reports_either : (a r : Refusal) → (refusal_of x ≡ a) ⊎ (refusal_of x ≡ r) → ReportsFailure x → P a → P r → Reports P x
+  reports_either a r (inl is) failure at_a at_r = reports_as a is failure at_a
+  reports_either a r (inr is) failure at_a at_r = reports_as r is failure at_r
+
+  -- as another cause, of which more is seen
+  pub reports_after : (e : Unopened) → refusal_of x ≡ refusal_of e → (ReportsFailure e → ReportsFailure x) → Reports P e → Reports P x
+  reports_after e same failure reports = reports_as (refusal_of e) same (failure reports.failure) reports.told
+
+-- of more refusals
+pub reports_weaker : (P Q : Refusal → Type 0) (x : Unopened) → ((r : Refusal) → P r → Q r) → Reports P x → Reports Q x
+reports_weaker P Q x weaker reports = record { told = weaker (refusal_of x) reports.told; failure = reports.failure }
 
 -- one connection more, of which it holds, where what is reported is that
 pub closes_as : {C : Type 0} (old new : List (C × Bool)) (conn : C) (P : C → Refusal → Type 0) (x r : Refusal) → x ≡ r → new ≡ old ++ (conn, true) ∷ [] → P conn r → Closes old new (λ c. P c x)
