@@ -1,4 +1,4 @@
--- What stands in files that were closed.
+-- What files hold that were closed.
 use Rattle.std.proofs.Common.{◌≡◌, [], Option, None, Some, sym, subst}
 use Rattle.std.specs.Prelude.{IfSome}
 use Rattle.std.proofs.Math.Logic.{∥∥₁_elim, ∥∥₁_map}

@@ -81,7 +81,7 @@ fn copy_earlier<O: Alter, S: Alter>(
     ensures found { IfOk result.outcome (λ k. HasCleanDisk (state O.Store result.source) → HasCleanDisk (state S.Store k.conn)
         → AreSoundEarlier (state O.Store source).now (vault_of S.Store k)) }
     ensures sound { IfOk result.outcome (λ k. HasCleanDisk (state S.Store k.conn) → AreSound (state S.Store k.conn).now (vault_of S.Store k)) }
-    // Tables that are sound as those of one of the two are never told as damaged.
+    // Tables that are sound as those of one of the two are never reported as damaged.
     ensures undamaged { (v : Vault) → AreSoundEarlier (state O.Store source).now v
         → IfErr result.outcome (λ e. HasCleanDisk (state O.Store result.source) → (t : Table) → e.0 ≢ Refusal.Damaged t) }
 {

@@ -115,7 +115,7 @@ pub(crate) fn cause(error: Error, told: Refusal) -> Unopened
     }
 }
 
-/// What it is reported as that one can't see what stands at a path.
+/// What it is reported as that one can't see what is at a path.
 fn unseen(error: io::Error) -> Unopened
     ensures { Reports IsFault result }
 {
@@ -237,9 +237,9 @@ fn why_refused(refusal: Refusal, unsound: Cause, had_no_room: bool) -> Option<Ca
     }
 }
 
-/// Closes a connection, so that all that it committed stands in its file, and gives the two files back.
+/// Closes a connection, so that all that it committed is in its file, and gives the two files back.
 ///
-/// None where that fails: then what was committed stands in the log beside the file, and the next open finds it there.
+/// None where that fails: then what was committed is in the log beside the file, and the next opening finds it there.
 fn close<D: Disk + Drop>(conn: Connection<FileStore<D>>) -> Option<Files<D>>
     ensures copied { IfSome result (λ files. AreClean D.Disk files.log files.db → IsCopied conn files) }
 {
@@ -512,10 +512,10 @@ impl<'a, A: Start, B: Start> Machine<'a, VaultStore<A>, VaultStore<B>> {
         }
     }
 
-    /// Closes the vault that was opened or made, so that all that it committed stands in its file, and gives the file and
+    /// Closes the vault that was opened or made, so that all that it committed is in its file, and gives the file and
     /// its log back, which nobody else has before they are dropped.
     ///
-    /// None where that fails: then what was committed stands in the log beside the file, and the next open finds it there.
+    /// None where that fails: then what was committed is in the log beside the file, and the next opening finds it there.
     pub fn close(&mut self, vault: FileVault<A>) -> Option<Files<FileFrom<A>>>
         // Its connection is remembered, which stands for the vault.
         ensures closed { self.new.closed.items ≡ self.old.closed.items ++ (vault.conn, true) ∷ [] }
