@@ -35,6 +35,6 @@ module _ {D : Type 0} {g : Ghosts D} (image : Image) where
     c.0,
     c.1,
     λ clean.
-    let it = c.2 clean in
-    record { first = it.first; last = it.last; found = it.found; stands = it.stands; done = weaker it.first it.last it.done },
+        let it = c.2 clean in
+        record { first = it.first; last = it.last; found = it.found; stands = it.stands; done = weaker it.first it.last it.done },
   )

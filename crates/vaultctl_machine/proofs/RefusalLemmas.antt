@@ -56,7 +56,7 @@ module _ (image : Image) (s : State) (opens : Opens s) (live : IsLive s) (finds 
   whole_is_sound n v whole =
       let trees = s.committed.trees in
       let it : AreTreesAs n v trees × IsDatabase (record { schema = schema_of n; trees = trees }) =
-          subst (λ t. AreTreesAs n v t × IsDatabase (record { schema = schema_of n; trees = t })) (sym (finds.holds whole.0 whole.1.0)) whole.1.1 in
+      subst (λ t. AreTreesAs n v t × IsDatabase (record { schema = schema_of n; trees = t })) (sym (finds.holds whole.0 whole.1.0)) whole.1.1 in
       let schema = lists_once (trees catalog_tree) s.committed.schema (schema_of n) (live opens.is_open).1.lists it.1.lists in
       subst (λ (db : Database). AreSoundAs n db v) (sym opens.clean) (subst (λ t. AreSoundAs n (record { schema = t; trees = trees }) v) (sym schema) it.0)
 
@@ -65,9 +65,9 @@ module _ (image : Image) (old new : State) (r : Refusal) (opened : HasCleanDisk 
   refused_over survives healthy damaged = record {
     healthy = λ works. healthy (opened (was_clean old new _ survives works.clean)).0.autocommit works;
     damaged = λ clean t is v whole.
-    let before = was_clean old new _ survives clean in
-    let it = opened before in
-    damaged clean t is v (whole_is_sound image old it.0 it.1 (finds before) newest v whole);
+        let before = was_clean old new _ survives clean in
+        let it = opened before in
+        damaged clean t is v (whole_is_sound image old it.0 it.1 (finds before) newest v whole);
   }
 
   -- the same of tables of an earlier edition
@@ -85,7 +85,7 @@ pub unmade_over : (old new : State) (r : Refusal) (Commits : Trees → Type 0) �
     → (old.in_transaction ≡ false → HasCleanDisk new → HasTablesOf old new) → IsUnmadeOver new r
 unmade_over old new r Commits opened survives taken tables = record {
   taken = λ clean is_open is none.
-  let it = (opened (was_clean old new Commits survives clean)).0 in
-  let same = (tables it.autocommit clean it.is_open is_open).0 in
-  taken is (subst (λ (db : Database). db.schema ≡ no_schema) same none);
+      let it = (opened (was_clean old new Commits survives clean)).0 in
+      let same = (tables it.autocommit clean it.is_open is_open).0 in
+      taken is (subst (λ (db : Database). db.schema ≡ no_schema) same none);
 }
