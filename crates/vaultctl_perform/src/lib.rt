@@ -49,7 +49,8 @@ fn replay_script<A: Start, B: Start, R: Read, W: Write, E: Write>(
 ) -> u8
     ensures replayed { job.now.file ≡ None → result ≡ 0 → AnswersFromNew (R.remaining reader.old) (R.remaining reader.new) (W.contents out.old) (W.contents out.new) }
     ensures given { result ≡ 0 → machine.new.given ≡ given_by (Job.Replay job.now) machine.old.given }
-    ensures done { result ≡ 0 → IsReplayed (image_at A.Start) job.now machine.old.closed.items machine.new.closed.items (R.remaining reader.old) (R.remaining reader.new) (W.contents out.old) (W.contents out.new) }
+    ensures done { result ≡ 0 → IsReplayed (image_at A.Start) job.now machine.old.closed.items machine.new.closed.items
+        (R.remaining reader.old) (R.remaining reader.new) (W.contents out.old) (W.contents out.new) }
     ensures status { result ≢ 2 }
 {
     match &job.file {
@@ -336,7 +337,8 @@ fn answer_job<A: Start, B: Start, R: Read, W: Write, E: Write>(
     ensures values { (job : AnyJob) (r : Refusal) → job_for (map string_bytes words.now) ≡ Some job → IsValueFault job r → result ≢ 0 }
     ensures told { (job : AnyJob) → job_for (map string_bytes words.now) ≡ Some job → result ≡ 0 → IsTold job (W.contents out.old) (W.contents out.new) }
     ensures given { (job : AnyJob) → job_for (map string_bytes words.now) ≡ Some job → result ≡ 0 → machine.new.given ≡ given_by job machine.old.given }
-    ensures done { (job : AnyJob) → job_for (map string_bytes words.now) ≡ Some job → result ≡ 0 → IsDoneInFiles (image_at A.Start) job machine.old.closed.items machine.new.closed.items machine.old.copies.items machine.new.copies.items
+    ensures done { (job : AnyJob) → job_for (map string_bytes words.now) ≡ Some job → result ≡ 0
+        → IsDoneInFiles (image_at A.Start) job machine.old.closed.items machine.new.closed.items machine.old.copies.items machine.new.copies.items
         (R.remaining reader.old) (R.remaining reader.new) (W.contents out.old) (W.contents out.new) }
 {
     match job_of(machine.runtime().alloc(), words) {
@@ -367,7 +369,8 @@ pub fn answer_words<A: Start, B: Start, R: Read, W: Write, E: Write>(
     ensures values { (job : AnyJob) (r : Refusal) → job_for (map string_bytes words.now) ≡ Some job → IsValueFault job r → result ≢ 0 }
     ensures told { (job : AnyJob) → job_for (map string_bytes words.now) ≡ Some job → result ≡ 0 → IsTold job (W.contents out.old) (W.contents out.new) }
     ensures given { (job : AnyJob) → job_for (map string_bytes words.now) ≡ Some job → result ≡ 0 → machine.new.given ≡ given_by job machine.old.given }
-    ensures done { (job : AnyJob) → job_for (map string_bytes words.now) ≡ Some job → result ≡ 0 → IsDoneInFiles (image_at A.Start) job machine.old.closed.items machine.new.closed.items machine.old.copies.items machine.new.copies.items
+    ensures done { (job : AnyJob) → job_for (map string_bytes words.now) ≡ Some job → result ≡ 0
+        → IsDoneInFiles (image_at A.Start) job machine.old.closed.items machine.new.closed.items machine.old.copies.items machine.new.copies.items
         (R.remaining reader.old) (R.remaining reader.new) (W.contents out.old) (W.contents out.new) }
 {
     match version_asked(words) {

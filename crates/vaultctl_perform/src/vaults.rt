@@ -12,12 +12,13 @@ ghost use Rattle.vaultctl_work.specs.Scene.{scene};
 use crate::telling::{say_device, status, tell_cause};
 use sqlite::Start;
 use std::io::{Read, Write};
+use vault_core_model::keeper::Keeper;
 use vaultctl_commands::fault::JobFault;
 use vaultctl_commands::outcome::Outcome;
 use vaultctl_machine::unopened::Unopened;
 use vaultctl_machine::vaults::{FileMachine, FileVault};
 use vaultctl_machine_places::opened_files::OpenedFiles;
-use vaultctl_machine_places::watched_keeper::WatchedKeeper;
+use vaultctl_machine_places::watched_keeper::{Watch, WatchedKeeper};
 use vaultctl_work::work::{Work, work_with};
 
 /// A vault in files, which looks before each change whether they are still those that were opened.
@@ -29,7 +30,7 @@ fn watch<'a, A: Start, B: Start>(
     file: &str,
     vault: FileVault<A>,
 ) -> Result<WatchedVault<'a, A>, Unopened>
-    ensures same { OnOk result (machine.new ≡ machine.old) }
+    ensures machine { OnOk result (machine.new ≡ machine.old) }
     ensures below { IfOk result (λ it. it.keeper ≡ vault) }
 {
     match OpenedFiles::at(machine.runtime(), file) {
@@ -57,6 +58,26 @@ fn open_watched<'a, A: Start, B: Start>(
     }
 }
 
+/// Does it with a keeper whose files are watched, and returns the keeper below and what came of it.
+///
+/// The error within is the fault that stopped it.
+fn work_watched<K: Keeper, V: Watch + Drop, T: Work, R: Read, W: Write, E: Write>(
+    rt: &HostRuntime,
+    watched: WatchedKeeper<K, V>,
+    work: &T,
+    reader: &mut R,
+    out: &mut W,
+    err: &mut E,
+) -> (K, Result<Outcome, JobFault>)
+    ensures told { T.tells result.1 (W.contents out.old) (W.contents out.new) }
+    ensures done { K.is_honest result.0 → K.is_honest watched.keeper
+        × T.does work.now (scene (K.vault watched.keeper) (R.remaining reader.old) (W.contents out.old))
+        (scene (K.vault result.0) (R.remaining reader.new) (W.contents out.new)) result.1 }
+{
+    let (watched, outcome) = work_with(rt, watched, work, reader, out, err);
+    (watched.into_keeper(), outcome)
+}
+
 /// Does it with a vault, which was opened just now, and closes the vault.
 fn with_vault<A: Start, B: Start, T: Work, R: Read, W: Write, E: Write>(
     machine: &mut FileMachine<'_, A, B>,
@@ -69,11 +90,11 @@ fn with_vault<A: Start, B: Start, T: Work, R: Read, W: Write, E: Write>(
     requires found { HasCleanDisk (file_state vault.keeper.conn) → IsFoundIn (image_at A.Start) (vault_of over_files vault.keeper) }
     ensures told { T.tells result (W.contents out.old) (W.contents out.new) }
     ensures given { machine.new.given ≡ machine.old.given }
-    ensures done { Carries (image_at A.Start) machine.old.closed.items machine.new.closed.items (λ v w. T.does work.now (scene v (R.remaining reader.old) (W.contents out.old))
-        (scene w (R.remaining reader.new) (W.contents out.new)) result) }
+    ensures done { Carries (image_at A.Start) machine.old.closed.items machine.new.closed.items
+        (λ v w. T.does work.now (scene v (R.remaining reader.old) (W.contents out.old)) (scene w (R.remaining reader.new) (W.contents out.new)) result) }
 {
-    let (watched, outcome) = work_with(machine.runtime(), vault, work, reader, out, err);
-    drop(machine.close(watched.into_keeper()));
+    let (vault, outcome) = work_watched(machine.runtime(), vault, work, reader, out, err);
+    drop(machine.close(vault));
     outcome
 }
 
@@ -92,8 +113,8 @@ pub fn in_vault<A: Start, B: Start, T: Work, R: Read, W: Write, E: Write>(
     // Status 0 says that a vault was opened, no other was made or copied, and of the vault that was found in the file it
     // was done.
     ensures given { result ≡ 0 → machine.new.given ≡ with_opened machine.old.given }
-    ensures done { result ≡ 0 → Carries (image_at A.Start) machine.old.closed.items machine.new.closed.items (λ v w. T.does work.now (scene v (R.remaining reader.old) (W.contents out.old))
-        (scene w (R.remaining reader.new) (W.contents out.new)) (Ok Outcome.Done)) }
+    ensures done { result ≡ 0 → Carries (image_at A.Start) machine.old.closed.items machine.new.closed.items
+        (λ v w. T.does work.now (scene v (R.remaining reader.old) (W.contents out.old)) (scene w (R.remaining reader.new) (W.contents out.new)) (Ok Outcome.Done)) }
     ensures status { result ≢ 2 }
 {
     match open_watched(machine, file, start) {
