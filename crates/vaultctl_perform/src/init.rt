@@ -1,9 +1,10 @@
 //! A new vault in a file.
 ghost use Rattle.std.specs.Prelude.{◌≡◌, ◌≢◌, OnOk};
-ghost use Rattle.sqlite.specs.Files.{file_state};
+ghost use Rattle.sqlite.specs.Files.{file_state, over_files};
 ghost use Rattle.sqlite.specs.State.{HasCleanDisk};
 ghost use Rattle.vault_core_model.specs.Vault.{opening};
 ghost use Rattle.vault_store.specs.Kept.{StandsFor};
+ghost use Rattle.vault_store.specs.VaultOf.{vault_of};
 ghost use Rattle.vaultctl_machine.specs.Closings.{Closes};
 ghost use Rattle.vaultctl_machine.specs.Given.{with_made};
 ghost use Rattle.vaultctl_perform.specs.Status as spec;
@@ -12,7 +13,16 @@ use crate::telling::tell_cause;
 use sqlite::Start;
 use std::io::Write;
 use vaultctl_machine::unopened::Unopened;
-use vaultctl_machine::vaults::FileMachine;
+use vaultctl_machine::vaults::{FileMachine, FileVault};
+
+/// Closes a vault that was made just now.
+fn close_new<A: Start, B: Start>(machine: &mut FileMachine<'_, A, B>, vault: FileVault<A>)
+    requires new { HasCleanDisk (file_state vault.conn) → vault_of over_files vault ≡ opening }
+    ensures given { machine.new.given ≡ machine.old.given }
+    ensures done { Closes machine.old.closed.items machine.new.closed.items (λ conn. HasCleanDisk (file_state conn) → ∥ StandsFor (file_state conn) opening ∥₁) }
+{
+    drop(machine.close(vault));
+}
 
 /// Makes the vault in a file and closes it.
 fn make<A: Start, B: Start>(
@@ -24,7 +34,7 @@ fn make<A: Start, B: Start>(
     ensures done { OnOk result (Closes machine.old.closed.items machine.new.closed.items (λ conn. HasCleanDisk (file_state conn) → ∥ StandsFor (file_state conn) opening ∥₁)) }
 {
     let vault = machine.make(file, start)?;
-    drop(machine.close(vault));
+    close_new(machine, vault);
     Ok(())
 }
 

@@ -4,6 +4,7 @@ ghost use Rattle.std.specs.Io.KnownBytes.{Appends};
 ghost use Rattle.sqlite_wal.specs.Files.{image_at};
 ghost use Rattle.vaultctl_machine.specs.Closings.{Copies};
 ghost use Rattle.vaultctl_machine.specs.Given.{with_copied};
+ghost use Rattle.vaultctl_machine.specs.Places.{after_a_look};
 ghost use Rattle.vaultctl_perform.specs.Told as spec;
 
 use crate::telling::{status, tell_cause};
@@ -23,6 +24,7 @@ fn copy<A: Start, B: Start>(
     new: &str,
     starts: Starts<A, B>,
 ) -> Result<(), Unopened>
+    ensures looked { machine.new.looked ≡ after_a_look machine.old.looked }
     ensures given { OnOk result (machine.new.given ≡ with_copied machine.old.given) }
     ensures done { OnOk result (Copies (image_at A.Start) machine.old.closed.items machine.new.closed.items machine.old.copies.items machine.new.copies.items) }
 {
@@ -59,6 +61,7 @@ pub fn migrate<A: Start, B: Start, W: Write, E: Write>(
     out: &mut W,
     err: &mut E,
 ) -> u8
+    ensures looked { machine.new.looked ≡ after_a_look machine.old.looked }
     // Status 0 says that the vault which was found in the old file was copied, no other opened or made, and `migrated`
     // printed.
     ensures given { result ≡ 0 → machine.new.given ≡ with_copied machine.old.given }

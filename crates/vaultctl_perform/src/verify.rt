@@ -1,8 +1,12 @@
 //! Whether the vault in a file is sound.
 ghost use Rattle.std.specs.Prelude.{◌≡◌, ◌≢◌, IfOk, OnOk, Ok, string_bytes};
 ghost use Rattle.std.specs.Io.KnownBytes.{Appends};
+ghost use Rattle.sqlite.specs.Files.{file_state, over_files};
+ghost use Rattle.sqlite.specs.State.{HasCleanDisk};
 ghost use Rattle.sqlite_wal.specs.Files.{image_at};
+ghost use Rattle.vault_store.specs.VaultOf.{vault_of};
 ghost use Rattle.vaultctl_machine.specs.Closings.{Carries};
+ghost use Rattle.vaultctl_machine.specs.Files.{IsFoundIn};
 ghost use Rattle.vaultctl_machine.specs.Given.{with_opened};
 ghost use Rattle.vaultctl_perform.specs.Told as spec;
 
@@ -15,7 +19,7 @@ use vaultctl_commands::fault::JobFault;
 use vaultctl_commands::outcome::Outcome;
 use vaultctl_commands::printing::print;
 use vaultctl_machine::unopened::Unopened;
-use vaultctl_machine::vaults::FileMachine;
+use vaultctl_machine::vaults::{FileMachine, FileVault};
 
 /// The line that names a table which isn't sound. The error is want of memory.
 fn damaged_line(alloc: Global, table: Table) -> Result<String, AllocError>
@@ -89,6 +93,15 @@ fn tell_opened<W: Write, E: Write>(
     }
 }
 
+/// Closes a vault that was opened just now.
+fn close_found<A: Start, B: Start>(machine: &mut FileMachine<'_, A, B>, vault: FileVault<A>)
+    requires found { HasCleanDisk (file_state vault.conn) → IsFoundIn (image_at A.Start) (vault_of over_files vault) }
+    ensures given { machine.new.given ≡ machine.old.given }
+    ensures done { Carries (image_at A.Start) machine.old.closed.items machine.new.closed.items (λ v w. w ≡ v) }
+{
+    drop(machine.close(vault));
+}
+
 /// Opens the vault in a file and closes it.
 fn look<A: Start, B: Start>(
     machine: &mut FileMachine<'_, A, B>,
@@ -99,7 +112,7 @@ fn look<A: Start, B: Start>(
     ensures done { OnOk result (Carries (image_at A.Start) machine.old.closed.items machine.new.closed.items (λ v w. w ≡ v)) }
 {
     let vault = machine.open(file, start)?;
-    drop(machine.close(vault));
+    close_found(machine, vault);
     Ok(())
 }
 
