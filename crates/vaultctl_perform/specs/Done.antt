@@ -18,7 +18,7 @@ use Rattle.vaultctl_job.specs.declared.job.ReplayJob.{ReplayJob}
 use Rattle.vaultctl_machine.specs.Closings.{Carries, Closes, Copies}
 use Rattle.vaultctl_machine.specs.Given.{with_copied, with_made, with_opened}
 use Rattle.vaultctl_machine.specs.declared.given.Given.{Given}
-use Rattle.vaultctl_work.specs.Done.{AreEventsTold, IsAnswered, IsIntakeDone, IsJudgedDone, IsRegistered, IsSealDone, IsServed, IsStepDone}
+use Rattle.vaultctl_work.specs.Done.{IsAnswered, IsIntakeDone, IsJudgedDone, IsSealDone, IsServed, IsStepDone}
 use Rattle.vaultctl_work.specs.Scene.{scene}
 
 -- a script without a file has a vault in memory
@@ -59,9 +59,9 @@ module _ {D E : Type 0} {g : Ghosts D} {h : Ghosts E} (image : Image) where
   IsDoneInFiles (job.Run j) old new none copies input left before after = IsAskedDone image (run_of j) old new before after
   IsDoneInFiles (job.Report j) old new none copies input left before after = IsAskedDone image (report_of j) old new before after
   IsDoneInFiles (job.Certificate j) old new none copies input left before after = IsAskedDone image (certificate_of j) old new before after
-  IsDoneInFiles (job.Register j) old new none copies input left before after = Carries image old new (λ v w. IsRegistered v w before after)
+  IsDoneInFiles (job.Register j) old new none copies input left before after = Carries image old new (λ v w. w ≡ v)
   IsDoneInFiles (job.Verify j) old new none copies input left before after = Carries image old new (λ v w. w ≡ v)
-  IsDoneInFiles (job.Events j) old new none copies input left before after = IsOkAnd (events_of j) (λ asked. Carries image old new (λ v w. AreEventsTold asked v w before after))
+  IsDoneInFiles (job.Events j) old new none copies input left before after = IsOkAnd (events_of j) (λ asked. Carries image old new (λ v w. w ≡ v))
   IsDoneInFiles (job.Seal j) old new none copies input left before after = IsOkAnd (seal_of j) (λ asked. Carries image old new (λ v w. IsSealDone asked Done v w before after))
   IsDoneInFiles (job.Lawful j) old new none copies input left before after = Carries image old new (λ v w. IsJudgedDone Done v w before after)
   IsDoneInFiles (job.Replay j) old new none copies input left before after = IsReplayed image j old new input left before after

@@ -1,17 +1,12 @@
 -- What a job did with a vault.
 use Rattle.std.specs.Prelude.{◌≡◌, ◌⊎◌, ℕ, List, Option, None, Some, ⊤}
-use Rattle.std.specs.Io.KnownBytes.{Appends, Consumes, IsAtEnd}
+use Rattle.std.specs.Io.KnownBytes.{Consumes, IsAtEnd}
 use Rattle.vault_core_evidence.specs.Breaches.{first_breach}
-use Rattle.vault_core_evidence.specs.Events.{events_asked}
-use Rattle.vault_core_model.specs.Reads.{removed_entries}
 use Rattle.vault_core_model.specs.Vault.{Vault}
 use Rattle.vault_files.specs.File.{File}
-use Rattle.vault_files.specs.Register.{register}
-use Rattle.vault_files_events.specs.EventsText.{events_text}
 use Rattle.vaultctl_commands.specs.Evidence.{IsJudged, IsSealed}
 use Rattle.vaultctl_commands.specs.Told.{ToldIntake}
 use Rattle.vaultctl_commands.specs.declared.asked.Asked.{Asked}
-use Rattle.vaultctl_commands.specs.declared.asked.AskedEvents.{AskedEvents}
 use Rattle.vaultctl_commands.specs.declared.asked.AskedIntake.{AskedIntake}
 use Rattle.vaultctl_commands.specs.declared.asked.AskedSeal.{AskedSeal}
 use Rattle.vaultctl_commands.specs.declared.outcome.Outcome.{Outcome}
@@ -39,14 +34,6 @@ IsTakenInThen None asked told v v' before after = (at : ℕ) × IsTakenInAt at a
 -- so it was; or nothing was begun, which is no intake that is done, and the vault is as it was
 abbrev pub IsIntakeDone : AskedIntake → Outcome → Vault → Vault → Option (List ℕ) → Option (List ℕ) → Type 0
 IsIntakeDone asked told v v' before after = IsTakenInThen asked.at asked told v v' before after ⊎ ((told ≡ Refused) × (v' ≡ v))
-
--- the vault is as it was, and its register is printed
-abbrev pub IsRegistered : Vault → Vault → Option (List ℕ) → Option (List ℕ) → Type 0
-IsRegistered v v' before after = (v' ≡ v) × Appends before after (register (removed_entries v))
-
--- the vault is as it was, and the text of the events that are asked for is printed
-abbrev pub AreEventsTold : AskedEvents → Vault → Vault → Option (List ℕ) → Option (List ℕ) → Type 0
-AreEventsTold asked v v' before after = (v' ≡ v) × Appends before after (events_text (events_asked asked.before v))
 
 -- the vault is as it was, and the seal that is asked for is printed, or its refusal
 abbrev pub IsSealDone : AskedSeal → Outcome → Vault → Vault → Option (List ℕ) → Option (List ℕ) → Type 0

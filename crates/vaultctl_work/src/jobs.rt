@@ -1,6 +1,6 @@
 //! A register, a script, and requests.
 ghost use Rattle.std.specs.Prelude.{◌≡◌, ⊤, OnOk};
-ghost use Rattle.vaultctl_work.specs.Done.{IsAnswered, IsRegistered, IsServed};
+ghost use Rattle.vaultctl_work.specs.Done.{IsAnswered, IsServed};
 ghost use Rattle.vaultctl_work.specs.Outcomes as spec;
 
 use crate::terminal::terminal_beside;
@@ -43,7 +43,7 @@ fn done_or_fault(written: Result<(), ExportFault>) -> Result<Outcome, JobFault>
 impl Work for RegisterJob {
     ghost tells = { λ outcome before after. ⊤ };
 
-    ghost does = { λ job old new result. OnOk result (IsRegistered old.vault new.vault old.output new.output) };
+    ghost does = { λ job old new result. new.vault ≡ old.vault };
 
     fn terminal(&self, _rt: &HostRuntime) -> Option<Stderr> {
         None

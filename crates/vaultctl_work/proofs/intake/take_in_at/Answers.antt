@@ -1,4 +1,4 @@
-use Rattle.std.proofs.Common.{inl}
+use Rattle.std.proofs.Common.{None, inl}
 use Rattle.std.proofs.lemmas.Result.{IfOk-weaker}
 use Rattle.vaultctl_work.proofs.IntakeLemmas.{steady_by}
 use Rattle.vaultctl_work.proofs.intake.take_in_at.Goals as goal
@@ -10,4 +10,4 @@ pub returns-clause-told : goal.returns-clause-told
 returns-clause-told g c = IfOk-weaker c.take_in_and_tell-told.result.0 _ _ (λ told it. inl it) c.take_in_and_tell-told.ensures.told
 
 pub returns-clause-done : goal.returns-clause-done
-returns-clause-done g c = λ h. IfOk-weaker c.take_in_and_tell-told.result.0 _ _ (λ told it. (_, c.args.delivery.list.now, it)) (c.take_in_and_tell-told.ensures.ok h)
+returns-clause-done g c = λ h. IfOk-weaker c.take_in_and_tell-told.result.0 _ _ (λ told it. (None, c.args.delivery.list.now, it)) (c.take_in_and_tell-told.ensures.ok h)

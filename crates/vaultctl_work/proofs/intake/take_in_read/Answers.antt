@@ -1,4 +1,4 @@
-use Rattle.std.proofs.Common.{inl, refl}
+use Rattle.std.proofs.Common.{inl, inr, refl}
 use Rattle.std.proofs.lemmas.Result.{IfOk-weaker}
 use Rattle.vaultctl_work.proofs.IntakeLemmas.{refusal_told, taken_then}
 use Rattle.vaultctl_work.proofs.intake.take_in_read.Goals as goal

@@ -7,6 +7,6 @@ returns-clause-told g c = (c.carry_out_asked.ensures.told, c.carry_out_asked.ens
 
 pub returns-clause-done : goal.returns-clause-done
 returns-clause-done g c = λ h. (
-    c.carry_out_asked.ensures.honest h,
-    IfOk-weaker c.carry_out_asked.result _ _ (λ told d. done_plainly _ c.args.self.now _ _ told _ _ c.args.self.now.at d) (c.carry_out_asked.ensures.done h),
+  c.carry_out_asked.ensures.honest h,
+  IfOk-weaker c.carry_out_asked.result _ _ (λ told d. done_plainly _ c.args.self.now _ _ told _ _ c.args.self.now.at d) (c.carry_out_asked.ensures.done h),
 )
