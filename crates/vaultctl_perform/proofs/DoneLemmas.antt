@@ -37,11 +37,16 @@ module _ {D : Type 0} {g : Ghosts D} (image : Image) where
   pub carries_from : (old mid new : List (Held (FileStore D g) × Bool)) (Does : Vault → Vault → Type 0) → mid ≡ old → Carries image mid new Does → Carries image old new Does
   carries_from old mid new Does same c = subst (λ (l : List (Held (FileStore D g) × Bool)). Carries image l new Does) same c
 
-  module _ {X Y : Type 0} (view : X → Y) (old new : List (Held (FileStore D g) × Bool)) (P : X → Vault → Vault → Type 0) (Q : Y → Vault → Vault → Type 0) (so : (x : X) (v w : Vault) → P x v w → Q (view x) v w) where
-    -- what was done for the words as they were read was done for what they say
-    pub done_as_said : (asked : Result X LineFault) (said : Result Y Refusal) → Gives view asked said → IsOkAnd asked (λ x. Carries image old new (P x)) → IsOkAnd said (λ y. Carries image old new (Q y))
-    done_as_said (Ok x) said gives c = subst (λ (s : Result Y Refusal). IsOkAnd s (λ y. Carries image old new (Q y))) (sym gives) (carries_weaker image old new (P x) (Q (view x)) (so x) c)
-    done_as_said (Err e) said gives c = absurd c
+  -- what was done, said in another way
+  pub carries_as : (old new : List (Held (FileStore D g) × Bool)) (P Q : Vault → Vault → Type 0) → Carries image old new P → ((v w : Vault) → P v w → Q v w) → Carries image old new Q
+  carries_as old new P Q c so = carries_weaker image old new P Q so c
+
+  -- what was done for the words as they were read was done for what they say
+  pub done_as_said : {X Y : Type 0} (view : X → Y) (old new : List (Held (FileStore D g) × Bool)) (P : X → Vault → Vault → Type 0) (Q : Y → Vault → Vault → Type 0) (asked : Result X LineFault) (said : Result Y Refusal)
+      → Gives view asked said → IsOkAnd asked (λ x. Carries image old new (P x)) → ((x : X) (v w : Vault) → P x v w → Q (view x) v w) → IsOkAnd said (λ y. Carries image old new (Q y))
+  done_as_said {X} {Y} view old new P Q (Ok x) said gives c so =
+      subst (λ (s : Result Y Refusal). IsOkAnd s (λ y. Carries image old new (Q y))) (sym gives) (carries_weaker image old new (P x) (Q (view x)) (so x) c)
+  done_as_said view old new P Q (Err e) said gives c so = absurd c
 
 module _ {D : Type 0} {g : Ghosts D} where
   -- one connection more was closed, also from where nothing was closed before it

@@ -13,4 +13,4 @@ returns-clause-values g c = λ said r gives is.
     c.ask_read.ensures.values (Err r) r (refused_anyway (λ (i : Intake). i.asked) c.args.asked said r gives is) refl
 
 pub returns-clause-done : goal.returns-clause-done
-returns-clause-done g c = λ said gives z. done_as_said _ (λ (i : Intake). i.asked) _ _ _ _ (λ i v w did. did.2) c.args.asked said gives (c.ask_read.ensures.done z)
+returns-clause-done g c = λ said gives z. done_as_said _ (λ (i : Intake). i.asked) _ _ _ _ c.args.asked said gives (c.ask_read.ensures.done z) (λ i v w did. did.2)
