@@ -29,12 +29,12 @@ module _ {D : Type 0} {g : Ghosts D} (image : Image) where
     },
   )
 
-  -- what was done, told otherwise
+  -- by a weaker word for what was done
   pub carries_weaker : (old new : List (Held (FileStore D g) × Bool)) (P Q : Vault → Vault → Type 0) → ((v w : Vault) → P v w → Q v w) → Carries image old new P → Carries image old new Q
   carries_weaker old new P Q weaker c = (
     c.0,
     c.1,
     λ clean.
-    let it = c.2 clean in
-    record { first = it.first; last = it.last; found = it.found; stands = it.stands; done = weaker it.first it.last it.done },
+        let it = c.2 clean in
+        record { first = it.first; last = it.last; found = it.found; stands = it.stands; done = weaker it.first it.last it.done },
   )

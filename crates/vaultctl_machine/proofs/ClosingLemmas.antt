@@ -1,4 +1,4 @@
--- What stands in files that were closed.
+-- What files hold that were closed.
 use Rattle.std.proofs.Common.{◌≡◌, [], Option, None, Some, sym, subst}
 use Rattle.std.specs.Prelude.{IfSome}
 use Rattle.std.proofs.Math.Logic.{∥∥₁_elim, ∥∥₁_map}
@@ -38,8 +38,7 @@ module _ {D : Type 0} {g : Ghosts D} (keeper : SqlKeeper (FileStore D g) over_fi
   hold_vault files stands copied clean image left =
       let is = copied clean in
       let holds = is.left image left in
-      let v = vault_of over_files keeper in
-      (
+      let v = vault_of over_files keeper in (
         ∥∥₁_elim stands squash₁ (λ s. ∥∥₁_map holds.both (held keeper.conn files v is (s is.was_clean) image)),
         ∥∥₁_elim stands squash₁ (λ s. ∥∥₁_map holds.alone (held keeper.conn files v is (s is.was_clean) (record image { log = [] }))),
       )

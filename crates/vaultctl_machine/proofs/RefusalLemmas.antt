@@ -20,13 +20,29 @@ use Rattle.vault_core_model.specs.Vault.{Vault}
 use Rattle.vault_store.specs.Tables.{HasTablesOf}
 use Rattle.vaultctl_machine.proofs.FoundLemmas.{was_clean}
 use Rattle.vaultctl_machine.specs.Closings.{Closes}
+use Rattle.vaultctl_machine.specs.Faults.{ReportsFailure, refusal_of}
 use Rattle.vaultctl_machine.specs.Files.{AreSoundEarlier, AreTreesAs, IsWholeAs}
-use Rattle.vaultctl_machine.specs.Refusals.{IsRefusedOver, IsUncopiedFrom, IsUnmadeOver}
+use Rattle.vaultctl_machine.specs.Refusals.{IsRefusedOver, IsUncopiedFrom, IsUnmadeOver, Reports}
+use Rattle.vaultctl_machine.specs.declared.unopened.Unopened.{Unopened}
 
--- a refusal that is one of two
-pub either : (P : Refusal → Type 0) (a r x : Refusal) → (x ≡ a) ⊎ (x ≡ r) → P a → P r → P x
-either P a r x (inl is) at_a at_r = subst P (sym is) at_a
-either P a r x (inr is) at_a at_r = subst P (sym is) at_r
+-- ---- what is reported
+
+module _ (P : Refusal → Type 0) (x : Unopened) where
+  pub reports_as : (r : Refusal) → refusal_of x ≡ r → ReportsFailure x → P r → Reports P x
+  reports_as r is failure holds = record { told = subst P (sym is) holds; failure = failure }
+
+  -- one of two
+  pub reports_either : (a r : Refusal) → (refusal_of x ≡ a) ⊎ (refusal_of x ≡ r) → ReportsFailure x → P a → P r → Reports P x
+  reports_either a r (inl is) failure at_a at_r = reports_as a is failure at_a
+  reports_either a r (inr is) failure at_a at_r = reports_as r is failure at_r
+
+  -- as another cause, of which more is seen
+  pub reports_after : (e : Unopened) → refusal_of x ≡ refusal_of e → (ReportsFailure e → ReportsFailure x) → Reports P e → Reports P x
+  reports_after e same failure reports = reports_as (refusal_of e) same (failure reports.failure) reports.told
+
+-- of more refusals
+pub reports_weaker : (P Q : Refusal → Type 0) (x : Unopened) → ((r : Refusal) → P r → Q r) → Reports P x → Reports Q x
+reports_weaker P Q x weaker reports = record { told = weaker (refusal_of x) reports.told; failure = reports.failure }
 
 -- one connection more, of which it holds, where what is reported is that
 pub closes_as : {C : Type 0} (old new : List (C × Bool)) (conn : C) (P : C → Refusal → Type 0) (x r : Refusal) → x ≡ r → new ≡ old ++ (conn, true) ∷ [] → P conn r → Closes old new (λ c. P c x)
@@ -40,7 +56,7 @@ module _ (image : Image) (s : State) (opens : Opens s) (live : IsLive s) (finds 
   whole_is_sound n v whole =
       let trees = s.committed.trees in
       let it : AreTreesAs n v trees × IsDatabase (record { schema = schema_of n; trees = trees }) =
-          subst (λ t. AreTreesAs n v t × IsDatabase (record { schema = schema_of n; trees = t })) (sym (finds.holds whole.0 whole.1.0)) whole.1.1 in
+      subst (λ t. AreTreesAs n v t × IsDatabase (record { schema = schema_of n; trees = t })) (sym (finds.holds whole.0 whole.1.0)) whole.1.1 in
       let schema = lists_once (trees catalog_tree) s.committed.schema (schema_of n) (live opens.is_open).1.lists it.1.lists in
       subst (λ (db : Database). AreSoundAs n db v) (sym opens.clean) (subst (λ t. AreSoundAs n (record { schema = t; trees = trees }) v) (sym schema) it.0)
 
@@ -49,9 +65,9 @@ module _ (image : Image) (old new : State) (r : Refusal) (opened : HasCleanDisk 
   refused_over survives healthy damaged = record {
     healthy = λ works. healthy (opened (was_clean old new _ survives works.clean)).0.autocommit works;
     damaged = λ clean t is v whole.
-    let before = was_clean old new _ survives clean in
-    let it = opened before in
-    damaged clean t is v (whole_is_sound image old it.0 it.1 (finds before) newest v whole);
+        let before = was_clean old new _ survives clean in
+        let it = opened before in
+        damaged clean t is v (whole_is_sound image old it.0 it.1 (finds before) newest v whole);
   }
 
   -- the same of tables of an earlier edition
@@ -69,7 +85,7 @@ pub unmade_over : (old new : State) (r : Refusal) (Commits : Trees → Type 0) �
     → (old.in_transaction ≡ false → HasCleanDisk new → HasTablesOf old new) → IsUnmadeOver new r
 unmade_over old new r Commits opened survives taken tables = record {
   taken = λ clean is_open is none.
-  let it = (opened (was_clean old new Commits survives clean)).0 in
-  let same = (tables it.autocommit clean it.is_open is_open).0 in
-  taken is (subst (λ (db : Database). db.schema ≡ no_schema) same none);
+      let it = (opened (was_clean old new Commits survives clean)).0 in
+      let same = (tables it.autocommit clean it.is_open is_open).0 in
+      taken is (subst (λ (db : Database). db.schema ≡ no_schema) same none);
 }

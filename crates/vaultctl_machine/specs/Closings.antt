@@ -1,4 +1,4 @@
--- What stands in a vault's files once they are closed, and what a vault came to from its opening to there.
+-- What a vault's files hold once they are closed, and what a vault came to from its opening to there.
 use Rattle.std.specs.Prelude.{◌≡◌, ◌∷◌, ◌++◌, [], Bool, true, List}
 use Rattle.sqlite_disk.specs.declared.Disk.{Ghosts}
 use Rattle.sqlite_disk.specs.declared.Files.{Files}
@@ -25,7 +25,7 @@ HoldVault {D} {g} keeper files =
 abbrev pub Closes : {C : Type 0} → List (C × Bool) → List (C × Bool) → (C → Type 0) → Type 0
 Closes {C} old new P = (conn : C) × (new ≡ old ++ (conn, true) ∷ []) × P conn
 
--- A vault from its opening to its end: it was found in files that held this, it came to the one that the connection stands for at the end, and between them is what was done.
+-- A vault from its opening to its closing: the first was found in files that held this image, what was done leads from the first to the last, and the connection stood for the last when it was closed.
 pub record IsCarriedOn (image : Image) (s : State) (Does : Vault → Vault → Type 0) : Type 0 where
   pub first : Vault
   pub last : Vault
@@ -33,11 +33,11 @@ pub record IsCarriedOn (image : Image) (s : State) (Does : Vault → Vault → T
   pub stands : ∥ StandsFor s last ∥₁
   pub done : Does first last
 
--- a vault that was found in files that held this was closed at last, and between is what was done, if the disk returned what was written
+-- one vault more was closed, which was found in files that held this image, after this was done with it; if the disk returned what was written
 abbrev pub Carries : {D : Type 0} {g : Ghosts D} → Image → List (Held (FileStore D g) × Bool) → List (Held (FileStore D g) × Bool) → (Vault → Vault → Type 0) → Type 0
 Carries image old new Does = Closes old new (λ conn. HasCleanDisk (file_state conn) → IsCarriedOn image (file_state conn) Does)
 
--- The vault of an earlier edition that was found in files that held this was copied: both connections were closed, and the second stands for it, if both disks returned what was written.
+-- The vault of an earlier edition that was found in files that held this image was copied: both connections were closed, and the second one stood for that vault; if both disks returned what was written.
 abbrev pub Copies : {D E : Type 0} {g : Ghosts D} {h : Ghosts E} → Image → List (Held (FileStore D g) × Bool) → List (Held (FileStore D g) × Bool)
     → List (Held (FileStore E h) × Bool) → List (Held (FileStore E h) × Bool) → Type 0
 Copies image old new none copies =

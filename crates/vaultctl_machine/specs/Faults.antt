@@ -1,4 +1,5 @@
 -- What is reported of a file that can't be opened.
+use Rattle.std.specs.Prelude.{◌≡◌, ⊤, Bool, true, false, IsTrue}
 use Rattle.sqlite.specs.declared.error.Error.{Error}
 use Rattle.sqlite.specs.declared.error.Error.TheVariants.{SqliteFailure}
 use Rattle.sqlite.specs.declared.error.ErrorCode.TheVariants as code
@@ -32,6 +33,17 @@ cause_of (SqliteFailure code.DatabaseBusy) told = Held
 cause_of (SqliteFailure code.DiskFull) told = Seen Full told
 cause_of (SqliteFailure code.SystemIoFailure) told = Seen Failed told
 cause_of _ told = Refused told
+
+-- the disk has no room, or reading or writing failed
+abbrev pub is_failure : Cause → Bool
+is_failure Full = true
+is_failure Failed = true
+is_failure _ = false
+
+-- a failure of the disk that is seen is reported as one, and never as want of memory or a damage
+abbrev pub ReportsFailure : Unopened → Type 0
+ReportsFailure (Seen seen refusal) = IsTrue (is_failure seen) → refusal ≡ Device
+ReportsFailure _ = ⊤
 
 -- what another program has can't be had
 abbrev pub refusal_of : Unopened → Refusal

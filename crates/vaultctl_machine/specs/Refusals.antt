@@ -13,7 +13,9 @@ use Rattle.vault_audit_model.specs.Editions.{newest}
 use Rattle.vault_audit_model.specs.Tables.{no_schema}
 use Rattle.vault_store.specs.Create.{IsFault}
 use Rattle.vaultctl_machine.specs.Closings.{Closes}
+use Rattle.vaultctl_machine.specs.Faults.{ReportsFailure, refusal_of}
 use Rattle.vaultctl_machine.specs.Files.{IsWholeAs}
+use Rattle.vaultctl_machine.specs.declared.unopened.Unopened.{Unopened}
 
 -- a making is refused where something is there already, or for want of memory, or by the device
 abbrev pub IsUnmade : Refusal → Type 0
@@ -22,6 +24,11 @@ IsUnmade r = r ≢ NameTaken → IsFault r
 -- a copying also where a table is damaged
 abbrev pub IsUncopied : Refusal → Type 0
 IsUncopied r = r ≢ NameTaken → IsTold r
+
+-- what is reported is a refusal of these, and a failure of the disk is reported as one
+pub record Reports (Told : Refusal → Type 0) (cause : Unopened) : Type 0 where
+  pub told : Told (refusal_of cause)
+  pub failure : ReportsFailure cause
 
 -- no connection was let go of, or one was, of which this holds
 abbrev pub LetsGo : {C : Type 0} → List (C × Bool) → List (C × Bool) → (C → Type 0) → Type 0

@@ -146,7 +146,8 @@ fn seen_at(rt: &HostRuntime, path: &str, refusal: Refusal) -> Option<Cause> {
 
 /// The same cause, with what is seen at the path where no other is known. It is reported as before.
 pub(crate) fn looked_at(rt: &HostRuntime, path: &str, cause: Unopened) -> Unopened
-    ensures { spec.refusal_of result ≡ spec.refusal_of cause }
+    ensures refusal { spec.refusal_of result ≡ spec.refusal_of cause }
+    ensures failure { spec.ReportsFailure cause → spec.ReportsFailure result }
 {
     match cause {
         Unopened::Refused(refusal) => with_cause(refusal, seen_at(rt, path, refusal)),

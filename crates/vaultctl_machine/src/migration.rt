@@ -12,11 +12,11 @@ ghost use Rattle.vault_core_model.specs.Vault.{Vault};
 ghost use Rattle.vault_store.specs.Kept.{StandsFor};
 ghost use Rattle.vault_store.specs.VaultOf.{vault_of};
 ghost use Rattle.vaultctl_machine.specs.Closings.{Closes};
-ghost use Rattle.vaultctl_machine.specs.Faults.{refusal_of};
+ghost use Rattle.vaultctl_machine.specs.Faults.{ReportsFailure, refusal_of};
 ghost use Rattle.vaultctl_machine.specs.Files.{AreSoundEarlier, IsFoundEarlier, IsHeldAs};
 ghost use Rattle.vaultctl_machine.specs.Given.{with_copied};
 ghost use Rattle.vaultctl_machine.specs.Places.{after_a_look};
-ghost use Rattle.vaultctl_machine.specs.Refusals.{IsUncopied, IsUncopiedFrom, LetsGo};
+ghost use Rattle.vaultctl_machine.specs.Refusals.{IsUncopied, IsUncopiedFrom, LetsGo, Reports};
 
 use crate::editions::{edition_of, why_uncopied};
 use crate::looks::{is_one_file, looked_at};
@@ -81,7 +81,7 @@ fn copy_earlier<O: Alter, S: Alter>(
     ensures found { IfOk result.outcome (λ k. HasCleanDisk (state O.Store result.source) → HasCleanDisk (state S.Store k.conn)
         → AreSoundEarlier (state O.Store source).now (vault_of S.Store k)) }
     ensures sound { IfOk result.outcome (λ k. HasCleanDisk (state S.Store k.conn) → AreSound (state S.Store k.conn).now (vault_of S.Store k)) }
-    // Tables that are sound as those of one of the two are never told as damaged.
+    // Tables that are sound as those of one of the two are never reported as damaged.
     ensures undamaged { (v : Vault) → AreSoundEarlier (state O.Store source).now v
         → IfErr result.outcome (λ e. HasCleanDisk (state O.Store result.source) → (t : Table) → e.0 ≢ Refusal.Damaged t) }
 {
@@ -143,7 +143,7 @@ fn copy_into<A: Start, B: Start>(
         → IsFoundEarlier (image_at A.Start) (vault_of over_files m.vault)) }
     ensures held { (n : Edition) (v : Vault) → IsHeldAs n (image_at A.Start) v → IfOk result (λ m. HasCleanDisk (file_state m.source) → HasCleanDisk (file_state m.vault.conn)
         → vault_of over_files m.vault ≡ v) }
-    ensures told { IfErr result (λ e. IsUncopied (refusal_of e)) }
+    ensures told { IfErr result (Reports IsUncopied) }
     ensures lost { IfErr result (λ e. Closes lost.old.items lost.new.items (λ conn. IsUncopiedFrom (image_at A.Start) (file_state conn) (refusal_of e))) }
     ensures kept { OnOk result ((lost.new ≡ lost.old) × (uncopied.new ≡ uncopied.old)) }
 {
@@ -166,7 +166,8 @@ fn copy_into<A: Start, B: Start>(
 
 /// Why the file that is to get a copy isn't opened or made. That another program has it is reported as `Device`.
 fn unmade_new(rt: &HostRuntime, old: &str, new: &str, cause: Unopened) -> Unopened
-    ensures { refusal_of result ≡ refusal_of cause }
+    ensures refusal { refusal_of result ≡ refusal_of cause }
+    ensures failure { ReportsFailure cause → ReportsFailure result }
 {
     match cause {
         Unopened::Held if is_one_file(rt, old, new) => Unopened::Seen(
@@ -194,7 +195,7 @@ fn copy_at<A: Start, B: Start>(
         → IsFoundEarlier (image_at A.Start) (vault_of over_files m.vault)) }
     ensures held { (n : Edition) (v : Vault) → IsHeldAs n (image_at A.Start) v → IfOk result (λ m. HasCleanDisk (file_state m.source) → HasCleanDisk (file_state m.vault.conn)
         → vault_of over_files m.vault ≡ v) }
-    ensures told { IfErr result (λ e. IsUncopied (refusal_of e)) }
+    ensures told { IfErr result (Reports IsUncopied) }
     ensures lost { IfErr result (λ e. LetsGo lost.old.items lost.new.items (λ conn. IsUncopiedFrom (image_at A.Start) (file_state conn) (refusal_of e))) }
     ensures kept { OnOk result ((lost.new ≡ lost.old) × (uncopied.new ≡ uncopied.old)) }
 {
@@ -248,7 +249,8 @@ impl<'a, A: Start, B: Start> Machine<'a, VaultStore<A>, VaultStore<B>> {
         // Where these held a vault, it is that one.
         ensures held { (n : Edition) (v : Vault) → IsHeldAs n (image_at A.Start) v → IfOk result (λ m. HasCleanDisk (file_state m.source) → HasCleanDisk (file_state m.vault.conn)
             → vault_of over_files m.vault ≡ v) }
-        ensures told { IfErr result (λ e. IsUncopied (refusal_of e)) }
+        // A failure of the disk that is seen is reported as one.
+        ensures told { IfErr result (Reports IsUncopied) }
         // Files that hold a sound vault of an earlier edition aren't reported as damaged.
         ensures refused { IfErr result (λ e. LetsGo self.old.refused.items self.new.refused.items (λ conn. IsUncopiedFrom (image_at A.Start) (file_state conn) (refusal_of e))) }
     {

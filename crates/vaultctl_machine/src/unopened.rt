@@ -44,12 +44,27 @@ impl Unopened {
     }
 }
 
-/// The cause of a refusal that the files show, if they show one.
-pub(crate) fn with_cause(refusal: Refusal, seen: Option<Cause>) -> Unopened
-    ensures { spec.refusal_of result ≡ refusal }
+/// Whether a cause is a failure of the disk.
+fn is_failure(cause: Cause) -> bool
+    ensures { result ≡ spec.is_failure cause }
 {
-    match seen {
-        Some(cause) => Unopened::Seen(cause, refusal),
-        None => Unopened::Refused(refusal),
+    match cause {
+        Cause::Full | Cause::Failed => true,
+        _ => false,
+    }
+}
+
+/// The cause of a refusal that the files show, if they show one. A failure of the disk is shown with `Device` alone.
+pub(crate) fn with_cause(refusal: Refusal, seen: Option<Cause>) -> Unopened
+    ensures refusal { spec.refusal_of result ≡ refusal }
+    ensures failure { spec.ReportsFailure result }
+{
+    let Some(cause) = seen else {
+        return Unopened::Refused(refusal);
+    };
+    match refusal {
+        Refusal::Device => Unopened::Seen(cause, Refusal::Device),
+        _ if is_failure(cause) => Unopened::Refused(refusal),
+        _ => Unopened::Seen(cause, refusal),
     }
 }

@@ -21,12 +21,12 @@ ghost use Rattle.vault_store_apply.specs.Left.{LeavesAlone};
 ghost use Rattle.vault_store_apply.specs.Left as trees;
 ghost use Rattle.vaultctl_machine.specs.Closings.{Closes, HoldVault};
 ghost use Rattle.vaultctl_machine.specs.Faults as spec;
-ghost use Rattle.vaultctl_machine.specs.Faults.{refusal_of};
+ghost use Rattle.vaultctl_machine.specs.Faults.{ReportsFailure, refusal_of};
 ghost use Rattle.vaultctl_machine.specs.Files.{IsFoundIn, IsHeldIn};
 ghost use Rattle.vaultctl_machine.specs.Given.{with_copied, with_made, with_opened};
 ghost use Rattle.vaultctl_machine.specs.Openings.{IsOpenedFrom};
 ghost use Rattle.vaultctl_machine.specs.Places.{after_a_look};
-ghost use Rattle.vaultctl_machine.specs.Refusals.{IsRefusedOver, IsUnmade, IsUnmadeOver, LetsGo};
+ghost use Rattle.vaultctl_machine.specs.Refusals.{IsRefusedOver, IsUnmade, IsUnmadeOver, LetsGo, Reports};
 
 use crate::editions::why_unsound;
 use crate::given::Given;
@@ -105,6 +105,7 @@ pub(crate) fn unmade(error: Error) -> Refusal
 pub(crate) fn cause(error: Error, told: Refusal) -> Unopened
     ensures exact { result ≡ spec.cause_of error told }
     ensures refusal { (refusal_of result ≡ Refusal.Device) ⊎ (refusal_of result ≡ told) }
+    ensures failure { (told ≡ spec.unopened_of error) ⊎ (told ≡ spec.unmade_of error) → ReportsFailure result }
 {
     match error {
         Error::SqliteFailure(ErrorCode::DatabaseBusy) => Unopened::Held,
@@ -114,9 +115,9 @@ pub(crate) fn cause(error: Error, told: Refusal) -> Unopened
     }
 }
 
-/// What it is reported as that one can't see what stands at a path.
+/// What it is reported as that one can't see what is at a path.
 fn unseen(error: io::Error) -> Unopened
-    ensures { IsFault (refusal_of result) }
+    ensures { Reports IsFault result }
 {
     if error.kind() == ErrorKind::OutOfMemory {
         return Unopened::Refused(Refusal::Memory);
@@ -126,7 +127,7 @@ fn unseen(error: io::Error) -> Unopened
 
 /// What it is reported as that no file can be made at a path.
 fn unmakable(error: io::Error) -> Unopened
-    ensures { IsFault (refusal_of result) }
+    ensures { Reports IsFault result }
 {
     match unseen(error) {
         Unopened::Refused(Refusal::Device) => with_cause(
@@ -139,7 +140,7 @@ fn unmakable(error: io::Error) -> Unopened
 
 /// The files at a path where tables may be, or why none can be there.
 pub(crate) fn site_there<'a>(rt: &'a HostRuntime, path: &'a str) -> Result<Site<'a>, Unopened>
-    ensures { IfErr result (λ e. IsTold (refusal_of e)) }
+    ensures { IfErr result (Reports IsTold) }
 {
     match place_at(rt, path) {
         Ok(place) if place.may_hold_tables() => Ok(Site::new(rt, path, place)),
@@ -150,7 +151,7 @@ pub(crate) fn site_there<'a>(rt: &'a HostRuntime, path: &'a str) -> Result<Site<
 
 /// The files at a path where a vault may be made, or why none can be.
 pub(crate) fn site_for_new<'a>(rt: &'a HostRuntime, path: &'a str) -> Result<Site<'a>, Unopened>
-    ensures { IfErr result (λ e. IsUnmade (refusal_of e)) }
+    ensures { IfErr result (Reports IsUnmade) }
 {
     match place_at(rt, path) {
         Ok(place) if place.may_be_made() => Ok(Site::new(rt, path, place)),
@@ -170,7 +171,7 @@ pub(crate) fn connect_there<S: Start>(
 ) -> Result<Opened<VaultStore<S>>, Unopened>
     ensures opened { IfOk result (λ it. HasCleanDisk (file_state it.conn) → IsOpened it.conn) }
     ensures found { IfOk result (λ it. HasCleanDisk (file_state it.conn) → FindsIn (image_at S.Start) (file_state it.conn)) }
-    ensures told { IfErr result (λ e. IsTold (refusal_of e)) }
+    ensures told { IfErr result (Reports IsTold) }
 {
     match stores::connect_there(site, start) {
         Ok(opened) => Ok(opened),
@@ -187,7 +188,7 @@ pub(crate) fn connect_new<S: Start>(
     start: S,
 ) -> Result<Opened<VaultStore<S>>, Unopened>
     ensures opened { IfOk result (λ it. HasCleanDisk (file_state it.conn) → IsOpened it.conn) }
-    ensures told { IfErr result (λ e. IsUnmade (refusal_of e)) }
+    ensures told { IfErr result (Reports IsUnmade) }
 {
     if let Err(error) = site.make_file() {
         return Err(unmakable(error));
@@ -218,7 +219,8 @@ pub(crate) fn let_go<S: Start>(
 /// Why a vault was refused that was looked at, or made, in an open store: what it is reported as, with the cause of a damage,
 /// which is `unsound` where `meta` isn't sound, and of a failure.
 pub(crate) fn refused(refusal: Refusal, unsound: Cause, had_no_room: bool) -> Unopened
-    ensures { refusal_of result ≡ refusal }
+    ensures refusal { refusal_of result ≡ refusal }
+    ensures failure { ReportsFailure result }
 {
     with_cause(refusal, why_refused(refusal, unsound, had_no_room))
 }
@@ -235,9 +237,9 @@ fn why_refused(refusal: Refusal, unsound: Cause, had_no_room: bool) -> Option<Ca
     }
 }
 
-/// Closes a connection, so that all that it committed stands in its file, and gives the two files back.
+/// Closes a connection, so that all that it committed is in its file, and gives the two files back.
 ///
-/// None where that fails: then what was committed stands in the log beside the file, and the next open finds it there.
+/// None where that fails: then what was committed is in the log beside the file, and the next opening finds it there.
 fn close<D: Disk + Drop>(conn: Connection<FileStore<D>>) -> Option<Files<D>>
     ensures copied { IfSome result (λ files. AreClean D.Disk files.log files.db → IsCopied conn files) }
 {
@@ -296,7 +298,7 @@ fn found_in<S: Start>(
     ensures held { (v : Vault) → IsHeldIn (image_at S.Start) v → IfOk result (λ vault. HasCleanDisk (file_state vault.conn) → vault_of over_files vault ≡ v) }
     ensures opened { IfOk result (λ vault. HasCleanDisk (file_state vault.conn) → IsOpenedFrom (image_at S.Start) (file_state vault.conn)) }
     ensures alone { IfOk result (λ vault. HasCleanDisk (file_state vault.conn) → LeavesAlone (file_state vault.conn) (vault_of over_files vault)) }
-    ensures told { IfErr result (λ e. IsTold (refusal_of e)) }
+    ensures told { IfErr result (Reports IsTold) }
     ensures lost { IfErr result (λ e. Closes lost.old.items lost.new.items (λ conn. IsRefusedOver (image_at S.Start) (file_state conn) (refusal_of e))) }
     ensures kept { OnOk result (lost.new ≡ lost.old) }
 {
@@ -337,7 +339,7 @@ fn made_in<S: Start>(
     ensures opening { IfOk result (λ vault. HasCleanDisk (file_state vault.conn) → vault_of over_files vault ≡ opening) }
     ensures sound { IfOk result (λ vault. HasCleanDisk (file_state vault.conn) → AreSound (file_state vault.conn).now opening) }
     ensures alone { IfOk result (λ vault. HasCleanDisk (file_state vault.conn) → LeavesAlone (file_state vault.conn) opening) }
-    ensures told { IfErr result (λ e. IsUnmade (refusal_of e)) }
+    ensures told { IfErr result (Reports IsUnmade) }
     ensures lost { IfErr result (λ e. Closes lost.old.items lost.new.items (λ conn. IsUnmadeOver (file_state conn) (refusal_of e))) }
     ensures kept { OnOk result (lost.new ≡ lost.old) }
 {
@@ -365,7 +367,7 @@ fn opened_at<S: Start>(
     ensures held { (v : Vault) → IsHeldIn (image_at S.Start) v → IfOk result (λ vault. HasCleanDisk (file_state vault.conn) → vault_of over_files vault ≡ v) }
     ensures opened { IfOk result (λ vault. HasCleanDisk (file_state vault.conn) → IsOpenedFrom (image_at S.Start) (file_state vault.conn)) }
     ensures alone { IfOk result (λ vault. HasCleanDisk (file_state vault.conn) → LeavesAlone (file_state vault.conn) (vault_of over_files vault)) }
-    ensures told { IfErr result (λ e. IsTold (refusal_of e)) }
+    ensures told { IfErr result (Reports IsTold) }
     ensures lost { IfErr result (λ e. LetsGo lost.old.items lost.new.items (λ conn. IsRefusedOver (image_at S.Start) (file_state conn) (refusal_of e))) }
     ensures kept { OnOk result (lost.new ≡ lost.old) }
 {
@@ -391,7 +393,7 @@ fn made_at<S: Start>(
     ensures opening { IfOk result (λ vault. HasCleanDisk (file_state vault.conn) → vault_of over_files vault ≡ opening) }
     ensures sound { IfOk result (λ vault. HasCleanDisk (file_state vault.conn) → AreSound (file_state vault.conn).now opening) }
     ensures alone { IfOk result (λ vault. HasCleanDisk (file_state vault.conn) → LeavesAlone (file_state vault.conn) opening) }
-    ensures told { IfErr result (λ e. IsUnmade (refusal_of e)) }
+    ensures told { IfErr result (Reports IsUnmade) }
     ensures lost { IfErr result (λ e. LetsGo lost.old.items lost.new.items (λ conn. IsUnmadeOver (file_state conn) (refusal_of e))) }
     ensures kept { OnOk result (lost.new ≡ lost.old) }
 {
@@ -467,7 +469,8 @@ impl<'a, A: Start, B: Start> Machine<'a, VaultStore<A>, VaultStore<B>> {
         ensures opened { IfOk result (λ vault. HasCleanDisk (file_state vault.conn) → IsOpenedFrom (image_at A.Start) (file_state vault.conn)) }
         // A crash leaves that vault after that, and nothing else.
         ensures alone { IfOk result (λ vault. HasCleanDisk (file_state vault.conn) → LeavesAlone (file_state vault.conn) (vault_of over_files vault)) }
-        ensures told { IfErr result (λ e. IsTold (refusal_of e)) }
+        // A failure of the disk that is seen is reported as one.
+        ensures told { IfErr result (Reports IsTold) }
         // A store that was opened and works isn't reported as a failed device, nor one that holds a sound vault as damaged.
         ensures refused { IfErr result (λ e. LetsGo self.old.refused.items self.new.refused.items (λ conn. IsRefusedOver (image_at A.Start) (file_state conn) (refusal_of e))) }
     {
@@ -494,7 +497,8 @@ impl<'a, A: Start, B: Start> Machine<'a, VaultStore<A>, VaultStore<B>> {
         ensures sound { IfOk result (λ vault. HasCleanDisk (file_state vault.conn) → AreSound (file_state vault.conn).now opening) }
         // A crash leaves a new vault after that, and nothing else.
         ensures alone { IfOk result (λ vault. HasCleanDisk (file_state vault.conn) → LeavesAlone (file_state vault.conn) opening) }
-        ensures told { IfErr result (λ e. IsUnmade (refusal_of e)) }
+        // A failure of the disk that is seen is reported as one.
+        ensures told { IfErr result (Reports IsUnmade) }
         // A store that was opened and is reported as taken has something in it.
         ensures refused { IfErr result (λ e. LetsGo self.old.refused.items self.new.refused.items (λ conn. IsUnmadeOver (file_state conn) (refusal_of e))) }
     {
@@ -508,10 +512,10 @@ impl<'a, A: Start, B: Start> Machine<'a, VaultStore<A>, VaultStore<B>> {
         }
     }
 
-    /// Closes the vault that was opened or made, so that all that it committed stands in its file, and gives the file and
+    /// Closes the vault that was opened or made, so that all that it committed is in its file, and gives the file and
     /// its log back, which nobody else has before they are dropped.
     ///
-    /// None where that fails: then what was committed stands in the log beside the file, and the next open finds it there.
+    /// None where that fails: then what was committed is in the log beside the file, and the next opening finds it there.
     pub fn close(&mut self, vault: FileVault<A>) -> Option<Files<FileFrom<A>>>
         // Its connection is remembered, which stands for the vault.
         ensures closed { self.new.closed.items ≡ self.old.closed.items ++ (vault.conn, true) ∷ [] }
