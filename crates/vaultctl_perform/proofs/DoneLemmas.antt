@@ -34,8 +34,8 @@ module _ {D : Type 0} {g : Ghosts D} (image : Image) where
       carried image last.conn (vault_of over_files found) (vault_of over_files last) Does old old new refl closed stands (λ clean. (is (did clean).0, (did clean).1))
 
   -- so it is from where nothing was closed before it
-  pub carries_from : (old mid new : List (Held (FileStore D g) × Bool)) (Does : Vault → Vault → Type 0) → mid ≡ old → Carries image mid new Does → Carries image old new Does
-  carries_from old mid new Does same c = subst (λ (l : List (Held (FileStore D g) × Bool)). Carries image l new Does) same c
+  pub carries_from : (old mid new : List (Held (FileStore D g) × Bool)) (Does : Vault → Vault → Type 0) → Carries image mid new Does → mid ≡ old → Carries image old new Does
+  carries_from old mid new Does c same = subst (λ (l : List (Held (FileStore D g) × Bool)). Carries image l new Does) same c
 
   -- what was done, said in another way
   pub carries_as : (old new : List (Held (FileStore D g) × Bool)) (P Q : Vault → Vault → Type 0) → Carries image old new P → ((v w : Vault) → P v w → Q v w) → Carries image old new Q
@@ -50,11 +50,11 @@ module _ {D : Type 0} {g : Ghosts D} (image : Image) where
 
 module _ {D : Type 0} {g : Ghosts D} where
   -- one connection more was closed, also from where nothing was closed before it
-  pub closes_one : (conn : Held (FileStore D g)) (old mid new : List (Held (FileStore D g) × Bool)) (P : Held (FileStore D g) → Type 0) → mid ≡ old → new ≡ mid ++ (conn, true) ∷ [] → P conn → Closes old new P
-  closes_one conn old mid new P same closed p = (conn, closed ∙ ap (λ (l : List (Held (FileStore D g) × Bool)). l ++ (conn, true) ∷ []) same, p)
+  pub closes_one : (conn : Held (FileStore D g)) (old mid new : List (Held (FileStore D g) × Bool)) (P : Held (FileStore D g) → Type 0) → new ≡ mid ++ (conn, true) ∷ [] → P conn → mid ≡ old → Closes old new P
+  closes_one conn old mid new P closed p same = (conn, closed ∙ ap (λ (l : List (Held (FileStore D g) × Bool)). l ++ (conn, true) ∷ []) same, p)
 
-  pub closes_from : (old mid new : List (Held (FileStore D g) × Bool)) (P : Held (FileStore D g) → Type 0) → mid ≡ old → Closes mid new P → Closes old new P
-  closes_from old mid new P same c = subst (λ (l : List (Held (FileStore D g) × Bool)). Closes l new P) same c
+  pub closes_from : (old mid new : List (Held (FileStore D g) × Bool)) (P : Held (FileStore D g) → Type 0) → Closes mid new P → mid ≡ old → Closes old new P
+  closes_from old mid new P c same = subst (λ (l : List (Held (FileStore D g) × Bool)). Closes l new P) same c
 
   -- the connection of a new vault that was closed is of a new vault
   pub new_closed : (vault : SqlKeeper (FileStore D g) over_files) → ∥ (HasCleanDisk (file_state vault.conn) → StandsFor (file_state vault.conn) (vault_of over_files vault)) ∥₁
@@ -64,9 +64,10 @@ module _ {D : Type 0} {g : Ghosts D} where
 module _ {D E : Type 0} {g : Ghosts D} {h : Ghosts E} (image : Image) where
   -- both connections of a copy were closed, and the second is of the vault that was found
   pub copied_both : (source : Held (FileStore D g)) (vault : SqlKeeper (FileStore E h) over_files) (old mid new : List (Held (FileStore D g) × Bool)) (none still copies : List (Held (FileStore E h) × Bool))
-      → mid ≡ old → new ≡ mid ++ (source, true) ∷ [] → still ≡ none → copies ≡ still ++ (vault.conn, true) ∷ []
+      → new ≡ mid ++ (source, true) ∷ [] → copies ≡ still ++ (vault.conn, true) ∷ []
       → ∥ (HasCleanDisk (file_state vault.conn) → StandsFor (file_state vault.conn) (vault_of over_files vault)) ∥₁
-      → (HasCleanDisk (file_state source) → HasCleanDisk (file_state vault.conn) → IsFoundEarlier image (vault_of over_files vault)) → Copies image old new none copies
-  copied_both source vault old mid new none still copies same closed unchanged copied stands is =
-      closes_one source old mid new _ same closed
-      (closes_one vault.conn none still copies _ unchanged copied (λ clean there. (vault_of over_files vault, is clean there, ∥∥₁_map stands (λ it. it there))))
+      → (HasCleanDisk (file_state source) → HasCleanDisk (file_state vault.conn) → IsFoundEarlier image (vault_of over_files vault)) → mid ≡ old → still ≡ none → Copies image old new none copies
+  copied_both source vault old mid new none still copies closed copied stands is same unchanged =
+      let Stands : Held (FileStore E h) → Type 0 = λ conn. HasCleanDisk (file_state source) → HasCleanDisk (file_state conn) → (v : Vault) × IsFoundEarlier image v × ∥ StandsFor (file_state conn) v ∥₁ in
+      let copy : Closes none copies Stands = closes_one vault.conn none still copies Stands copied (λ clean there. (vault_of over_files vault, is clean there, ∥∥₁_map stands (λ it. it there))) unchanged in
+      (source, closed ∙ ap (λ (l : List (Held (FileStore D g) × Bool)). l ++ (source, true) ∷ []) same, copy)

@@ -17,7 +17,7 @@ use vaultctl_machine::vaults::{FileMachine, FileVault};
 
 /// Closes a vault that was made just now.
 fn close_new<A: Start, B: Start>(machine: &mut FileMachine<'_, A, B>, vault: FileVault<A>)
-    requires new { HasCleanDisk (file_state vault.conn) → vault_of over_files vault ≡ opening }
+    requires opening { HasCleanDisk (file_state vault.conn) → vault_of over_files vault ≡ opening }
     ensures given { machine.new.given ≡ machine.old.given }
     ensures done { Closes machine.old.closed.items machine.new.closed.items (λ conn. HasCleanDisk (file_state conn) → ∥ StandsFor (file_state conn) opening ∥₁) }
 {

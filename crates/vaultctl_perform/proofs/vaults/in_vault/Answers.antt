@@ -19,5 +19,5 @@ returns-in-Ok-clause-done g c = λ z.
     (λ v w. g.T.Work.does c.args.work.now (scene v (g.R.Read.remaining c.args.reader.now) (g.W.Write.contents c.args.out.now))
     (scene w (g.R.Read.remaining c.with_vault-outcome.new.reader) (g.W.Write.contents c.with_vault-outcome.new.out)) outcome))
     c.with_vault-outcome.result
-    (carries_from _ _ _ _ _ (cc) c.with_vault-outcome.ensures.done)
+    (carries_from _ _ _ _ _ c.with_vault-outcome.ensures.done (cc))
     (sym c.status-ended.ensures.outcome ∙ z)
