@@ -77,8 +77,13 @@ fn called<'a>(subcommand: &'a str, file: &'a Word, job: &'a Job) -> Call<'a> {
     }
 }
 
-/// Carries a job out over the files of a machine.
-fn carry_out<A: Start, B: Start, R: Read, W: Write, E: Write>(
+/// Carries a job out and answers the exit status: 0 where it was done, 1 where it was refused or a fault
+/// stopped it.
+///
+/// What a job answers goes to `out`. A fault is named on `err`, as `replay: Read`, and why a vault can't be
+/// opened or made, as `open: Damaged meta`. Faults are found in this order: values of words, the vault's file,
+/// an intake's list or a port, the clock, and what is asked.
+pub fn perform<A: Start, B: Start, R: Read, W: Write, E: Write>(
     machine: &mut FileMachine<'_, A, B>,
     starts: Starts<A, B>,
     job: &Job,
@@ -86,10 +91,16 @@ fn carry_out<A: Start, B: Start, R: Read, W: Write, E: Write>(
     out: &mut W,
     err: &mut E,
 ) -> u8
+    // Status 0 says that all lines of the input were answered, one after another, from a new vault on.
     ensures replayed { job.now ≡ Job.Replay (record { file = None }) → result ≡ 0 → AnswersFromNew (R.remaining reader.old) (R.remaining reader.new) (W.contents out.old) (W.contents out.new) }
+    // A value that isn't allowed is never reported as done, and no file is looked for.
     ensures values { (r : Refusal) → IsValueFault job.now r → (machine.new ≡ machine.old) × (result ≡ 1) }
+    // Status 0 says that what the job prints when it is done was printed.
     ensures told { result ≡ 0 → IsTold job.now (W.contents out.old) (W.contents out.new) }
+    // It says that one vault was opened, made or copied, as the job asks, and no other.
     ensures given { result ≡ 0 → machine.new.given ≡ given_by job.now machine.old.given }
+    // It says that what the job asks was done with the vault that was found in the file, and that the connection which was
+    // closed then stood for the vault that this left.
     ensures done { result ≡ 0 → IsDoneInFiles (image_at A.Start) job.now machine.old.closed.items machine.new.closed.items machine.old.copies.items machine.new.copies.items
         (R.remaining reader.old) (R.remaining reader.new) (W.contents out.old) (W.contents out.new) }
     ensures status { result ≢ 2 }
@@ -260,36 +271,6 @@ fn carry_out<A: Start, B: Start, R: Read, W: Write, E: Write>(
             )
         }
     }
-}
-
-/// Carries a job out and answers the exit status: 0 where it was done, 1 where it was refused or a fault
-/// stopped it.
-///
-/// What a job answers goes to `out`. A fault is named on `err`, as `replay: Read`, and why a vault can't be
-/// opened or made, as `open: Damaged meta`. Faults are found in this order: values of words, the vault's file,
-/// an intake's list or a port, the clock, and what is asked.
-pub fn perform<A: Start, B: Start, R: Read, W: Write, E: Write>(
-    machine: &mut FileMachine<'_, A, B>,
-    starts: Starts<A, B>,
-    job: &Job,
-    reader: &mut R,
-    out: &mut W,
-    err: &mut E,
-) -> u8
-    // Status 0 says that all lines of the input were answered, one after another, from a new vault on.
-    ensures replayed { job.now ≡ Job.Replay (record { file = None }) → result ≡ 0 → AnswersFromNew (R.remaining reader.old) (R.remaining reader.new) (W.contents out.old) (W.contents out.new) }
-    // A value that isn't such is never told as done, and no file is looked for.
-    ensures values { (r : Refusal) → IsValueFault job.now r → (machine.new ≡ machine.old) × (result ≡ 1) }
-    // Status 0 is never answered without what the job has to print for it,
-    ensures told { result ≡ 0 → IsTold job.now (W.contents out.old) (W.contents out.new) }
-    // nor without the vault that it has to open, make or copy, and that one alone.
-    ensures given { result ≡ 0 → machine.new.given ≡ given_by job.now machine.old.given }
-    // It says that the job was done with the vault that was found in the file, as the connection shows that was closed then.
-    ensures done { result ≡ 0 → IsDoneInFiles (image_at A.Start) job.now machine.old.closed.items machine.new.closed.items machine.old.copies.items machine.new.copies.items
-        (R.remaining reader.old) (R.remaining reader.new) (W.contents out.old) (W.contents out.new) }
-    ensures status { result ≢ 2 }
-{
-    carry_out(machine, starts, job, reader, out, err)
 }
 
 /// The line that says which version this is. The error is want of memory.

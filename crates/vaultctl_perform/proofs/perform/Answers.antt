@@ -1,7 +1,7 @@
 use Rattle.vaultctl_commands.specs.declared.asked.AskedEvents.{AskedEvents}
 use Rattle.vaultctl_commands.specs.declared.asked.AskedSeal.{AskedSeal}
 use Rattle.vaultctl_perform.proofs.DoneLemmas.{done_as_said}
-use Rattle.vaultctl_perform.proofs.carry_out.Goals as goal
+use Rattle.vaultctl_perform.proofs.perform.Goals as goal
 
 pub returns-in-Events-clause-done : goal.returns-in-Events-clause-done
 returns-in-Events-clause-done g c = λ z.
