@@ -42,9 +42,9 @@ const READS: &str = r#"
 /// How the run ended.
 #[derive(Clone, Copy, Debug)]
 enum Ending {
-    /// It was carried out to its end, by so many changes.
+    /// It was carried out to its end, by that many changes.
     Done(u64),
-    /// Want of memory stopped it after so many.
+    /// Want of memory stopped it after that many.
     StoppedAfter(u64),
     /// There was no memory for its reply, before anything was asked.
     NotAsked,
@@ -113,7 +113,7 @@ fn command(alloc: Global) -> Result<Timed, Fail> {
     })
 }
 
-/// What replies tell of the vault after the run, which its keeper may stop.
+/// What replies say of the vault after the run, which its keeper may stop.
 fn told_after_run<K: Keeper>(alloc: Global, keeper: &mut K) -> Result<String, Fail> {
     answers(alloc, keeper, RUN.as_bytes())?;
     answers(alloc, keeper, READS.as_bytes())
@@ -131,7 +131,7 @@ fn filled(alloc: Global) -> Result<ListKeeper, Fail> {
     played(alloc, opened(alloc)?, BEFORE)
 }
 
-/// What replies tell of a vault that has so many changes of the run: its device refuses the next one.
+/// What replies say of a vault with the first n changes of the run: its device refuses the next one.
 fn told_with(alloc: Global, changes: u64) -> Result<String, Fail> {
     let mut keeper: FuseKeeper<ListKeeper> = FuseKeeper::new(filled(alloc)?, changes);
     let told = told_after_run(alloc, &mut keeper);
@@ -139,7 +139,7 @@ fn told_with(alloc: Global, changes: u64) -> Result<String, Fail> {
     told
 }
 
-/// Fails unless the vault has so many changes of the run, and no other.
+/// Fails unless the vault has the first n changes of the run, and no other.
 fn compare_with<K: Keeper>(alloc: Global, keeper: &mut K, changes: u64) -> Result<(), Fail> {
     let told = answers(alloc, keeper, READS.as_bytes())?;
     let wanted = told_with(alloc, changes)?;
@@ -168,9 +168,9 @@ fn a_refused_growth_stops_a_run(rt: HostRuntime) -> Result<(), Fail> {
     tried
 }
 
-/// So each of its changes can be seen in the vault.
+/// So the test above can see each of its changes in the vault.
 #[test]
-fn each_change_of_the_run_is_told(rt: HostRuntime) -> Result<(), Fail> {
+fn each_change_of_the_run_is_seen(rt: HostRuntime) -> Result<(), Fail> {
     let mut before = told_with(rt.alloc(), 0)?;
     for changes in 1..=CHANGES {
         let after = told_with(rt.alloc(), changes)?;
