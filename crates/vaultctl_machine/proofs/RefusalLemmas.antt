@@ -1,5 +1,5 @@
 -- Why no vault was given out: from the store that refused it to the files.
-use Rattle.std.proofs.Common.{◌≡◌, ◌≢◌, ◌⊎◌, ◌×◌, inl, inr, List, [], ◌∷◌, ◌++◌, Bool, true, false, IsTrue, sym, subst, ◌∙◌}
+use Rattle.std.proofs.Common.{◌≡◌, ◌≢◌, ◌⊎◌, inl, inr, List, [], ◌∷◌, ◌++◌, Bool, true, false, sym, subst, ◌∙◌}
 use Rattle.sqlite_catalog.proofs.ReadLemmas.{lists_once}
 use Rattle.sqlite_trees.specs.Objects.{catalog_tree}
 use Rattle.sqlite_trees.specs.Tree.{Trees}
@@ -14,7 +14,7 @@ use Rattle.vault_audit_model.specs.Editions.{newest}
 use Rattle.vault_audit_model.specs.Spells.{AreSound, AreSoundAs}
 use Rattle.vault_audit_model.specs.Tables.{no_schema, schema_of}
 use Rattle.vault_base.specs.declared.refusal.Refusal.{Refusal}
-use Rattle.vault_base.specs.declared.refusal.Refusal.TheVariants.{Damaged, Device, NameTaken}
+use Rattle.vault_base.specs.declared.refusal.Refusal.TheVariants.{Damaged, Device, Memory, NameTaken}
 use Rattle.vault_base.specs.declared.refusal.Table.{Table}
 use Rattle.vault_core_model.specs.Vault.{Vault}
 use Rattle.vault_store.specs.Tables.{HasTablesOf}
@@ -22,7 +22,7 @@ use Rattle.vaultctl_machine.proofs.FoundLemmas.{was_clean}
 use Rattle.vaultctl_machine.specs.Closings.{Closes}
 use Rattle.vaultctl_machine.specs.Faults.{ReportsFailure, refusal_of}
 use Rattle.vaultctl_machine.specs.Files.{AreSoundEarlier, AreTreesAs, IsWholeAs}
-use Rattle.vaultctl_machine.specs.Refusals.{IsRefusedOver, IsUncopiedFrom, IsUnmadeOver, Reports}
+use Rattle.vaultctl_machine.specs.Refusals.{IsRefusedOver, IsUncopiedFrom, IsUnmade, IsUnmadeOver, Reports}
 use Rattle.vaultctl_machine.specs.declared.unopened.Unopened.{Unopened}
 
 -- ---- what is reported
@@ -56,7 +56,7 @@ module _ (image : Image) (s : State) (opens : Opens s) (live : IsLive s) (finds 
   whole_is_sound n v whole =
       let trees = s.committed.trees in
       let it : AreTreesAs n v trees × IsDatabase (record { schema = schema_of n; trees = trees }) =
-      subst (λ t. AreTreesAs n v t × IsDatabase (record { schema = schema_of n; trees = t })) (sym (finds.holds whole.0 whole.1.0)) whole.1.1 in
+      subst (λ t. AreTreesAs n v t × IsDatabase (record { schema = schema_of n; trees = t })) (sym (finds.holds whole.0 whole.1)) (whole.2, whole.3) in
       let schema = lists_once (trees catalog_tree) s.committed.schema (schema_of n) (live opens.is_open).1.lists it.1.lists in
       subst (λ (db : Database). AreSoundAs n db v) (sym opens.clean) (subst (λ t. AreSoundAs n (record { schema = t; trees = trees }) v) (sym schema) it.0)
 
@@ -79,6 +79,18 @@ module _ (image : Image) (old new : State) (r : Refusal) (opened : HasCleanDisk 
   uncopied_from clean undamaged = record {
     damaged = λ is_clean t is v whole. undamaged v (earlier_is_sound (clean is_clean) v whole) is_clean t is;
   }
+
+-- what isn't made is never reported as damaged
+undamaged : (r : Refusal) → IsUnmade r → (t : Table) → ¬ (r ≡ Damaged t)
+undamaged r unmade t is =
+    let taken : ¬ (r ≡ NameTaken) = λ it. let never : NameTaken ≡ Damaged t = sym it ∙ is in cc never in
+    elim (unmade taken) [
+      | inl it ↦ let never : Memory ≡ Damaged t = sym it ∙ is in cc never
+      | inr it ↦ let never : Device ≡ Damaged t = sym it ∙ is in cc never
+    ]
+
+pub uncopied_unmade : (image : Image) (s : State) (r : Refusal) → IsUnmade r → IsUncopiedFrom image s r
+uncopied_unmade image s r unmade = record { damaged = λ clean t is v whole. undamaged r unmade t is }
 
 -- a store that is refused as taken has something in it still
 pub unmade_over : (old new : State) (r : Refusal) (Commits : Trees → Type 0) → (HasCleanDisk old → Opens old × IsLive old) → Survives old new Commits → (r ≡ NameTaken → old.now.schema ≢ no_schema)

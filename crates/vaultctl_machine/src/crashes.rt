@@ -1,7 +1,7 @@
 //! What a crash leaves of a vault's files, as the next opening finds it.
-ghost use Rattle.std.specs.Prelude.{IfOk};
+ghost use Rattle.std.specs.Prelude.{IfOk, IsTrue};
 ghost use Rattle.sqlite_store.specs.FileStore.{view};
-ghost use Rattle.sqlite_trees.specs.View.{IsClean};
+ghost use Rattle.sqlite_trees.specs.View.{IsClean, IsQuiet, IsRolledBack};
 ghost use Rattle.sqlite_wal.specs.Files.{image_at};
 ghost use Rattle.sqlite.specs.Files.{file_state};
 ghost use Rattle.sqlite.specs.State.{HasCleanDisk};
@@ -9,22 +9,27 @@ ghost use Rattle.vaultctl_machine.specs.Openings.{FindsWhatWasLeft, IsFoundAgain
 
 use crate::unopened::Unopened;
 use crate::vaults::{FileMachine, FileVault, VaultStore};
-use sqlite::{FileFrom, FileStore, Start};
+use sqlite::{Alter, FileFrom, FileStore, Start};
 use sqlite_disk::Disk;
-use vault_store::openings_find_what_was_acknowledged;
 use vault_store::sql_keeper::SqlKeeper;
+
+/// The store of a vault, which is let go of.
+fn store_of<S: Alter + Drop>(vault: SqlKeeper<S>) -> S
+    ensures numbered { IsClean (S.Store.view result) → IsTrue (S.Store.view result).is_numbered }
+    ensures undone { IsRolledBack (S.Store.view vault.conn.store) (S.Store.view result) }
+    ensures quiet { IsQuiet S.Store.view S.Store.faults S.Store.recovers S.Store.is_shielded vault.conn.store result }
+{
+    vault.into_connection().into_store()
+}
 
 /// Lets go of a vault in files and copies nothing, as a crash does. The answer is its store.
 ///
 /// Whatever a crash may leave of the files at that moment, the next opening finds the vault in it. The files of that opening
 /// are of a type of their own.
-pub fn openings_follow<D: Disk + Drop, E: Disk + Drop>(
-    vault: SqlKeeper<FileStore<D>>,
-) -> FileStore<D>
+pub fn openings_follow<D: Disk + Drop, E: Disk>(vault: SqlKeeper<FileStore<D>>) -> FileStore<D>
     ensures next { FindsWhatWasLeft vault E.Disk result }
 {
-    openings_find_what_was_acknowledged::<FileStore<D>, FileStore<E>>();
-    vault.into_connection().into_store()
+    store_of(vault)
 }
 
 /// Lets go of a vault in files as a crash does, and opens the vault at a path. `start` stands for what the files there

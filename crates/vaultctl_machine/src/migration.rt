@@ -254,10 +254,11 @@ impl<'a, A: Start, B: Start> Machine<'a, VaultStore<A>, VaultStore<B>> {
         // Files that hold a sound vault of an earlier edition aren't reported as damaged.
         ensures refused { IfErr result (λ e. LetsGo self.old.refused.items self.new.refused.items (λ conn. IsUncopiedFrom (image_at A.Start) (file_state conn) (refusal_of e))) }
     {
-        let rt = self.look();
+        self.looked = self.looked.saturating_add(1);
+        let rt = self.rt;
         match copy_at(&mut self.refused, &mut self.uncopied, rt, old, new, starts) {
             Ok(migrated) => {
-                self.count_copy();
+                self.given = self.given.with_copied();
                 Ok(migrated)
             }
             Err(cause) => Err(cause),
@@ -283,7 +284,7 @@ impl<'a, A: Start, B: Start> Machine<'a, VaultStore<A>, VaultStore<B>> {
         ensures stands { ∥ (HasCleanDisk (file_state vault.conn) → StandsFor (file_state vault.conn) (vault_of over_files vault)) ∥₁ }
         ensures looked { self.new.looked ≡ self.old.looked }
         ensures given { self.new.given ≡ self.old.given }
-        ensures closed { self.new.closed ≡ self.old.closed }
+        ensures closed { self.new.closed.items ≡ self.old.closed.items }
         ensures refused { self.new.refused ≡ self.old.refused }
         ensures uncopied { self.new.uncopied ≡ self.old.uncopied }
     {

@@ -23,7 +23,7 @@ ghost use Rattle.vaultctl_machine.specs.Closings.{Closes, HoldVault};
 ghost use Rattle.vaultctl_machine.specs.Faults as spec;
 ghost use Rattle.vaultctl_machine.specs.Faults.{ReportsFailure, refusal_of};
 ghost use Rattle.vaultctl_machine.specs.Files.{IsFoundIn, IsHeldIn};
-ghost use Rattle.vaultctl_machine.specs.Given.{with_copied, with_made, with_opened};
+ghost use Rattle.vaultctl_machine.specs.Given.{with_made, with_opened};
 ghost use Rattle.vaultctl_machine.specs.Openings.{IsOpenedFrom};
 ghost use Rattle.vaultctl_machine.specs.Places.{after_a_look};
 ghost use Rattle.vaultctl_machine.specs.Refusals.{IsRefusedOver, IsUnmade, IsUnmadeOver, LetsGo, Reports};
@@ -59,9 +59,9 @@ pub type FileVault<S> = SqlKeeper<VaultStore<S>>;
 /// read that.
 #[derive(Drop)]
 pub struct Machine<'a, S: Alter, T: Alter> {
-    rt: &'a HostRuntime,
-    looked: u64,
-    given: Given,
+    pub(crate) rt: &'a HostRuntime,
+    pub(crate) looked: u64,
+    pub(crate) given: Given,
     /// Those of the first vault, or of the one that was copied.
     pub(crate) closed: Log<Connection<S>, bool>,
     /// Those of the copies.
@@ -407,9 +407,11 @@ fn made_at<S: Start>(
     }
 }
 
-impl<'a, S: Alter, T: Alter> Machine<'a, S, T> {
+// Each method is over stores of files: a call over any two stores names both of the files' at once, which takes more steps
+// than the prover has for a function.
+impl<'a, A: Start, B: Start> Machine<'a, VaultStore<A>, VaultStore<B>> {
     /// The files of a machine, where no vault was looked for yet.
-    pub fn new(rt: &'a HostRuntime) -> Machine<'a, S, T>
+    pub fn new(rt: &'a HostRuntime) -> FileMachine<'a, A, B>
         ensures looked { result.looked ≡ 0 }
         ensures given { result.given ≡ record { opened = 0; made = 0; copied = 0 } }
         ensures closed { result.closed.items ≡ [] }
@@ -433,23 +435,6 @@ impl<'a, S: Alter, T: Alter> Machine<'a, S, T> {
         self.rt
     }
 
-    /// Counts that a vault is looked for, and answers the runtime.
-    pub(crate) fn look(&mut self) -> &'a HostRuntime
-        ensures { self.new ≡ record self.old { looked = after_a_look self.old.looked } }
-    {
-        self.looked = self.looked.saturating_add(1);
-        self.rt
-    }
-
-    /// Counts a copy that is given out.
-    pub(crate) fn count_copy(&mut self)
-        ensures { self.new ≡ record self.old { given = with_copied self.old.given } }
-    {
-        self.given = self.given.with_copied();
-    }
-}
-
-impl<'a, A: Start, B: Start> Machine<'a, VaultStore<A>, VaultStore<B>> {
     /// Opens the vault in a file: its tables have to be sound. `start` stands for what the file and its log hold.
     ///
     /// `Damaged` with the first table that isn't; with `meta` where the file isn't there or is empty, or is no store
@@ -474,7 +459,8 @@ impl<'a, A: Start, B: Start> Machine<'a, VaultStore<A>, VaultStore<B>> {
         // A store that was opened and works isn't reported as a failed device, nor one that holds a sound vault as damaged.
         ensures refused { IfErr result (λ e. LetsGo self.old.refused.items self.new.refused.items (λ conn. IsRefusedOver (image_at A.Start) (file_state conn) (refusal_of e))) }
     {
-        let rt = self.look();
+        self.looked = self.looked.saturating_add(1);
+        let rt = self.rt;
         match opened_at(&mut self.refused, rt, path, start) {
             Ok(vault) => {
                 self.given = self.given.with_opened();
@@ -502,7 +488,8 @@ impl<'a, A: Start, B: Start> Machine<'a, VaultStore<A>, VaultStore<B>> {
         // A store that was opened and is reported as taken has something in it.
         ensures refused { IfErr result (λ e. LetsGo self.old.refused.items self.new.refused.items (λ conn. IsUnmadeOver (file_state conn) (refusal_of e))) }
     {
-        let rt = self.look();
+        self.looked = self.looked.saturating_add(1);
+        let rt = self.rt;
         match made_at(&mut self.refused, rt, path, start) {
             Ok(vault) => {
                 self.given = self.given.with_made();

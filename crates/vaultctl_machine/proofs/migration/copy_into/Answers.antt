@@ -1,5 +1,8 @@
+use Rattle.sqlite.specs.Files.{file_state}
 use Rattle.sqlite_wal.specs.Files.{image_at}
 use Rattle.vaultctl_machine.proofs.FoundLemmas.{found_of_earlier, held_of_earlier}
+use Rattle.vaultctl_machine.proofs.RefusalLemmas.{closes_as, reports_as, uncopied_from}
+use Rattle.vaultctl_machine.specs.Refusals.{IsUncopied, IsUncopiedFrom}
 use Rattle.vaultctl_machine.proofs.migration.copy_into.Goals as goal
 
 pub returns-in-Ok-clause-found : goal.returns-in-Ok-clause-found
@@ -11,3 +14,14 @@ pub returns-in-Ok-clause-held : goal.returns-in-Ok-clause-held
 returns-in-Ok-clause-held g c m w held old new =
     let before = c.copy_file-source.ensures.clean old in
     held_of_earlier (image_at g.A.Start) _ _ (c.requires.opened before).0 (c.requires.found before) ((rw c.in-Ok.is at c.copy_file-source.ensures.found) old new) m w held
+
+pub returns-clause-told : goal.returns-clause-told
+returns-clause-told g c = reports_as IsUncopied c.refused.result c.in-Err.refusal c.refused.ensures.refusal c.refused.ensures.failure (rw c.in-Err.is at c.copy_file-source.ensures.told)
+
+pub returns-clause-lost : goal.returns-clause-lost
+returns-clause-lost g c =
+    let copied = c.copy_file-source in
+    let image = image_at g.A.Start in
+    closes_as _ _ copied.result.source (λ conn r. IsUncopiedFrom image (file_state conn) r) _ c.in-Err.refusal c.refused.ensures.refusal c.let_go.ensures
+    (uncopied_from image (file_state c.args.found.conn) (file_state copied.result.source) c.in-Err.refusal c.requires.opened c.requires.found copied.ensures.clean
+    (λ v sound. rw c.in-Err.is at (copied.ensures.undamaged v sound)))
