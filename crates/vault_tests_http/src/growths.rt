@@ -134,14 +134,22 @@ fn is_changed(deed: Deed, left: &str, before: &str) -> bool {
     deed == Deed::Made && left != before
 }
 
-/// Says how a request ended, where it wasn't answered, and whether the vault has its change.
 fn tell(rt: &HostRuntime, ending: Ending, is_changed: bool) -> Result<(), Fail> {
-    match ending {
-        Ending::Answered => {}
-        _ if is_changed => println!(rt; "{ending:?}, and the change is made")?,
-        _ => println!(rt; "{ending:?}, and nothing is changed")?,
-    }
+    let change = if is_changed {
+        "the change is made"
+    } else {
+        "nothing is changed"
+    };
+    println!(rt; "{ending:?}, and {change}")?;
     Ok(())
+}
+
+/// Says how a request ended, where it wasn't answered, and whether the vault has its change.
+fn tell_troubled(rt: &HostRuntime, ending: Ending, is_changed: bool) -> Result<(), Fail> {
+    match ending {
+        Ending::Answered => Ok(()),
+        _ => tell(rt, ending, is_changed),
+    }
 }
 
 fn judge<K: Filled>(rt: &HostRuntime, case: &mut Case<K>) -> Result<(), Fail> {
@@ -154,7 +162,7 @@ fn judge<K: Filled>(rt: &HostRuntime, case: &mut Case<K>) -> Result<(), Fail> {
     }
     let left = told(alloc, &mut case.keeper)?;
     let is_changed = is_changed(case.exchange.deed, left.as_str(), before.as_str());
-    tell(rt, case.ending, is_changed)?;
+    tell_troubled(rt, case.ending, is_changed)?;
     if is_promised(case.ending, left.as_str(), before.as_str(), behind.as_str()) {
         return Ok(());
     }

@@ -100,10 +100,12 @@ fn judge_vault<K: Keeper>(alloc: Global, keeper: &mut K, count: usize) -> Result
 /// Says after how many rows an intake ended, and whether it was stopped, and judges its report.
 fn look_at(rt: &HostRuntime, report: &IntakeReport) -> Result<(), Fail> {
     let count = report.rows.len();
-    match report.stopped {
-        None => println!(rt; "{count} rows")?,
-        Some(_) => println!(rt; "{count} rows, and stopped")?,
-    }
+    let end = if report.stopped.is_some() {
+        ", and stopped"
+    } else {
+        ""
+    };
+    println!(rt; "{count} rows{end}")?;
     judge_report(rt.alloc(), report)
 }
 
@@ -143,14 +145,12 @@ fn judge_printed(
     printed: &[u8],
 ) -> Result<(), Fail> {
     judge_report(alloc, report)?;
+    let lines = intake_lines(alloc, report)?;
+    let printed = str::from_utf8(printed)?;
     match told {
         // The second row is always refused, or the intake is stopped.
-        Ok(Outcome::Refused) => compare(
-            "what is printed",
-            str::from_utf8(printed)?,
-            intake_lines(alloc, report)?.as_str(),
-        ),
-        Err(JobFault::Memory) if printed.is_empty() => Ok(()),
+        Ok(Outcome::Refused) => compare("what is printed", printed, lines.as_str()),
+        Err(JobFault::Memory) if printed == "" => Ok(()),
         _ => Err(Fail::new("another outcome, or a part of the lines")),
     }
 }

@@ -95,7 +95,7 @@ pub fn left_of(alloc: Global, files: VaultFiles) -> Result<(Left, Left), Fail> {
 }
 
 /// What these files hold.
-fn found(alloc: Global, log: &[u8], database: &[u8]) -> Result<Found, Fail> {
+fn what_is_in(alloc: Global, log: &[u8], database: &[u8]) -> Result<Found, Fail> {
     look_and_close(alloc, opened(alloc, sound(alloc, log, database)?, OPTIONS)?)
 }
 
@@ -121,7 +121,7 @@ fn copy_again<O: Alter>(
     if refusal != wanted {
         return Err(Fail::new("a copy that is given again ends otherwise"));
     }
-    if found(alloc, log.synced.as_slice(), database.synced.as_slice())? == Found::WholeVault {
+    if what_is_in(alloc, log.synced.as_slice(), database.synced.as_slice())? == Found::WholeVault {
         return Ok(());
     }
     Err(Fail::new("a copy that is given again isn't the whole vault"))
@@ -136,7 +136,7 @@ fn look_at_pair<O: Alter>(
     log: &[u8],
     database: &[u8],
 ) -> Result<(), Fail> {
-    let found = found(alloc, log, database)?;
+    let found = what_is_in(alloc, log, database)?;
     if found == Found::Part || (is_done && found == Found::Nothing) {
         return Err(Fail::new("a part of a vault is left"));
     }

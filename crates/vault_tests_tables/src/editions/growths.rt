@@ -10,10 +10,11 @@ use vault_base::refusal::Refusal;
 
 /// Says how a copy ended.
 fn tell(rt: &HostRuntime, refusal: Option<Refusal>) -> Result<(), Fail> {
-    match refusal {
-        None => println!(rt; "copied")?,
-        Some(refusal) => println!(rt; "{}", refusal.name())?,
-    }
+    let ending = match refusal {
+        None => "copied",
+        Some(refusal) => refusal.name(),
+    };
+    println!(rt; "{ending}")?;
     Ok(())
 }
 

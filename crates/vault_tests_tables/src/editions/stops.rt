@@ -23,7 +23,7 @@ fn make_and_close(conn: Connection<InFiles>) -> (Result<(), Error>, VaultFiles) 
 }
 
 /// Makes the vault in files, and takes their bytes. Some of its pages are in the log alone.
-fn source(alloc: Global) -> Result<Source, Fail> {
+fn earlier_vault(alloc: Global) -> Result<Source, Fail> {
     let (made, files) = make_and_close(opened(alloc, sound(alloc, b"", b"")?, OPTIONS)?);
     let (log, database) = left_of(alloc, files)?;
     made?;
@@ -116,20 +116,30 @@ struct Stops {
 /// More calls than a copy makes of any file.
 const MOST_CALLS: u64 = 2_000;
 
-/// Stops the copy after each number of calls of the file, up to the first that isn't stopped, which it tells.
+/// Whether the copy is done where the file fails after n calls.
+fn stop_after<O: Alter>(
+    alloc: Global,
+    old: &mut Connection<O>,
+    source: &Source,
+    stops: &Stops,
+    calls: u64,
+) -> Result<bool, Fail> {
+    match stops.side {
+        Side::Old => stop_in_old(alloc, old, source, stops.which, calls),
+        Side::New => stop_in_new(alloc, old, stops.which, calls),
+    }
+}
+
+/// Stops the copy after each number of calls of the file, up to the first that doesn't stop it: that number.
 fn stop_after_each<O: Alter>(
     alloc: Global,
     old: &mut Connection<O>,
     stops: &Stops,
 ) -> Result<u64, Fail> {
     make_first(old)?;
-    let source = source(alloc)?;
+    let source = earlier_vault(alloc)?;
     for calls in 0..MOST_CALLS {
-        let is_done = match stops.side {
-            Side::Old => stop_in_old(alloc, old, &source, stops.which, calls)?,
-            Side::New => stop_in_new(alloc, old, stops.which, calls)?,
-        };
-        if is_done {
+        if stop_after(alloc, old, &source, stops, calls)? {
             return Ok(calls);
         }
     }
