@@ -2,6 +2,7 @@
 
 import hashlib
 import pathlib
+import re
 import subprocess
 from typing import NamedTuple
 
@@ -19,6 +20,21 @@ class Facts(NamedTuple):
 
 def said(*words: str) -> str:
     return subprocess.run(words, check=True, stdout=subprocess.PIPE, text=True, cwd=TOP).stdout.strip()
+
+
+def printed_commit(program: pathlib.Path) -> str:
+    """The commit that a program's `--version` prints; empty where it prints none."""
+    ran = subprocess.run([program, "--version"], capture_output=True, text=True)
+    found = re.search(r", commit ([0-9a-f]+)$", ran.stdout.strip())
+    return found[1] if found else ""
+
+
+def other_commit(program: pathlib.Path, facts: Facts) -> str:
+    """Why a program isn't of these facts, by the commit that it prints; empty where it prints none or this one."""
+    printed = printed_commit(program)
+    if printed in ("", facts.commit):
+        return ""
+    return f"{program} was built from commit {printed}, and the sources are {facts.commit}"
 
 
 def facts_of(program: pathlib.Path) -> Facts:

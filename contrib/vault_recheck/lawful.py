@@ -1,9 +1,10 @@
 """Whether commands can have made the history of each entry: the rules of locks, asked of each setting and each removal.
 
-A history is lawful where its author may admit such an entry, its first setting is of the admission, each later setting
-was permitted over the one before it, its removal was permitted under the last one, callers had the rights that they
-needed, no moment goes back, and the tenures of one move are of one bucket, department and moment. It is asked of tables
-that fit together. A caller's rights are those that the file has: they never change, and no caller goes.
+A history is lawful where its author may admit such an entry and was of the department that had the bucket then, its
+first setting is of the admission and ends after it, each later setting was permitted over the one before it, its
+removal was permitted under the last one, callers had the rights that they needed, no moment goes back, and the tenures
+of one move are of one bucket, department and moment. It is asked of tables that fit together. A caller's rights and
+department are those that the file has: they never change, and no caller goes.
 """
 
 import sqlite3
@@ -45,12 +46,34 @@ def may_admit(callers: Callers, entry: Entry) -> bool:
     return has_right(callers, entry.admitted_by, "delete" if entry.marker else "put")
 
 
+def is_of_department(callers: Callers, entry: Entry, tenures: list[Tenure]) -> bool:
+    """Whether who admitted a version is of the department of its first tenure, which had the bucket then. A marker has
+    no tenure: its caller is of any department."""
+    if entry.by_rule:
+        return entry.marker
+    caller = callers.get(entry.admitted_by)
+    if caller is None or caller.dept is None:
+        return False
+    return entry.marker or (bool(tenures) and tenures[0].dept == caller.dept)
+
+
+def admission_breaches(callers: Callers, entry: Entry, tenures: list[Tenure]) -> Iterator[tuple[str, str]]:
+    who = f"rule {entry.admitted_by}" if entry.by_rule else entry.admitted_by
+    if not may_admit(callers, entry):
+        yield "admission", f"{who} isn't there or may not admit a {'marker' if entry.marker else 'version'}"
+    if not is_of_department(callers, entry, tenures):
+        owner = f"of {tenures[0].dept}, which had the bucket then" if tenures else "of a department"
+        yield "admission", f"{who} isn't {owner}"
+
+
 def first_breaches(callers: Callers, entry: Entry, first: Setting) -> Iterator[tuple[str, str]]:
     """The first setting is made with the admission, by who admitted the version; a hold that is on wants the right."""
     if first.at != entry.admitted or first.bypass or entry.by_rule or first.by != entry.admitted_by:
         yield "first-setting", (
             f"{setting_text(first)} isn't of the admission at {moment_text(entry.admitted)} by {entry.admitted_by}"
         )
+    if first.until is not None and first.until <= entry.admitted:
+        yield "first-setting", f"{setting_text(first)} ends by the admission at {moment_text(entry.admitted)}"
     if first.hold and not has_right(callers, first.by, "hold"):
         yield "setter", f"{setting_text(first)} has a hold, and {first.by} has no right to set one"
 
@@ -148,9 +171,7 @@ class Moves:
 def breaches_of(callers: Callers, meta: Meta, moves: Moves, history: History) -> Iterator[tuple[str, str]]:
     """What a history breaks, in the order in which the first is reported: from the admission to the end, then moves."""
     entry, settings = history.entry, history.settings
-    if not may_admit(callers, entry):
-        who = f"rule {entry.admitted_by}" if entry.by_rule else entry.admitted_by
-        yield "admission", f"{who} isn't there or may not admit a {'marker' if entry.marker else 'version'}"
+    yield from admission_breaches(callers, entry, history.tenures)
     for at, new in enumerate(settings):
         if at == 0:
             yield from first_breaches(callers, entry, new)

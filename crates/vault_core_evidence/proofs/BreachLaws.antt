@@ -22,20 +22,22 @@ use Rattle.vault_core_model.specs.declared.records.Cause.TheVariants as cause
 use Rattle.vault_core_model.specs.declared.records.History.{History}
 use Rattle.vault_core_model.specs.declared.records.Removal.{Removal}
 use Rattle.vault_core_model.specs.declared.records.Setting.{Setting}
+use Rattle.vault_core_model.specs.declared.records.Tenure.{Tenure}
 use Rattle.vault_core_model.specs.Checks.{permitted}
 use Rattle.vault_core_model.specs.Vault.{Vault, caller_of, last_lock}
 use Rattle.vault_core_worm_laws.specs.Bypass.{has_bypass, MayBypass}
 use Rattle.vault_core_worm_laws.specs.Entitled.{has_right, IsAdmitter, IsSetByRight, IsCausedByRight}
 use Rattle.vault_core_worm_laws.specs.Permits.{IsRetentionSetting, IsHoldSetting, IsPermittedSetting}
 use Rattle.vault_core_worm_laws.specs.Removals.{IsPermittedUnder}
+use Rattle.vault_core_worm_laws.specs.Stored.{is_department}
 use Rattle.vault_core_worm_laws.proofs.EntryChanges.{Permitted, permit_under-is}
 use Rattle.vault_core_worm_laws.proofs.LockChanges.{Retained, retainable-is, is-keeps}
-use Rattle.vault_core_evidence.specs.Lawful.{IsLawfulFirst, AreLawfulAfter, AreLawful, last_at, IsLawfulEnd, IsLawful}
+use Rattle.vault_core_evidence.specs.Lawful.{EndsAfter, IsLawfulFirst, AreLawfulAfter, AreLawful, IsOfDepartment, department_of, last_at, IsLawfulEnd, IsLawful}
 use Rattle.vault_core_evidence.specs.declared.breach.Law.{Law}
 use Rattle.vault_core_evidence.specs.declared.breach.Law.TheVariants as law
 use Rattle.vault_core_evidence.specs.declared.seen_moves.Move.{Move}
 use Rattle.vault_core_evidence.specs.Moves.{are_as_seen}
-use Rattle.vault_core_evidence.specs.Breaches.{Test, test, broken, same_bool, same_retention, gives, retains_by, retains, holds, is_permitted, is_by_right, is_admitter, is_author, is_permitted_removal, is_remover, first_tests, next_tests, after_tests, settings_tests, end_tests, rule_tests, tests, breach}
+use Rattle.vault_core_evidence.specs.Breaches.{Test, test, broken, same_bool, ends_after, same_retention, gives, retains_by, retains, holds, is_permitted, is_by_right, is_admitter, is_author, is_of_department, is_permitted_removal, is_remover, first_tests, next_tests, after_tests, settings_tests, end_tests, rule_tests, tests, breach}
 
 -- ---- tests and lists of them
 
@@ -252,16 +254,25 @@ is_hold : (hold may : Bool) → (hold ≡ true → may ≡ true) → (not hold |
 is_hold true may on = on refl
 is_hold false may on = refl
 
+later_is : (t : ℕ) (o : Option Retention) → ends_after t o ≡ true → EndsAfter t o
+later_is t None e = tt
+later_is t (Some r) e = ltb-true t r.until e
+
+is_later : (t : ℕ) (o : Option Retention) → EndsAfter t o → ends_after t o ≡ true
+is_later t None is = refl
+is_later t (Some r) is = lt_true t r.until is
+
 first_is : (v : Vault) (admitted : ℕ) (by : Author) (s : Setting) → Pass (first_tests v admitted by s) → IsLawfulFirst v admitted by s
 first_is v admitted by s all = record {
   now = eqb-true s.at admitted all.0;
   free = not_is s.bypass all.1.0;
-  first_by = (author_is by s.by all.1.1.0, λ on. hold_is s.lock.hold (has_right right.Hold (caller_of v s.by)) all.1.1.1.0 on);
+  first_by = (author_is by s.by all.1.1.0, λ on. hold_is s.lock.hold (has_right right.Hold (caller_of v s.by)) all.1.1.1.1.0 on);
+  later = later_is admitted s.lock.retention all.1.1.1.0;
 }
 
 is_first : (v : Vault) (admitted : ℕ) (by : Author) (s : Setting) → IsLawfulFirst v admitted by s → Pass (first_tests v admitted by s)
 is_first v admitted by s is =
-    (eq_true s.at admitted is.now, (is_not s.bypass is.free, (is_author-by by s.by is.first_by.0, (is_hold s.lock.hold (has_right right.Hold (caller_of v s.by)) is.first_by.1, tt))))
+    (eq_true s.at admitted is.now, (is_not s.bypass is.free, (is_author-by by s.by is.first_by.0, (is_later admitted s.lock.retention is.later, (is_hold s.lock.hold (has_right right.Hold (caller_of v s.by)) is.first_by.1, tt)))))
 
 after_is : (v : Vault) (s : Setting) (ss : List Setting) → Pass (after_tests v s ss) → AreLawfulAfter v s ss
 after_is v s [] all = tt
@@ -300,6 +311,28 @@ is_admitter-by v false (author.Caller name) is = is
 is_admitter-by v false (author.Rule rule) is = absurd is
 is_admitter-by v true (author.Caller name) is = is
 is_admitter-by v true (author.Rule rule) is = refl
+
+own_is : (dept : List ℕ) (o : Option (List ℕ)) → is_department dept o ≡ true → o ≡ Some dept
+own_is dept None e = absurd (cc e)
+own_is dept (Some own) e = ap (λ (d : List ℕ). Some d) ((bytes_eq-Decides own dept).0 e)
+
+is_own-by : (dept : List ℕ) (o : Option (List ℕ)) → o ≡ Some dept → is_department dept o ≡ true
+is_own-by dept o is =
+    let P : Option (List ℕ) → Type 0 = λ d. is_department dept d ≡ true in subst P (sym is) ((bytes_eq-Decides dept dept).1 refl)
+
+department_is : (v : Vault) (marker : Bool) (by : Author) (ts : List Tenure) → is_of_department v marker by ts ≡ true → IsOfDepartment v marker by ts
+department_is v false (author.Caller name) [] e = absurd (cc e)
+department_is v false (author.Caller name) (t ∷ ts) e = own_is t.dept (department_of v name) e
+department_is v false (author.Rule rule) ts e = absurd (cc e)
+department_is v true (author.Caller name) ts e = e
+department_is v true (author.Rule rule) ts e = tt
+
+is_department-by : (v : Vault) (marker : Bool) (by : Author) (ts : List Tenure) → IsOfDepartment v marker by ts → is_of_department v marker by ts ≡ true
+is_department-by v false (author.Caller name) [] is = absurd is
+is_department-by v false (author.Caller name) (t ∷ ts) is = is_own-by t.dept (department_of v name) is
+is_department-by v false (author.Rule rule) ts is = absurd is
+is_department-by v true (author.Caller name) ts is = is
+is_department-by v true (author.Rule rule) ts is = refl
 
 remover_is : (v : Vault) (c : Cause) → is_remover v c ≡ true → IsCausedByRight v c
 remover_is v (cause.Request name) e = e
@@ -360,28 +393,30 @@ is_end v from lock (Some r) is =
 
 -- ---- a history
 
-rules_pass : (v : Vault) (h : History) → IsLawful v h → Pass (rule_tests v h.entry h.settings)
+rules_pass : (v : Vault) (h : History) → IsLawful v h → Pass (rule_tests v h.entry h.settings h.tenures)
 rules_pass v h is = (
-  is_admitter-by v h.entry.marker h.entry.by is.admitter,
+  and_of (is_admitter v h.entry.marker h.entry.by) (is_of_department v h.entry.marker h.entry.by h.tenures) (is_admitter-by v h.entry.marker h.entry.by is.admitter) (is_department-by v h.entry.marker h.entry.by h.tenures is.department),
   both_pass (settings_tests v h.entry.admitted h.entry.by h.settings) (end_tests v (last_at h.entry.admitted h.settings) (last_lock h.settings) h.entry.removal)
       (is_settings v h.entry.admitted h.entry.by h.settings is.settings)
       (is_end v (last_at h.entry.admitted h.settings) (last_lock h.settings) h.entry.removal is.end),
 )
 
-rules_are : (v : Vault) (h : History) → Pass (rule_tests v h.entry h.settings) → IsLawful v h
+rules_are : (v : Vault) (h : History) → Pass (rule_tests v h.entry h.settings h.tenures) → IsLawful v h
 rules_are v h all =
     let rest = parts_pass (settings_tests v h.entry.admitted h.entry.by h.settings) (end_tests v (last_at h.entry.admitted h.settings) (last_lock h.settings) h.entry.removal) all.1 in
+    let who = and_parts (is_admitter v h.entry.marker h.entry.by) (is_of_department v h.entry.marker h.entry.by h.tenures) all.0 in
     record {
-      admitter = admitter_is v h.entry.marker h.entry.by all.0;
+      admitter = admitter_is v h.entry.marker h.entry.by who.0;
+      department = department_is v h.entry.marker h.entry.by h.tenures who.1;
       settings = settings_is v h.entry.admitted h.entry.by h.settings rest.0;
       end = end_is v (last_at h.entry.admitted h.settings) (last_lock h.settings) h.entry.removal rest.1;
     }
 
 pub breach-lawful : (v : Vault) (seen : ℕ → Option Move) (h : History) → breach v seen h ≡ None → IsLawful v h × (are_as_seen seen h.entry.bucket h.tenures ≡ true)
 breach-lawful v seen h e =
-    let parts = parts_pass (rule_tests v h.entry h.settings) (test (are_as_seen seen h.entry.bucket h.tenures) law.Move ∷ []) (all_pass (tests v seen h) e) in
+    let parts = parts_pass (rule_tests v h.entry h.settings h.tenures) (test (are_as_seen seen h.entry.bucket h.tenures) law.Move ∷ []) (all_pass (tests v seen h) e) in
     (rules_are v h parts.0, parts.1.0)
 
 pub lawful-breach : (v : Vault) (seen : ℕ → Option Move) (h : History) → IsLawful v h → are_as_seen seen h.entry.bucket h.tenures ≡ true → breach v seen h ≡ None
 lawful-breach v seen h is as_seen =
-    none_fails (tests v seen h) (both_pass (rule_tests v h.entry h.settings) (test (are_as_seen seen h.entry.bucket h.tenures) law.Move ∷ []) (rules_pass v h is) (as_seen, tt))
+    none_fails (tests v seen h) (both_pass (rule_tests v h.entry h.settings h.tenures) (test (are_as_seen seen h.entry.bucket h.tenures) law.Move ∷ []) (rules_pass v h is) (as_seen, tt))

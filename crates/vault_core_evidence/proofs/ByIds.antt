@@ -47,7 +47,7 @@ own_id n (suc i) (g ∷ gs) h ids is =
 
 breach-same : (v : Vault) (book other : ℕ → Option Move) (h : History) → IsSameBook book other → breach v book h ≡ breach v other h
 breach-same v book other h same =
-    ap (λ b. broken (rule_tests v h.entry h.settings ++ test b law.Move ∷ [])) (are_seen-same book other h.entry.bucket h.tenures same)
+    ap (λ b. broken (rule_tests v h.entry h.settings h.tenures ++ test b law.Move ∷ [])) (are_seen-same book other h.entry.bucket h.tenures same)
 
 first-same : (v : Vault) (book other : ℕ → Option Move) (hs : List History) → IsSameBook book other → first_breach_after v book hs ≡ first_breach_after v other hs
 first-same v book other [] same = refl

@@ -1,4 +1,4 @@
--- Every vault that is reached is lawful.
+-- Every vault that is reached is lawful: what each permitted change keeps, and what each admission gives.
 use Rattle.std.proofs.Common.{◌≡◌, ◌⊎◌, ℕ, ◌≤◌, List, [], ◌∷◌, ◌++◌, length, Bool, true, false, Option, Some, None, refl, sym, ap, subst, ◌∙◌, inl, inr, arith, eqb}
 use Rattle.std.specs.Prelude.{find, option_map, ◌==◌, if◌then◌else◌}
 use Rattle.std.specs.List.{AllByRecursion}
@@ -38,6 +38,28 @@ use Rattle.vault_core_worm_laws.proofs.Callers.{Callers-changed, keeps_itself}
 use Rattle.vault_core_worm_laws.proofs.Kept.{by_own_id, held-found, lock_of-found}
 use Rattle.vault_core_worm_laws.proofs.Reached.{IsRun-keeps, Sound-opening}
 use Rattle.vault_core_evidence.specs.Lawful.{IsLawfulNext, AreLawfulAfter, AreLawful, last_at, IsLawfulEnd, IsLawful, Lawful}
+use Rattle.vault_core_evidence.proofs.Admissions.{HasEnd, IsAdmittedSo, reached-admitted}
+
+-- ---- what each permitted change keeps
+
+-- the first setting, but for the end of its retention
+record IsFirstSet (v : Vault) (admitted : ℕ) (by : Author) (s : Setting) : Type 0 where
+  now : s.at ≡ admitted
+  free : s.bypass ≡ false
+  first_by : IsFirstBy v by (s ∷ [])
+
+abbrev AreSet : Vault → ℕ → Author → List Setting → Type 0
+AreSet v admitted by [] = Unit {0}
+AreSet v admitted by (s ∷ ss) = IsFirstSet v admitted by s × AreLawfulAfter v s ss
+
+-- a lawful history, but for that end and the department of who admitted it
+record KeepsRules (v : Vault) (h : History) : Type 0 where
+  admitter : IsAdmitter v h.entry.marker h.entry.by
+  settings : AreSet v h.entry.admitted h.entry.by h.settings
+  end : IsLawfulEnd v (last_at h.entry.admitted h.settings) (last_lock h.settings) h.entry.removal
+
+abbrev RulesAreKept : Vault → Type 0
+RulesAreKept v = AllByRecursion (KeepsRules v) v.histories
 
 -- ---- rights stay
 
@@ -92,7 +114,7 @@ after-on v w s (n ∷ ns) keep all = (next-on v w s n keep all.0, after-on v w n
 first_by-on : (v w : Vault) (by : Author) (s : Setting) → KeepsEach v w → IsFirstBy v by (s ∷ []) → IsFirstBy w by (s ∷ [])
 first_by-on v w by s keep is = (is.0, λ on. keep s.by right.Hold (is.1 on))
 
-settings-on : (v w : Vault) (admitted : ℕ) (by : Author) (ss : List Setting) → KeepsEach v w → AreLawful v admitted by ss → AreLawful w admitted by ss
+settings-on : (v w : Vault) (admitted : ℕ) (by : Author) (ss : List Setting) → KeepsEach v w → AreSet v admitted by ss → AreSet w admitted by ss
 settings-on v w admitted by [] keep all = tt
 settings-on v w admitted by (s ∷ ss) keep all =
     (record { now = all.0.now; free = all.0.free; first_by = first_by-on v w by s keep all.0.first_by }, after-on v w s ss keep all.1)
@@ -118,7 +140,7 @@ end-on v w from lock None keep le end = omega (arith, end, le)
 end-on v w from lock (Some r) keep le end =
     (end.0, omega (arith, end.1, le), under-on v w (guards lock r.at) r.cause keep end.2, caused-on v w r.cause keep end.3)
 
-lawful-on : (v w : Vault) (h : History) → KeepsEach v w → v.last ≤ w.last → IsLawful v h → IsLawful w h
+lawful-on : (v w : Vault) (h : History) → KeepsEach v w → v.last ≤ w.last → KeepsRules v h → KeepsRules w h
 lawful-on v w h keep le is = record {
   admitter = admitter-on v w h.entry.marker h.entry.by keep is.admitter;
   settings = settings-on v w h.entry.admitted h.entry.by h.settings keep is.settings;
@@ -135,7 +157,7 @@ after-push : (v : Vault) (s : Setting) (ss : List Setting) (n : Setting) → las
 after-push v s [] n le permitted by all = (record { in_order = le; permitted = permitted; by = by }, tt)
 after-push v s (x ∷ xs) n le permitted by all = (all.0, after-push v x xs n le permitted by all.1)
 
-settings-push : (v : Vault) (admitted : ℕ) (author : Author) (ss : List Setting) (n : Setting) → 1 ≤ length ss → last_at admitted ss ≤ n.at → IsPermittedSetting v n.at n.by (last_lock ss) n → IsSetByRight v n.at (last_lock ss) n → AreLawful v admitted author ss → AreLawful v admitted author (ss ++ n ∷ [])
+settings-push : (v : Vault) (admitted : ℕ) (author : Author) (ss : List Setting) (n : Setting) → 1 ≤ length ss → last_at admitted ss ≤ n.at → IsPermittedSetting v n.at n.by (last_lock ss) n → IsSetByRight v n.at (last_lock ss) n → AreSet v admitted author ss → AreSet v admitted author (ss ++ n ∷ [])
 settings-push v admitted author [] n some le permitted by all = absurd (omega (arith, some))
 settings-push v admitted author (s ∷ ss) n some le permitted by all = (all.0, after-push v s ss n le permitted by all.1)
 
@@ -149,10 +171,10 @@ marker_of v id h e found there version =
     let entry : h.entry ≡ e = cc same in
     ap (λ (x : Entry). x.marker) entry ∙ version
 
-setting_added : (v w : Vault) (t id : ℕ) (who : List ℕ) (s : Setting) (h : History) → KeepsEach v w → v.last ≤ t → w.last ≡ t → IsNextSetting v t id s → IsHeldId v id → IsPermittedSetting v t who (lock_of v id) s → IsSetByRight v t (lock_of v id) s → find (λ g. g.entry.id == h.entry.id) v.histories ≡ Some h → IsWhole h → IsLawful v h → IsLawful w (with_setting id s h)
+setting_added : (v w : Vault) (t id : ℕ) (who : List ℕ) (s : Setting) (h : History) → KeepsEach v w → v.last ≤ t → w.last ≡ t → IsNextSetting v t id s → IsHeldId v id → IsPermittedSetting v t who (lock_of v id) s → IsSetByRight v t (lock_of v id) s → find (λ g. g.entry.id == h.entry.id) v.histories ≡ Some h → IsWhole h → KeepsRules v h → KeepsRules w (with_setting id s h)
 setting_added v w t id who s h keep le last next held permitted by own whole is = by_id (eqb h.entry.id id) refl
   where
-    added : history_of v id ≡ Some h → IsLawful w (record h { settings = h.settings ++ s ∷ [] })
+    added : history_of v id ≡ Some h → KeepsRules w (record h { settings = h.settings ++ s ∷ [] })
     added found =
         let none = held-found v id h found held in
         let lock = lock_of-found v id h found in
@@ -174,16 +196,16 @@ setting_added v w t id who s h keep le last next held permitted by own whole is 
           end = subst U (sym none) (omega (arith, last_at-push h.entry.admitted h.settings s, next.now, last));
         }
 
-    by_id : (b : Bool) → eqb h.entry.id id ≡ b → IsLawful w (if b then record h { settings = h.settings ++ s ∷ [] } else h)
+    by_id : (b : Bool) → eqb h.entry.id id ≡ b → KeepsRules w (if b then record h { settings = h.settings ++ s ∷ [] } else h)
     by_id true e = added (by_own_id v id h own e)
     by_id false e = lawful-on v w h keep (omega (arith, le, last)) is
 
 -- ---- a removal
 
-removed_one : (v w : Vault) (t id : ℕ) (r : Removal) (h : History) → KeepsEach v w → v.last ≤ t → w.last ≡ t → r.at ≡ t → IsHeldId v id → IsPermittedUnder v (guards (lock_of v id) t) r.cause → IsCausedByRight v r.cause → find (λ g. g.entry.id == h.entry.id) v.histories ≡ Some h → IsLawful v h → IsLawful w (removed_if id r h)
+removed_one : (v w : Vault) (t id : ℕ) (r : Removal) (h : History) → KeepsEach v w → v.last ≤ t → w.last ≡ t → r.at ≡ t → IsHeldId v id → IsPermittedUnder v (guards (lock_of v id) t) r.cause → IsCausedByRight v r.cause → find (λ g. g.entry.id == h.entry.id) v.histories ≡ Some h → KeepsRules v h → KeepsRules w (removed_if id r h)
 removed_one v w t id r h keep le last now held may by own is = by_id (eqb h.entry.id id) refl
   where
-    removed : history_of v id ≡ Some h → IsLawful w (removed_by r h)
+    removed : history_of v id ≡ Some h → KeepsRules w (removed_by r h)
     removed found =
         let P : Option Removal → Type 0 = λ o. IsLawfulEnd v (last_at h.entry.admitted h.settings) (last_lock h.settings) o in
         let before : last_at h.entry.admitted h.settings ≤ v.last = subst P (held-found v id h found held) is.end in
@@ -201,30 +223,30 @@ removed_one v w t id r h keep le last now held may by own is = by_id (eqb h.entr
           );
         }
 
-    by_id : (b : Bool) → eqb h.entry.id id ≡ b → IsLawful w (if b then removed_by r h else h)
+    by_id : (b : Bool) → eqb h.entry.id id ≡ b → KeepsRules w (if b then removed_by r h else h)
     by_id true e = removed (by_own_id v id h own e)
     by_id false e = lawful-on v w h keep (omega (arith, le, last)) is
 
 -- ---- a move
 
-moved_one : (v w : Vault) (bucket : List ℕ) (t : Tenure) (h : History) → KeepsEach v w → v.last ≤ w.last → IsLawful v h → IsLawful w (tenured_if bucket t h)
+moved_one : (v w : Vault) (bucket : List ℕ) (t : Tenure) (h : History) → KeepsEach v w → v.last ≤ w.last → KeepsRules v h → KeepsRules w (tenured_if bucket t h)
 moved_one v w bucket t h keep le is =
-    elim (is_held_version_in bucket h.entry) as (λ b. IsLawful w (if b then tenured_by t h else h)) [
+    elim (is_held_version_in bucket h.entry) as (λ b. KeepsRules w (if b then tenured_by t h else h)) [
       | true ↦ (let on = lawful-on v w h keep le is in record { admitter = on.admitter; settings = on.settings; end = on.end })
       | false ↦ lawful-on v w h keep le is
     ]
 
 -- ---- an admission
 
-first_settings : (v : Vault) (t admitted : ℕ) (author : Author) (marker : Bool) (ss : List Setting) → admitted ≡ t → HasFirst marker t ss → IsFirstBy v author ss → AreLawful v admitted author ss × (last_at admitted ss ≡ t)
+first_settings : (v : Vault) (t admitted : ℕ) (author : Author) (marker : Bool) (ss : List Setting) → admitted ≡ t → HasFirst marker t ss → IsFirstBy v author ss → AreSet v admitted author ss × (last_at admitted ss ≡ t)
 first_settings v t admitted author true ss now first by =
-    let P : List Setting → Type 0 = λ xs. AreLawful v admitted author xs × (last_at admitted xs ≡ t) in subst P (sym first) (tt, now)
+    let P : List Setting → Type 0 = λ xs. AreSet v admitted author xs × (last_at admitted xs ≡ t) in subst P (sym first) (tt, now)
 first_settings v t admitted author false [] now first by = absurd first
 first_settings v t admitted author false (s ∷ []) now first by =
     ((record { now = first.0 ∙ sym now; free = first.1; first_by = by }, tt), first.0)
 first_settings v t admitted author false (s ∷ r ∷ rs) now first by = absurd first
 
-new_one : (v w : Vault) (t : ℕ) (h : History) → KeepsEach v w → w.last ≡ t → h.entry.admitted ≡ t → h.entry.removal ≡ None → HasFirst h.entry.marker t h.settings → IsAdmitter v h.entry.marker h.entry.by → IsFirstBy v h.entry.by h.settings → IsLawful w h
+new_one : (v w : Vault) (t : ℕ) (h : History) → KeepsEach v w → w.last ≡ t → h.entry.admitted ≡ t → h.entry.removal ≡ None → HasFirst h.entry.marker t h.settings → IsAdmitter v h.entry.marker h.entry.by → IsFirstBy v h.entry.by h.settings → KeepsRules w h
 new_one v w t h keep last now none first admitter by =
     let ss = first_settings v t h.entry.admitted h.entry.by h.entry.marker h.settings now first by in
     let P : Option Removal → Type 0 = λ o. IsLawfulEnd w (last_at h.entry.admitted h.settings) (last_lock h.settings) o in
@@ -236,8 +258,8 @@ new_one v w t h keep last now none first admitter by =
 
 -- ---- the changes
 
-stay : (v w : Vault) (hs : List History) → KeepsEach v w → v.last ≤ w.last → AllByRecursion (IsLawful v) hs → AllByRecursion (IsLawful w) hs
-stay v w hs keep le all = All-weaker (IsLawful v) (IsLawful w) (λ h is. lawful-on v w h keep le is) hs all
+stay : (v w : Vault) (hs : List History) → KeepsEach v w → v.last ≤ w.last → AllByRecursion (KeepsRules v) hs → AllByRecursion (KeepsRules w) hs
+stay v w hs keep le all = All-weaker (KeepsRules v) (KeepsRules w) (λ h is. lawful-on v w h keep le is) hs all
 
 -- a history is found by its own id, and is whole
 abbrev IsOwn : Vault → History → Type 0
@@ -250,33 +272,63 @@ own v sound =
 each_kept : (v : Vault) (t : ℕ) (who : List ℕ) (c : Change) → Sound v → MayMake v t who c → KeepsEach v (changed v t c)
 each_kept v t who c sound may = keeps_each v (changed v t c) (Callers-changed v v t who c sound (keeps_itself v) may)
 
-pub Lawful-changed : (v : Vault) (t : ℕ) (who : List ℕ) (c : Change) → Sound v → Lawful v → MayMake v t who c → Lawful (changed v t c)
-Lawful-changed v t who (AddDept name) sound lawful may = stay v (changed v t (AddDept name)) v.histories (each_kept v t who (AddDept name) sound may) may.in_time lawful
-Lawful-changed v t who (AddCaller c) sound lawful may = stay v (changed v t (AddCaller c)) v.histories (each_kept v t who (AddCaller c) sound may) may.in_time lawful
-Lawful-changed v t who (CloseCaller name) sound lawful may = stay v (changed v t (CloseCaller name)) v.histories (each_kept v t who (CloseCaller name) sound may) may.in_time lawful
-Lawful-changed v t who (AddBucket name dept) sound lawful may = stay v (changed v t (AddBucket name dept)) v.histories (each_kept v t who (AddBucket name dept) sound may) may.in_time lawful
-Lawful-changed v t who (MoveBucket name dept) sound lawful may =
+rules-changed : (v : Vault) (t : ℕ) (who : List ℕ) (c : Change) → Sound v → RulesAreKept v → MayMake v t who c → RulesAreKept (changed v t c)
+rules-changed v t who (AddDept name) sound lawful may = stay v (changed v t (AddDept name)) v.histories (each_kept v t who (AddDept name) sound may) may.in_time lawful
+rules-changed v t who (AddCaller c) sound lawful may = stay v (changed v t (AddCaller c)) v.histories (each_kept v t who (AddCaller c) sound may) may.in_time lawful
+rules-changed v t who (CloseCaller name) sound lawful may = stay v (changed v t (CloseCaller name)) v.histories (each_kept v t who (CloseCaller name) sound may) may.in_time lawful
+rules-changed v t who (AddBucket name dept) sound lawful may = stay v (changed v t (AddBucket name dept)) v.histories (each_kept v t who (AddBucket name dept) sound may) may.in_time lawful
+rules-changed v t who (MoveBucket name dept) sound lawful may =
     let w = changed v t (MoveBucket name dept) in
-    All-map (IsOwn v) (IsLawful v) (IsLawful w) (tenured_if name (next_tenure v t dept))
+    All-map (IsOwn v) (KeepsRules v) (KeepsRules w) (tenured_if name (next_tenure v t dept))
     (λ h o is. moved_one v w name (next_tenure v t dept) h (each_kept v t who (MoveBucket name dept) sound may) may.in_time is)
     v.histories (own v sound) lawful
-Lawful-changed v t who (SetDefault name default) sound lawful may = stay v (changed v t (SetDefault name default)) v.histories (each_kept v t who (SetDefault name default) sound may) may.in_time lawful
-Lawful-changed v t who (SetRules name rules) sound lawful may = stay v (changed v t (SetRules name rules)) v.histories (each_kept v t who (SetRules name rules) sound may) may.in_time lawful
-Lawful-changed v t who (Admit a) sound lawful may =
+rules-changed v t who (SetDefault name default) sound lawful may = stay v (changed v t (SetDefault name default)) v.histories (each_kept v t who (SetDefault name default) sound may) may.in_time lawful
+rules-changed v t who (SetRules name rules) sound lawful may = stay v (changed v t (SetRules name rules)) v.histories (each_kept v t who (SetRules name rules) sound may) may.in_time lawful
+rules-changed v t who (Admit a) sound lawful may =
     let w = changed v t (Admit a) in
     let keep = each_kept v t who (Admit a) sound may in
-    All-push (IsLawful w) v.histories a.history (stay v w v.histories keep may.in_time lawful)
+    All-push (KeepsRules w) v.histories a.history (stay v w v.histories keep may.in_time lawful)
     (new_one v w t a.history keep refl may.allowed.now may.allowed.held may.allowed.first may.entitled.0 may.entitled.1)
-Lawful-changed v t who (AddSetting id s) sound lawful may =
+rules-changed v t who (AddSetting id s) sound lawful may =
     let w = changed v t (AddSetting id s) in
-    All-map (IsOwn v) (IsLawful v) (IsLawful w) (with_setting id s)
+    All-map (IsOwn v) (KeepsRules v) (KeepsRules w) (with_setting id s)
     (λ h o is. setting_added v w t id who s h (each_kept v t who (AddSetting id s) sound may) may.in_time refl may.allowed may.permitted.0 may.permitted.1 may.entitled o.0 o.1 is)
     v.histories (own v sound) lawful
-Lawful-changed v t who (Remove id r) sound lawful may =
+rules-changed v t who (Remove id r) sound lawful may =
     let w = changed v t (Remove id r) in
-    All-map (IsOwn v) (IsLawful v) (IsLawful w) (removed_if id r)
+    All-map (IsOwn v) (KeepsRules v) (KeepsRules w) (removed_if id r)
     (λ h o is. removed_one v w t id r h (each_kept v t who (Remove id r) sound may) may.in_time refl may.allowed.now may.allowed.held may.permitted.1 may.entitled o.0 is)
     v.histories (own v sound) lawful
 
+reached-rules : (v : Vault) → Reached v → Sound v × RulesAreKept v
+reached-rules v reached = IsRun-keeps RulesAreKept rules-changed opening v reached.0 reached.1 reached.2 (Sound-opening, tt)
+
+-- ---- together
+
+bare : (h : History) (marker : Bool) → marker ≡ true → IsWholeAs marker h.entry h.content h.settings → h.settings ≡ []
+bare h true e whole = whole.3
+bare h false e whole = absurd (cc e)
+
+versions_set : (v : Vault) (admitted : ℕ) (by : Author) (ss : List Setting) → HasEnd false admitted ss → AreSet v admitted by ss → AreLawful v admitted by ss
+versions_set v admitted by [] end all = tt
+versions_set v admitted by (s ∷ ss) end all = (record { now = all.0.now; free = all.0.free; first_by = all.0.first_by; later = end }, all.1)
+
+are_lawful : (v : Vault) (h : History) (marker : Bool) → h.entry.marker ≡ marker → IsWhole h → HasEnd marker h.entry.admitted h.settings → AreSet v h.entry.admitted h.entry.by h.settings → AreLawful v h.entry.admitted h.entry.by h.settings
+are_lawful v h true is whole end all =
+    let P : List Setting → Type 0 = λ ss. AreLawful v h.entry.admitted h.entry.by ss in subst P (sym (bare h h.entry.marker is whole)) tt
+are_lawful v h false is whole end all = versions_set v h.entry.admitted h.entry.by h.settings end all
+
+lawful_one : (v : Vault) (h : History) → IsWhole h × IsAdmittedSo v h → KeepsRules v h → IsLawful v h
+lawful_one v h is keeps = record {
+  admitter = keeps.admitter;
+  department = is.1.department;
+  settings = are_lawful v h h.entry.marker refl is.0 is.1.end keeps.settings;
+  end = keeps.end;
+}
+
 pub reached-Lawful : (v : Vault) → Reached v → Lawful v
-reached-Lawful v reached = (IsRun-keeps Lawful Lawful-changed opening v reached.0 reached.1 reached.2 (Sound-opening, tt)).1
+reached-Lawful v reached =
+    let kept = reached-rules v reached in
+    All-both (λ h. IsWhole h × IsAdmittedSo v h) (KeepsRules v) (IsLawful v) (λ h is keeps. lawful_one v h is keeps) v.histories
+    (All-both IsWhole (IsAdmittedSo v) (λ h. IsWhole h × IsAdmittedSo v h) (λ h whole is. (whole, is)) v.histories kept.0.whole (reached-admitted v reached))
+    kept.1

@@ -1,4 +1,6 @@
 pub mod Past
+pub mod DefaultEnds
+pub mod Admissions
 pub mod LawfulRuns
 pub mod LawfulMeans
 pub mod Tests

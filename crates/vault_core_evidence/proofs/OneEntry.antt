@@ -16,7 +16,7 @@ use Rattle.vault_core_evidence.specs.declared.breach.Law.TheVariants as law
 use Rattle.vault_core_evidence.specs.declared.seen_moves.SeenMoves.{SeenMoves}
 use Rattle.vault_core_evidence.specs.Moves.{Sees, seen_of}
 use Rattle.vault_core_evidence.specs.Lawful.{last_at}
-use Rattle.vault_core_evidence.specs.Breaches.{Test, broken, end_tests, is_admitter, move_tests, rule_tests, settings_tests, test}
+use Rattle.vault_core_evidence.specs.Breaches.{Test, broken, end_tests, is_admitted, move_tests, rule_tests, settings_tests, test}
 use Rattle.vault_core_evidence.specs.Walk.{Finds, FindsMoves}
 use Rattle.vault_core_evidence.proofs.Tests.{stops, goes_on}
 
@@ -65,9 +65,6 @@ marker_tenures v id e sound its marker = by (history_of v id) refl
 
 -- ---- its tenures
 
-pub no_tenures : (s : SeenMoves) (bucket : List ℕ) (ts : List Tenure) → ts ≡ [] → FindsMoves s bucket ts None s
-no_tenures s bucket ts empty = let P : List Tenure → Type 0 = λ us. FindsMoves s bucket us None s in subst P (sym empty) (refl, λ e n. refl)
-
 pub tenures_pass : (s after : SeenMoves) (bucket : List ℕ) (ts : List Tenure) (passes : Bool) → Sees s bucket ts passes after → passes ≡ true → FindsMoves s bucket ts None after
 tenures_pass s after bucket ts passes sees passed =
     (sym (ap (λ b. broken (test b law.Move ∷ [])) (sym sees.0 ∙ passed)), λ e n. sees.1 passed n)
@@ -81,41 +78,43 @@ tenures_fail s after bucket ts passes sees failed =
 after_admission : (b : Bool) (ts : List Test) → b ≡ true → broken (test b law.Admission ∷ ts) ≡ broken ts
 after_admission b ts e = rw e refl
 
-pub rule_stops : (v mid : Vault) (e : Entry) (ss : List Setting) (found : Option Law) → mid ≡ v → is_admitter v e.marker e.by ≡ true → found ≡ broken (settings_tests mid e.admitted e.by ss) → is_some found ≡ true → found ≡ broken (rule_tests v e ss)
-rule_stops v mid e ss found same may one some =
+pub rule_stops : (v mid : Vault) (e : Entry) (ss : List Setting) (ts : List Tenure) (found : Option Law) → mid ≡ v → is_admitted v e ts ≡ true → found ≡ broken (settings_tests mid e.admitted e.by ss) → is_some found ≡ true → found ≡ broken (rule_tests v e ss ts)
+rule_stops v mid e ss ts found same may one some =
     let its : found ≡ broken (settings_tests v e.admitted e.by ss) = one ∙ ap (λ w. broken (settings_tests w e.admitted e.by ss)) same in
     stops (settings_tests v e.admitted e.by ss) (end_tests v (last_at e.admitted ss) (last_lock ss) e.removal) found its some
-    ∙ sym (after_admission (is_admitter v e.marker e.by) (settings_tests v e.admitted e.by ss ++ end_tests v (last_at e.admitted ss) (last_lock ss) e.removal) may)
+    ∙ sym (after_admission (is_admitted v e ts) (settings_tests v e.admitted e.by ss ++ end_tests v (last_at e.admitted ss) (last_lock ss) e.removal) may)
 
-rule_goes_on : (v mid last : Vault) (e : Entry) (ss : List Setting) (found rest : Option Law) → mid ≡ v → last ≡ v → is_admitter v e.marker e.by ≡ true → found ≡ broken (settings_tests mid e.admitted e.by ss) → is_some found ≡ false → rest ≡ broken (end_tests last (last_at e.admitted ss) (last_lock ss) e.removal) → rest ≡ broken (rule_tests v e ss)
-rule_goes_on v mid last e ss found rest same same_last may one none end =
+rule_goes_on : (v mid last : Vault) (e : Entry) (ss : List Setting) (ts : List Tenure) (found rest : Option Law) → mid ≡ v → last ≡ v → is_admitted v e ts ≡ true → found ≡ broken (settings_tests mid e.admitted e.by ss) → is_some found ≡ false → rest ≡ broken (end_tests last (last_at e.admitted ss) (last_lock ss) e.removal) → rest ≡ broken (rule_tests v e ss ts)
+rule_goes_on v mid last e ss ts found rest same same_last may one none end =
     let its : found ≡ broken (settings_tests v e.admitted e.by ss) = one ∙ ap (λ w. broken (settings_tests w e.admitted e.by ss)) same in
     let ends : rest ≡ broken (end_tests v (last_at e.admitted ss) (last_lock ss) e.removal) = end ∙ ap (λ w. broken (end_tests w (last_at e.admitted ss) (last_lock ss) e.removal)) same_last in
     goes_on (settings_tests v e.admitted e.by ss) (end_tests v (last_at e.admitted ss) (last_lock ss) e.removal) found rest its none ends
-    ∙ sym (after_admission (is_admitter v e.marker e.by) (settings_tests v e.admitted e.by ss ++ end_tests v (last_at e.admitted ss) (last_lock ss) e.removal) may)
+    ∙ sym (after_admission (is_admitted v e ts) (settings_tests v e.admitted e.by ss ++ end_tests v (last_at e.admitted ss) (last_lock ss) e.removal) may)
 
-pub rule_ends : (v mid last : Vault) (e : Entry) (ss : List Setting) (found : Option Law) (from : ℕ) (lock : Lock) (r : Result (Option Law) Fault) → mid ≡ v → last ≡ v → is_admitter v e.marker e.by ≡ true → found ≡ broken (settings_tests mid e.admitted e.by ss) → is_some found ≡ false → from ≡ last_at e.admitted ss → lock ≡ last_lock ss → IfOk r (λ rest. rest ≡ broken (end_tests last from lock e.removal)) → IfOk r (λ rest. rest ≡ broken (rule_tests v e ss))
-rule_ends v mid last e ss found from lock (Ok rest) same same_last may one none at_last locked end =
-    rule_goes_on v mid last e ss found rest same same_last may one none
+pub rule_ends : (v mid last : Vault) (e : Entry) (ss : List Setting) (ts : List Tenure) (found : Option Law) (from : ℕ) (lock : Lock) (r : Result (Option Law) Fault) → mid ≡ v → last ≡ v → is_admitted v e ts ≡ true → found ≡ broken (settings_tests mid e.admitted e.by ss) → is_some found ≡ false → from ≡ last_at e.admitted ss → lock ≡ last_lock ss → IfOk r (λ rest. rest ≡ broken (end_tests last from lock e.removal)) → IfOk r (λ rest. rest ≡ broken (rule_tests v e ss ts))
+rule_ends v mid last e ss ts found from lock (Ok rest) same same_last may one none at_last locked end =
+    rule_goes_on v mid last e ss ts found rest same same_last may one none
     (end ∙ (ap (λ t. broken (end_tests last t lock e.removal)) at_last ∙ ap (λ (l : Lock). broken (end_tests last (last_at e.admitted ss) l e.removal)) locked))
-rule_ends v mid last e ss found from lock (Err f) same same_last may one none at_last locked end = tt
+rule_ends v mid last e ss ts found from lock (Err f) same same_last may one none at_last locked end = tt
 
--- what an entry breaks, where it is there and has these settings
-pub finds_rule : (v mid : Vault) (s after : SeenMoves) (o : Option Entry) (e : Entry) (slice ss : List Setting) (ts : List Tenure) (found : Option Law) → mid ≡ v → o ≡ Some e → slice ≡ ss → found ≡ broken (rule_tests mid e slice) → is_some found ≡ true → Finds v s o ss ts found after
-finds_rule v mid s after o e slice ss ts found same its is one some =
+its_rules : (v mid : Vault) (e : Entry) (slice ss : List Setting) (row ts : List Tenure) (found : Option Law) → mid ≡ v → slice ≡ ss → row ≡ ts → found ≡ broken (rule_tests mid e slice row) → found ≡ broken (rule_tests v e ss ts)
+its_rules v mid e slice ss row ts found same is tenures one =
+    one ∙ (ap (λ w. broken (rule_tests w e slice row)) same ∙ (ap (λ xs. broken (rule_tests v e xs row)) is ∙ ap (λ us. broken (rule_tests v e ss us)) tenures))
+
+-- what an entry breaks, where it is there and has these settings and tenures
+pub finds_rule : (v mid : Vault) (s after : SeenMoves) (o : Option Entry) (e : Entry) (slice ss : List Setting) (row ts : List Tenure) (found : Option Law) → mid ≡ v → o ≡ Some e → slice ≡ ss → row ≡ ts → found ≡ broken (rule_tests mid e slice row) → is_some found ≡ true → Finds v s o ss ts found after
+finds_rule v mid s after o e slice ss row ts found same its is tenures one some =
     let P : Option Entry → Type 0 = λ p. Finds v s p ss ts found after in
     let Q : Option Law → Type 0 = λ l. is_some l ≡ true in
-    let own : found ≡ broken (rule_tests v e ss) = one ∙ (ap (λ w. broken (rule_tests w e slice)) same ∙ ap (λ xs. broken (rule_tests v e xs)) is) in
-    subst P (sym its) (stops (rule_tests v e ss) (move_tests (seen_of s) e.bucket ts) found own some, λ none. absurd (cc (subst Q none some)))
+    let own : found ≡ broken (rule_tests v e ss ts) = its_rules v mid e slice ss row ts found same is tenures one in
+    subst P (sym its) (stops (rule_tests v e ss ts) (move_tests (seen_of s) e.bucket ts) found own some, λ none. absurd (cc (subst Q none some)))
 
-finds_moves : (v : Vault) (s after : SeenMoves) (o : Option Entry) (e : Entry) (ss : List Setting) (ts : List Tenure) (found rest : Option Law) → o ≡ Some e → found ≡ broken (rule_tests v e ss) → is_some found ≡ false → FindsMoves s e.bucket ts rest after → Finds v s o ss ts rest after
+finds_moves : (v : Vault) (s after : SeenMoves) (o : Option Entry) (e : Entry) (ss : List Setting) (ts : List Tenure) (found rest : Option Law) → o ≡ Some e → found ≡ broken (rule_tests v e ss ts) → is_some found ≡ false → FindsMoves s e.bucket ts rest after → Finds v s o ss ts rest after
 finds_moves v s after o e ss ts found rest its one none moves =
     let P : Option Entry → Type 0 = λ p. Finds v s p ss ts rest after in
-    subst P (sym its) (goes_on (rule_tests v e ss) (move_tests (seen_of s) e.bucket ts) found rest one none moves.0, moves.1)
+    subst P (sym its) (goes_on (rule_tests v e ss ts) (move_tests (seen_of s) e.bucket ts) found rest one none moves.0, moves.1)
 
-pub finds_all : (v mid : Vault) (s after : SeenMoves) (o : Option Entry) (e : Entry) (slice ss : List Setting) (us ts : List Tenure) (found : Option Law) (r : Result (Option Law) Fault) → mid ≡ v → o ≡ Some e → slice ≡ ss → us ≡ ts → found ≡ broken (rule_tests mid e slice) → is_some found ≡ false → IfOk r (λ rest. FindsMoves s e.bucket us rest after) → IfOk r (λ rest. Finds v s o ss ts rest after)
-finds_all v mid s after o e slice ss us ts found (Ok rest) same its is tenures one none moves =
-    let own : found ≡ broken (rule_tests v e ss) = one ∙ (ap (λ w. broken (rule_tests w e slice)) same ∙ ap (λ xs. broken (rule_tests v e xs)) is) in
+pub finds_all : (v mid : Vault) (s after : SeenMoves) (o : Option Entry) (e : Entry) (slice ss : List Setting) (row again ts : List Tenure) (found rest : Option Law) → mid ≡ v → o ≡ Some e → slice ≡ ss → row ≡ ts → again ≡ ts → found ≡ broken (rule_tests mid e slice row) → is_some found ≡ false → FindsMoves s e.bucket again rest after → Finds v s o ss ts rest after
+finds_all v mid s after o e slice ss row again ts found rest same its is tenures those one none moves =
     let P : List Tenure → Type 0 = λ xs. FindsMoves s e.bucket xs rest after in
-    finds_moves v s after o e ss ts found rest its own none (subst P tenures moves)
-finds_all v mid s after o e slice ss us ts found (Err f) same its is tenures one none moves = tt
+    finds_moves v s after o e ss ts found rest its (its_rules v mid e slice ss row ts found same is tenures one) none (subst P those moves)

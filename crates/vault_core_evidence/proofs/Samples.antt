@@ -69,6 +69,46 @@ ahead = refl
 replaced : breach v none_seen (history None (later 200 (codes "ann") None ∷ [])) ≡ Some law.FirstSetting
 replaced = refl
 
+-- a retention that had ended as it was given with the admission, and one that ends a second later
+abbrev first_until : ℕ → Setting
+first_until until = record first { lock = record { retention = Some (record { mode = Compliance; until = until }); hold = true } }
+
+ended : breach v none_seen (history None (first_until 100 ∷ [])) ≡ Some law.FirstSetting
+ended = refl
+
+ends_later : breach v none_seen (history None (first_until 101 ∷ [])) ≡ None
+ends_later = refl
+
+-- ---- departments
+
+-- that caller of another department, and of none
+abbrev ann_of : Option (List ℕ) → Vault
+ann_of dept = record v { callers = record ann { dept = dept } ∷ [] }
+
+of_another : breach (ann_of (Some (codes "e"))) none_seen (history None (first ∷ [])) ≡ Some law.Admission
+of_another = refl
+
+of_none : breach (ann_of None) none_seen (history None (first ∷ [])) ≡ Some law.Admission
+of_none = refl
+
+-- a marker by that caller, who may delete
+abbrev marker : History
+marker = record {
+  entry = record { id = 1; bucket = codes "b"; key = codes "a,b"; marker = true; size = 0; digest = None; admitted = 100; by = author.Caller (codes "ann"); removal = None };
+  content = None;
+  settings = [];
+  tenures = [];
+}
+
+abbrev deleter_of : Option (List ℕ) → Vault
+deleter_of dept = record v { callers = record ann { dept = dept; rights = record no_rights { delete = true } } ∷ [] }
+
+marked_by_any : breach (deleter_of (Some (codes "e"))) none_seen marker ≡ None
+marked_by_any = refl
+
+marked_by_none : breach (deleter_of None) none_seen marker ≡ Some law.Admission
+marked_by_none = refl
+
 -- ---- moves
 
 -- another version in that bucket, which moved then

@@ -1,5 +1,5 @@
 -- The first law that a history breaks, by tests that compute.
-use Rattle.std.specs.Prelude.{ℕ, ◌==◌, ◌&&◌, ◌||◌, if◌then◌else◌, nat_lt, nat_le, not, Bool, true, false, List, [], ◌∷◌, ◌++◌, codes, Option, Some, None, Result, Ok, Err}
+use Rattle.std.specs.Prelude.{ℕ, ◌==◌, ◌&&◌, ◌||◌, if◌then◌else◌, nat_lt, nat_le, not, Bool, true, false, List, [], ◌∷◌, ◌++◌, codes, Option, Some, None, is_some, Result, Ok, Err}
 use Rattle.std.specs.Str.{bytes_eq}
 use Rattle.vault_base.specs.declared.right.Right.TheVariants as right
 use Rattle.vault_lock.specs.declared.lock.Denial.{Denial}
@@ -22,11 +22,12 @@ use Rattle.vault_core_model.specs.declared.records.Tenure.{Tenure}
 use Rattle.vault_core_model.specs.Vault.{Vault, caller_of, last_lock}
 use Rattle.vault_core_worm_laws.specs.Bypass.{has_bypass}
 use Rattle.vault_core_worm_laws.specs.Entitled.{has_right}
+use Rattle.vault_core_worm_laws.specs.Stored.{is_department}
 use Rattle.vault_core_evidence.specs.declared.breach.Breach.{Breach}
 use Rattle.vault_core_evidence.specs.declared.breach.Law.{Law}
 use Rattle.vault_core_evidence.specs.declared.breach.Law.TheVariants as law
 use Rattle.vault_core_evidence.specs.declared.seen_moves.Move.{Move}
-use Rattle.vault_core_evidence.specs.Lawful.{last_at}
+use Rattle.vault_core_evidence.specs.Lawful.{department_of, last_at}
 use Rattle.vault_core_evidence.specs.Moves.{are_as_seen, none_seen, seen_after}
 
 -- the name of each law
@@ -62,6 +63,17 @@ is_admitter v false (author.Rule rule) = false
 is_admitter v true (author.Caller name) = has_right right.Delete (caller_of v name)
 is_admitter v true (author.Rule rule) = true
 
+-- who admits a version is of the department of its first tenure, who admits a marker of any
+abbrev pub is_of_department : Vault → Bool → Author → List Tenure → Bool
+is_of_department v false (author.Caller name) (t ∷ ts) = is_department t.dept (department_of v name)
+is_of_department v false _ _ = false
+is_of_department v true (author.Caller name) ts = is_some (department_of v name)
+is_of_department v true (author.Rule rule) ts = true
+
+-- an entry with these tenures was admitted by who may, and who is of that department
+abbrev pub is_admitted : Vault → Entry → List Tenure → Bool
+is_admitted v e tenures = is_admitter v e.marker e.by && is_of_department v e.marker e.by tenures
+
 abbrev pub is_author : Author → List ℕ → Bool
 is_author (author.Caller name) who = bytes_eq name who
 is_author (author.Rule rule) who = false
@@ -78,6 +90,11 @@ is_remover v (cause.Bypass name) = has_right right.DeleteVersion (caller_of v na
 is_remover v (cause.Rule rule) = true
 
 -- ---- what locks permit
+
+-- the retention, where there is one, ends after t
+abbrev pub ends_after : ℕ → Option Retention → Bool
+ends_after t None = true
+ends_after t (Some r) = nat_lt t r.until
 
 abbrev pub same_bool : Bool → Bool → Bool
 same_bool true b = b
@@ -126,7 +143,7 @@ is_permitted_removal v lock t (cause.Rule rule) = gives false (removable lock t 
 abbrev pub first_tests : Vault → ℕ → Author → Setting → List Test
 first_tests v admitted by s =
     test (s.at == admitted) law.FirstSetting ∷ test (not s.bypass) law.FirstSetting ∷ test (is_author by s.by) law.FirstSetting
-    ∷ test (not s.lock.hold || has_right right.Hold (caller_of v s.by)) law.Setter ∷ []
+    ∷ test (ends_after admitted s.lock.retention) law.FirstSetting ∷ test (not s.lock.hold || has_right right.Hold (caller_of v s.by)) law.Setter ∷ []
 
 -- a setting over the lock before it
 abbrev pub lock_tests : Vault → Lock → Setting → List Test
@@ -153,9 +170,9 @@ end_tests v from lock (Some r) =
     test (nat_le from r.at) law.Order ∷ test (nat_le r.at v.last) law.Order ∷ removal_tests v lock r.at r.cause
 
 -- those of one entry by itself
-abbrev pub rule_tests : Vault → Entry → List Setting → List Test
-rule_tests v e settings =
-    test (is_admitter v e.marker e.by) law.Admission
+abbrev pub rule_tests : Vault → Entry → List Setting → List Tenure → List Test
+rule_tests v e settings tenures =
+    test (is_admitted v e tenures) law.Admission
     ∷ (settings_tests v e.admitted e.by settings
     ++ end_tests v (last_at e.admitted settings) (last_lock settings) e.removal)
 
@@ -164,7 +181,7 @@ abbrev pub move_tests : (ℕ → Option Move) → List ℕ → List Tenure → L
 move_tests seen bucket tenures = test (are_as_seen seen bucket tenures) law.Move ∷ []
 
 abbrev pub tests : Vault → (ℕ → Option Move) → History → List Test
-tests v seen h = rule_tests v h.entry h.settings ++ move_tests seen h.entry.bucket h.tenures
+tests v seen h = rule_tests v h.entry h.settings h.tenures ++ move_tests seen h.entry.bucket h.tenures
 
 -- the first law that the history breaks
 abbrev pub breach : Vault → (ℕ → Option Move) → History → Option Law

@@ -1,22 +1,42 @@
 -- A history that commands can have made: every setting and every removal keeps the lock rules.
-use Rattle.std.specs.Prelude.{◌≡◌, ◌≤◌, ℕ, false, List, [], ◌∷◌, Option, Some, None}
+use Rattle.std.specs.Prelude.{◌≡◌, ◌≤◌, ◌<◌, ℕ, Bool, true, false, List, [], ◌∷◌, Option, Some, None, IsSome, option_and_then}
 use Rattle.std.specs.List.{AllByRecursion}
 use Rattle.vault_lock.specs.declared.lock.Lock.{Lock}
+use Rattle.vault_lock.specs.declared.retention.Retention.{Retention}
 use Rattle.vault_lock.specs.Lock.{guards}
 use Rattle.vault_core_model.specs.declared.records.Author.{Author}
+use Rattle.vault_core_model.specs.declared.records.Author.TheVariants as author
 use Rattle.vault_core_model.specs.declared.records.History.{History}
 use Rattle.vault_core_model.specs.declared.records.Removal.{Removal}
 use Rattle.vault_core_model.specs.declared.records.Setting.{Setting}
-use Rattle.vault_core_model.specs.Vault.{Vault, last_lock}
+use Rattle.vault_core_model.specs.declared.records.Tenure.{Tenure}
+use Rattle.vault_core_model.specs.Vault.{Vault, caller_of, last_lock}
 use Rattle.vault_core_worm_laws.specs.Entitled.{IsAdmitter, IsFirstBy, IsSetByRight, IsCausedByRight}
 use Rattle.vault_core_worm_laws.specs.Permits.{IsPermittedSetting}
 use Rattle.vault_core_worm_laws.specs.Removals.{IsPermittedUnder}
 
--- the first setting is of the admission, by who admitted the version, and by no bypass
+-- the department of the caller of that name, where the caller is there and has one
+abbrev pub department_of : Vault → List ℕ → Option (List ℕ)
+department_of v who = option_and_then (λ c. c.dept) (caller_of v who)
+
+-- A version was admitted by a caller of the department that had its bucket then, which its first tenure names. A marker has no tenure: it was admitted by a caller of any department, or by a rule.
+abbrev pub IsOfDepartment : Vault → Bool → Author → List Tenure → Type 0
+IsOfDepartment v false (author.Caller name) (t ∷ ts) = department_of v name ≡ Some t.dept
+IsOfDepartment v false _ _ = ⊥
+IsOfDepartment v true (author.Caller name) ts = IsSome (department_of v name)
+IsOfDepartment v true (author.Rule rule) ts = Unit {0}
+
+-- the retention, where there is one, ends after t
+abbrev pub EndsAfter : ℕ → Option Retention → Type 0
+EndsAfter t None = Unit {0}
+EndsAfter t (Some r) = t < r.until
+
+-- the first setting is of the admission, by who admitted the version, and by no bypass; its retention ends after the admission
 pub record IsLawfulFirst (v : Vault) (admitted : ℕ) (by : Author) (s : Setting) : Type 0 where
   pub now : s.at ≡ admitted
   pub free : s.bypass ≡ false
   pub first_by : IsFirstBy v by (s ∷ [])
+  pub later : EndsAfter admitted s.lock.retention
 
 -- a setting after another one: not before it in time, permitted over its lock, by a caller with the right to it
 pub record IsLawfulNext (v : Vault) (s n : Setting) : Type 0 where
@@ -46,6 +66,7 @@ IsLawfulEnd v from lock (Some r) =
 
 pub record IsLawful (v : Vault) (h : History) : Type 0 where
   pub admitter : IsAdmitter v h.entry.marker h.entry.by
+  pub department : IsOfDepartment v h.entry.marker h.entry.by h.tenures
   pub settings : AreLawful v h.entry.admitted h.entry.by h.settings
   pub end : IsLawfulEnd v (last_at h.entry.admitted h.settings) (last_lock h.settings) h.entry.removal
 

@@ -19,5 +19,5 @@ FindsMoves s bucket ts found after =
 abbrev pub Finds : Vault → SeenMoves → Option Entry → List Setting → List Tenure → Option Law → SeenMoves → Type 0
 Finds v s None settings tenures found after = Unit {0}
 Finds v s (Some e) settings tenures found after =
-    (found ≡ broken (rule_tests v e settings ++ move_tests (seen_of s) e.bucket tenures))
+    (found ≡ broken (rule_tests v e settings tenures ++ move_tests (seen_of s) e.bucket tenures))
     × (found ≡ None → (n : ℕ) → seen_of after n ≡ seen_after (seen_of s) e.bucket tenures n)

@@ -7,9 +7,10 @@ use vault_base::name::VersionId;
 /// What commands keep of every entry.
 #[derive(Clone, Copy, Debug, PartialEq, Eq)]
 pub enum Law {
-    /// Its author is a caller who may admit that kind of entry; or a rule, of a marker.
+    /// Its author is a caller who may admit that kind of entry: a version, where the caller is of the department that
+    /// had the bucket then; a marker, which has no tenure, where the caller is of any department. A rule admits markers.
     Admission,
-    /// Its first setting is of the moment and the caller of its admission, and by no bypass.
+    /// Its first setting is of the moment and the caller of its admission, and by no bypass; its retention ends after that.
     FirstSetting,
     /// No setting is before the one before it; none is after the removal, and nothing after the last moment.
     Order,

@@ -6,12 +6,12 @@ ghost use Rattle.vault_core_evidence.specs.Lawful.{last_at};
 ghost use Rattle.vault_core_evidence.specs.Breaches as spec;
 
 use crate::breach::Law;
-use crate::locks::{removal_breach, setting_breach};
-use crate::rights::{is_admitter, is_author, may_hold, remover};
+use crate::locks::{ends_after, removal_breach, setting_breach};
+use crate::rights::{is_admitted, is_author, may_hold, remover};
 use vault_base::moment::Moment;
 use vault_core_model::halt::Fault;
 use vault_core_model::keeper::Keeper;
-use vault_core_model::records::{Author, Entry, Removal, Setting};
+use vault_core_model::records::{Author, Entry, Removal, Setting, Tenure};
 use vault_lock::lock::Lock;
 
 /// What the first setting breaks, of a version that was admitted then, by that author.
@@ -25,6 +25,9 @@ fn first_breach<K: Keeper>(
     ensures leaves { ReadsAs K.Kept keeper.old keeper.new result }
 {
     if first.at != admitted || first.bypass || !is_author(by, &first.by) {
+        return Ok(Some(Law::FirstSetting));
+    }
+    if !ends_after(admitted, first.lock.retention) {
         return Ok(Some(Law::FirstSetting));
     }
     if !first.lock.hold {
@@ -144,18 +147,19 @@ fn order_breach(in_order: bool) -> Option<Law>
     if in_order { None } else { Some(Law::Order) }
 }
 
-/// The first law that an entry breaks by itself. `now` is the last moment.
+/// The first law that an entry breaks by itself, which has these settings and tenures. `now` is the last moment.
 pub(crate) fn rule_breach<K: Keeper>(
     keeper: &mut K,
     now: Moment,
     entry: &Entry,
     settings: &[Setting],
+    tenures: &[Tenure],
 ) -> Result<Option<Law>, Fault>
     requires { K.is_honest keeper.old → now ≡ (K.vault keeper.old).last }
-    ensures value { K.is_honest keeper.new → IfOk result (λ found. found ≡ spec.broken (spec.rule_tests (K.vault keeper.old) entry.now settings.now)) }
+    ensures value { K.is_honest keeper.new → IfOk result (λ found. found ≡ spec.broken (spec.rule_tests (K.vault keeper.old) entry.now settings.now tenures.now)) }
     ensures leaves { ReadsAs K.Kept keeper.old keeper.new result }
 {
-    if !is_admitter(keeper, entry.marker, &entry.by)? {
+    if !is_admitted(keeper, entry, tenures)? {
         return Ok(Some(Law::Admission));
     }
     let found = settings_breach(keeper, entry, settings)?;

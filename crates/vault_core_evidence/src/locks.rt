@@ -40,6 +40,16 @@ fn same_bool(one: bool, other: bool) -> bool
     if one { other } else { !other }
 }
 
+/// Whether the retention, where there is one, ends after the moment.
+pub(crate) fn ends_after(at: Moment, retention: Option<Retention>) -> bool
+    ensures { result ≡ spec.ends_after at retention }
+{
+    match retention {
+        Some(retention) => at < retention.until,
+        None => true,
+    }
+}
+
 /// A new retention that the commands permit as it was set.
 fn retains(caller: &Option<Caller>, old: &Lock, setting: &Setting) -> bool
     ensures { (v : Vault) → caller.now ≡ caller_of v setting.now.by → result ≡ spec.retains v setting.now.at old.now setting.now }

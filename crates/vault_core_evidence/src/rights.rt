@@ -1,5 +1,5 @@
 //! Who may do what.
-ghost use Rattle.std.specs.Prelude.{◌≡◌, ℕ, List, IfOk, false};
+ghost use Rattle.std.specs.Prelude.{◌≡◌, ℕ, List, IfOk};
 ghost use Rattle.vault_base.specs.declared.right.Right.TheVariants as right;
 ghost use Rattle.vault_core_model.specs.Leaves.{ReadsAs};
 ghost use Rattle.vault_core_model.specs.Vault.{Vault, caller_of};
@@ -11,7 +11,7 @@ ghost use Rattle.vault_core_evidence.specs.Breaches as spec;
 use vault_base::name::CallerName;
 use vault_core_model::halt::Fault;
 use vault_core_model::keeper::Keeper;
-use vault_core_model::records::{Author, Caller, Cause};
+use vault_core_model::records::{Author, Caller, Cause, Entry, Tenure};
 
 /// Whether the caller may bypass governance.
 pub(crate) fn may_bypass(caller: &Option<Caller>) -> bool
@@ -67,20 +67,39 @@ fn may_admit(caller: &Option<Caller>, marker: bool) -> bool
     }
 }
 
-/// Whether the author may admit a version, or a marker.
-pub(crate) fn is_admitter<K: Keeper>(
+/// Whether the caller is of the department of the first tenure. A marker has no tenure: any department will do.
+fn is_of_department(caller: &Option<Caller>, marker: bool, tenures: &[Tenure]) -> bool
+    ensures { (v : Vault) (name : List ℕ) → caller.now ≡ caller_of v name → result ≡ spec.is_of_department v marker (authors.Caller name) tenures.now }
+{
+    let Some(caller) = caller else {
+        return false;
+    };
+    let Some(dept) = &caller.dept else {
+        return false;
+    };
+    if marker {
+        return true;
+    }
+    let Some(first) = tenures.first() else {
+        return false;
+    };
+    *dept == first.dept
+}
+
+/// Whether the author may admit such an entry, and is of the department that had the bucket then.
+pub(crate) fn is_admitted<K: Keeper>(
     keeper: &mut K,
-    marker: bool,
-    by: &Author,
+    entry: &Entry,
+    tenures: &[Tenure],
 ) -> Result<bool, Fault>
-    ensures value { K.is_honest keeper.new → IfOk result (λ may. may ≡ spec.is_admitter (K.vault keeper.old) marker by.now) }
+    ensures value { K.is_honest keeper.new → IfOk result (λ may. may ≡ spec.is_admitted (K.vault keeper.old) entry.now tenures.now) }
     ensures leaves { ReadsAs K.Kept keeper.old keeper.new result }
 {
-    let Author::Caller(name) = by else {
-        return Ok(marker);
+    let Author::Caller(name) = &entry.by else {
+        return Ok(entry.marker);
     };
     let caller = keeper.caller(name)?;
-    Ok(may_admit(&caller, marker))
+    Ok(may_admit(&caller, entry.marker) && is_of_department(&caller, entry.marker, tenures))
 }
 
 /// Whether the author is the caller of that name.

@@ -8,12 +8,12 @@ ghost use Rattle.vault_core_evidence.specs.Walk.{Finds, FindsMoves};
 use crate::breach::{Breach, Law};
 use crate::history::rule_breach;
 use crate::seen_moves::SeenMoves;
-use std::alloc::Global;
+use std::alloc::{AllocError, Global};
 use vault_base::moment::Moment;
 use vault_base::name::VersionId;
 use vault_core_model::halt::Fault;
 use vault_core_model::keeper::Keeper;
-use vault_core_model::records::{Entry, Settings};
+use vault_core_model::records::{Entry, Settings, Tenure, Tenures};
 
 /// The settings of the entry of that id. A marker has none, which needs no look.
 fn settings_of<K: Keeper>(
@@ -32,22 +32,32 @@ fn settings_of<K: Keeper>(
     keeper.settings(id)
 }
 
-/// What the tenures of the entry of that id break, after those that were seen. A marker has none, which needs no look.
-fn move_breach<K: Keeper>(
+/// The tenures of the entry of that id. A marker has none, which needs no look.
+fn tenures_of<K: Keeper>(
+    alloc: Global,
     keeper: &mut K,
-    seen: &mut SeenMoves,
     id: VersionId,
     entry: &Entry,
-) -> Result<Option<Law>, Fault>
+) -> Result<Tenures, Fault>
     requires its { K.is_honest keeper.old → entry_of (K.vault keeper.old) id ≡ Some entry.now }
-    ensures value { K.is_honest keeper.new → IfOk result (λ found. FindsMoves seen.old entry.now.bucket (tenures_of (K.vault keeper.old) id) found seen.new) }
+    ensures value { K.is_honest keeper.new → IfOk result (λ found. found ≡ tenures_of (K.vault keeper.old) id) }
     ensures leaves { ReadsAs K.Kept keeper.old keeper.new result }
 {
     if entry.marker {
-        return Ok(None);
+        return Ok(Tenures::new(alloc));
     }
-    let tenures = keeper.tenures(id)?;
-    if seen.see_all(&entry.bucket, tenures.as_slice())? {
+    keeper.tenures(id)
+}
+
+/// What the tenures of an entry break, after those that were seen.
+fn move_breach(
+    seen: &mut SeenMoves,
+    entry: &Entry,
+    tenures: &[Tenure],
+) -> Result<Option<Law>, AllocError>
+    ensures { IfOk result (λ found. FindsMoves seen.old entry.now.bucket tenures.now found seen.new) }
+{
+    if seen.see_all(&entry.bucket, tenures)? {
         Ok(None)
     } else {
         Ok(Some(Law::Move))
@@ -70,11 +80,12 @@ fn breach_of<K: Keeper>(
         return Ok(None);
     };
     let settings = settings_of(alloc, keeper, id, &entry)?;
-    let found = rule_breach(keeper, now, &entry, settings.as_slice())?;
+    let tenures = tenures_of(alloc, keeper, id, &entry)?;
+    let found = rule_breach(keeper, now, &entry, settings.as_slice(), tenures.as_slice())?;
     if found.is_some() {
         return Ok(found);
     }
-    move_breach(keeper, seen, id, &entry)
+    Ok(move_breach(seen, &entry, tenures.as_slice())?)
 }
 
 /// How many entries there are, held or removed.
@@ -111,7 +122,7 @@ fn find_breach<K: Keeper>(
 }
 
 /// The first entry that breaks a law, and the first law that it breaks; none where the history is one that
-/// commands can have made, as far as its settings, its removals and its tenures show.
+/// commands can have made, as far as its admissions, settings, removals and tenures show.
 ///
 /// It goes over the entries by rising id and has one of them in memory, beside a record of each move of a
 /// bucket.

@@ -220,7 +220,7 @@ impl<S: Alter> SqlKeeper<S> {
         ensures sound { IfOk result (λ k. HasCleanDisk (state S.Store k.conn) → AreSound (state S.Store k.conn).now (vault_of S.Store k)) }
         // A crash leaves that vault after that, and nothing else.
         ensures alone { IfOk result (λ k. HasCleanDisk (state S.Store k.conn) → LeavesAlone (state S.Store k.conn) (vault_of S.Store k)) }
-        ensures counted { IfOk result (λ k. k.faults ≡ 0) }
+        ensures counted { IfOk result (λ k. k.blamed.faults ≡ 0) }
         ensures told { IfErr result (λ e. e.0 ≢ Refusal.NameTaken → IsTold e.0) }
         ensures damaged { IfErr result (λ e. HasCleanDisk (state O.Store old.new) → (t : Table) → e.0 ≡ Refusal.Damaged t → (v : Vault) → ¬ AreSoundAs edition (state O.Store old.old).now v) }
         ensures free { OnOk result ((state S.Store new).now.schema ≡ no_schema) }

@@ -18,7 +18,7 @@ ghost use Rattle.vault_store.specs.Kept.{kept_vault, IsSettled, StandsFor};
 ghost use Rattle.vault_store.specs.Left.{IsKept, LeavesOneOf};
 ghost use Rattle.vault_store.specs.Tables.{HasTablesOf};
 
-use crate::blame::blame;
+use crate::blame::Blamed;
 use crate::look::look;
 use crate::opening::{Opening, remember};
 use crate::shut::refuse_shut;
@@ -64,16 +64,14 @@ use vault_tally::row::Row;
 /// It can't be let go of but by `into_connection`, so a store is closed, or handed on, wherever it ends.
 pub struct SqlKeeper<S: Alter> {
     conn: Connection<S>,
-    // Whether a failure may have shut the connection.
-    doubted: bool,
-    faults: u64,
+    blamed: Blamed,
     alloc: Global,
     opening: Opening<S>,
     made: Log<Moment, Change>,
     // The changes that were refused since the last one that was made.
     refused: Log<Moment, Change>,
     ghost settled: { conn.in_transaction ≡ false },
-    ghost sure: { doubted ≡ false → HasCleanDisk (state S.Store conn) → IsTrue (state S.Store conn).is_open },
+    ghost sure: { blamed.doubted ≡ false → HasCleanDisk (state S.Store conn) → IsTrue (state S.Store conn).is_open },
     ghost kept: { ∥ (HasCleanDisk (state S.Store conn) → IsKept (state S.Store conn) (kept_vault S.Store opening.at.items opening.known made.items) refused.items) ∥₁ },
 }
 
@@ -86,16 +84,16 @@ impl<S: Alter> SqlKeeper<S> {
         requires sound { HasCleanDisk (state S.Store conn) → IsSettled (state S.Store conn) }
         requires alone { HasCleanDisk (state S.Store conn) → (v : Vault) → AreSound (state S.Store conn).now v → LeavesAlone (state S.Store conn) v }
         ensures same { result.conn ≡ conn }
-        ensures counted { result.faults ≡ 0 }
+        ensures counted { result.blamed.faults ≡ 0 }
         ensures keeps { HasCleanDisk (state S.Store conn) → AreSound (state S.Store conn).now (vault_of S.Store result) }
     {
         let opening = remember(&conn);
         let made = Log::new();
         let refused = Log::new();
+        let blamed = Blamed::new();
         SqlKeeper {
             conn,
-            doubted: false,
-            faults: 0,
+            blamed,
             alloc,
             opening,
             made,
@@ -112,8 +110,7 @@ impl<S: Alter> SqlKeeper<S> {
     {
         let SqlKeeper {
             conn,
-            doubted: _,
-            faults: _,
+            blamed: _,
             alloc: _,
             opening: _,
             made: _,
@@ -137,7 +134,7 @@ impl<S: Alter> SqlKeeper<S> {
         ensures crash { IfOk result (λ k. Survives (state S.Store conn) (state S.Store k.conn) (λ _. ⊥)) }
         // A crash leaves that vault after that, and nothing else.
         ensures alone { IfOk result (λ k. HasCleanDisk (state S.Store k.conn) → LeavesAlone (state S.Store k.conn) (vault_of S.Store k)) }
-        ensures counted { IfOk result (λ k. k.faults ≡ 0) }
+        ensures counted { IfOk result (λ k. k.blamed.faults ≡ 0) }
         ensures told { IfErr result (λ e. IsTold e.0) }
         // A store that works, outside a transaction, is never told as one that failed.
         ensures healthy { conn.in_transaction ≡ false → IfErr result (λ e. IsHealthy (state S.Store e.1) → e.0 ≢ Refusal.Device) }
@@ -171,7 +168,7 @@ impl<S: Alter> SqlKeeper<S> {
         ensures sound { IfOk result (λ k. HasCleanDisk (state S.Store k.conn) → AreSound (state S.Store k.conn).now opening) }
         // A crash leaves a new vault after that, and nothing else.
         ensures alone { IfOk result (λ k. HasCleanDisk (state S.Store k.conn) → LeavesAlone (state S.Store k.conn) opening) }
-        ensures counted { IfOk result (λ k. k.faults ≡ 0) }
+        ensures counted { IfOk result (λ k. k.blamed.faults ≡ 0) }
         ensures taken { (state S.Store conn).now.schema ≢ no_schema → IfErr result (λ e. e.0 ≡ Refusal.NameTaken) }
         ensures free { IfErr result (λ e. e.0 ≡ Refusal.NameTaken → (state S.Store conn).now.schema ≢ no_schema) }
         ensures faults { IfErr result (λ e. e.0 ≢ Refusal.NameTaken → IsFault e.0) }
@@ -198,7 +195,7 @@ impl<S: Alter> SqlKeeper<S> {
         ensures ok { OnOk result (vault_of S.Store self.new ≡ changed (vault_of S.Store self.old) at change.now) }
         ensures err { OnErr result (vault_of S.Store self.new ≡ vault_of S.Store self.old) }
         ensures honest { HasCleanDisk (state S.Store self.new.conn) → HasCleanDisk (state S.Store self.old.conn) }
-        ensures counted { self.new.faults ≡ count_after self.old.faults (is_device_given result) }
+        ensures counted { self.new.blamed.faults ≡ count_after self.old.blamed.faults (is_device_given result) }
         // Which changes were refused since the last one that was made.
         ensures forgotten { OnOk result (self.new.refused.items ≡ []) }
         ensures refused { OnErr result (self.new.refused.items ≡ self.old.refused.items ++ (at, change.now) ∷ []) }
@@ -211,12 +208,12 @@ impl<S: Alter> SqlKeeper<S> {
             Ok(()) => {
                 self.made = self.made.and(&at, change);
                 self.refused = Log::new();
-                self.doubted = false;
+                self.blamed.trust();
                 Ok(())
             }
             Err(error) => {
                 self.refused = self.refused.and(&at, change);
-                Err(blame(&mut self.faults, &mut self.doubted, error))
+                Err(self.blamed.blame(error))
             }
         }
     }
@@ -229,17 +226,17 @@ impl<S: Alter> SqlKeeper<S> {
         ensures open { HasCleanDisk (state S.Store self.new.conn) → OnOk result (IsTrue (state S.Store self.new.conn).is_open) }
         ensures same { vault_of S.Store self.new ≡ vault_of S.Store self.old }
         ensures honest { HasCleanDisk (state S.Store self.new.conn) → HasCleanDisk (state S.Store self.old.conn) }
-        ensures counted { self.new.faults ≡ count_after self.old.faults (is_device_given result) }
+        ensures counted { self.new.blamed.faults ≡ count_after self.old.blamed.faults (is_device_given result) }
     {
-        if !self.doubted {
+        if !self.blamed.is_doubted() {
             return Ok(());
         }
         match refuse_shut(&mut self.conn) {
             Ok(()) => {
-                self.doubted = false;
+                self.blamed.trust();
                 Ok(())
             }
-            Err(error) => Err(blame(&mut self.faults, &mut self.doubted, error)),
+            Err(error) => Err(self.blamed.blame(error)),
         }
     }
 }
@@ -253,7 +250,7 @@ impl<S: Alter> Kept for SqlKeeper<S> {
 
     ghost vault = { λ k. vault_of S.Store k };
 
-    ghost count = { λ k. k.faults };
+    ghost count = { λ k. k.blamed.faults };
 
     ghost sound = { λ k honest. ∥∥₁_elim k.kept (Sound-prop _) (λ kept. (kept honest).sound) };
 }
@@ -262,14 +259,14 @@ impl<S: Alter> Keeper for SqlKeeper<S> {
     ghost use Rattle.vault_store.specs.VaultOf.{vault_of};
 
     fn faults(&self) -> u64 {
-        self.faults
+        self.blamed.faults()
     }
 
     fn last(&mut self) -> Result<Moment, Fault> {
         self.check_open()?;
         match read_last(&mut self.conn) {
             Ok(found) => Ok(found),
-            Err(error) => Err(blame(&mut self.faults, &mut self.doubted, error)),
+            Err(error) => Err(self.blamed.blame(error)),
         }
     }
 
@@ -277,7 +274,7 @@ impl<S: Alter> Keeper for SqlKeeper<S> {
         self.check_open()?;
         match read_next_id(&mut self.conn) {
             Ok(found) => Ok(found),
-            Err(error) => Err(blame(&mut self.faults, &mut self.doubted, error)),
+            Err(error) => Err(self.blamed.blame(error)),
         }
     }
 
@@ -285,7 +282,7 @@ impl<S: Alter> Keeper for SqlKeeper<S> {
         self.check_open()?;
         match read_caller(&mut self.conn, name) {
             Ok(found) => Ok(found),
-            Err(error) => Err(blame(&mut self.faults, &mut self.doubted, error)),
+            Err(error) => Err(self.blamed.blame(error)),
         }
     }
 
@@ -293,7 +290,7 @@ impl<S: Alter> Keeper for SqlKeeper<S> {
         self.check_open()?;
         match has_department(&mut self.conn, name) {
             Ok(found) => Ok(found),
-            Err(error) => Err(blame(&mut self.faults, &mut self.doubted, error)),
+            Err(error) => Err(self.blamed.blame(error)),
         }
     }
 
@@ -301,7 +298,7 @@ impl<S: Alter> Keeper for SqlKeeper<S> {
         self.check_open()?;
         match read_bucket(&mut self.conn, name) {
             Ok(found) => Ok(found),
-            Err(error) => Err(blame(&mut self.faults, &mut self.doubted, error)),
+            Err(error) => Err(self.blamed.blame(error)),
         }
     }
 
@@ -309,7 +306,7 @@ impl<S: Alter> Keeper for SqlKeeper<S> {
         self.check_open()?;
         match read_rules(&mut self.conn, self.alloc, bucket) {
             Ok(found) => Ok(found),
-            Err(error) => Err(blame(&mut self.faults, &mut self.doubted, error)),
+            Err(error) => Err(self.blamed.blame(error)),
         }
     }
 
@@ -317,7 +314,7 @@ impl<S: Alter> Keeper for SqlKeeper<S> {
         self.check_open()?;
         match read_head(&mut self.conn, bucket, key) {
             Ok(found) => Ok(found),
-            Err(error) => Err(blame(&mut self.faults, &mut self.doubted, error)),
+            Err(error) => Err(self.blamed.blame(error)),
         }
     }
 
@@ -325,7 +322,7 @@ impl<S: Alter> Keeper for SqlKeeper<S> {
         self.check_open()?;
         match read_entries(&mut self.conn, self.alloc, bucket, key) {
             Ok(found) => Ok(found),
-            Err(error) => Err(blame(&mut self.faults, &mut self.doubted, error)),
+            Err(error) => Err(self.blamed.blame(error)),
         }
     }
 
@@ -333,7 +330,7 @@ impl<S: Alter> Keeper for SqlKeeper<S> {
         self.check_open()?;
         match read_entry(&mut self.conn, id) {
             Ok(found) => Ok(found),
-            Err(error) => Err(blame(&mut self.faults, &mut self.doubted, error)),
+            Err(error) => Err(self.blamed.blame(error)),
         }
     }
 
@@ -341,7 +338,7 @@ impl<S: Alter> Keeper for SqlKeeper<S> {
         self.check_open()?;
         match read_setting(&mut self.conn, id) {
             Ok(found) => Ok(found),
-            Err(error) => Err(blame(&mut self.faults, &mut self.doubted, error)),
+            Err(error) => Err(self.blamed.blame(error)),
         }
     }
 
@@ -349,7 +346,7 @@ impl<S: Alter> Keeper for SqlKeeper<S> {
         self.check_open()?;
         match read_settings(&mut self.conn, self.alloc, id) {
             Ok(found) => Ok(found),
-            Err(error) => Err(blame(&mut self.faults, &mut self.doubted, error)),
+            Err(error) => Err(self.blamed.blame(error)),
         }
     }
 
@@ -357,7 +354,7 @@ impl<S: Alter> Keeper for SqlKeeper<S> {
         self.check_open()?;
         match read_content(&mut self.conn, id) {
             Ok(found) => Ok(found),
-            Err(error) => Err(blame(&mut self.faults, &mut self.doubted, error)),
+            Err(error) => Err(self.blamed.blame(error)),
         }
     }
 
@@ -370,7 +367,7 @@ impl<S: Alter> Keeper for SqlKeeper<S> {
         self.check_open()?;
         match read_keys(&mut self.conn, self.alloc, bucket, after, most) {
             Ok(found) => Ok(found),
-            Err(error) => Err(blame(&mut self.faults, &mut self.doubted, error)),
+            Err(error) => Err(self.blamed.blame(error)),
         }
     }
 
@@ -383,19 +380,15 @@ impl<S: Alter> Keeper for SqlKeeper<S> {
         self.check_open()?;
         match read_note(&mut self.conn, bucket, batch, line) {
             Ok(found) => Ok(found),
-            Err(error) => Err(blame(&mut self.faults, &mut self.doubted, error)),
+            Err(error) => Err(self.blamed.blame(error)),
         }
     }
 
     fn walk_removed<T: Sink>(&mut self, sink: &mut T) -> Result<bool, Fault> {
         self.check_open()?;
         match walk_removed(&mut self.conn, sink) {
-            Ok(found) => {
-                // No clause of the walk says that it leaves the connection open.
-                self.doubted = true;
-                Ok(found)
-            }
-            Err(error) => Err(blame(&mut self.faults, &mut self.doubted, error)),
+            Ok(found) => Ok(found),
+            Err(error) => Err(self.blamed.blame(error)),
         }
     }
 
@@ -403,7 +396,7 @@ impl<S: Alter> Keeper for SqlKeeper<S> {
         self.check_open()?;
         match read_moves(&mut self.conn) {
             Ok(found) => Ok(found),
-            Err(error) => Err(blame(&mut self.faults, &mut self.doubted, error)),
+            Err(error) => Err(self.blamed.blame(error)),
         }
     }
 
@@ -411,7 +404,7 @@ impl<S: Alter> Keeper for SqlKeeper<S> {
         self.check_open()?;
         match read_tenures(&mut self.conn, self.alloc, id) {
             Ok(found) => Ok(found),
-            Err(error) => Err(blame(&mut self.faults, &mut self.doubted, error)),
+            Err(error) => Err(self.blamed.blame(error)),
         }
     }
 
@@ -419,7 +412,7 @@ impl<S: Alter> Keeper for SqlKeeper<S> {
         self.check_open()?;
         match read_bucket_held(&mut self.conn, self.alloc, bucket) {
             Ok(found) => Ok(found),
-            Err(error) => Err(blame(&mut self.faults, &mut self.doubted, error)),
+            Err(error) => Err(self.blamed.blame(error)),
         }
     }
 
@@ -427,7 +420,7 @@ impl<S: Alter> Keeper for SqlKeeper<S> {
         self.check_open()?;
         match read_totals(&mut self.conn, dept) {
             Ok(found) => Ok(found),
-            Err(error) => Err(blame(&mut self.faults, &mut self.doubted, error)),
+            Err(error) => Err(self.blamed.blame(error)),
         }
     }
 
@@ -437,7 +430,7 @@ impl<S: Alter> Keeper for SqlKeeper<S> {
         ensures ok { OnOk result (vault_of S.Store self.new ≡ changed (vault_of S.Store self.old) at change.now) }
         ensures err { OnErr result (vault_of S.Store self.new ≡ vault_of S.Store self.old) }
         ensures honest { HasCleanDisk (state S.Store self.new.conn) → HasCleanDisk (state S.Store self.old.conn) }
-        ensures counted { self.new.faults ≡ count_after self.old.faults (is_device_given result) }
+        ensures counted { self.new.blamed.faults ≡ count_after self.old.blamed.faults (is_device_given result) }
         // What `make` says of refused changes and of a crash.
         ensures forgotten { OnOk result (self.new.refused.items ≡ []) }
         ensures refused { OnErr result (self.new.refused.items ≡ self.old.refused.items ++ (at, change.now) ∷ []) }

@@ -8,7 +8,7 @@ ghost use Rattle.vault_core_model.specs.Reads.{removed_entries};
 ghost use Rattle.vault_core_model.specs.Vault.{Vault};
 ghost use Rattle.vault_audit_model.specs.Rows.{entry_row};
 ghost use Rattle.vault_store_model.specs.Keeping.{Keeps};
-ghost use Rattle.vault_store_reads.specs.Quiet.{IsQuiet, OnlyReads};
+ghost use Rattle.vault_store_reads.specs.Quiet.{IsOpenIfOk, IsQuiet, OnlyReads};
 ghost use Rattle.vault_store_reads.specs.Handed.{as_fault};
 
 use crate::query::unread;
@@ -34,6 +34,7 @@ fn hand_each<S: Alter, T: Sink>(conn: &mut Connection<S>, sink: &mut T) -> Resul
     ensures same { HasCleanDisk (state S.Store conn.new) → (v : Vault) → Keeps (state S.Store conn.old) v → Keeps (state S.Store conn.new) v }
     ensures honest { HasCleanDisk (state S.Store conn.new) → HasCleanDisk (state S.Store conn.old) }
     ensures mode { conn.old.in_transaction ≡ false → conn.new.in_transaction ≡ false }
+    ensures open { IsOpenIfOk S.Store conn.new result }
     ensures survives { Survives (state S.Store conn.old) (state S.Store conn.new) (IsQuiet (state S.Store conn.old)) }
 {
     let mut rows = conn.query(
@@ -59,6 +60,7 @@ pub fn walk_removed<S: Alter, T: Sink>(
 ) -> Result<bool, Error>
     ensures value { HasCleanDisk (state S.Store conn.new) → (v : Vault) → ∥ Keeps (state S.Store conn.old) v ∥₁ → Hands T.takes sink.old (removed_entries v) (as_fault result) sink.new }
     ensures read { OnlyReads S.Store conn.old conn.new }
+    ensures open { IsOpenIfOk S.Store conn.new result }
 {
     hand_each(conn, sink)
 }

@@ -3,6 +3,11 @@
 
 ghost use Rattle.std.specs.Prelude.{◌≡◌, ◌≢◌, true, []};
 
+mod commit;
+mod version;
+
+use crate::commit::COMMIT;
+use crate::version::{tell_version, version_beside};
 use sqlite::{Start, Unknown};
 use std::io::{self, BufWriter, ErrorKind, Read, Write};
 use std::process::ExitCode;
@@ -57,8 +62,8 @@ fn tell_unread<E: Write>(err: &mut E, kind: ErrorKind) -> u8
     1
 }
 
-/// The status of what the words ask for. No clause stands here: one would have the call's proof carry all that the
-/// machine's reader and writer hold.
+/// The status of what the words ask for; a program that knows its commit prints it after the version. No clause stands
+/// here: one would have the call's proof carry all that the machine's reader and writer hold.
 fn answer<A: Start, B: Start, R: Read, W: Write, E: Write>(
     machine: &mut FileMachine<'_, A, B>,
     starts: Starts<A, B>,
@@ -67,7 +72,10 @@ fn answer<A: Start, B: Start, R: Read, W: Write, E: Write>(
     out: &mut W,
     err: &mut E,
 ) -> u8 {
-    answer_words(machine, starts, words, reader, out, err)
+    match version_beside(COMMIT, words) {
+        Some(version) => tell_version(version, COMMIT, out, err),
+        None => answer_words(machine, starts, words, reader, out, err),
+    }
 }
 
 /// The same of the program's words. `InvalidData` where one isn't UTF-8; any other error is want of memory.

@@ -147,9 +147,11 @@ fn print_breach<W: Write>(alloc: Global, breach: &Breach, out: &mut W) -> Result
 /// What an entry that breaks a law shows.
 fn shown(law: Law) -> &'static str {
     match law {
-        Law::Admission => "who admitted it is no caller who may admit such an entry",
+        Law::Admission => {
+            "who admitted it is no caller who may admit such an entry, or is not of the department that had its bucket then"
+        }
         Law::FirstSetting => {
-            "its first setting is of another moment or another caller than its admission, or by a bypass"
+            "its first setting is of another moment or another caller than its admission, or by a bypass, or gives a retention that does not end after it"
         }
         Law::Order => {
             "a setting is before the one before it, or something is after its removal or after the vault's last change"

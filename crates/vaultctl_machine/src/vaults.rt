@@ -407,8 +407,8 @@ fn made_at<S: Start>(
     }
 }
 
-// Each method is over stores of files: a call over any two stores names both of the files' at once, which takes more steps
-// than the prover has for a function.
+// All is over stores of files: a call over any store would have to name both of them at once, for which the prover hasn't
+// steps enough.
 impl<'a, A: Start, B: Start> Machine<'a, VaultStore<A>, VaultStore<B>> {
     /// The files of a machine, where no vault was looked for yet.
     pub fn new(rt: &'a HostRuntime) -> FileMachine<'a, A, B>

@@ -9,22 +9,27 @@ returns-then-is_some-clause-value g c clean =
     let some : is_some c.in_ok-found.found ≡ true = search rules in
     let v = g.K.Kept.vault c.args.keeper.now in
     let looked = c.rule_breach.ensures.leaves.honest clean in
-    let found = c.settings_of.ensures.leaves.honest looked in
-    finds_rule v (g.K.Kept.vault c.settings_of.new.keeper) c.args.seen.now c.args.seen.now (entry_of v c.args.id) c.in-Some.entry c.as_slice.result.now (settings_of v c.args.id) (tenures_of v c.args.id) c.in_ok-found.found
-    (c.settings_of.ensures.leaves.same ∙ c.entry.ensures.leaves.same) (sym (c.in_ok-entry.ensures.value found) ∙ c.in-Some.is)
-    (c.as_slice.ensures ∙ (c.in_ok-settings.ensures.value looked ∙ ap (λ w. settings_of w c.args.id) c.entry.ensures.leaves.same))
+    let settings = c.tenures_of.ensures.leaves.honest looked in
+    let found = c.settings_of.ensures.leaves.honest settings in
+    let before = c.settings_of.ensures.leaves.same ∙ c.entry.ensures.leaves.same in
+    finds_rule v (g.K.Kept.vault c.tenures_of.new.keeper) c.args.seen.now c.args.seen.now (entry_of v c.args.id) c.in-Some.entry c.as_slice.result.now (settings_of v c.args.id) c.as_slice-2.result.now (tenures_of v c.args.id) c.in_ok-found.found
+    (c.tenures_of.ensures.leaves.same ∙ before) (sym (c.in_ok-entry.ensures.value found) ∙ c.in-Some.is)
+    (c.as_slice.ensures ∙ (c.in_ok-settings.ensures.value settings ∙ ap (λ w. settings_of w c.args.id) c.entry.ensures.leaves.same))
+    (c.as_slice-2.ensures ∙ (c.in_ok-tenures.ensures.value looked ∙ ap (λ w. tenures_of w c.args.id) before))
     (c.in_ok-found.ensures.value clean) some
 
 pub returns-clause-value : goal.returns-clause-value
 returns-clause-value g c clean =
     let none : is_some c.in_ok-found.found ≡ false = search rules in
     let v = g.K.Kept.vault c.args.keeper.now in
-    let rules = c.move_breach.ensures.leaves.honest clean in
-    let looked = c.rule_breach.ensures.leaves.honest rules in
-    let found = c.settings_of.ensures.leaves.honest looked in
-    finds_all v (g.K.Kept.vault c.settings_of.new.keeper) c.args.seen.now c.move_breach.new.seen (entry_of v c.args.id) c.in-Some.entry c.as_slice.result.now (settings_of v c.args.id)
-    (tenures_of (g.K.Kept.vault c.rule_breach.new.keeper) c.args.id) (tenures_of v c.args.id) c.in_ok-found.found c.move_breach.result
-    (c.settings_of.ensures.leaves.same ∙ c.entry.ensures.leaves.same) (sym (c.in_ok-entry.ensures.value found) ∙ c.in-Some.is)
-    (c.as_slice.ensures ∙ (c.in_ok-settings.ensures.value looked ∙ ap (λ w. settings_of w c.args.id) c.entry.ensures.leaves.same))
-    (ap (λ w. tenures_of w c.args.id) (c.rule_breach.ensures.leaves.same ∙ (c.settings_of.ensures.leaves.same ∙ c.entry.ensures.leaves.same)))
-    (c.in_ok-found.ensures.value rules) none (c.move_breach.ensures.value clean)
+    let looked = c.rule_breach.ensures.leaves.honest clean in
+    let settings = c.tenures_of.ensures.leaves.honest looked in
+    let found = c.settings_of.ensures.leaves.honest settings in
+    let before = c.settings_of.ensures.leaves.same ∙ c.entry.ensures.leaves.same in
+    let had = c.in_ok-tenures.ensures.value looked ∙ ap (λ w. tenures_of w c.args.id) before in
+    finds_all v (g.K.Kept.vault c.tenures_of.new.keeper) c.args.seen.now c.move_breach.new.seen (entry_of v c.args.id) c.in-Some.entry c.as_slice.result.now (settings_of v c.args.id)
+    c.as_slice-2.result.now c.as_slice-3.result.now (tenures_of v c.args.id) c.in_ok-found.found c.in_ok-move_breach.field-0
+    (c.tenures_of.ensures.leaves.same ∙ before) (sym (c.in_ok-entry.ensures.value found) ∙ c.in-Some.is)
+    (c.as_slice.ensures ∙ (c.in_ok-settings.ensures.value settings ∙ ap (λ w. settings_of w c.args.id) c.entry.ensures.leaves.same))
+    (c.as_slice-2.ensures ∙ had) (c.as_slice-3.ensures ∙ had)
+    (c.in_ok-found.ensures.value clean) none c.in_ok-move_breach.ensures

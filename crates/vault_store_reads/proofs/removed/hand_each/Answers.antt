@@ -1,4 +1,4 @@
-use Rattle.std.proofs.Common.{◌≡◌, List, [], ◌∷◌, ◌++◌, true, false, inl, refl, subst, rules, arith}
+use Rattle.std.proofs.Common.{◌≡◌, List, [], ◌∷◌, ◌++◌, IsTrue, true, false, inl, refl, subst, rules, arith}
 use Rattle.sqlite_value.specs.Order.{Row}
 use Rattle.sqlite.specs.State.{HasCleanDisk, IsUnchanged, Survives, CommitsShowing}
 use Rattle.sqlite.specs.Held.{Held, state}
@@ -79,6 +79,16 @@ returns-in_default-clause-same g c clean v was =
     let still = rw c.in_ok-row.was at (moved.same late) in
     subst (λ (h : Held g.row.S.Denot). Keeps (state g.S.Store h) v) same (unchanged_keeps (state g.S.Store c.args.conn.now) (state g.S.Store now) v (inl (unchanged_then _ _ _ it.2 still)) was)
 
+pub returns-in_default-clause-open : goal.returns-in_default-clause-open
+returns-in_default-clause-open g c clean =
+    let moved = c.next.follows.holds-at-none in
+    let now = c.next.follows.lender-at-none.conn.now in
+    let end = c.conn-in_default-1.given.0 in
+    let same : now ≡ end = search rules in
+    let late : HasCleanDisk (state g.S.Store now) = search rules in
+    let still = rw c.in_ok-row.was at (moved.same late) in
+    subst (λ (h : Held g.row.S.Denot). IsTrue (state g.S.Store h).is_open) same still.0.is_open
+
 -- the sink refuses
 
 pub returns-then-not-branch-clause-done : goal.returns-then-not-branch-clause-done
@@ -106,6 +116,16 @@ returns-then-not-branch-clause-same g c clean v was =
     let it = c.rows.invariant.3 (omega (arith, moved.survives.clean)) v ∣ was ∣₁ in
     let still = rw c.in_ok-row.was at (moved.same late) in
     subst (λ (h : Held g.row.S.Denot). Keeps (state g.S.Store h) v) same (unchanged_keeps (state g.S.Store c.args.conn.now) (state g.S.Store now) v (inl (unchanged_then _ _ _ it.2 still)) was)
+
+pub returns-then-not-branch-clause-open : goal.returns-then-not-branch-clause-open
+returns-then-not-branch-clause-open g c clean =
+    let moved = c.next.follows.holds-at-none in
+    let now = c.next.follows.lender-at-none.conn.now in
+    let end = c.conn-then-not-branch-1.given.0 in
+    let same : now ≡ end = search rules in
+    let late : HasCleanDisk (state g.S.Store now) = search rules in
+    let still = rw c.in_ok-row.was at (moved.same late) in
+    subst (λ (h : Held g.row.S.Denot). IsTrue (state g.S.Store h).is_open) same still.0.is_open
 
 -- it failed at an entry
 

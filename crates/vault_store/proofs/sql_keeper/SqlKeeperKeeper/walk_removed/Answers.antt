@@ -14,7 +14,7 @@ use Rattle.vault_store.proofs.sql_keeper.SqlKeeperKeeper.walk_removed.Goals as g
 pub invariant_of-self : goal.invariant_of-self
 invariant_of-self g c = record {
   settled = c.walk_removed.ensures.read.mode c.check_open.new.self.settled;
-  sure = λ sure. absurd (let both = sure in cc);
+  sure = λ _ clean. c.in-Ok.ensures.open clean;
   kept = read_kept g.S.Store _ _ _ _ c.walk_removed.ensures.read c.in_ok-check_open.ensures.open c.check_open.new.self.kept;
 }
 
