@@ -19,6 +19,14 @@ use Rattle.vaultctl_machine.proofs.CarriedLemmas.{carried, carries_weaker}
 use Rattle.vaultctl_machine.specs.Closings.{Carries, Closes, Copies}
 use Rattle.vaultctl_machine.specs.Files.{IsFoundEarlier, IsFoundIn}
 
+-- what is equal has equal parts
+pub along : {M X : Type 0} {a b : M} → a ≡ b → (f : M → X) → f a ≡ f b
+along same f = ap f same
+
+-- what holds of the value holds where it is there
+pub at_ok : {T E : Type 0} (r : Result T E) {x : T} (P : T → Type 0) → r ≡ Ok x → P x → IsOkAnd r P
+at_ok {T} {E} r P is p = subst (λ (s : Result T E). IsOkAnd s P) (sym is) p
+
 module _ {D : Type 0} {g : Ghosts D} (image : Image) where
   -- a keeper of the vault that was found is one, whoever watches it
   pub found_still : (keeper found : SqlKeeper (FileStore D g) over_files) → keeper ≡ found → (HasCleanDisk (file_state found.conn) → IsFoundIn image (vault_of over_files found))

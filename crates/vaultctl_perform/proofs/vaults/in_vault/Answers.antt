@@ -1,8 +1,8 @@
-use Rattle.std.proofs.Common.{ap, sym, ◌∙◌}
+use Rattle.std.proofs.Common.{sym, ◌∙◌}
 use Rattle.sqlite_wal.specs.Files.{image_at}
 use Rattle.vaultctl_machine.specs.Closings.{Carries}
 use Rattle.vaultctl_work.specs.Scene.{scene}
-use Rattle.vaultctl_perform.proofs.DoneLemmas.{carries_from}
+use Rattle.vaultctl_perform.proofs.DoneLemmas.{along, carries_from}
 use Rattle.vaultctl_perform.proofs.StatusLemmas.{holds_at_zero}
 use Rattle.vaultctl_perform.proofs.vaults.in_vault.Goals as goal
 
@@ -19,5 +19,5 @@ returns-in-Ok-clause-done g c = λ z.
     (λ v w. g.T.Work.does c.args.work.now (scene v (g.R.Read.remaining c.args.reader.now) (g.W.Write.contents c.args.out.now))
     (scene w (g.R.Read.remaining c.with_vault-outcome.new.reader) (g.W.Write.contents c.with_vault-outcome.new.out)) outcome))
     c.with_vault-outcome.result
-    (carries_from _ _ _ _ _ c.with_vault-outcome.ensures.done (cc))
+    (carries_from _ _ _ _ _ c.with_vault-outcome.ensures.done (along c.in-Ok.ensures.closed (λ l. l.items)))
     (sym c.status-ended.ensures.outcome ∙ z)
