@@ -88,5 +88,12 @@ fn answer_given_words<A: Start, B: Start, E: Write>(
     let words: Vec<String> = std::env::args(rt)?.collect(rt.alloc())?;
     let mut out = BufWriter::with_capacity(rt.alloc(), HELD_BACK, io::writer(rt))?;
     let mut reader = rt.reader();
-    Ok(answer(machine, starts, words.as_slice(), &mut reader, &mut out, err))
+    Ok(answer(
+        machine,
+        starts,
+        words.as_slice(),
+        &mut reader,
+        &mut out,
+        err,
+    ))
 }
