@@ -1,1 +1,3 @@
 pub mod HeardLemmas
+pub mod HearingLemmas
+pub mod TurnLemmas

@@ -1,6 +1,6 @@
 -- Lines as they come on a connection.
-use Rattle.std.specs.Prelude.{ℕ, ◌≡◌, ◌≤◌, ◌==◌, nat_le, List, [], ◌∷◌, ◌++◌, All, true, Option, Some, None, if◌then◌else◌}
-use Rattle.std.specs.List.{list_any}
+use Rattle.std.specs.Prelude.{ℕ, ◌≡◌, ◌≤◌, ◌==◌, nat_le, is_some, List, [], ◌∷◌, ◌++◌, All, true, Option, Some, None, if◌then◌else◌}
+use Rattle.std.specs.List.{position}
 use Rattle.vaultctl_replay.specs.Lines.{ended, HasNoLf}
 use Rattle.vaultctl_serve.specs.InTime.{Due, bytes_of}
 use Rattle.vaultctl_serve_lines.specs.declared.doors.Heard.{Heard}
@@ -14,7 +14,7 @@ line_allowed come = if nat_le come 16384 then 5_000_000_000 else 30_000_000_000
 -- what bytes are that a read gave
 abbrev pub news_of : List ℕ → News
 news_of [] = news.End
-news_of (b ∷ bytes) = if list_any (λ c. c == 10) (b ∷ bytes) then news.Line else news.Part
+news_of (b ∷ bytes) = if is_some (position (λ c. c == 10) (b ∷ bytes)) then news.Line else news.Part
 
 -- where it is known what comes, these bytes came next, by then
 abbrev pub Gave : Option (List Due) → Option (List Due) → List ℕ → ℕ → Type 0

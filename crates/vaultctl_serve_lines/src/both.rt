@@ -30,7 +30,10 @@ pub struct Places<'a> {
 }
 
 /// The listener of requests, at which no accept waits.
-fn request_listener<R: Net<Listener = TcpListener>>(rt: &R, port: u16) -> io::Result<TcpListener> {
+fn request_listener<R: Net<Stream = TcpStream, Listener = TcpListener>>(
+    rt: &R,
+    port: u16,
+) -> io::Result<TcpListener> {
     let listener = TcpListener::bind(rt, (Ipv4Addr::LOCALHOST, port))?;
     listener.set_nonblocking(true)?;
     Ok(listener)
