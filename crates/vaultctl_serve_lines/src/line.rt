@@ -92,11 +92,7 @@ fn reply_to(given: Result<Answer, Halt>) -> Reply
 }
 
 /// Writes the line of a reply. `Write` comes where the writer fails, and `Memory` where room was refused.
-fn write_reply<W: Write>(
-    alloc: Global,
-    writer: &mut W,
-    reply: &Reply,
-) -> Result<(), ReplayFault>
+fn write_reply<W: Write>(alloc: Global, writer: &mut W, reply: &Reply) -> Result<(), ReplayFault>
     ensures { Begins (W.contents writer.old) (W.contents writer.new) (reply_text reply.now) }
 {
     let Ok(line) = reply_line(alloc, reply) else {
