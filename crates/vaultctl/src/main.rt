@@ -7,6 +7,7 @@ use sqlite::{Start, Unknown};
 use std::io::{self, BufWriter, ErrorKind, Read, Write};
 use std::process::ExitCode;
 use vaultctl_machine::starts::Starts;
+use vaultctl_machine::vaults::{FileMachine, Machine};
 use vaultctl_perform::answer_words;
 
 /// How many bytes of replies are held back until they are written together.
@@ -35,7 +36,8 @@ fn main(rt: HostRuntime) -> ExitCode {
         first: Unknown,
         second: UnknownToo,
     };
-    match answer_given_words(&rt, starts, &mut err) {
+    let mut machine = Machine::new(&rt);
+    match answer_given_words(&mut machine, starts, &mut err) {
         Ok(status) => ExitCode::from(status),
         Err(error) => ExitCode::from(tell_unread(&mut err, error.kind())),
     }
@@ -58,24 +60,25 @@ fn tell_unread<E: Write>(err: &mut E, kind: ErrorKind) -> u8
 /// The status of what the words ask for. No clause stands here: one would have the call's proof carry all that the
 /// machine's reader and writer hold.
 fn answer<A: Start, B: Start, R: Read, W: Write, E: Write>(
-    rt: &HostRuntime,
+    machine: &mut FileMachine<'_, A, B>,
     starts: Starts<A, B>,
     words: &[String],
     reader: &mut R,
     out: &mut W,
     err: &mut E,
 ) -> u8 {
-    answer_words(rt, starts, words, reader, out, err)
+    answer_words(machine, starts, words, reader, out, err)
 }
 
 /// The same of the program's words. `InvalidData` where one isn't UTF-8; any other error is want of memory.
 fn answer_given_words<A: Start, B: Start, E: Write>(
-    rt: &HostRuntime,
+    machine: &mut FileMachine<'_, A, B>,
     starts: Starts<A, B>,
     err: &mut E,
 ) -> io::Result<u8> {
+    let rt = machine.runtime();
     let words: Vec<String> = std::env::args(rt)?.collect(rt.alloc())?;
     let mut out = BufWriter::with_capacity(rt.alloc(), HELD_BACK, io::writer(rt))?;
     let mut reader = rt.reader();
-    Ok(answer(rt, starts, words.as_slice(), &mut reader, &mut out, err))
+    Ok(answer(machine, starts, words.as_slice(), &mut reader, &mut out, err))
 }

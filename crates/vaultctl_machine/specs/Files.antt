@@ -1,6 +1,6 @@
 -- The vault that a file and its log hold.
 use Rattle.std.specs.Prelude.{◌⊎◌}
-use Rattle.sqlite.specs.Effect.{Database}
+use Rattle.sqlite.specs.Effect.{Database, IsDatabase}
 use Rattle.sqlite.specs.Files.{AreFoundIn, HoldsDatabase}
 use Rattle.sqlite_trees.specs.Tree.{Trees}
 use Rattle.sqlite_wal.specs.Recovery.{Image}
@@ -18,6 +18,10 @@ AreTreesAs n v trees = AreSoundAs n (record { schema = schema_of n; trees = tree
 -- they hold a database whose tables are of that edition, are sound and spell this vault
 abbrev pub IsHeldAs : Edition → Image → Vault → Type 0
 IsHeldAs n image v = (trees : Trees) × HoldsDatabase image trees × AreTreesAs n v trees
+
+-- and that database lists the schema of that edition, and obeys it
+abbrev pub IsWholeAs : Edition → Image → Vault → Type 0
+IsWholeAs n image v = (trees : Trees) × HoldsDatabase image trees × AreTreesAs n v trees × IsDatabase (record { schema = schema_of n; trees = trees })
 
 -- an opening finds tables in them that are of that edition, are sound and spell this vault
 abbrev pub IsFoundAs : Edition → Image → Vault → Type 0

@@ -1,5 +1,5 @@
 //! Vaults of an earlier edition, copied into new files.
-ghost use Rattle.std.specs.Prelude.{◌≡◌, ◌≢◌, IfOk, IfErr, OnOk, OnErr};
+ghost use Rattle.std.specs.Prelude.{◌≡◌, ◌≢◌, ◌∷◌, ◌++◌, [], true, IfOk, IfErr, OnOk, OnErr};
 ghost use Rattle.sqlite.specs.Files.{file_state, over_files, IsOpened};
 ghost use Rattle.sqlite.specs.Held.{state};
 ghost use Rattle.sqlite.specs.Start.{FindsIn};
@@ -9,21 +9,26 @@ ghost use Rattle.vault_audit_model.specs.declared.schema.Edition.{Edition};
 ghost use Rattle.vault_audit_model.specs.Spells.{AreSound, AreSoundAs};
 ghost use Rattle.vault_base.specs.declared.refusal.Table.{Table};
 ghost use Rattle.vault_core_model.specs.Vault.{Vault};
-ghost use Rattle.vault_store.specs.Kept.{kept_vault};
+ghost use Rattle.vault_store.specs.Kept.{StandsFor};
+ghost use Rattle.vault_store.specs.VaultOf.{vault_of};
+ghost use Rattle.vaultctl_machine.specs.Closings.{Closes};
 ghost use Rattle.vaultctl_machine.specs.Faults.{refusal_of};
 ghost use Rattle.vaultctl_machine.specs.Files.{AreSoundEarlier, IsFoundEarlier, IsHeldAs};
-ghost use Rattle.vaultctl_machine.specs.Places.{after_a_look, with_one_given};
+ghost use Rattle.vaultctl_machine.specs.Given.{with_copied};
+ghost use Rattle.vaultctl_machine.specs.Places.{after_a_look};
+ghost use Rattle.vaultctl_machine.specs.Refusals.{IsUncopied, IsUncopiedFrom, LetsGo};
 
 use crate::editions::{edition_of, why_uncopied};
 use crate::looks::{is_one_file, looked_at};
 use crate::site::Site;
 use crate::starts::Starts;
 use crate::stores::Opened;
-use crate::stores::before::Before;
 use crate::unopened::Unopened;
 use crate::vaults::{
-    Machine, VaultStore, close_vault, connect_new, connect_there, refused, site_for_new, site_there,
+    FileVault, Machine, VaultStore, close_keeper, connect_new, connect_there, let_go, refused,
+    site_for_new, site_there,
 };
+use http_server::Log;
 use sqlite::{Alter, Connection, Start};
 use std::alloc::Global;
 use vault_audit_model::schema::Edition;
@@ -53,10 +58,11 @@ fn copy<O: Alter, S: Alter>(
     new: Connection<S>,
 ) -> Copied<O, S>
     ensures clean { HasCleanDisk (state O.Store result.source) → HasCleanDisk (state O.Store source) }
+    ensures told { IfErr result.outcome (λ e. IsUncopied e.0) }
     // The tables that were found spell the vault that the keeper stands for, and so do the new ones.
     ensures found { IfOk result.outcome (λ k. HasCleanDisk (state O.Store result.source) → HasCleanDisk (state S.Store k.conn)
-        → AreSoundAs edition (state O.Store source).now (kept_vault S.Store k.opening.at.items k.opening.known k.made.items)) }
-    ensures sound { IfOk result.outcome (λ k. HasCleanDisk (state S.Store k.conn) → AreSound (state S.Store k.conn).now (kept_vault S.Store k.opening.at.items k.opening.known k.made.items)) }
+        → AreSoundAs edition (state O.Store source).now (vault_of S.Store k)) }
+    ensures sound { IfOk result.outcome (λ k. HasCleanDisk (state S.Store k.conn) → AreSound (state S.Store k.conn).now (vault_of S.Store k)) }
     ensures damaged { IfErr result.outcome (λ e. HasCleanDisk (state O.Store result.source) → (t : Table) → e.0 ≡ Refusal.Damaged t → (v : Vault) → ¬ AreSoundAs edition (state O.Store source).now v) }
 {
     let mut source = source;
@@ -71,9 +77,10 @@ fn copy_earlier<O: Alter, S: Alter>(
     new: Connection<S>,
 ) -> Copied<O, S>
     ensures clean { HasCleanDisk (state O.Store result.source) → HasCleanDisk (state O.Store source) }
+    ensures told { IfErr result.outcome (λ e. IsUncopied e.0) }
     ensures found { IfOk result.outcome (λ k. HasCleanDisk (state O.Store result.source) → HasCleanDisk (state S.Store k.conn)
-        → AreSoundEarlier (state O.Store source).now (kept_vault S.Store k.opening.at.items k.opening.known k.made.items)) }
-    ensures sound { IfOk result.outcome (λ k. HasCleanDisk (state S.Store k.conn) → AreSound (state S.Store k.conn).now (kept_vault S.Store k.opening.at.items k.opening.known k.made.items)) }
+        → AreSoundEarlier (state O.Store source).now (vault_of S.Store k)) }
+    ensures sound { IfOk result.outcome (λ k. HasCleanDisk (state S.Store k.conn) → AreSound (state S.Store k.conn).now (vault_of S.Store k)) }
     // Tables that are sound as those of one of the two are never told as damaged.
     ensures undamaged { (v : Vault) → AreSoundEarlier (state O.Store source).now v
         → IfErr result.outcome (λ e. HasCleanDisk (state O.Store result.source) → (t : Table) → e.0 ≢ Refusal.Damaged t) }
@@ -90,9 +97,10 @@ fn copy_to_file<O: Alter, B: Start>(
     new: Connection<VaultStore<B>>,
 ) -> Copied<O, VaultStore<B>>
     ensures clean { HasCleanDisk (state O.Store result.source) → HasCleanDisk (state O.Store source) }
+    ensures told { IfErr result.outcome (λ e. IsUncopied e.0) }
     ensures found { IfOk result.outcome (λ k. HasCleanDisk (state O.Store result.source) → HasCleanDisk (file_state k.conn)
-        → AreSoundEarlier (state O.Store source).now (kept_vault over_files k.opening.at.items k.opening.known k.made.items)) }
-    ensures sound { IfOk result.outcome (λ k. HasCleanDisk (file_state k.conn) → AreSound (file_state k.conn).now (kept_vault over_files k.opening.at.items k.opening.known k.made.items)) }
+        → AreSoundEarlier (state O.Store source).now (vault_of over_files k)) }
+    ensures sound { IfOk result.outcome (λ k. HasCleanDisk (file_state k.conn) → AreSound (file_state k.conn).now (vault_of over_files k)) }
     ensures undamaged { (v : Vault) → AreSoundEarlier (state O.Store source).now v
         → IfErr result.outcome (λ e. HasCleanDisk (state O.Store result.source) → (t : Table) → e.0 ≢ Refusal.Damaged t) }
 {
@@ -106,23 +114,14 @@ fn copy_file<A: Start, B: Start>(
     new: Connection<VaultStore<B>>,
 ) -> Copied<VaultStore<A>, VaultStore<B>>
     ensures clean { HasCleanDisk (file_state result.source) → HasCleanDisk (file_state source) }
+    ensures told { IfErr result.outcome (λ e. IsUncopied e.0) }
     ensures found { IfOk result.outcome (λ k. HasCleanDisk (file_state result.source) → HasCleanDisk (file_state k.conn)
-        → AreSoundEarlier (file_state source).now (kept_vault over_files k.opening.at.items k.opening.known k.made.items)) }
-    ensures sound { IfOk result.outcome (λ k. HasCleanDisk (file_state k.conn) → AreSound (file_state k.conn).now (kept_vault over_files k.opening.at.items k.opening.known k.made.items)) }
+        → AreSoundEarlier (file_state source).now (vault_of over_files k)) }
+    ensures sound { IfOk result.outcome (λ k. HasCleanDisk (file_state k.conn) → AreSound (file_state k.conn).now (vault_of over_files k)) }
     ensures undamaged { (v : Vault) → AreSoundEarlier (file_state source).now v
         → IfErr result.outcome (λ e. HasCleanDisk (file_state result.source) → (t : Table) → e.0 ≢ Refusal.Damaged t) }
 {
     copy_to_file(alloc, source, new)
-}
-
-/// Lets go of a connection, and writes nothing more: its files stay as they are.
-fn let_go<S: Start>(conn: Connection<VaultStore<S>>) {
-    drop(conn.into_store().close());
-}
-
-/// Lets go of a connection. Its files are as they were before it was opened.
-fn leave<S: Start>(site: &Site<'_>, conn: Connection<VaultStore<S>>, before: &Before) {
-    site.leave(conn.into_store().close(), before);
 }
 
 /// Copies the vault of a connection that was opened just now into another. Where that is refused, all files are as they
@@ -130,6 +129,8 @@ fn leave<S: Start>(site: &Site<'_>, conn: Connection<VaultStore<S>>, before: &Be
 ///
 /// The errors are those of `SqlKeeper::migrate`.
 fn copy_into<A: Start, B: Start>(
+    lost: &mut Log<Connection<VaultStore<A>>, bool>,
+    uncopied: &mut Log<Connection<VaultStore<B>>, bool>,
     old: &Site<'_>,
     new: &Site<'_>,
     found: Opened<VaultStore<A>>,
@@ -137,11 +138,14 @@ fn copy_into<A: Start, B: Start>(
 ) -> Result<Migrated<VaultStore<A>, VaultStore<B>>, Unopened>
     requires opened { HasCleanDisk (file_state found.conn) → IsOpened found.conn }
     requires found { HasCleanDisk (file_state found.conn) → FindsIn (image_at A.Start) (file_state found.conn) }
-    ensures sound { IfOk result (λ m. HasCleanDisk (file_state m.vault.conn) → AreSound (file_state m.vault.conn).now (kept_vault over_files m.vault.opening.at.items m.vault.opening.known m.vault.made.items)) }
+    ensures sound { IfOk result (λ m. HasCleanDisk (file_state m.vault.conn) → AreSound (file_state m.vault.conn).now (vault_of over_files m.vault)) }
     ensures found { IfOk result (λ m. HasCleanDisk (file_state m.source) → HasCleanDisk (file_state m.vault.conn)
-        → IsFoundEarlier (image_at A.Start) (kept_vault over_files m.vault.opening.at.items m.vault.opening.known m.vault.made.items)) }
+        → IsFoundEarlier (image_at A.Start) (vault_of over_files m.vault)) }
     ensures held { (n : Edition) (v : Vault) → IsHeldAs n (image_at A.Start) v → IfOk result (λ m. HasCleanDisk (file_state m.source) → HasCleanDisk (file_state m.vault.conn)
-        → kept_vault over_files m.vault.opening.at.items m.vault.opening.known m.vault.made.items ≡ v) }
+        → vault_of over_files m.vault ≡ v) }
+    ensures told { IfErr result (λ e. IsUncopied (refusal_of e)) }
+    ensures lost { IfErr result (λ e. Closes lost.old.items lost.new.items (λ conn. IsUncopiedFrom (image_at A.Start) (file_state conn) (refusal_of e))) }
+    ensures kept { OnOk result ((lost.new ≡ lost.old) × (uncopied.new ≡ uncopied.old)) }
 {
     let Opened { conn, before } = found;
     let Opened {
@@ -153,8 +157,9 @@ fn copy_into<A: Start, B: Start>(
         Ok(vault) => Ok(Migrated { source, vault }),
         Err((refusal, target)) => {
             let unsound = why_uncopied(source.schema());
-            leave(old, source, &before);
-            Err(refused(new, refusal, unsound, target, &new_before))
+            let _ = let_go(lost, old, source, &before);
+            let had_no_room = let_go(uncopied, new, target, &new_before);
+            Err(refused(refusal, unsound, had_no_room))
         }
     }
 }
@@ -177,16 +182,21 @@ fn unmade_new(rt: &HostRuntime, old: &str, new: &str, cause: Unopened) -> Unopen
 ///
 /// The errors are those of `Machine::migrate`.
 fn copy_at<A: Start, B: Start>(
+    lost: &mut Log<Connection<VaultStore<A>>, bool>,
+    uncopied: &mut Log<Connection<VaultStore<B>>, bool>,
     rt: &HostRuntime,
     old: &str,
     new: &str,
     starts: Starts<A, B>,
 ) -> Result<Migrated<VaultStore<A>, VaultStore<B>>, Unopened>
-    ensures sound { IfOk result (λ m. HasCleanDisk (file_state m.vault.conn) → AreSound (file_state m.vault.conn).now (kept_vault over_files m.vault.opening.at.items m.vault.opening.known m.vault.made.items)) }
+    ensures sound { IfOk result (λ m. HasCleanDisk (file_state m.vault.conn) → AreSound (file_state m.vault.conn).now (vault_of over_files m.vault)) }
     ensures found { IfOk result (λ m. HasCleanDisk (file_state m.source) → HasCleanDisk (file_state m.vault.conn)
-        → IsFoundEarlier (image_at A.Start) (kept_vault over_files m.vault.opening.at.items m.vault.opening.known m.vault.made.items)) }
+        → IsFoundEarlier (image_at A.Start) (vault_of over_files m.vault)) }
     ensures held { (n : Edition) (v : Vault) → IsHeldAs n (image_at A.Start) v → IfOk result (λ m. HasCleanDisk (file_state m.source) → HasCleanDisk (file_state m.vault.conn)
-        → kept_vault over_files m.vault.opening.at.items m.vault.opening.known m.vault.made.items ≡ v) }
+        → vault_of over_files m.vault ≡ v) }
+    ensures told { IfErr result (λ e. IsUncopied (refusal_of e)) }
+    ensures lost { IfErr result (λ e. LetsGo lost.old.items lost.new.items (λ conn. IsUncopiedFrom (image_at A.Start) (file_state conn) (refusal_of e))) }
+    ensures kept { OnOk result ((lost.new ≡ lost.old) × (uncopied.new ≡ uncopied.old)) }
 {
     let Starts { first, second } = starts;
     let target = match site_for_new(rt, new) {
@@ -202,23 +212,16 @@ fn copy_at<A: Start, B: Start>(
         Err(cause) => return Err(looked_at(rt, old, cause)),
     };
     match connect_new(&target, second) {
-        Ok(empty) => copy_into(&origin, &target, found, empty),
+        Ok(empty) => copy_into(lost, uncopied, &origin, &target, found, empty),
         Err(cause) => {
             let Opened { conn, before } = found;
-            leave(&origin, conn, &before);
+            let _ = let_go(lost, &origin, conn, &before);
             Err(unmade_new(rt, old, new, cause))
         }
     }
 }
 
-/// Closes a vault that was copied, and leaves the files that it was copied from as they are.
-pub fn close_migrated<A: Start, B: Start>(migrated: Migrated<VaultStore<A>, VaultStore<B>>) {
-    let Migrated { source, vault } = migrated;
-    close_vault(vault);
-    let_go(source);
-}
-
-impl<'a> Machine<'a> {
+impl<'a, A: Start, B: Start> Machine<'a, VaultStore<A>, VaultStore<B>> {
     /// Copies the vault in a file of the first or the second edition, at `old`, into a file at `new` that isn't there, is
     /// empty, or is a store without a table. `starts` stands for what the two files and their logs hold.
     ///
@@ -229,27 +232,75 @@ impl<'a> Machine<'a> {
     /// both are one file. With each of the errors the files are as they were, but for an
     /// empty one that was made at `new` and couldn't be opened. With a copy the file at `old` isn't changed; beside it a log
     /// without a change may be left.
-    pub fn migrate<A: Start, B: Start>(
+    pub fn migrate(
         &mut self,
         old: &str,
         new: &str,
         starts: Starts<A, B>,
     ) -> Result<Migrated<VaultStore<A>, VaultStore<B>>, Unopened>
-        ensures looked { self.new.looked ≡ after_a_look self.old.looked }
         // It is counted just where there is a copy.
-        ensures counted { OnOk result (self.new.given ≡ with_one_given self.old.given) }
-        ensures uncounted { OnErr result (self.new.given ≡ self.old.given) }
-        ensures sound { IfOk result (λ m. HasCleanDisk (file_state m.vault.conn) → AreSound (file_state m.vault.conn).now (kept_vault over_files m.vault.opening.at.items m.vault.opening.known m.vault.made.items)) }
+        ensures counted { OnOk result (self.new ≡ record self.old { looked = after_a_look self.old.looked; given = with_copied self.old.given }) }
+        ensures uncounted { OnErr result (self.new ≡ record self.old { looked = after_a_look self.old.looked; refused = self.new.refused; uncopied = self.new.uncopied }) }
+        ensures sound { IfOk result (λ m. HasCleanDisk (file_state m.vault.conn) → AreSound (file_state m.vault.conn).now (vault_of over_files m.vault)) }
         // The vault of the copy is the one that the tables spell which were found in the old files.
         ensures found { IfOk result (λ m. HasCleanDisk (file_state m.source) → HasCleanDisk (file_state m.vault.conn)
-            → IsFoundEarlier (image_at A.Start) (kept_vault over_files m.vault.opening.at.items m.vault.opening.known m.vault.made.items)) }
+            → IsFoundEarlier (image_at A.Start) (vault_of over_files m.vault)) }
         // Where these held a vault, it is that one.
         ensures held { (n : Edition) (v : Vault) → IsHeldAs n (image_at A.Start) v → IfOk result (λ m. HasCleanDisk (file_state m.source) → HasCleanDisk (file_state m.vault.conn)
-            → kept_vault over_files m.vault.opening.at.items m.vault.opening.known m.vault.made.items ≡ v) }
+            → vault_of over_files m.vault ≡ v) }
+        ensures told { IfErr result (λ e. IsUncopied (refusal_of e)) }
+        // Files that hold a sound vault of an earlier edition aren't reported as damaged.
+        ensures refused { IfErr result (λ e. LetsGo self.old.refused.items self.new.refused.items (λ conn. IsUncopiedFrom (image_at A.Start) (file_state conn) (refusal_of e))) }
     {
         let rt = self.look();
-        let migrated = copy_at(rt, old, new, starts);
-        self.count(&migrated);
-        migrated
+        match copy_at(&mut self.refused, &mut self.uncopied, rt, old, new, starts) {
+            Ok(migrated) => {
+                self.count_copy();
+                Ok(migrated)
+            }
+            Err(cause) => Err(cause),
+        }
+    }
+
+    /// Lets go of the connection to the files that were copied, and writes nothing more there.
+    fn let_go_of_source(&mut self, source: Connection<VaultStore<A>>)
+        ensures closed { self.new.closed.items ≡ self.old.closed.items ++ (source, true) ∷ [] }
+        ensures looked { self.new.looked ≡ self.old.looked }
+        ensures given { self.new.given ≡ self.old.given }
+        ensures copies { self.new.copies ≡ self.old.copies }
+        ensures refused { self.new.refused ≡ self.old.refused }
+        ensures uncopied { self.new.uncopied ≡ self.old.uncopied }
+    {
+        self.closed = self.closed.and(&source, &true);
+        drop(source.into_store().close());
+    }
+
+    /// Closes a copy as `close` does the first vault.
+    fn close_copy(&mut self, vault: FileVault<B>)
+        ensures copies { self.new.copies.items ≡ self.old.copies.items ++ (vault.conn, true) ∷ [] }
+        ensures stands { ∥ (HasCleanDisk (file_state vault.conn) → StandsFor (file_state vault.conn) (vault_of over_files vault)) ∥₁ }
+        ensures looked { self.new.looked ≡ self.old.looked }
+        ensures given { self.new.given ≡ self.old.given }
+        ensures closed { self.new.closed ≡ self.old.closed }
+        ensures refused { self.new.refused ≡ self.old.refused }
+        ensures uncopied { self.new.uncopied ≡ self.old.uncopied }
+    {
+        drop(close_keeper(&mut self.copies, vault));
+    }
+
+    /// Closes a vault that was copied, and leaves the files that it was copied from as they are.
+    pub fn close_migrated(&mut self, migrated: Migrated<VaultStore<A>, VaultStore<B>>)
+        // Both connections are remembered.
+        ensures closed { self.new.closed.items ≡ self.old.closed.items ++ (migrated.source, true) ∷ [] }
+        ensures copies { self.new.copies.items ≡ self.old.copies.items ++ (migrated.vault.conn, true) ∷ [] }
+        ensures stands { ∥ (HasCleanDisk (file_state migrated.vault.conn) → StandsFor (file_state migrated.vault.conn) (vault_of over_files migrated.vault)) ∥₁ }
+        ensures looked { self.new.looked ≡ self.old.looked }
+        ensures given { self.new.given ≡ self.old.given }
+        ensures refused { self.new.refused ≡ self.old.refused }
+        ensures uncopied { self.new.uncopied ≡ self.old.uncopied }
+    {
+        let Migrated { source, vault } = migrated;
+        self.close_copy(vault);
+        self.let_go_of_source(source);
     }
 }

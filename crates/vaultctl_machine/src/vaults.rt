@@ -1,25 +1,43 @@
 //! Vaults in files.
-ghost use Rattle.std.specs.Prelude.{◌≡◌, IfOk, OnOk, OnErr};
+ghost use Rattle.std.specs.Prelude.{◌≡◌, ◌≢◌, ◌⊎◌, ◌∷◌, ◌++◌, [], true, false, IfOk, IfErr, IfSome, OnOk, OnErr};
+ghost use Rattle.sqlite.specs.Closing.{IsCopied};
 ghost use Rattle.sqlite.specs.Files.{file_state, over_files, IsOpened};
 ghost use Rattle.sqlite.specs.Held.{state};
 ghost use Rattle.sqlite.specs.Start.{FindsIn};
 ghost use Rattle.sqlite.specs.State.{HasCleanDisk, IsUnchanged, Survives};
 ghost use Rattle.sqlite_wal.specs.Files.{image_at};
+ghost use Rattle.sqlite_wal.specs.Reads.{AreClean};
+ghost use Rattle.vault_audit.specs.Health.{IsHealthy};
+ghost use Rattle.vault_audit.specs.Whole.{IsTold};
 ghost use Rattle.vault_audit_model.specs.Spells.{AreSound};
+ghost use Rattle.vault_audit_model.specs.Tables.{no_schema};
+ghost use Rattle.vault_base.specs.declared.refusal.Table.{Table as AnyTable};
 ghost use Rattle.vault_core_model.specs.Vault.{Vault, opening};
-ghost use Rattle.vault_store.specs.Kept.{kept_vault};
+ghost use Rattle.vault_store.specs.Kept.{StandsFor};
+ghost use Rattle.vault_store.specs.Create.{IsFault};
+ghost use Rattle.vault_store.specs.Tables.{HasTablesOf};
+ghost use Rattle.vault_store.specs.VaultOf.{vault_of};
+ghost use Rattle.vault_store_apply.specs.Left.{LeavesAlone};
+ghost use Rattle.vault_store_apply.specs.Left as trees;
+ghost use Rattle.vaultctl_machine.specs.Closings.{Closes, HoldVault};
 ghost use Rattle.vaultctl_machine.specs.Faults as spec;
 ghost use Rattle.vaultctl_machine.specs.Faults.{refusal_of};
 ghost use Rattle.vaultctl_machine.specs.Files.{IsFoundIn, IsHeldIn};
-ghost use Rattle.vaultctl_machine.specs.Places.{after_a_look, with_one_given};
+ghost use Rattle.vaultctl_machine.specs.Given.{with_copied, with_made, with_opened};
+ghost use Rattle.vaultctl_machine.specs.Openings.{IsOpenedFrom};
+ghost use Rattle.vaultctl_machine.specs.Places.{after_a_look};
+ghost use Rattle.vaultctl_machine.specs.Refusals.{IsRefusedOver, IsUnmade, IsUnmadeOver, LetsGo};
 
 use crate::editions::why_unsound;
+use crate::given::Given;
 use crate::looks::{cause_of_kind, looked_at};
 use crate::site::Site;
 use crate::stores::before::Before;
 use crate::stores::{self, Opened};
 use crate::unopened::{Unopened, with_cause};
-use sqlite::{Alter, Connection, Error, ErrorCode, FileFrom, FileStore, Start};
+use http_server::Log;
+use sqlite::{Alter, Connection, Error, ErrorCode, FileFrom, FileStore, Files, Start};
+use sqlite_disk::Disk;
 use std::alloc::Global;
 use std::io::{self, ErrorKind};
 use vault_base::refusal::{Refusal, Table};
@@ -34,17 +52,34 @@ pub type VaultStore<S> = FileStore<FileFrom<S>>;
 /// A vault in files.
 pub type FileVault<S> = SqlKeeper<VaultStore<S>>;
 
-/// The files of the machine, how many vaults were looked for there, and how many were given out: opened, made or copied.
+/// The files of the machine: how many vaults were looked for there, and how many were given out. A job may open one vault,
+/// and a second, each in a store of its own.
+///
+/// It remembers the connection of each vault that was closed, and of each that was refused, as it was then; only proofs
+/// read that.
 #[derive(Drop)]
-pub struct Machine<'a> {
+pub struct Machine<'a, S: Alter, T: Alter> {
     rt: &'a HostRuntime,
     looked: u64,
-    given: u64,
+    given: Given,
+    /// Those of the first vault, or of the one that was copied.
+    pub(crate) closed: Log<Connection<S>, bool>,
+    /// Those of the copies.
+    pub(crate) copies: Log<Connection<T>, bool>,
+    /// Those in which no vault was opened, made, or found to be copied.
+    pub(crate) refused: Log<Connection<S>, bool>,
+    /// Those in which no copy was made.
+    pub(crate) uncopied: Log<Connection<T>, bool>,
 }
+
+/// The files of the machine, where a job may open one vault in files that held what `A` says, and another in files that
+/// held what `B` says.
+pub type FileMachine<'a, A, B> = Machine<'a, VaultStore<A>, VaultStore<B>>;
 
 /// What a failure to open a file is reported as, where a vault should be in it.
 fn unopened(error: Error) -> Refusal
-    ensures { result ≡ spec.unopened_of error }
+    ensures exact { result ≡ spec.unopened_of error }
+    ensures told { IsTold result }
 {
     match error {
         Error::SqliteFailure(ErrorCode::OutOfMemory) => Refusal::Memory,
@@ -57,7 +92,8 @@ fn unopened(error: Error) -> Refusal
 
 /// What a failure to open a file is reported as, where a new vault is to be made in it.
 pub(crate) fn unmade(error: Error) -> Refusal
-    ensures { result ≡ spec.unmade_of error }
+    ensures exact { result ≡ spec.unmade_of error }
+    ensures told { IsUnmade result }
 {
     match unopened(error) {
         Refusal::Damaged(_) => Refusal::NameTaken,
@@ -67,7 +103,8 @@ pub(crate) fn unmade(error: Error) -> Refusal
 
 /// Why the files at a path aren't opened, where the failure is reported as that unless another program has them.
 pub(crate) fn cause(error: Error, told: Refusal) -> Unopened
-    ensures { result ≡ spec.cause_of error told }
+    ensures exact { result ≡ spec.cause_of error told }
+    ensures refusal { (refusal_of result ≡ Refusal.Device) ⊎ (refusal_of result ≡ told) }
 {
     match error {
         Error::SqliteFailure(ErrorCode::DatabaseBusy) => Unopened::Held,
@@ -78,7 +115,9 @@ pub(crate) fn cause(error: Error, told: Refusal) -> Unopened
 }
 
 /// What it is reported as that one can't see what stands at a path.
-fn unseen(error: io::Error) -> Unopened {
+fn unseen(error: io::Error) -> Unopened
+    ensures { IsFault (refusal_of result) }
+{
     if error.kind() == ErrorKind::OutOfMemory {
         return Unopened::Refused(Refusal::Memory);
     }
@@ -86,7 +125,9 @@ fn unseen(error: io::Error) -> Unopened {
 }
 
 /// What it is reported as that no file can be made at a path.
-fn unmakable(error: io::Error) -> Unopened {
+fn unmakable(error: io::Error) -> Unopened
+    ensures { IsFault (refusal_of result) }
+{
     match unseen(error) {
         Unopened::Refused(Refusal::Device) => with_cause(
             Refusal::Device,
@@ -97,7 +138,9 @@ fn unmakable(error: io::Error) -> Unopened {
 }
 
 /// The files at a path where tables may be, or why none can be there.
-pub(crate) fn site_there<'a>(rt: &'a HostRuntime, path: &'a str) -> Result<Site<'a>, Unopened> {
+pub(crate) fn site_there<'a>(rt: &'a HostRuntime, path: &'a str) -> Result<Site<'a>, Unopened>
+    ensures { IfErr result (λ e. IsTold (refusal_of e)) }
+{
     match place_at(rt, path) {
         Ok(place) if place.may_hold_tables() => Ok(Site::new(rt, path, place)),
         Ok(_) => Err(Unopened::Refused(without_tables())),
@@ -106,7 +149,9 @@ pub(crate) fn site_there<'a>(rt: &'a HostRuntime, path: &'a str) -> Result<Site<
 }
 
 /// The files at a path where a vault may be made, or why none can be.
-pub(crate) fn site_for_new<'a>(rt: &'a HostRuntime, path: &'a str) -> Result<Site<'a>, Unopened> {
+pub(crate) fn site_for_new<'a>(rt: &'a HostRuntime, path: &'a str) -> Result<Site<'a>, Unopened>
+    ensures { IfErr result (λ e. IsUnmade (refusal_of e)) }
+{
     match place_at(rt, path) {
         Ok(place) if place.may_be_made() => Ok(Site::new(rt, path, place)),
         Ok(_) => Err(Unopened::Refused(Refusal::NameTaken)),
@@ -125,6 +170,7 @@ pub(crate) fn connect_there<S: Start>(
 ) -> Result<Opened<VaultStore<S>>, Unopened>
     ensures opened { IfOk result (λ it. HasCleanDisk (file_state it.conn) → IsOpened it.conn) }
     ensures found { IfOk result (λ it. HasCleanDisk (file_state it.conn) → FindsIn (image_at S.Start) (file_state it.conn)) }
+    ensures told { IfErr result (λ e. IsTold (refusal_of e)) }
 {
     match stores::connect_there(site, start) {
         Ok(opened) => Ok(opened),
@@ -139,7 +185,10 @@ pub(crate) fn connect_there<S: Start>(
 pub(crate) fn connect_new<S: Start>(
     site: &Site<'_>,
     start: S,
-) -> Result<Opened<VaultStore<S>>, Unopened> {
+) -> Result<Opened<VaultStore<S>>, Unopened>
+    ensures opened { IfOk result (λ it. HasCleanDisk (file_state it.conn) → IsOpened it.conn) }
+    ensures told { IfErr result (λ e. IsUnmade (refusal_of e)) }
+{
     if let Err(error) = site.make_file() {
         return Err(unmakable(error));
     }
@@ -149,25 +198,32 @@ pub(crate) fn connect_new<S: Start>(
     }
 }
 
-/// Lets go of a connection whose vault was refused. Its files are as they were: no commit is copied into the file.
-///
-/// What it is reported as; with the cause of a damage, which is `unsound` where `meta` isn't sound, and of a failure.
-pub(crate) fn refused<S: Start>(
+/// Lets go of a connection, and remembers it. Its files are as they were before it was opened: no commit is copied into
+/// the file. The answer is whether a write of it found no room.
+pub(crate) fn let_go<S: Start>(
+    refused: &mut Log<Connection<VaultStore<S>>, bool>,
     site: &Site<'_>,
-    refusal: Refusal,
-    unsound: Cause,
     conn: Connection<VaultStore<S>>,
     before: &Before,
-) -> Unopened
-    ensures { refusal_of result ≡ refusal }
+) -> bool
+    ensures { refused.new.items ≡ refused.old.items ++ (conn, true) ∷ [] }
 {
+    *refused = refused.and(&conn, &true);
     let files = conn.into_store().close();
     let had_no_room = files.tally().refused > 0;
     site.leave(files, before);
+    had_no_room
+}
+
+/// Why a vault was refused that was looked at, or made, in an open store: what it is reported as, with the cause of a damage,
+/// which is `unsound` where `meta` isn't sound, and of a failure.
+pub(crate) fn refused(refusal: Refusal, unsound: Cause, had_no_room: bool) -> Unopened
+    ensures { refusal_of result ≡ refusal }
+{
     with_cause(refusal, why_refused(refusal, unsound, had_no_room))
 }
 
-/// Why a vault was refused that was looked at, or made, in an open store.
+/// The cause of such a refusal.
 fn why_refused(refusal: Refusal, unsound: Cause, had_no_room: bool) -> Option<Cause> {
     match refusal {
         Refusal::Damaged(Table::Meta) => Some(unsound),
@@ -179,16 +235,35 @@ fn why_refused(refusal: Refusal, unsound: Cause, had_no_room: bool) -> Option<Ca
     }
 }
 
-/// Closes a connection, so that all that it committed stands in its file.
+/// Closes a connection, so that all that it committed stands in its file, and gives the two files back.
 ///
-/// Where that fails, what was committed stands in the log beside the file, and the next open finds it there.
-fn close<S: Start>(conn: Connection<VaultStore<S>>) {
-    let _ = conn.close();
+/// None where that fails: then what was committed stands in the log beside the file, and the next open finds it there.
+fn close<D: Disk + Drop>(conn: Connection<FileStore<D>>) -> Option<Files<D>>
+    ensures copied { IfSome result (λ files. AreClean D.Disk files.log files.db → IsCopied conn files) }
+{
+    match conn.close_files() {
+        Ok(files) => Some(files),
+        Err((_, store)) => {
+            drop(store.close());
+            None
+        }
+    }
 }
 
-/// Closes a vault.
-pub fn close_vault<S: Start>(vault: FileVault<S>) {
-    close(vault.into_connection());
+/// Closes a vault, and remembers its connection.
+///
+/// None where that fails, as with `close`.
+pub(crate) fn close_keeper<D: Disk + Drop>(
+    closed: &mut Log<Connection<FileStore<D>>, bool>,
+    vault: SqlKeeper<FileStore<D>>,
+) -> Option<Files<D>>
+    ensures closed { closed.new.items ≡ closed.old.items ++ (vault.conn, true) ∷ [] }
+    ensures stands { ∥ (HasCleanDisk (file_state vault.conn) → StandsFor (file_state vault.conn) (vault_of over_files vault)) ∥₁ }
+    ensures held { IfSome result (HoldVault vault) }
+{
+    let conn = vault.into_connection();
+    *closed = closed.and(&conn, &true);
+    close(conn)
 }
 
 /// The vault in the tables of a connection, over any store. It says no more than what one in files has to say.
@@ -196,30 +271,42 @@ fn open_in<S: Alter>(
     alloc: Global,
     conn: Connection<S>,
 ) -> Result<SqlKeeper<S>, (Refusal, Connection<S>)>
-    ensures sound { IfOk result (λ k. HasCleanDisk (state S.Store k.conn) → AreSound (state S.Store k.conn).now (kept_vault S.Store k.opening.at.items k.opening.known k.made.items)) }
+    ensures sound { IfOk result (λ k. HasCleanDisk (state S.Store k.conn) → AreSound (state S.Store k.conn).now (vault_of S.Store k)) }
     ensures same { IfOk result (λ k. HasCleanDisk (state S.Store k.conn) → IsUnchanged (state S.Store conn) (state S.Store k.conn)) }
     ensures crash { IfOk result (λ k. Survives (state S.Store conn) (state S.Store k.conn) (λ _. ⊥)) }
+    ensures alone { IfOk result (λ k. HasCleanDisk (state S.Store k.conn) → LeavesAlone (state S.Store k.conn) (vault_of S.Store k)) }
+    ensures told { IfErr result (λ e. IsTold e.0) }
+    ensures healthy { conn.in_transaction ≡ false → IfErr result (λ e. IsHealthy (state S.Store e.1) → e.0 ≢ Refusal.Device) }
+    ensures damaged { IfErr result (λ e. HasCleanDisk (state S.Store e.1) → (t : AnyTable) → e.0 ≡ Refusal.Damaged t → (v : Vault) → ¬ AreSound (state S.Store conn).now v) }
+    ensures harmless { IfErr result (λ e. Survives (state S.Store conn) (state S.Store e.1) (λ _. ⊥)) }
 {
     SqlKeeper::open(alloc, conn)
 }
 
 /// The vault in the tables of a connection that was opened just now. Where they aren't sound, the files are as they were.
 fn found_in<S: Start>(
+    lost: &mut Log<Connection<VaultStore<S>>, bool>,
     site: &Site<'_>,
     found: Opened<VaultStore<S>>,
 ) -> Result<FileVault<S>, Unopened>
     requires opened { HasCleanDisk (file_state found.conn) → IsOpened found.conn }
     requires found { HasCleanDisk (file_state found.conn) → FindsIn (image_at S.Start) (file_state found.conn) }
-    ensures sound { IfOk result (λ vault. HasCleanDisk (file_state vault.conn) → AreSound (file_state vault.conn).now (kept_vault over_files vault.opening.at.items vault.opening.known vault.made.items)) }
-    ensures found { IfOk result (λ vault. HasCleanDisk (file_state vault.conn) → IsFoundIn (image_at S.Start) (kept_vault over_files vault.opening.at.items vault.opening.known vault.made.items)) }
-    ensures held { (v : Vault) → IsHeldIn (image_at S.Start) v → IfOk result (λ vault. HasCleanDisk (file_state vault.conn) → kept_vault over_files vault.opening.at.items vault.opening.known vault.made.items ≡ v) }
+    ensures sound { IfOk result (λ vault. HasCleanDisk (file_state vault.conn) → AreSound (file_state vault.conn).now (vault_of over_files vault)) }
+    ensures found { IfOk result (λ vault. HasCleanDisk (file_state vault.conn) → IsFoundIn (image_at S.Start) (vault_of over_files vault)) }
+    ensures held { (v : Vault) → IsHeldIn (image_at S.Start) v → IfOk result (λ vault. HasCleanDisk (file_state vault.conn) → vault_of over_files vault ≡ v) }
+    ensures opened { IfOk result (λ vault. HasCleanDisk (file_state vault.conn) → IsOpenedFrom (image_at S.Start) (file_state vault.conn)) }
+    ensures alone { IfOk result (λ vault. HasCleanDisk (file_state vault.conn) → LeavesAlone (file_state vault.conn) (vault_of over_files vault)) }
+    ensures told { IfErr result (λ e. IsTold (refusal_of e)) }
+    ensures lost { IfErr result (λ e. Closes lost.old.items lost.new.items (λ conn. IsRefusedOver (image_at S.Start) (file_state conn) (refusal_of e))) }
+    ensures kept { OnOk result (lost.new ≡ lost.old) }
 {
     let Opened { conn, before } = found;
     match open_in(site.runtime().alloc(), conn) {
         Ok(vault) => Ok(vault),
         Err((refusal, conn)) => {
             let unsound = why_unsound(conn.schema());
-            Err(refused(site, refusal, unsound, conn, &before))
+            let had_no_room = let_go(lost, site, conn, &before);
+            Err(refused(refusal, unsound, had_no_room))
         }
     }
 }
@@ -229,41 +316,65 @@ fn create_in<S: Alter>(
     alloc: Global,
     conn: Connection<S>,
 ) -> Result<SqlKeeper<S>, (Refusal, Connection<S>)>
-    ensures opening { IfOk result (λ k. HasCleanDisk (state S.Store k.conn) → kept_vault S.Store k.opening.at.items k.opening.known k.made.items ≡ opening) }
+    ensures opening { IfOk result (λ k. HasCleanDisk (state S.Store k.conn) → vault_of S.Store k ≡ opening) }
     ensures sound { IfOk result (λ k. HasCleanDisk (state S.Store k.conn) → AreSound (state S.Store k.conn).now opening) }
+    ensures alone { IfOk result (λ k. HasCleanDisk (state S.Store k.conn) → LeavesAlone (state S.Store k.conn) opening) }
+    ensures free { IfErr result (λ e. e.0 ≡ Refusal.NameTaken → (state S.Store conn).now.schema ≢ no_schema) }
+    ensures faults { IfErr result (λ e. IsUnmade e.0) }
+    ensures harmless { IfErr result (λ e. Survives (state S.Store conn) (state S.Store e.1) (trees.IsFoundIn opening)) }
+    ensures tables { conn.in_transaction ≡ false → IfErr result (λ e. HasCleanDisk (state S.Store e.1) → HasTablesOf (state S.Store conn) (state S.Store e.1)) }
 {
     SqlKeeper::create(alloc, conn)
 }
 
 /// A new vault in the empty store of a connection. Where none can be made there, the files are as they were.
 fn made_in<S: Start>(
+    lost: &mut Log<Connection<VaultStore<S>>, bool>,
     site: &Site<'_>,
     empty: Opened<VaultStore<S>>,
 ) -> Result<FileVault<S>, Unopened>
-    ensures opening { IfOk result (λ vault. HasCleanDisk (file_state vault.conn) → kept_vault over_files vault.opening.at.items vault.opening.known vault.made.items ≡ opening) }
+    requires opened { HasCleanDisk (file_state empty.conn) → IsOpened empty.conn }
+    ensures opening { IfOk result (λ vault. HasCleanDisk (file_state vault.conn) → vault_of over_files vault ≡ opening) }
     ensures sound { IfOk result (λ vault. HasCleanDisk (file_state vault.conn) → AreSound (file_state vault.conn).now opening) }
+    ensures alone { IfOk result (λ vault. HasCleanDisk (file_state vault.conn) → LeavesAlone (file_state vault.conn) opening) }
+    ensures told { IfErr result (λ e. IsUnmade (refusal_of e)) }
+    ensures lost { IfErr result (λ e. Closes lost.old.items lost.new.items (λ conn. IsUnmadeOver (file_state conn) (refusal_of e))) }
+    ensures kept { OnOk result (lost.new ≡ lost.old) }
 {
     let Opened { conn, before } = empty;
     match create_in(site.runtime().alloc(), conn) {
         Ok(vault) => Ok(vault),
-        Err((refusal, conn)) => Err(refused(site, refusal, Cause::Taken, conn, &before)),
+        Err((refusal, conn)) => {
+            let had_no_room = let_go(lost, site, conn, &before);
+            Err(refused(refusal, Cause::Taken, had_no_room))
+        }
     }
 }
 
 /// The vault in the files at a path.
 ///
 /// The errors are those of `Machine::open`.
-fn opened_at<S: Start>(rt: &HostRuntime, path: &str, start: S) -> Result<FileVault<S>, Unopened>
-    ensures sound { IfOk result (λ vault. HasCleanDisk (file_state vault.conn) → AreSound (file_state vault.conn).now (kept_vault over_files vault.opening.at.items vault.opening.known vault.made.items)) }
-    ensures found { IfOk result (λ vault. HasCleanDisk (file_state vault.conn) → IsFoundIn (image_at S.Start) (kept_vault over_files vault.opening.at.items vault.opening.known vault.made.items)) }
-    ensures held { (v : Vault) → IsHeldIn (image_at S.Start) v → IfOk result (λ vault. HasCleanDisk (file_state vault.conn) → kept_vault over_files vault.opening.at.items vault.opening.known vault.made.items ≡ v) }
+fn opened_at<S: Start>(
+    lost: &mut Log<Connection<VaultStore<S>>, bool>,
+    rt: &HostRuntime,
+    path: &str,
+    start: S,
+) -> Result<FileVault<S>, Unopened>
+    ensures sound { IfOk result (λ vault. HasCleanDisk (file_state vault.conn) → AreSound (file_state vault.conn).now (vault_of over_files vault)) }
+    ensures found { IfOk result (λ vault. HasCleanDisk (file_state vault.conn) → IsFoundIn (image_at S.Start) (vault_of over_files vault)) }
+    ensures held { (v : Vault) → IsHeldIn (image_at S.Start) v → IfOk result (λ vault. HasCleanDisk (file_state vault.conn) → vault_of over_files vault ≡ v) }
+    ensures opened { IfOk result (λ vault. HasCleanDisk (file_state vault.conn) → IsOpenedFrom (image_at S.Start) (file_state vault.conn)) }
+    ensures alone { IfOk result (λ vault. HasCleanDisk (file_state vault.conn) → LeavesAlone (file_state vault.conn) (vault_of over_files vault)) }
+    ensures told { IfErr result (λ e. IsTold (refusal_of e)) }
+    ensures lost { IfErr result (λ e. LetsGo lost.old.items lost.new.items (λ conn. IsRefusedOver (image_at S.Start) (file_state conn) (refusal_of e))) }
+    ensures kept { OnOk result (lost.new ≡ lost.old) }
 {
     let site = match site_there(rt, path) {
         Ok(site) => site,
         Err(cause) => return Err(looked_at(rt, path, cause)),
     };
     match connect_there(&site, start) {
-        Ok(opened) => found_in(&site, opened),
+        Ok(opened) => found_in(lost, &site, opened),
         Err(cause) => Err(looked_at(rt, path, cause)),
     }
 }
@@ -271,30 +382,47 @@ fn opened_at<S: Start>(rt: &HostRuntime, path: &str, start: S) -> Result<FileVau
 /// A new vault in the files at a path.
 ///
 /// The errors are those of `Machine::make`.
-fn made_at<S: Start>(rt: &HostRuntime, path: &str, start: S) -> Result<FileVault<S>, Unopened>
-    ensures opening { IfOk result (λ vault. HasCleanDisk (file_state vault.conn) → kept_vault over_files vault.opening.at.items vault.opening.known vault.made.items ≡ opening) }
+fn made_at<S: Start>(
+    lost: &mut Log<Connection<VaultStore<S>>, bool>,
+    rt: &HostRuntime,
+    path: &str,
+    start: S,
+) -> Result<FileVault<S>, Unopened>
+    ensures opening { IfOk result (λ vault. HasCleanDisk (file_state vault.conn) → vault_of over_files vault ≡ opening) }
     ensures sound { IfOk result (λ vault. HasCleanDisk (file_state vault.conn) → AreSound (file_state vault.conn).now opening) }
+    ensures alone { IfOk result (λ vault. HasCleanDisk (file_state vault.conn) → LeavesAlone (file_state vault.conn) opening) }
+    ensures told { IfErr result (λ e. IsUnmade (refusal_of e)) }
+    ensures lost { IfErr result (λ e. LetsGo lost.old.items lost.new.items (λ conn. IsUnmadeOver (file_state conn) (refusal_of e))) }
+    ensures kept { OnOk result (lost.new ≡ lost.old) }
 {
     let site = match site_for_new(rt, path) {
         Ok(site) => site,
         Err(cause) => return Err(looked_at(rt, path, cause)),
     };
     match connect_new(&site, start) {
-        Ok(opened) => made_in(&site, opened),
+        Ok(opened) => made_in(lost, &site, opened),
         Err(cause) => Err(looked_at(rt, path, cause)),
     }
 }
 
-impl<'a> Machine<'a> {
+impl<'a, S: Alter, T: Alter> Machine<'a, S, T> {
     /// The files of a machine, where no vault was looked for yet.
-    pub fn new(rt: &'a HostRuntime) -> Machine<'a>
+    pub fn new(rt: &'a HostRuntime) -> Machine<'a, S, T>
         ensures looked { result.looked ≡ 0 }
-        ensures given { result.given ≡ 0 }
+        ensures given { result.given ≡ record { opened = 0; made = 0; copied = 0 } }
+        ensures closed { result.closed.items ≡ [] }
+        ensures copies { result.copies.items ≡ [] }
+        ensures refused { result.refused.items ≡ [] }
+        ensures uncopied { result.uncopied.items ≡ [] }
     {
         Machine {
             rt,
             looked: 0,
-            given: 0,
+            given: Given::none(),
+            closed: Log::new(),
+            copies: Log::new(),
+            refused: Log::new(),
+            uncopied: Log::new(),
         }
     }
 
@@ -305,45 +433,52 @@ impl<'a> Machine<'a> {
 
     /// Counts that a vault is looked for, and answers the runtime.
     pub(crate) fn look(&mut self) -> &'a HostRuntime
-        ensures looked { self.new.looked ≡ after_a_look self.old.looked }
-        ensures given { self.new.given ≡ self.old.given }
+        ensures { self.new ≡ record self.old { looked = after_a_look self.old.looked } }
     {
         self.looked = self.looked.saturating_add(1);
         self.rt
     }
 
-    /// Counts a vault that is given out, if there is one.
-    pub(crate) fn count<V>(&mut self, found: &Result<V, Unopened>)
-        ensures given { OnOk found.now (self.new.given ≡ with_one_given self.old.given) }
-        ensures none { OnErr found.now (self.new.given ≡ self.old.given) }
-        ensures looked { self.new.looked ≡ self.old.looked }
+    /// Counts a copy that is given out.
+    pub(crate) fn count_copy(&mut self)
+        ensures { self.new ≡ record self.old { given = with_copied self.old.given } }
     {
-        if found.is_ok() {
-            self.given = self.given.saturating_add(1);
-        }
+        self.given = self.given.with_copied();
     }
+}
 
+impl<'a, A: Start, B: Start> Machine<'a, VaultStore<A>, VaultStore<B>> {
     /// Opens the vault in a file: its tables have to be sound. `start` stands for what the file and its log hold.
     ///
     /// `Damaged` with the first table that isn't; with `meta` where the file isn't there or is empty, or is no store
     /// of tables whose rows keep its own schema. With each of the errors the file and its log are as they were,
     /// and none is made. `Memory` where memory was refused, `Device` where the file can't be read, and
     /// `Held` where another program has it.
-    pub fn open<S: Start>(&mut self, path: &str, start: S) -> Result<FileVault<S>, Unopened>
-        ensures looked { self.new.looked ≡ after_a_look self.old.looked }
+    pub fn open(&mut self, path: &str, start: A) -> Result<FileVault<A>, Unopened>
         // It is counted just where there is one.
-        ensures counted { OnOk result (self.new.given ≡ with_one_given self.old.given) }
-        ensures uncounted { OnErr result (self.new.given ≡ self.old.given) }
-        ensures sound { IfOk result (λ vault. HasCleanDisk (file_state vault.conn) → AreSound (file_state vault.conn).now (kept_vault over_files vault.opening.at.items vault.opening.known vault.made.items)) }
+        ensures counted { OnOk result (self.new ≡ record self.old { looked = after_a_look self.old.looked; given = with_opened self.old.given }) }
+        ensures uncounted { OnErr result (self.new ≡ record self.old { looked = after_a_look self.old.looked; refused = self.new.refused }) }
+        ensures sound { IfOk result (λ vault. HasCleanDisk (file_state vault.conn) → AreSound (file_state vault.conn).now (vault_of over_files vault)) }
         // The vault that is opened is the one that the tables spell which were found in the files.
-        ensures found { IfOk result (λ vault. HasCleanDisk (file_state vault.conn) → IsFoundIn (image_at S.Start) (kept_vault over_files vault.opening.at.items vault.opening.known vault.made.items)) }
+        ensures found { IfOk result (λ vault. HasCleanDisk (file_state vault.conn) → IsFoundIn (image_at A.Start) (vault_of over_files vault)) }
         // Where the files held a vault, it is that one.
-        ensures held { (v : Vault) → IsHeldIn (image_at S.Start) v → IfOk result (λ vault. HasCleanDisk (file_state vault.conn) → kept_vault over_files vault.opening.at.items vault.opening.known vault.made.items ≡ v) }
+        ensures held { (v : Vault) → IsHeldIn (image_at A.Start) v → IfOk result (λ vault. HasCleanDisk (file_state vault.conn) → vault_of over_files vault ≡ v) }
+        // Where they hold what a crash left of another connection's files, this one is the next opening (`openings_follow`).
+        ensures opened { IfOk result (λ vault. HasCleanDisk (file_state vault.conn) → IsOpenedFrom (image_at A.Start) (file_state vault.conn)) }
+        // A crash leaves that vault after that, and nothing else.
+        ensures alone { IfOk result (λ vault. HasCleanDisk (file_state vault.conn) → LeavesAlone (file_state vault.conn) (vault_of over_files vault)) }
+        ensures told { IfErr result (λ e. IsTold (refusal_of e)) }
+        // A store that was opened and works isn't reported as a failed device, nor one that holds a sound vault as damaged.
+        ensures refused { IfErr result (λ e. LetsGo self.old.refused.items self.new.refused.items (λ conn. IsRefusedOver (image_at A.Start) (file_state conn) (refusal_of e))) }
     {
         let rt = self.look();
-        let opened = opened_at(rt, path, start);
-        self.count(&opened);
-        opened
+        match opened_at(&mut self.refused, rt, path, start) {
+            Ok(vault) => {
+                self.given = self.given.with_opened();
+                Ok(vault)
+            }
+            Err(cause) => Err(cause),
+        }
     }
 
     /// Makes a new vault in a file that isn't there or is empty. `start` stands for what the file and its log hold.
@@ -351,17 +486,44 @@ impl<'a> Machine<'a> {
     /// `NameTaken` where something is in it, or changes may be in the log beside it, and both are left as they are.
     /// `Memory` where memory was refused, `Device` where the file can't be made, and `Held` where another program
     /// has it.
-    pub fn make<S: Start>(&mut self, path: &str, start: S) -> Result<FileVault<S>, Unopened>
-        ensures looked { self.new.looked ≡ after_a_look self.old.looked }
+    pub fn make(&mut self, path: &str, start: A) -> Result<FileVault<A>, Unopened>
         // It is counted just where there is one.
-        ensures counted { OnOk result (self.new.given ≡ with_one_given self.old.given) }
-        ensures uncounted { OnErr result (self.new.given ≡ self.old.given) }
-        ensures opening { IfOk result (λ vault. HasCleanDisk (file_state vault.conn) → kept_vault over_files vault.opening.at.items vault.opening.known vault.made.items ≡ opening) }
+        ensures counted { OnOk result (self.new ≡ record self.old { looked = after_a_look self.old.looked; given = with_made self.old.given }) }
+        ensures uncounted { OnErr result (self.new ≡ record self.old { looked = after_a_look self.old.looked; refused = self.new.refused }) }
+        ensures opening { IfOk result (λ vault. HasCleanDisk (file_state vault.conn) → vault_of over_files vault ≡ opening) }
         ensures sound { IfOk result (λ vault. HasCleanDisk (file_state vault.conn) → AreSound (file_state vault.conn).now opening) }
+        // A crash leaves a new vault after that, and nothing else.
+        ensures alone { IfOk result (λ vault. HasCleanDisk (file_state vault.conn) → LeavesAlone (file_state vault.conn) opening) }
+        ensures told { IfErr result (λ e. IsUnmade (refusal_of e)) }
+        // A store that was opened and is reported as taken has something in it.
+        ensures refused { IfErr result (λ e. LetsGo self.old.refused.items self.new.refused.items (λ conn. IsUnmadeOver (file_state conn) (refusal_of e))) }
     {
         let rt = self.look();
-        let made = made_at(rt, path, start);
-        self.count(&made);
-        made
+        match made_at(&mut self.refused, rt, path, start) {
+            Ok(vault) => {
+                self.given = self.given.with_made();
+                Ok(vault)
+            }
+            Err(cause) => Err(cause),
+        }
+    }
+
+    /// Closes the vault that was opened or made, so that all that it committed stands in its file, and gives the file and
+    /// its log back, which nobody else has before they are dropped.
+    ///
+    /// None where that fails: then what was committed stands in the log beside the file, and the next open finds it there.
+    pub fn close(&mut self, vault: FileVault<A>) -> Option<Files<FileFrom<A>>>
+        // Its connection is remembered, which stands for the vault.
+        ensures closed { self.new.closed.items ≡ self.old.closed.items ++ (vault.conn, true) ∷ [] }
+        ensures stands { ∥ (HasCleanDisk (file_state vault.conn) → StandsFor (file_state vault.conn) (vault_of over_files vault)) ∥₁ }
+        ensures looked { self.new.looked ≡ self.old.looked }
+        ensures given { self.new.given ≡ self.old.given }
+        ensures copies { self.new.copies ≡ self.old.copies }
+        ensures refused { self.new.refused ≡ self.old.refused }
+        ensures uncopied { self.new.uncopied ≡ self.old.uncopied }
+        // The file holds the vault, also without its log, and whatever a crash leaves of the two.
+        ensures held { IfSome result (HoldVault vault) }
+    {
+        close_keeper(&mut self.closed, vault)
     }
 }

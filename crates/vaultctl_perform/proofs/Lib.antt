@@ -1,5 +1,3 @@
-mod AskedLemmas
-mod HonestLemmas
-mod IntakeLemmas
+mod DoneLemmas
 mod StatusLemmas
 mod TellingLemmas

@@ -1,4 +1,4 @@
-pub mod Asked
+pub mod Done
 pub mod Named
 pub mod Replay
 pub mod Status

@@ -1,16 +1,9 @@
--- Exit statuses, and what came of a job.
+-- Exit statuses.
 use Rattle.std.specs.Prelude.{ℕ, Result, Ok, Err}
-use Rattle.vault_files.specs.ExportFault.{ExportFault}
-use Rattle.vault_files.specs.ExportFault.TheVariants as export
 use Rattle.vaultctl_commands.specs.declared.fault.JobFault.{JobFault}
-use Rattle.vaultctl_commands.specs.declared.fault.JobFault.TheVariants as fault
 use Rattle.vaultctl_commands.specs.declared.outcome.Outcome.{Outcome}
 use Rattle.vaultctl_commands.specs.declared.outcome.Outcome.TheVariants.{Done, Refused}
 use Rattle.vaultctl_machine.specs.declared.unopened.Unopened.{Unopened}
-use Rattle.vaultctl_replay.specs.declared.fault.ReplayFault.{ReplayFault}
-use Rattle.vaultctl_replay.specs.declared.fault.ReplayFault.TheVariants as replay
-use Rattle.vaultctl_serve.specs.declared.fault.PortFault.{PortFault}
-use Rattle.vaultctl_serve.specs.declared.fault.PortFault.TheVariants as port
 
 -- 0 where the job was done
 abbrev pub status_of : Result Outcome JobFault → ℕ
@@ -22,26 +15,3 @@ status_of (Err fault) = 1
 abbrev pub made_status : Result (Unit {0}) Unopened → ℕ
 made_status (Ok t) = 0
 made_status (Err cause) = 1
-
--- a register is written or a fault is told, by its name
-abbrev pub exported : Result (Unit {0}) ExportFault → Result Outcome JobFault
-exported (Ok t) = Ok Done
-exported (Err export.Write) = Err fault.Write
-exported (Err export.Memory) = Err fault.Memory
-exported (Err export.Device) = Err fault.Device
-
--- a fault of a script, by its name
-abbrev pub replay_fault : ReplayFault → JobFault
-replay_fault replay.Read = fault.Read
-replay_fault replay.Write = fault.Write
-replay_fault replay.Memory = fault.Memory
-
--- a script is answered or a fault is told, by its name
-abbrev pub replayed : Result (Unit {0}) ReplayFault → Result Outcome JobFault
-replayed (Ok t) = Ok Done
-replayed (Err fault) = Err (replay_fault fault)
-
--- so many requests were served, or a port can't be had
-abbrev pub served : Result (Unit {0}) PortFault → Result Outcome JobFault
-served (Ok t) = Ok Done
-served (Err port.Device) = Err fault.Device

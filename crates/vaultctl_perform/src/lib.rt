@@ -6,23 +6,23 @@ ghost use Rattle.clap.specs.Words.{fault_of};
 ghost use Rattle.vaultctl_job.specs.Words.{asks_version, job_for, vaultctl};
 ghost use Rattle.vaultctl_job.specs.declared.job.Job.{Job as AnyJob};
 ghost use Rattle.vault_base.specs.declared.refusal.Refusal.{Refusal};
+ghost use Rattle.sqlite_wal.specs.Files.{image_at};
+ghost use Rattle.vaultctl_perform.specs.Done.{IsDoneInFiles, IsReplayed, given_by};
 ghost use Rattle.vaultctl_perform.specs.Replay.{AnswersFromNew};
 ghost use Rattle.vaultctl_perform.specs.Told.{IsTold};
 ghost use Rattle.vaultctl_perform.specs.Values.{IsValueFault};
 
-mod asked;
-mod evidence;
-mod files;
-mod intake;
+mod asking;
+mod init;
 mod migrate;
 mod replay;
 mod telling;
+mod vaults;
 mod verify;
-mod work;
 
-use crate::asked::Call;
-use crate::telling::{say, status, tell_fault};
-use crate::work::in_vault;
+use crate::asking::Call;
+use crate::telling::{status, tell_fault};
+use crate::vaults::in_vault;
 use sqlite::Start;
 use std::alloc::{AllocError, Global};
 use std::io::{Read, Write};
@@ -35,17 +35,22 @@ use vaultctl_job::job::{Job, ReplayJob};
 use vaultctl_job::word::Word;
 use vaultctl_job::words::{hint, job_of, version_asked};
 use vaultctl_machine::starts::Starts;
-use vaultctl_machine::vaults::Machine;
+use vaultctl_machine::vaults::FileMachine;
+use vaultctl_work::intake;
+use vaultctl_work::saying::say;
 
-fn replay_script<S: Start, R: Read, W: Write, E: Write>(
-    machine: &mut Machine<'_>,
-    start: S,
+fn replay_script<A: Start, B: Start, R: Read, W: Write, E: Write>(
+    machine: &mut FileMachine<'_, A, B>,
+    start: A,
     job: &ReplayJob,
     reader: &mut R,
     out: &mut W,
     err: &mut E,
 ) -> u8
     ensures replayed { job.now.file ≡ None → result ≡ 0 → AnswersFromNew (R.remaining reader.old) (R.remaining reader.new) (W.contents out.old) (W.contents out.new) }
+    ensures given { result ≡ 0 → machine.new.given ≡ given_by (Job.Replay job.now) machine.old.given }
+    ensures done { result ≡ 0 → IsReplayed (image_at A.Start) job.now machine.old.closed.items machine.new.closed.items
+        (R.remaining reader.old) (R.remaining reader.new) (W.contents out.old) (W.contents out.new) }
     ensures status { result ≢ 2 }
 {
     match &job.file {
@@ -74,7 +79,7 @@ fn called<'a>(subcommand: &'a str, file: &'a Word, job: &'a Job) -> Call<'a> {
 
 /// Carries a job out over the files of a machine.
 fn carry_out<A: Start, B: Start, R: Read, W: Write, E: Write>(
-    machine: &mut Machine<'_>,
+    machine: &mut FileMachine<'_, A, B>,
     starts: Starts<A, B>,
     job: &Job,
     reader: &mut R,
@@ -84,6 +89,9 @@ fn carry_out<A: Start, B: Start, R: Read, W: Write, E: Write>(
     ensures replayed { job.now ≡ Job.Replay (record { file = None }) → result ≡ 0 → AnswersFromNew (R.remaining reader.old) (R.remaining reader.new) (W.contents out.old) (W.contents out.new) }
     ensures values { (r : Refusal) → IsValueFault job.now r → (machine.new ≡ machine.old) × (result ≡ 1) }
     ensures told { result ≡ 0 → IsTold job.now (W.contents out.old) (W.contents out.new) }
+    ensures given { result ≡ 0 → machine.new.given ≡ given_by job.now machine.old.given }
+    ensures done { result ≡ 0 → IsDoneInFiles (image_at A.Start) job.now machine.old.closed.items machine.new.closed.items machine.old.copies.items machine.new.copies.items
+        (R.remaining reader.old) (R.remaining reader.new) (W.contents out.old) (W.contents out.new) }
     ensures status { result ≢ 2 }
 {
     let alloc = machine.runtime().alloc();
@@ -94,10 +102,10 @@ fn carry_out<A: Start, B: Start, R: Read, W: Write, E: Write>(
     } = starts;
     let whole = job;
     match job {
-        Job::Init(job) => files::init(machine, job.file.as_str(), start, err),
+        Job::Init(job) => init::init(machine, job.file.as_str(), start, err),
         Job::Dept(job) => {
             let asked = values::dept(alloc, job);
-            asked::ask(
+            asking::ask(
                 machine,
                 called("dept", &job.file, whole),
                 start,
@@ -108,7 +116,7 @@ fn carry_out<A: Start, B: Start, R: Read, W: Write, E: Write>(
         }
         Job::Caller(job) => {
             let asked = values::caller(alloc, job);
-            asked::ask(
+            asking::ask(
                 machine,
                 called("caller", &job.file, whole),
                 start,
@@ -119,7 +127,7 @@ fn carry_out<A: Start, B: Start, R: Read, W: Write, E: Write>(
         }
         Job::Bucket(job) => {
             let asked = values::bucket(alloc, job);
-            asked::ask(
+            asking::ask(
                 machine,
                 called("bucket", &job.file, whole),
                 start,
@@ -130,7 +138,7 @@ fn carry_out<A: Start, B: Start, R: Read, W: Write, E: Write>(
         }
         Job::Move(job) => {
             let asked = values::move_bucket(alloc, job);
-            asked::ask(
+            asking::ask(
                 machine,
                 called("move", &job.file, whole),
                 start,
@@ -141,7 +149,7 @@ fn carry_out<A: Start, B: Start, R: Read, W: Write, E: Write>(
         }
         Job::Intake(job) => {
             let asked = intake::asked(alloc, job);
-            intake::take_in(
+            asking::take_in(
                 machine,
                 called("intake", &job.file, whole),
                 start,
@@ -152,7 +160,7 @@ fn carry_out<A: Start, B: Start, R: Read, W: Write, E: Write>(
         }
         Job::Run(job) => {
             let asked = values::run(alloc, job);
-            asked::ask(
+            asking::ask(
                 machine,
                 called("run", &job.file, whole),
                 start,
@@ -163,7 +171,7 @@ fn carry_out<A: Start, B: Start, R: Read, W: Write, E: Write>(
         }
         Job::Report(job) => {
             let asked = values::report(alloc, job);
-            asked::ask(
+            asking::ask(
                 machine,
                 called("report", &job.file, whole),
                 start,
@@ -174,7 +182,7 @@ fn carry_out<A: Start, B: Start, R: Read, W: Write, E: Write>(
         }
         Job::Certificate(job) => {
             let asked = values::certificate(alloc, job);
-            asked::ask(
+            asking::ask(
                 machine,
                 called("certificate", &job.file, whole),
                 start,
@@ -196,7 +204,7 @@ fn carry_out<A: Start, B: Start, R: Read, W: Write, E: Write>(
         Job::Verify(job) => verify::verify(machine, job.file.as_str(), start, out, err),
         Job::Events(job) => {
             let asked = values::events(job);
-            asked::ask_read(
+            asking::ask_read(
                 machine,
                 called("events", &job.file, whole),
                 start,
@@ -207,7 +215,7 @@ fn carry_out<A: Start, B: Start, R: Read, W: Write, E: Write>(
         }
         Job::Seal(job) => {
             let asked = values::seal(job);
-            asked::ask_read(
+            asking::ask_read(
                 machine,
                 called("seal", &job.file, whole),
                 start,
@@ -261,7 +269,7 @@ fn carry_out<A: Start, B: Start, R: Read, W: Write, E: Write>(
 /// opened or made, as `open: Damaged meta`. Faults are found in this order: values of words, the vault's file,
 /// an intake's list or a port, the clock, and what is asked.
 pub fn perform<A: Start, B: Start, R: Read, W: Write, E: Write>(
-    rt: &HostRuntime,
+    machine: &mut FileMachine<'_, A, B>,
     starts: Starts<A, B>,
     job: &Job,
     reader: &mut R,
@@ -270,14 +278,18 @@ pub fn perform<A: Start, B: Start, R: Read, W: Write, E: Write>(
 ) -> u8
     // Status 0 says that all lines of the input were answered, one after another, from a new vault on.
     ensures replayed { job.now ≡ Job.Replay (record { file = None }) → result ≡ 0 → AnswersFromNew (R.remaining reader.old) (R.remaining reader.new) (W.contents out.old) (W.contents out.new) }
-    // A value that isn't such is never told as done.
-    ensures values { (r : Refusal) → IsValueFault job.now r → result ≡ 1 }
-    // Status 0 is never answered without what the job has to print for it.
+    // A value that isn't such is never told as done, and no file is looked for.
+    ensures values { (r : Refusal) → IsValueFault job.now r → (machine.new ≡ machine.old) × (result ≡ 1) }
+    // Status 0 is never answered without what the job has to print for it,
     ensures told { result ≡ 0 → IsTold job.now (W.contents out.old) (W.contents out.new) }
+    // nor without the vault that it has to open, make or copy, and that one alone.
+    ensures given { result ≡ 0 → machine.new.given ≡ given_by job.now machine.old.given }
+    // It says that the job was done with the vault that was found in the file, as the connection shows that was closed then.
+    ensures done { result ≡ 0 → IsDoneInFiles (image_at A.Start) job.now machine.old.closed.items machine.new.closed.items machine.old.copies.items machine.new.copies.items
+        (R.remaining reader.old) (R.remaining reader.new) (W.contents out.old) (W.contents out.new) }
     ensures status { result ≢ 2 }
 {
-    let mut machine = Machine::new(rt);
-    carry_out(&mut machine, starts, job, reader, out, err)
+    carry_out(machine, starts, job, reader, out, err)
 }
 
 /// The line that says which version this is. The error is want of memory.
@@ -311,7 +323,7 @@ fn tell_refused<E: Write>(words: &[String], text: &str, err: &mut E) -> u8
 
 /// The same as `answer_words`, of words that don't ask for the version.
 fn answer_job<A: Start, B: Start, R: Read, W: Write, E: Write>(
-    rt: &HostRuntime,
+    machine: &mut FileMachine<'_, A, B>,
     starts: Starts<A, B>,
     words: &[String],
     reader: &mut R,
@@ -324,9 +336,13 @@ fn answer_job<A: Start, B: Start, R: Read, W: Write, E: Write>(
     ensures words { job_for (map string_bytes words.now) ≡ None → result ≢ 0 }
     ensures values { (job : AnyJob) (r : Refusal) → job_for (map string_bytes words.now) ≡ Some job → IsValueFault job r → result ≢ 0 }
     ensures told { (job : AnyJob) → job_for (map string_bytes words.now) ≡ Some job → result ≡ 0 → IsTold job (W.contents out.old) (W.contents out.new) }
+    ensures given { (job : AnyJob) → job_for (map string_bytes words.now) ≡ Some job → result ≡ 0 → machine.new.given ≡ given_by job machine.old.given }
+    ensures done { (job : AnyJob) → job_for (map string_bytes words.now) ≡ Some job → result ≡ 0
+        → IsDoneInFiles (image_at A.Start) job machine.old.closed.items machine.new.closed.items machine.old.copies.items machine.new.copies.items
+        (R.remaining reader.old) (R.remaining reader.new) (W.contents out.old) (W.contents out.new) }
 {
-    match job_of(rt.alloc(), words) {
-        Ok(job) => perform(rt, starts, &job, reader, out, err),
+    match job_of(machine.runtime().alloc(), words) {
+        Ok(job) => perform(machine, starts, &job, reader, out, err),
         Err(WordsFault::Refused(text)) => tell_refused(words, text.as_str(), err),
         Err(WordsFault::Memory) => tell_fault(err, "words", JobFault::Memory),
     }
@@ -338,7 +354,7 @@ fn answer_job<A: Start, B: Start, R: Read, W: Write, E: Write>(
 /// goes to `err`; where memory for reading them was refused, it is 1 and `err` gets `words: Memory`. Words that ask for
 /// the version are no job: it is printed, with status 0.
 pub fn answer_words<A: Start, B: Start, R: Read, W: Write, E: Write>(
-    rt: &HostRuntime,
+    machine: &mut FileMachine<'_, A, B>,
     starts: Starts<A, B>,
     words: &[String],
     reader: &mut R,
@@ -352,9 +368,16 @@ pub fn answer_words<A: Start, B: Start, R: Read, W: Write, E: Write>(
     ensures words { job_for (map string_bytes words.now) ≡ None → asks_version (map string_bytes words.now) ≡ false → result ≢ 0 }
     ensures values { (job : AnyJob) (r : Refusal) → job_for (map string_bytes words.now) ≡ Some job → IsValueFault job r → result ≢ 0 }
     ensures told { (job : AnyJob) → job_for (map string_bytes words.now) ≡ Some job → result ≡ 0 → IsTold job (W.contents out.old) (W.contents out.new) }
+    ensures given { (job : AnyJob) → job_for (map string_bytes words.now) ≡ Some job → result ≡ 0 → machine.new.given ≡ given_by job machine.old.given }
+    ensures done { (job : AnyJob) → job_for (map string_bytes words.now) ≡ Some job → result ≡ 0
+        → IsDoneInFiles (image_at A.Start) job machine.old.closed.items machine.new.closed.items machine.old.copies.items machine.new.copies.items
+        (R.remaining reader.old) (R.remaining reader.new) (W.contents out.old) (W.contents out.new) }
 {
     match version_asked(words) {
-        Some(version) => status(err, "version", print_version(rt.alloc(), version, out)),
-        None => answer_job(rt, starts, words, reader, out, err),
+        Some(version) => {
+            let printed = print_version(machine.runtime().alloc(), version, out);
+            status(err, "version", printed)
+        }
+        None => answer_job(machine, starts, words, reader, out, err),
     }
 }

@@ -1,7 +1,10 @@
 //! The vault of an earlier version, copied into a new file.
 ghost use Rattle.std.specs.Prelude.{◌≡◌, ◌≢◌, IfOk, OnOk, Ok};
 ghost use Rattle.std.specs.Io.KnownBytes.{Appends};
-ghost use Rattle.vaultctl_machine.specs.Places.{after_a_look, with_one_given};
+ghost use Rattle.sqlite_wal.specs.Files.{image_at};
+ghost use Rattle.vaultctl_machine.specs.Closings.{Copies};
+ghost use Rattle.vaultctl_machine.specs.Given.{with_copied};
+ghost use Rattle.vaultctl_machine.specs.Places.{after_a_look};
 ghost use Rattle.vaultctl_perform.specs.Told as spec;
 
 use crate::telling::{status, tell_cause};
@@ -10,22 +13,23 @@ use std::io::Write;
 use vaultctl_commands::fault::JobFault;
 use vaultctl_commands::outcome::Outcome;
 use vaultctl_commands::printing::print;
-use vaultctl_machine::migration::close_migrated;
 use vaultctl_machine::starts::Starts;
 use vaultctl_machine::unopened::Unopened;
-use vaultctl_machine::vaults::Machine;
+use vaultctl_machine::vaults::FileMachine;
 
 /// Copies the vault and closes both files.
 fn copy<A: Start, B: Start>(
-    machine: &mut Machine<'_>,
+    machine: &mut FileMachine<'_, A, B>,
     old: &str,
     new: &str,
     starts: Starts<A, B>,
 ) -> Result<(), Unopened>
     ensures looked { machine.new.looked ≡ after_a_look machine.old.looked }
-    ensures given { OnOk result (machine.new.given ≡ with_one_given machine.old.given) }
+    ensures given { OnOk result (machine.new.given ≡ with_copied machine.old.given) }
+    ensures done { OnOk result (Copies (image_at A.Start) machine.old.closed.items machine.new.closed.items machine.old.copies.items machine.new.copies.items) }
 {
-    close_migrated(machine.migrate(old, new, starts)?);
+    let migrated = machine.migrate(old, new, starts)?;
+    machine.close_migrated(migrated);
     Ok(())
 }
 
@@ -50,7 +54,7 @@ fn tell_copied<W: Write, E: Write>(copied: Result<(), Unopened>, out: &mut W, er
 
 /// Copies the vault of an earlier version into a new file, and prints `migrated`.
 pub fn migrate<A: Start, B: Start, W: Write, E: Write>(
-    machine: &mut Machine<'_>,
+    machine: &mut FileMachine<'_, A, B>,
     old: &str,
     new: &str,
     starts: Starts<A, B>,
@@ -58,8 +62,10 @@ pub fn migrate<A: Start, B: Start, W: Write, E: Write>(
     err: &mut E,
 ) -> u8
     ensures looked { machine.new.looked ≡ after_a_look machine.old.looked }
-    // Status 0 says that a vault was copied, and `migrated` printed.
-    ensures given { result ≡ 0 → machine.new.given ≡ with_one_given machine.old.given }
+    // Status 0 says that the vault which was found in the old file was copied, no other opened or made, and `migrated`
+    // printed.
+    ensures given { result ≡ 0 → machine.new.given ≡ with_copied machine.old.given }
+    ensures done { result ≡ 0 → Copies (image_at A.Start) machine.old.closed.items machine.new.closed.items machine.old.copies.items machine.new.copies.items }
     ensures told { result ≡ 0 → Appends (W.contents out.old) (W.contents out.new) spec.migrated_line }
     ensures status { result ≢ 2 }
 {

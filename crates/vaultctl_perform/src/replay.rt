@@ -1,26 +1,14 @@
 //! A script over a new vault in memory.
 ghost use Rattle.std.specs.Prelude.{◌≡◌, ◌≢◌, OnOk};
 ghost use Rattle.vaultctl_perform.specs.Replay.{AnswersFromNew};
-ghost use Rattle.vaultctl_perform.specs.Status.{replay_fault};
 
 use crate::telling::tell_fault;
 use std::alloc::Global;
 use std::io::{Read, Write};
 use vault_core_list::list_keeper::ListKeeper;
-use vaultctl_commands::fault::JobFault;
 use vaultctl_remedies::explaining::Explainer;
 use vaultctl_replay::{ReplayFault, replay_observed};
-
-/// What a fault of a script is told as.
-pub fn fault_of(fault: ReplayFault) -> JobFault
-    ensures { result ≡ replay_fault fault }
-{
-    match fault {
-        ReplayFault::Read => JobFault::Read,
-        ReplayFault::Write => JobFault::Write,
-        ReplayFault::Memory => JobFault::Memory,
-    }
-}
+use vaultctl_work::jobs::fault_of;
 
 fn answer_all<R: Read, W: Write, E: Write>(
     alloc: Global,

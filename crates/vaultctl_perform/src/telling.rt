@@ -15,6 +15,7 @@ use vaultctl_commands::outcome::Outcome;
 use vaultctl_machine::unopened::Unopened;
 use vaultctl_remedies::remedies::remedy;
 use vaultctl_remedies::slips::{Value, say_slip};
+use vaultctl_work::saying::say;
 
 /// Writes two texts, one behind the other.
 fn write_both<E: Write>(err: &mut E, first: &str, second: &str) -> io::Result<()>
@@ -111,11 +112,6 @@ pub fn tell_cause<E: Write>(err: &mut E, deed: &str, cause: Unopened) -> u8
     let status = tell_unopened(err, deed, cause.refusal());
     tell_words(err, cause);
     status
-}
-
-/// Says something in words, on a line of its own. Where this can't be written, what stands before it says it alone.
-pub fn say<E: Write>(err: &mut E, words: &str) {
-    let _ = writeln!(err, "{words}");
 }
 
 /// What the fault of a device means to a subcommand, and what to do; the others have no such fault.

@@ -1,7 +1,13 @@
 //! Whether the vault in a file is sound.
 ghost use Rattle.std.specs.Prelude.{◌≡◌, ◌≢◌, IfOk, OnOk, Ok, string_bytes};
 ghost use Rattle.std.specs.Io.KnownBytes.{Appends};
-ghost use Rattle.vaultctl_machine.specs.Places.{with_one_given};
+ghost use Rattle.sqlite.specs.Files.{file_state, over_files};
+ghost use Rattle.sqlite.specs.State.{HasCleanDisk};
+ghost use Rattle.sqlite_wal.specs.Files.{image_at};
+ghost use Rattle.vault_store.specs.VaultOf.{vault_of};
+ghost use Rattle.vaultctl_machine.specs.Closings.{Carries};
+ghost use Rattle.vaultctl_machine.specs.Files.{IsFoundIn};
+ghost use Rattle.vaultctl_machine.specs.Given.{with_opened};
 ghost use Rattle.vaultctl_perform.specs.Told as spec;
 
 use crate::telling::{status, tell_cause, tell_words};
@@ -13,7 +19,7 @@ use vaultctl_commands::fault::JobFault;
 use vaultctl_commands::outcome::Outcome;
 use vaultctl_commands::printing::print;
 use vaultctl_machine::unopened::Unopened;
-use vaultctl_machine::vaults::{Machine, close_vault};
+use vaultctl_machine::vaults::{FileMachine, FileVault};
 
 /// The line that names a table which isn't sound. The error is want of memory.
 fn damaged_line(alloc: Global, table: Table) -> Result<String, AllocError>
@@ -87,24 +93,41 @@ fn tell_opened<W: Write, E: Write>(
     }
 }
 
-/// Opens the vault in a file and closes it.
-fn look<S: Start>(machine: &mut Machine<'_>, file: &str, start: S) -> Result<(), Unopened>
-    ensures { OnOk result (machine.new.given ≡ with_one_given machine.old.given) }
+/// Closes a vault that was opened just now.
+fn close_found<A: Start, B: Start>(machine: &mut FileMachine<'_, A, B>, vault: FileVault<A>)
+    requires found { HasCleanDisk (file_state vault.conn) → IsFoundIn (image_at A.Start) (vault_of over_files vault) }
+    ensures given { machine.new.given ≡ machine.old.given }
+    ensures done { Carries (image_at A.Start) machine.old.closed.items machine.new.closed.items (λ v w. w ≡ v) }
 {
-    close_vault(machine.open(file, start)?);
+    drop(machine.close(vault));
+}
+
+/// Opens the vault in a file and closes it.
+fn look<A: Start, B: Start>(
+    machine: &mut FileMachine<'_, A, B>,
+    file: &str,
+    start: A,
+) -> Result<(), Unopened>
+    ensures given { OnOk result (machine.new.given ≡ with_opened machine.old.given) }
+    ensures done { OnOk result (Carries (image_at A.Start) machine.old.closed.items machine.new.closed.items (λ v w. w ≡ v)) }
+{
+    let vault = machine.open(file, start)?;
+    close_found(machine, vault);
     Ok(())
 }
 
 /// Opens a vault's file, and prints `sound`, or `damaged` and the first table that isn't.
-pub fn verify<S: Start, W: Write, E: Write>(
-    machine: &mut Machine<'_>,
+pub fn verify<A: Start, B: Start, W: Write, E: Write>(
+    machine: &mut FileMachine<'_, A, B>,
     file: &str,
-    start: S,
+    start: A,
     out: &mut W,
     err: &mut E,
 ) -> u8
-    // Status 0 says that a vault was opened, and `sound` printed.
-    ensures given { result ≡ 0 → machine.new.given ≡ with_one_given machine.old.given }
+    // Status 0 says that the vault which was found in the file was opened and closed, no other was made or copied, and
+    // `sound` printed.
+    ensures given { result ≡ 0 → machine.new.given ≡ with_opened machine.old.given }
+    ensures done { result ≡ 0 → Carries (image_at A.Start) machine.old.closed.items machine.new.closed.items (λ v w. w ≡ v) }
     ensures told { result ≡ 0 → Appends (W.contents out.old) (W.contents out.new) spec.sound_line }
     ensures status { result ≢ 2 }
 {

@@ -1,6 +1,7 @@
 use Rattle.sqlite_wal.specs.Files.{image_at}
 use Rattle.vault_audit_model.specs.Editions.{newest}
 use Rattle.vaultctl_machine.proofs.FoundLemmas.{was_clean, was_sound, found_in_files, held_in_files}
+use Rattle.vaultctl_machine.proofs.OpeningLemmas.{opened_still}
 use Rattle.vaultctl_machine.proofs.vaults.found_in.Goals as goal
 
 pub returns-in-Ok-clause-found : goal.returns-in-Ok-clause-found
@@ -14,3 +15,9 @@ returns-in-Ok-clause-held g c w held clean =
     let before = was_clean _ _ _ c.in-Ok.ensures.crash clean in
     let sound = was_sound newest _ _ _ (c.in-Ok.ensures.same clean) (c.in-Ok.ensures.sound clean) in
     held_in_files newest (image_at g.S.Start) _ _ (c.requires.opened before).0 (c.requires.found before) sound newest w held
+
+pub returns-in-Ok-clause-opened : goal.returns-in-Ok-clause-opened
+returns-in-Ok-clause-opened g c clean =
+    let before = was_clean _ _ _ c.in-Ok.ensures.crash clean in
+    let is = c.requires.opened before in
+    opened_still (image_at g.S.Start) _ _ is.0 is.1 (c.requires.found before) (c.in-Ok.ensures.same clean)

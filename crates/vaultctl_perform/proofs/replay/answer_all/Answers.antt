@@ -3,7 +3,7 @@ use Rattle.std.proofs.lemmas.Result.{on_ok_weaker}
 use Rattle.vault_core_model.specs.Sound.{Sound}
 use Rattle.vault_core_model.specs.Vault.{Vault}
 use Rattle.vaultctl_replay.specs.Runs.{AnswersAll}
-use Rattle.vaultctl_perform.proofs.HonestLemmas.{all_of}
+use Rattle.vaultctl_work.proofs.HonestLemmas.{all_of}
 use Rattle.vaultctl_perform.proofs.replay.answer_all.Goals as goal
 
 pub returns : goal.returns

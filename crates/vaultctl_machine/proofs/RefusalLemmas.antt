@@ -1,0 +1,75 @@
+-- Why no vault was given out: from the store that refused it to the files.
+use Rattle.std.proofs.Common.{◌≡◌, ◌≢◌, ◌⊎◌, ◌×◌, inl, inr, List, [], ◌∷◌, ◌++◌, Bool, true, false, IsTrue, sym, subst, ◌∙◌}
+use Rattle.sqlite_catalog.proofs.ReadLemmas.{lists_once}
+use Rattle.sqlite_trees.specs.Objects.{catalog_tree}
+use Rattle.sqlite_trees.specs.Tree.{Trees}
+use Rattle.sqlite_wal.specs.Recovery.{Image}
+use Rattle.sqlite.specs.Effect.{Database, IsDatabase}
+use Rattle.sqlite.specs.Start.{FindsIn}
+use Rattle.sqlite.specs.State.{State, HasCleanDisk, IsLive, Opens, Survives}
+use Rattle.vault_audit.specs.Health.{IsHealthy}
+use Rattle.vault_audit_model.specs.declared.schema.Edition.{Edition}
+use Rattle.vault_audit_model.specs.declared.schema.Edition.TheVariants.{First, Second}
+use Rattle.vault_audit_model.specs.Editions.{newest}
+use Rattle.vault_audit_model.specs.Spells.{AreSound, AreSoundAs}
+use Rattle.vault_audit_model.specs.Tables.{no_schema, schema_of}
+use Rattle.vault_base.specs.declared.refusal.Refusal.{Refusal}
+use Rattle.vault_base.specs.declared.refusal.Refusal.TheVariants.{Damaged, Device, NameTaken}
+use Rattle.vault_base.specs.declared.refusal.Table.{Table}
+use Rattle.vault_core_model.specs.Vault.{Vault}
+use Rattle.vault_store.specs.Tables.{HasTablesOf}
+use Rattle.vaultctl_machine.proofs.FoundLemmas.{was_clean}
+use Rattle.vaultctl_machine.specs.Closings.{Closes}
+use Rattle.vaultctl_machine.specs.Files.{AreSoundEarlier, AreTreesAs, IsWholeAs}
+use Rattle.vaultctl_machine.specs.Refusals.{IsRefusedOver, IsUncopiedFrom, IsUnmadeOver}
+
+-- a refusal that is one of two
+pub either : (P : Refusal → Type 0) (a r x : Refusal) → (x ≡ a) ⊎ (x ≡ r) → P a → P r → P x
+either P a r x (inl is) at_a at_r = subst P (sym is) at_a
+either P a r x (inr is) at_a at_r = subst P (sym is) at_r
+
+-- one connection more, of which it holds, where what is reported is that
+pub closes_as : {C : Type 0} (old new : List (C × Bool)) (conn : C) (P : C → Refusal → Type 0) (x r : Refusal) → x ≡ r → new ≡ old ++ (conn, true) ∷ [] → P conn r → Closes old new (λ c. P c x)
+closes_as old new conn P x r is closed holds = (conn, closed, subst (P conn) (sym is) holds)
+
+-- ---- tables that are looked at are those of the files
+
+module _ (image : Image) (s : State) (opens : Opens s) (live : IsLive s) (finds : FindsIn image s) where
+  -- the database of files has one schema, which it lists
+  pub whole_is_sound : (n : Edition) (v : Vault) → IsWholeAs n image v → AreSoundAs n s.now v
+  whole_is_sound n v whole =
+      let trees = s.committed.trees in
+      let it : AreTreesAs n v trees × IsDatabase (record { schema = schema_of n; trees = trees }) =
+          subst (λ t. AreTreesAs n v t × IsDatabase (record { schema = schema_of n; trees = t })) (sym (finds.holds whole.0 whole.1.0)) whole.1.1 in
+      let schema = lists_once (trees catalog_tree) s.committed.schema (schema_of n) (live opens.is_open).1.lists it.1.lists in
+      subst (λ (db : Database). AreSoundAs n db v) (sym opens.clean) (subst (λ t. AreSoundAs n (record { schema = t; trees = trees }) v) (sym schema) it.0)
+
+module _ (image : Image) (old new : State) (r : Refusal) (opened : HasCleanDisk old → Opens old × IsLive old) (finds : HasCleanDisk old → FindsIn image old) where
+  pub refused_over : Survives old new (λ _. ⊥) → (old.in_transaction ≡ false → IsHealthy new → r ≢ Device) → (HasCleanDisk new → (t : Table) → r ≡ Damaged t → (v : Vault) → ¬ AreSound old.now v) → IsRefusedOver image new r
+  refused_over survives healthy damaged = record {
+    healthy = λ works. healthy (opened (was_clean old new _ survives works.clean)).0.autocommit works;
+    damaged = λ clean t is v whole.
+    let before = was_clean old new _ survives clean in
+    let it = opened before in
+    damaged clean t is v (whole_is_sound image old it.0 it.1 (finds before) newest v whole);
+  }
+
+  -- the same of tables of an earlier edition
+  earlier_is_sound : HasCleanDisk old → (v : Vault) → IsWholeAs First image v ⊎ IsWholeAs Second image v → AreSoundEarlier old.now v
+  earlier_is_sound clean v (inl whole) = inl (whole_is_sound image old (opened clean).0 (opened clean).1 (finds clean) First v whole)
+  earlier_is_sound clean v (inr whole) = inr (whole_is_sound image old (opened clean).0 (opened clean).1 (finds clean) Second v whole)
+
+  pub uncopied_from : (HasCleanDisk new → HasCleanDisk old) → ((v : Vault) → AreSoundEarlier old.now v → HasCleanDisk new → (t : Table) → r ≢ Damaged t) → IsUncopiedFrom image new r
+  uncopied_from clean undamaged = record {
+    damaged = λ is_clean t is v whole. undamaged v (earlier_is_sound (clean is_clean) v whole) is_clean t is;
+  }
+
+-- a store that is refused as taken has something in it still
+pub unmade_over : (old new : State) (r : Refusal) (Commits : Trees → Type 0) → (HasCleanDisk old → Opens old × IsLive old) → Survives old new Commits → (r ≡ NameTaken → old.now.schema ≢ no_schema)
+    → (old.in_transaction ≡ false → HasCleanDisk new → HasTablesOf old new) → IsUnmadeOver new r
+unmade_over old new r Commits opened survives taken tables = record {
+  taken = λ clean is_open is none.
+  let it = (opened (was_clean old new Commits survives clean)).0 in
+  let same = (tables it.autocommit clean it.is_open is_open).0 in
+  taken is (subst (λ (db : Database). db.schema ≡ no_schema) same none);
+}

@@ -1,0 +1,43 @@
+-- Why no vault was given out, and what is known of the connection that was let go of then.
+use Rattle.std.specs.Prelude.{◌≡◌, ◌≢◌, ◌⊎◌, Bool, List, IsTrue}
+use Rattle.sqlite_wal.specs.Recovery.{Image}
+use Rattle.sqlite.specs.State.{State, HasCleanDisk}
+use Rattle.vault_base.specs.declared.refusal.Refusal.{Refusal}
+use Rattle.vault_base.specs.declared.refusal.Refusal.TheVariants.{Damaged, Device, NameTaken}
+use Rattle.vault_base.specs.declared.refusal.Table.{Table}
+use Rattle.vault_core_model.specs.Vault.{Vault}
+use Rattle.vault_audit.specs.Health.{IsHealthy}
+use Rattle.vault_audit.specs.Whole.{IsTold}
+use Rattle.vault_audit_model.specs.declared.schema.Edition.TheVariants.{First, Second}
+use Rattle.vault_audit_model.specs.Editions.{newest}
+use Rattle.vault_audit_model.specs.Tables.{no_schema}
+use Rattle.vault_store.specs.Create.{IsFault}
+use Rattle.vaultctl_machine.specs.Closings.{Closes}
+use Rattle.vaultctl_machine.specs.Files.{IsWholeAs}
+
+-- a making is refused where something is there already, or for want of memory, or by the device
+abbrev pub IsUnmade : Refusal → Type 0
+IsUnmade r = r ≢ NameTaken → IsFault r
+
+-- a copying also where a table is damaged
+abbrev pub IsUncopied : Refusal → Type 0
+IsUncopied r = r ≢ NameTaken → IsTold r
+
+-- no connection was let go of, or one was, of which this holds
+abbrev pub LetsGo : {C : Type 0} → List (C × Bool) → List (C × Bool) → (C → Type 0) → Type 0
+LetsGo old new P = (new ≡ old) ⊎ Closes old new P
+
+-- the tables of a connection to files that held this were looked at, and refused
+pub record IsRefusedOver (image : Image) (s : State) (r : Refusal) : Type 0 where
+  -- a store that works is never reported as one that failed
+  pub healthy : IsHealthy s → r ≢ Device
+  -- nor are files that hold a sound vault reported as damaged
+  pub damaged : HasCleanDisk s → (t : Table) → r ≡ Damaged t → (v : Vault) → ¬ IsWholeAs newest image v
+
+-- a vault of an earlier edition was looked at in files that held this, and wasn't copied: it isn't reported as damaged where it is sound
+pub record IsUncopiedFrom (image : Image) (s : State) (r : Refusal) : Type 0 where
+  pub damaged : HasCleanDisk s → (t : Table) → r ≡ Damaged t → (v : Vault) → ¬ (IsWholeAs First image v ⊎ IsWholeAs Second image v)
+
+-- no vault was made in the store of a connection: where something is there already, it has a table, an index or a view
+pub record IsUnmadeOver (s : State) (r : Refusal) : Type 0 where
+  pub taken : HasCleanDisk s → IsTrue s.is_open → r ≡ NameTaken → s.now.schema ≢ no_schema

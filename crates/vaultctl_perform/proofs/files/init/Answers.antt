@@ -1,6 +1,0 @@
-use Rattle.std.proofs.Common.{sym, ◌∙◌}
-use Rattle.vaultctl_perform.proofs.StatusLemmas.{made_at_zero}
-use Rattle.vaultctl_perform.proofs.files.init.Goals as goal
-
-pub returns-clause-given : goal.returns-clause-given
-returns-clause-given g c = λ z. made_at_zero _ c.make-made.result (sym c.tell_made.ensures ∙ z) c.make-made.ensures

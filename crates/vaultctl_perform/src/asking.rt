@@ -1,0 +1,113 @@
+//! Jobs that ask one thing of the vault in a file: their values, then the file, then what is asked.
+ghost use Rattle.std.specs.Prelude.{◌≡◌, ◌≢◌, ℕ, List, Option, IsOkAnd, Result, Ok, Err};
+ghost use Rattle.sqlite_wal.specs.Files.{image_at};
+ghost use Rattle.vault_base.specs.declared.refusal.Refusal.{Refusal as AnyRefusal};
+ghost use Rattle.vault_values.specs.Fault.{Gives};
+ghost use Rattle.vaultctl_commands.specs.Printed.{TellsReply};
+ghost use Rattle.vaultctl_commands.specs.Told.{TellsIntake};
+ghost use Rattle.vaultctl_commands.specs.declared.asked.Asked.{Asked as AskedOf};
+ghost use Rattle.vaultctl_commands.specs.declared.asked.AskedIntake.{AskedIntake as IntakeOf};
+ghost use Rattle.vaultctl_machine.specs.Closings.{Carries};
+ghost use Rattle.vaultctl_machine.specs.Given.{with_opened};
+ghost use Rattle.vaultctl_work.specs.Done.{IsIntakeDone, IsStepDone};
+ghost use Rattle.vaultctl_work.specs.Scene.{scene};
+
+use crate::telling::{tell_fault, tell_value};
+use crate::vaults::in_vault;
+use sqlite::Start;
+use std::io::{self, Write};
+use vault_values::fault::LineFault;
+use vaultctl_commands::asked::Asked;
+use vaultctl_commands::fault::JobFault;
+use vaultctl_commands::outcome::Outcome;
+use vaultctl_job::job::Job;
+use vaultctl_machine::vaults::FileMachine;
+use vaultctl_remedies::slips::first_slip;
+use vaultctl_work::intake::Intake;
+use vaultctl_work::work::Work;
+
+/// A job that asks one thing of a vault: the name of its subcommand, the vault's file, and all of its words.
+#[derive(Clone, Copy)]
+pub struct Call<'a> {
+    pub subcommand: &'a str,
+    pub file: &'a str,
+    pub job: &'a Job,
+}
+
+/// Carries out what a job's words ask of the vault in a file, where their values are such; else prints the refusal of the
+/// first that isn't, and looks for no file.
+pub fn ask_read<A: Start, B: Start, T: Work, W: Write, E: Write>(
+    machine: &mut FileMachine<'_, A, B>,
+    call: Call<'_>,
+    start: A,
+    asked: &Result<T, LineFault>,
+    out: &mut W,
+    err: &mut E,
+) -> u8
+    ensures values { (said : Result T AnyRefusal) (r : AnyRefusal) → Gives (λ x. x) asked.now said → said ≡ Err r → (machine.new ≡ machine.old) × (result ≡ 1) }
+    ensures told { result ≡ 0 → T.tells (Ok Outcome.Done) (W.contents out.old) (W.contents out.new) }
+    ensures given { result ≡ 0 → machine.new.given ≡ with_opened machine.old.given }
+    ensures done { result ≡ 0 → IsOkAnd asked.now (λ work. Carries (image_at A.Start) machine.old.closed.items machine.new.closed.items
+        (λ v w. (from : Option (List ℕ)) × (to : Option (List ℕ)) × T.does work (scene v from (W.contents out.old)) (scene w to (W.contents out.new)) (Ok Outcome.Done))) }
+    ensures status { result ≢ 2 }
+{
+    let alloc = machine.runtime().alloc();
+    match asked {
+        Ok(asked) => in_vault(
+            machine,
+            call.subcommand,
+            call.file,
+            start,
+            asked,
+            &mut io::empty(),
+            out,
+            err,
+        ),
+        Err(LineFault::Memory) => tell_fault(err, call.subcommand, JobFault::Memory),
+        Err(LineFault::Refused(refusal)) => {
+            let slip = first_slip(alloc, call.job).unwrap_or(None);
+            tell_value(alloc, call.subcommand, *refusal, slip, out, err)
+        }
+    }
+}
+
+/// The same of a command, which is dropped.
+pub fn ask<A: Start, B: Start, W: Write, E: Write>(
+    machine: &mut FileMachine<'_, A, B>,
+    call: Call<'_>,
+    start: A,
+    asked: Result<Asked, LineFault>,
+    out: &mut W,
+    err: &mut E,
+) -> u8
+    ensures values { (said : Result AskedOf AnyRefusal) (r : AnyRefusal) → Gives (λ x. x) asked said → said ≡ Err r → (machine.new ≡ machine.old) × (result ≡ 1) }
+    // Status 0 says that it was done, and that the reply which says so was printed.
+    ensures told { result ≡ 0 → TellsReply Outcome.Done (W.contents out.old) (W.contents out.new) }
+    ensures given { result ≡ 0 → machine.new.given ≡ with_opened machine.old.given }
+    ensures done { (said : Result AskedOf AnyRefusal) → Gives (λ x. x) asked said → result ≡ 0
+        → IsOkAnd said (λ it. Carries (image_at A.Start) machine.old.closed.items machine.new.closed.items (λ v w. IsStepDone it Outcome.Done v w (W.contents out.old) (W.contents out.new))) }
+    ensures status { result ≢ 2 }
+{
+    ask_read(machine, call, start, &asked, out, err)
+}
+
+/// Takes in files of a folder by a list, where the values of the job's words are such; else prints the refusal
+/// of the first that isn't, and looks for no file.
+pub fn take_in<A: Start, B: Start, W: Write, E: Write>(
+    machine: &mut FileMachine<'_, A, B>,
+    call: Call<'_>,
+    start: A,
+    asked: Result<Intake<'_>, LineFault>,
+    out: &mut W,
+    err: &mut E,
+) -> u8
+    ensures values { (said : Result IntakeOf AnyRefusal) (r : AnyRefusal) → Gives (λ i. i.asked) asked.entry said → said ≡ Err r → (machine.new ≡ machine.old) × (result ≡ 1) }
+    // Status 0 says that each row was taken in, and that the lines which say so were printed.
+    ensures told { result ≡ 0 → TellsIntake Outcome.Done (W.contents out.old) (W.contents out.new) }
+    ensures given { result ≡ 0 → machine.new.given ≡ with_opened machine.old.given }
+    ensures done { (said : Result IntakeOf AnyRefusal) → Gives (λ i. i.asked) asked.entry said → result ≡ 0
+        → IsOkAnd said (λ it. Carries (image_at A.Start) machine.old.closed.items machine.new.closed.items (λ v w. IsIntakeDone it Outcome.Done v w (W.contents out.old) (W.contents out.new))) }
+    ensures status { result ≢ 2 }
+{
+    ask_read(machine, call, start, &asked, out, err)
+}

@@ -1,0 +1,65 @@
+//! A new vault in a file.
+ghost use Rattle.std.specs.Prelude.{◌≡◌, ◌≢◌, OnOk};
+ghost use Rattle.sqlite.specs.Files.{file_state, over_files};
+ghost use Rattle.sqlite.specs.State.{HasCleanDisk};
+ghost use Rattle.vault_core_model.specs.Vault.{opening};
+ghost use Rattle.vault_store.specs.Kept.{StandsFor};
+ghost use Rattle.vault_store.specs.VaultOf.{vault_of};
+ghost use Rattle.vaultctl_machine.specs.Closings.{Closes};
+ghost use Rattle.vaultctl_machine.specs.Given.{with_made};
+ghost use Rattle.vaultctl_perform.specs.Status as spec;
+
+use crate::telling::tell_cause;
+use sqlite::Start;
+use std::io::Write;
+use vaultctl_machine::unopened::Unopened;
+use vaultctl_machine::vaults::{FileMachine, FileVault};
+
+/// Closes a vault that was made just now.
+fn close_new<A: Start, B: Start>(machine: &mut FileMachine<'_, A, B>, vault: FileVault<A>)
+    requires new { HasCleanDisk (file_state vault.conn) → vault_of over_files vault ≡ opening }
+    ensures given { machine.new.given ≡ machine.old.given }
+    ensures done { Closes machine.old.closed.items machine.new.closed.items (λ conn. HasCleanDisk (file_state conn) → ∥ StandsFor (file_state conn) opening ∥₁) }
+{
+    drop(machine.close(vault));
+}
+
+/// Makes the vault in a file and closes it.
+fn make<A: Start, B: Start>(
+    machine: &mut FileMachine<'_, A, B>,
+    file: &str,
+    start: A,
+) -> Result<(), Unopened>
+    ensures given { OnOk result (machine.new.given ≡ with_made machine.old.given) }
+    ensures done { OnOk result (Closes machine.old.closed.items machine.new.closed.items (λ conn. HasCleanDisk (file_state conn) → ∥ StandsFor (file_state conn) opening ∥₁)) }
+{
+    let vault = machine.make(file, start)?;
+    close_new(machine, vault);
+    Ok(())
+}
+
+/// Tells why a vault wasn't made, and answers the status.
+fn tell_made<E: Write>(err: &mut E, made: Result<(), Unopened>) -> u8
+    ensures { result ≡ spec.made_status made }
+{
+    match made {
+        Ok(()) => 0,
+        Err(cause) => tell_cause(err, "init", cause),
+    }
+}
+
+/// Makes a new vault in a file, and prints nothing.
+pub fn init<A: Start, B: Start, E: Write>(
+    machine: &mut FileMachine<'_, A, B>,
+    file: &str,
+    start: A,
+    err: &mut E,
+) -> u8
+    ensures status { result ≢ 2 }
+    // Status 0 says that a new vault was made and closed, and no other opened or copied.
+    ensures given { result ≡ 0 → machine.new.given ≡ with_made machine.old.given }
+    ensures done { result ≡ 0 → Closes machine.old.closed.items machine.new.closed.items (λ conn. HasCleanDisk (file_state conn) → ∥ StandsFor (file_state conn) opening ∥₁) }
+{
+    let made = make(machine, file, start);
+    tell_made(err, made)
+}

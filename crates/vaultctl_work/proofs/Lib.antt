@@ -1,0 +1,4 @@
+pub mod AskedLemmas
+pub mod HonestLemmas
+pub mod IntakeLemmas
+mod OutcomeLemmas

@@ -1,0 +1,12 @@
+use Rattle.std.proofs.lemmas.Result.{IfOk-weaker}
+use Rattle.vaultctl_work.proofs.AskedLemmas.{done_plainly}
+use Rattle.vaultctl_work.proofs.asked.AskedWork.carry_out.Goals as goal
+
+pub returns-clause-told : goal.returns-clause-told
+returns-clause-told g c = (c.carry_out_asked.ensures.told, c.carry_out_asked.ensures.reader, c.carry_out_asked.ensures.device)
+
+pub returns-clause-done : goal.returns-clause-done
+returns-clause-done g c = λ h. (
+  c.carry_out_asked.ensures.honest h,
+  IfOk-weaker c.carry_out_asked.result _ _ (λ told d. done_plainly _ c.args.self.now _ _ told _ _ c.args.self.now.at d) (c.carry_out_asked.ensures.done h),
+)

@@ -1,0 +1,5 @@
+pub mod Asked
+pub mod Done
+pub mod Outcomes
+pub mod Scene
+pub mod Told

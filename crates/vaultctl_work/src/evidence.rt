@@ -1,0 +1,81 @@
+//! What a vault shows to somebody who doesn't trust the machine: its events, a seal over them, and whether it is
+//! lawful.
+ghost use Rattle.std.specs.Prelude.{◌≡◌, ⊤, IfOk};
+ghost use Rattle.vaultctl_work.specs.Done.{IsJudgedDone, IsSealDone};
+ghost use Rattle.vaultctl_work.specs.Told.{TellsSealed, TellsJudged};
+
+use crate::terminal::{terminal, terminal_beside};
+use crate::work::Work;
+use std::io::{Read, Stderr, Write};
+use vault_core_model::keeper::Keeper;
+use vaultctl_commands::asked::{AskedEvents, AskedSeal};
+use vaultctl_commands::evidence::{tell_events, tell_lawful, tell_seal};
+use vaultctl_commands::fault::JobFault;
+use vaultctl_commands::outcome::Outcome;
+use vaultctl_commands::told_writer::ToldWriter;
+use vaultctl_job::job::LawfulJob;
+
+impl Work for AskedEvents {
+    ghost tells = { λ outcome before after. ⊤ };
+
+    ghost does = { λ asked old new result. new.vault ≡ old.vault };
+
+    fn terminal(&self, _rt: &HostRuntime) -> Option<Stderr> {
+        None
+    }
+
+    /// On a terminal it tells how many rows it has written, unless these are shown there.
+    fn carry_out<K: Keeper, R: Read, W: Write, E: Write>(
+        &self,
+        rt: &HostRuntime,
+        keeper: &mut K,
+        _reader: &mut R,
+        out: &mut W,
+        _err: &mut E,
+    ) -> Result<Outcome, JobFault> {
+        let mut told = ToldWriter::new(out, terminal_beside(rt));
+        tell_events(rt.alloc(), keeper, self, &mut told)
+    }
+}
+
+impl Work for AskedSeal {
+    ghost tells = { TellsSealed };
+
+    ghost does = { λ asked old new result. IfOk result (λ told. IsSealDone asked told old.vault new.vault old.output new.output) };
+
+    fn terminal(&self, rt: &HostRuntime) -> Option<Stderr> {
+        terminal(rt)
+    }
+
+    fn carry_out<K: Keeper, R: Read, W: Write, E: Write>(
+        &self,
+        rt: &HostRuntime,
+        keeper: &mut K,
+        _reader: &mut R,
+        out: &mut W,
+        err: &mut E,
+    ) -> Result<Outcome, JobFault> {
+        tell_seal(rt.alloc(), keeper, self, out, err)
+    }
+}
+
+impl Work for LawfulJob {
+    ghost tells = { TellsJudged };
+
+    ghost does = { λ job old new result. IfOk result (λ told. IsJudgedDone told old.vault new.vault old.output new.output) };
+
+    fn terminal(&self, rt: &HostRuntime) -> Option<Stderr> {
+        terminal(rt)
+    }
+
+    fn carry_out<K: Keeper, R: Read, W: Write, E: Write>(
+        &self,
+        rt: &HostRuntime,
+        keeper: &mut K,
+        _reader: &mut R,
+        out: &mut W,
+        err: &mut E,
+    ) -> Result<Outcome, JobFault> {
+        tell_lawful(rt.alloc(), keeper, out, err)
+    }
+}

@@ -1,0 +1,10 @@
+//! What a job does with a vault, over any keeper: a command, an intake, a script, requests, and what is printed of a vault.
+#![tactic(auto)]
+
+pub mod asked;
+pub mod evidence;
+pub mod intake;
+pub mod jobs;
+pub mod saying;
+pub mod terminal;
+pub mod work;
