@@ -10,6 +10,7 @@ ghost use Rattle.vault_core_model.specs.declared.reply.Answer.{Answer as AnyAnsw
 ghost use Rattle.vault_http.specs.Left.{AtMostOne, LeavesNoLess};
 ghost use Rattle.vault_http.specs.ReplyLine.{reply_text};
 ghost use Rattle.vault_io.specs.Begins.{Begins};
+ghost use Rattle.vaultctl_serve_lines.specs.Closing as spec;
 ghost use Rattle.vaultctl_serve_lines.specs.Closing.{AnswersOne, closing, ender_of, Ending, heard_of, LeavesOne, LineAnswered, LineLeft, MayEnd};
 
 use crate::doors::Heard;
@@ -50,13 +51,29 @@ fn asked(alloc: Global, heard: &Heard, moment: &Option<Moment>) -> Result<Line, 
     stamp_line(alloc, line, *moment)
 }
 
+fn is_malformed(refusal: Refusal) -> bool
+    ensures { result ≡ spec.is_malformed refusal }
+{
+    match refusal {
+        Refusal::MalformedBody => true,
+        _ => false,
+    }
+}
+
 /// The caller by whom a line asks for the end, which is malformed as a line of a command. The error is want of memory.
 fn ender_in(alloc: Global, heard: &Heard, asked: &Line) -> Result<Option<CallerName>, AllocError>
     ensures { IfOk result (λ found. found ≡ ender_of asked.now heard.now.bytes.items) }
 {
     match asked {
-        Line::Refused(Refusal::MalformedBody) => closer(alloc, heard.bytes.as_slice()),
-        _ => Ok(None),
+        Line::Refused(refusal) => {
+            if is_malformed(*refusal) {
+                closer(alloc, heard.bytes.as_slice())
+            } else {
+                Ok(None)
+            }
+        }
+        Line::Skip => Ok(None),
+        Line::Command(_) => Ok(None),
     }
 }
 
