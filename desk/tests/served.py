@@ -2,11 +2,13 @@
 
 from __future__ import annotations
 
+import contextlib
 import os
 import socket
 import subprocess
 import sys
 import threading
+import unittest
 from pathlib import Path
 
 from tests.machine import MachineTest
@@ -30,6 +32,30 @@ def _has_door() -> bool:
 HAS_DOOR = _has_door()
 
 
+def started(test: unittest.TestCase, file: Path, where: str) -> subprocess.Popen[str]:
+    """A server of a vault that takes lines there, and does so by now; it ends with the test."""
+    words = [PROGRAM] if HAS_DOOR else [sys.executable, str(EMULATOR)]
+    words += ["serve", str(file), str(_free_port()), "--lines", where]
+    environment = {**os.environ, "VAULTCTL": PROGRAM}
+    server = subprocess.Popen(words, stderr=subprocess.PIPE, encoding="utf-8", env=environment)
+    assert server.stderr
+    test.addCleanup(server.stderr.close)
+    test.addCleanup(server.wait)
+    test.addCleanup(server.kill)
+    line = server.stderr.readline()
+    test.assertIn("lines at", line)
+    threading.Thread(target=_read_on, args=(server,), daemon=True).start()
+    return server
+
+
+def _read_on(server: subprocess.Popen[str]) -> None:
+    """Reads what a server says, so that it never waits for that."""
+    assert server.stderr
+    with contextlib.suppress(ValueError):  # the test is over
+        while server.stderr.readline():
+            pass
+
+
 class ServedTest(MachineTest):
     """The vault `records`, which is served from `serve` on."""
 
@@ -42,30 +68,9 @@ class ServedTest(MachineTest):
         place = str(where or self.where)
         if not place.isdecimal():
             Path(place).parent.mkdir(mode=0o750, parents=True, exist_ok=True)
-        port = _free_port()
-        self.configure(PORT=str(port))
-        words = [PROGRAM] if HAS_DOOR else [sys.executable, str(EMULATOR)]
-        words += ["serve", str(self.file), str(port), "--lines", place]
-        environment = {**os.environ, "VAULTCTL": PROGRAM}
-        server = subprocess.Popen(words, stderr=subprocess.PIPE, encoding="utf-8", env=environment)
-        assert server.stderr
-        self.addCleanup(server.stderr.close)
-        self.addCleanup(server.wait)
-        self.addCleanup(server.kill)
-        line = server.stderr.readline()
-        self.assertIn("lines at", line)
-        threading.Thread(target=self._read_on, args=(server,), daemon=True).start()
+        server = started(self, self.file, place)
         self.set_state("active")
         return server
-
-    def _read_on(self, server: subprocess.Popen[str]) -> None:
-        """Reads what a server says, so that it never waits for that."""
-        assert server.stderr
-        try:
-            while server.stderr.readline():
-                pass
-        except ValueError:
-            pass  # the test is over
 
     def end(self, server: subprocess.Popen[str]) -> None:
         """Ends the server by its door."""

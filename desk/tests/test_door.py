@@ -23,7 +23,7 @@ from vaultdesk.engine import Engine
 class ByTheDoor(ServedTest):
     """Without --at all along: a server's lines have the clock."""
 
-    def asked(self, *words: str) -> Done:
+    def tell(self, *words: str) -> Done:
         return self.desk(*words, at=None)
 
     def json(self, *words: str) -> object:
@@ -41,12 +41,12 @@ class ByTheDoor(ServedTest):
         admitted = time.strptime(listed["admitted"], "%Y-%m-%dT%H:%M:%SZ")
         self.assertLessEqual(abs(before - (time.mktime(admitted) - time.timezone)), 60)
         self.done("hold", "docs", "Zürich/1", "--case", "Miller 17", at=None)
-        done = self.asked("delete", "docs", "Zürich/1", "--version", "1", "--yes")
+        done = self.tell("delete", "docs", "Zürich/1", "--version", "1", "--yes")
         self.assertEqual(done.status, 1)
         self.assertIn("legal-hold", done.out)
         self.done("release", "--case", "Miller 17", at=None)
         self.done("delete", "docs", "Zürich/1", "--version", "1", "--yes", at=None)
-        self.assertEqual(self.asked("get", "docs", "Zürich/1").status, 1)
+        self.assertEqual(self.tell("get", "docs", "Zürich/1").status, 1)
 
     def test_many_pages_of_a_list(self) -> None:
         self.lines(*({"do": "put", "bucket": "docs", "key": f"{it:04}", "text": "x"} for it in range(1_002)))
@@ -64,10 +64,10 @@ class ByTheDoor(ServedTest):
 
     def test_what_is_refused_is_refused(self) -> None:
         self.serve()
-        done = self.asked("get", "docs", "none")
+        done = self.tell("get", "docs", "none")
         self.assertEqual((done.status, done.out), (1, ""))
         self.assertIn("NoSuchKey", done.err)
-        self.assertIn("unknown-caller", self.asked("ls", "docs", "--as", "eve").err)
+        self.assertIn("unknown-caller", self.tell("ls", "docs", "--as", "eve").err)
 
     def test_no_change_has_a_moment(self) -> None:
         self.serve()
@@ -113,21 +113,21 @@ class ByTheDoor(ServedTest):
         self.lines({"do": "put", "bucket": "docs", "key": "a", "text": "first"})
         self.serve()
         self.done("rules", "add", "docs", *rule, at=None)
-        done = self.asked("expire", "records", "--yes")
+        done = self.tell("expire", "records", "--yes")
         self.assertEqual(done.status, 0, done.err)
         self.assertIn("marked", done.out)
         self.assertIn("docs: 1 marked, 0 removed", done.err)
-        self.assertIn("NoSuchKey", self.asked("get", "docs", "a").err)
+        self.assertIn("NoSuchKey", self.tell("get", "docs", "a").err)
 
     def test_the_office_itself(self) -> None:
         self.serve()
         self.done("departments", "--add", "court", "--as", "registrar", at=None)
-        done = self.asked("callers", "--close", "registrar", "--as", "registrar", "--yes")
+        done = self.tell("callers", "--close", "registrar", "--as", "registrar", "--yes")
         self.assertIn("nobody could add another", done.err)
         rights = ("--rights", "admin", "--as", "registrar")
         self.done("callers", "--add", "eve", *rights, at=None)
         self.done("callers", "--close", "registrar", "--as", "registrar", "--yes", at=None)
-        self.assertIn("unknown-caller", self.asked("departments", "--add", "more", "--as", "registrar").err)
+        self.assertIn("unknown-caller", self.tell("departments", "--add", "more", "--as", "registrar").err)
 
 
 class Deliveries(ServedTest):
