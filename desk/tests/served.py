@@ -3,18 +3,14 @@
 from __future__ import annotations
 
 import contextlib
-import os
 import socket
 import subprocess
-import sys
 import threading
 import unittest
 from pathlib import Path
 
 from tests.machine import MachineTest
 from tests.office import PROGRAM
-
-EMULATOR = Path(__file__).with_name("lines_emulator.py")
 
 
 def _free_port() -> int:
@@ -23,21 +19,10 @@ def _free_port() -> int:
         return int(trial.getsockname()[1])
 
 
-def _has_door() -> bool:
-    """Whether the program serves lines."""
-    done = subprocess.run([PROGRAM, "serve", "--help"], capture_output=True, text=True, check=False)
-    return "--lines" in done.stdout
-
-
-HAS_DOOR = _has_door()
-
-
 def started(test: unittest.TestCase, file: Path, where: str) -> subprocess.Popen[str]:
     """A server of a vault that takes lines there, and does so by now; it ends with the test."""
-    words = [PROGRAM] if HAS_DOOR else [sys.executable, str(EMULATOR)]
-    words += ["serve", str(file), str(_free_port()), "--lines", where]
-    environment = {**os.environ, "VAULTCTL": PROGRAM}
-    server = subprocess.Popen(words, stderr=subprocess.PIPE, encoding="utf-8", env=environment)
+    words = [PROGRAM, "serve", str(file), str(_free_port()), "--lines", where]
+    server = subprocess.Popen(words, stderr=subprocess.PIPE, encoding="utf-8")
     assert server.stderr
     test.addCleanup(server.stderr.close)
     test.addCleanup(server.wait)

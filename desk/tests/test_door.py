@@ -23,7 +23,7 @@ from vaultdesk.engine import Engine
 class ByTheDoor(ServedTest):
     """Without --at all along: a server's lines have the clock."""
 
-    def tell(self, *words: str) -> Done:
+    def call(self, *words: str) -> Done:
         return self.desk(*words, at=None)
 
     def json(self, *words: str) -> object:
@@ -41,12 +41,12 @@ class ByTheDoor(ServedTest):
         admitted = time.strptime(listed["admitted"], "%Y-%m-%dT%H:%M:%SZ")
         self.assertLessEqual(abs(before - (time.mktime(admitted) - time.timezone)), 60)
         self.done("hold", "docs", "Zürich/1", "--case", "Miller 17", at=None)
-        done = self.tell("delete", "docs", "Zürich/1", "--version", "1", "--yes")
+        done = self.call("delete", "docs", "Zürich/1", "--version", "1", "--yes")
         self.assertEqual(done.status, 1)
         self.assertIn("legal-hold", done.out)
         self.done("release", "--case", "Miller 17", at=None)
         self.done("delete", "docs", "Zürich/1", "--version", "1", "--yes", at=None)
-        self.assertEqual(self.tell("get", "docs", "Zürich/1").status, 1)
+        self.assertEqual(self.call("get", "docs", "Zürich/1").status, 1)
 
     def test_many_pages_of_a_list(self) -> None:
         self.lines(*({"do": "put", "bucket": "docs", "key": f"{it:04}", "text": "x"} for it in range(1_002)))
@@ -64,10 +64,10 @@ class ByTheDoor(ServedTest):
 
     def test_what_is_refused_is_refused(self) -> None:
         self.serve()
-        done = self.tell("get", "docs", "none")
+        done = self.call("get", "docs", "none")
         self.assertEqual((done.status, done.out), (1, ""))
         self.assertIn("NoSuchKey", done.err)
-        self.assertIn("unknown-caller", self.tell("ls", "docs", "--as", "eve").err)
+        self.assertIn("unknown-caller", self.call("ls", "docs", "--as", "eve").err)
 
     def test_no_change_has_a_moment(self) -> None:
         self.serve()
@@ -113,21 +113,21 @@ class ByTheDoor(ServedTest):
         self.lines({"do": "put", "bucket": "docs", "key": "a", "text": "first"})
         self.serve()
         self.done("rules", "add", "docs", *rule, at=None)
-        done = self.tell("expire", "records", "--yes")
+        done = self.call("expire", "records", "--yes")
         self.assertEqual(done.status, 0, done.err)
         self.assertIn("marked", done.out)
         self.assertIn("docs: 1 marked, 0 removed", done.err)
-        self.assertIn("NoSuchKey", self.tell("get", "docs", "a").err)
+        self.assertIn("NoSuchKey", self.call("get", "docs", "a").err)
 
     def test_the_office_itself(self) -> None:
         self.serve()
         self.done("departments", "--add", "court", "--as", "registrar", at=None)
-        done = self.tell("callers", "--close", "registrar", "--as", "registrar", "--yes")
+        done = self.call("callers", "--close", "registrar", "--as", "registrar", "--yes")
         self.assertIn("nobody could add another", done.err)
         rights = ("--rights", "admin", "--as", "registrar")
         self.done("callers", "--add", "eve", *rights, at=None)
         self.done("callers", "--close", "registrar", "--as", "registrar", "--yes", at=None)
-        self.assertIn("unknown-caller", self.tell("departments", "--add", "more", "--as", "registrar").err)
+        self.assertIn("unknown-caller", self.call("departments", "--add", "more", "--as", "registrar").err)
 
 
 class Deliveries(ServedTest):
@@ -226,7 +226,7 @@ class Doors(ServedTest):
         server.wait()
         deadline = time.monotonic() + 60
         while snapshot.is_taken(self.file) and time.monotonic() < deadline:
-            time.sleep(0.05)  # the engine of an emulator ends by itself
+            time.sleep(0.05)
         self.assertTrue(self.where.exists())
         self.assertEqual(self.done("ls", "docs", at=None), "")
 
@@ -250,6 +250,7 @@ class Doors(ServedTest):
     def answered(self, answer: Callable[[socket.socket], None]) -> Done:
         """What is said of a server that does that with each connection."""
         where = self.folder / "false"
+        where.unlink(missing_ok=True)
         with socket.socket(socket.AF_UNIX) as listener:
             listener.bind(str(where))
             listener.listen()

@@ -72,11 +72,12 @@ class OfAVault(OfficeTest):
             while not stop.is_set():
                 self.put(f"{len(done):04}", b"x" * 20_000)
                 done.append(f"{len(done):04}")
+                stop.wait(0.02)
 
         writer = threading.Thread(target=write)
         writer.start()
         try:
-            for number in range(4):
+            for number in range(3):
                 before = list(done)
                 self.copy = self.folder / f"{number}.vault"
                 snapshot.copy(self.file, self.copy)
