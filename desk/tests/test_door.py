@@ -7,6 +7,7 @@ import os
 import shutil
 import socket
 import subprocess
+import tempfile
 import threading
 import time
 from collections.abc import Callable
@@ -18,6 +19,7 @@ from tests.served import ServedTest
 from vaultdesk import door, snapshot
 from vaultdesk.config import Desk
 from vaultdesk.engine import Engine
+from vaultdesk.owner import Owner
 
 
 class ByTheDoor(ServedTest):
@@ -142,7 +144,9 @@ class Deliveries(ServedTest):
         return self.desk("deliver", str(self.scans), "--bucket", "docs", "--batch", "b1", *words, at=None)
 
     def results(self, *words: str) -> list[str]:
-        return [it["result"] for it in json.loads(self.deliver("--json", *words).out)["rows"]]
+        done = self.deliver("--json", *words)
+        self.assertEqual(done.status, 0, done.err)
+        return [it["result"] for it in json.loads(done.out)["rows"]]
 
     def test_what_is_taken_in_by_lines_is_known_to_the_program_and_the_other_way_round(self) -> None:
         classes = self.written("classes.csv", b"class,years,mode\ndeed,10,GOVERNANCE\n")
@@ -292,6 +296,45 @@ class Doors(ServedTest):
         for it in clients:
             it.join()
         self.assertEqual(len(json.loads(self.done("ls", "docs", "--json", at=None))), 120)
+
+
+class DoorAlone(ServedTest):
+    """Who may come to the door, and may not read the vault's file."""
+
+    def setUp(self) -> None:
+        super().setUp()
+        place = Path(self.enterContext(tempfile.TemporaryDirectory()))
+        place.chmod(0o755)
+        self.where = place / "lines"
+
+    def as_nobody(self, *words: str) -> Done:
+        """A call of the desk by a user who owns nothing, in the folder where that one is."""
+        with tempfile.TemporaryFile("w+") as told:
+
+            def call() -> int:
+                os.chdir("/")
+                done = self.desk(*words, "--door", str(self.where), at=None)
+                json.dump([done.status, done.out, done.err], told)
+                told.flush()
+                return 0
+
+            Owner(65_534, 65_534).carry_out(call)
+            told.seek(0)
+            return Done(*json.load(told))
+
+    def test_who_may_only_come_to_the_door_is_told_what_wants_the_file(self) -> None:
+        self.lines({"do": "put", "bucket": "docs", "key": "a", "text": "hello"})
+        self.serve(self.where)
+        self.where.chmod(0o666)
+        self.assertEqual(self.as_nobody("get", "docs", "a"), Done(0, "hello", ""))
+        self.assertEqual(self.as_nobody("hold", "docs", "a").status, 0)
+        for words, said in (
+            (("find", "a"), "ask as the vault's owner, or of a copy (--vault COPY)"),
+            (("release", "docs", "a"), "ask as who may read the file of cases"),
+        ):
+            done = self.as_nobody(*words)
+            self.assertEqual((done.status, done.out), (1, ""))
+            self.assertIn(said, done.err)
 
 
 class Close(ServedTest):
