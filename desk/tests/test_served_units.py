@@ -133,7 +133,7 @@ class Started(ServedTest):
 
 class Locks(ServedTest):
     def test_who_works_on_a_vault_is_for_root_to_lock(self) -> None:
-        self.done("night", "records", at=None)
+        self.done("night", "records", "--clock-is-right", at=None)
         folder = conf.run_folder()
         modes = {it.name: it.stat().st_mode & 0o777 for it in folder.iterdir()}
         self.assertEqual((folder.stat().st_mode & 0o777, modes["records.lock"]), (0o755, 0o600))

@@ -83,6 +83,7 @@ def started(words: argparse.Namespace) -> int:
         if _door_of(process) == served.door().where:
             while not _takes_lines(process, served.door().where):
                 time.sleep(0.2)
+            conf.make_run_folder()
             _let_in(Path(served.door().where), served.conf.lines_group())
     except FileNotFoundError as error:
         raise DeskError("the server ended before it listened") from error
