@@ -44,7 +44,7 @@ EDITS = [
     ("door", "raise EngineError(f\"{self.where}: the server gave no answer: {UNKNOWN}\")",
      "return b'{\"ok\":{\"entries\":[],\"more\":false}}'", DOORS + "test_no_answer_may_mean_that_it_was_done"),
     ("door", "while not found.endswith(b\"\\n\"):", "if True:", ASKED + "test_the_largest_content"),
-    ("door", "and not _has_ended(process):", "and False:", CLOSE + "test_it_waits_for_the_process"),
+    ("door", "and not _has_ended(process, self.patience):", "and False:", CLOSE + "test_it_waits_for_the_process"),
     ("closing", "    if \"error\" in reply:\n", "    if False:\n", CLOSE + "test_who_has_no_right_to_it_ends_nothing"),
     ("closing", "    if door is None:\n", "    if False:\n", CLOSE + "test_where_no_server_is_it_says_so"),
     # who may not read the file
