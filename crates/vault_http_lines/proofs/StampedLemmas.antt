@@ -123,14 +123,14 @@ pub command-is-spelled : (moment : Option ℕ) (bytes : List ℕ) (t : Timed) �
 command-is-spelled moment bytes t e =
     let asked = asks moment _ _ _ t (sym (is-read-as moment bytes) ∙ e) in
     let found = spelled (has_timeless_shape asked.value) (SpellsAt moment asked.value) (stamped_of moment asked.value) t (told-stamped moment asked.value) asked.reading in
-    (not-long (length bytes) asked.short, (asked.value, asked.is_value, found.0, found.1))
+    (not-long (length bytes) asked.short, (asked.value, asked.is_value, found.0, found.1.0, found.1.1, found.1.2))
 
 reads : (moment : Option ℕ) (bytes : List ℕ) (d : Data) → length bytes ≤ 4194304 → json_of (without_cr bytes) ≡ Some d → stamped_line_of moment bytes ≡ told (stamped_of moment d)
 reads moment bytes d short found = is-read-as moment bytes ∙ rw (is-short (length bytes) short, is-filled None (without_cr bytes) d found, found) refl
 
 pub spelled-is-command : (moment : Option ℕ) (bytes : List ℕ) (t : Timed) → IsStampedLineOf moment bytes t → stamped_line_of moment bytes ≡ line.Command t
 spelled-is-command moment bytes t h =
-    reads moment bytes h.1.0 h.0 h.1.1 ∙ ap (λ r. told r) (reads-stamped moment h.1.0 t h.1.2 h.1.3)
+    reads moment bytes h.1.0 h.0 h.1.1 ∙ ap (λ r. told r) (reads-stamped moment h.1.0 t h.1.2 (h.1.3, h.1.4, h.1.5))
 
 pub shape-is-kept : (moment : Option ℕ) (bytes : List ℕ) → stamped_line_of moment bytes ≡ line.Refused MalformedBody → HasTimelessShape bytes → ⊥
 shape-is-kept moment bytes e h = not-malformed (has_timeless_shape h.1.0) (SpellsAt moment h.1.0) (stamped_of moment h.1.0) (told-stamped moment h.1.0) h.1.2 (sym (reads moment bytes h.1.0 h.0 h.1.1) ∙ e)

@@ -89,8 +89,8 @@ fn stamped_command(alloc: Global, bytes: &[u8], moment: Option<Moment>) -> Resul
 /// with a CR in front of it or without.
 ///
 /// It has the members of the lines that `read_line` reads but for `at`; with one it has another shape, and is refused
-/// with `MalformedBody`. Of a value that isn't allowed the refusal of the first is told: a clock that shows no moment,
-/// `as`, and then the others.
+/// with `MalformedBody`. Then the first fault is the refusal: a clock that shows no moment, `as`, and then the other
+/// values. The error is want of memory.
 #[tactic(auto, unfolding(crate::specs::Stamped::stamped_line_of))]
 pub fn stamp_line(alloc: Global, line: &[u8], moment: Option<Moment>) -> Result<Line, AllocError>
     ensures { IfOk result (λ read. read ≡ spec.stamped_line_of moment line.now) }
@@ -132,7 +132,8 @@ fn closing_asker(alloc: Global, bytes: &[u8]) -> Result<CallerName, LineFault>
     asker(alloc, &value)
 }
 
-/// The caller who asks by a line for the end of what answers it, where it is that line: `as`, and `do` with `close`.
+/// The caller who asks by a line for the end of what answers it, where it is that line: `as`, and `do` with `close`. The
+/// error is want of memory.
 #[tactic(auto, unfolding(crate::specs::Stamped::closer_of))]
 pub fn closer(alloc: Global, line: &[u8]) -> Result<Option<CallerName>, AllocError>
     ensures { IfOk result (λ found. found ≡ spec.closer_of line.now) }

@@ -72,7 +72,11 @@ impl<'a> KnownDoors<'a> {
         }
     }
 
-    fn heard(&self, line: &str, is_ended: bool) -> Arrived<SlowPeer<'a, 'static>, SlowPeer<'a, 'static>> {
+    fn heard(
+        &self,
+        line: &str,
+        is_ended: bool,
+    ) -> Arrived<SlowPeer<'a, 'static>, SlowPeer<'a, 'static>> {
         match Vec::from_slice(self.alloc, line.as_bytes()) {
             Ok(bytes) => Arrived::Line(Heard { bytes, is_ended }, self.peer(&[])),
             Err(_) => Arrived::Nothing,

@@ -97,9 +97,12 @@ fn lines<'a>(alloc: Global) -> Arg<'a>
     ensures rule { rule_of result ≡ spec.lines }
     ensures local { result.global ≡ false }
 {
-    Arg::new(alloc, "lines").long("lines").value_name("WHERE").help(
-        "Takes script lines too, without \"at\": at the path of a\nUnix socket, or at a port of 127.0.0.1 if WHERE is digits",
-    )
+    Arg::new(alloc, "lines")
+        .long("lines")
+        .value_name("WHERE")
+        .help(
+            "Takes script lines too, without \"at\": at the path of a\nUnix socket, or at a port of 127.0.0.1 if WHERE is digits",
+        )
 }
 
 fn asker<'a>(alloc: Global) -> Arg<'a>

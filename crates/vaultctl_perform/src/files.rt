@@ -137,7 +137,10 @@ fn serve_both<K: Keeper, E: Write>(
     err: &mut E,
 ) -> Result<Outcome, JobFault> {
     let Some(lines) = LinePlace::read(place) else {
-        say(err, "--lines: digits are a port from 1 to 65535, and any other text is a path");
+        say(
+            err,
+            "--lines: digits are a port from 1 to 65535, and any other text is a path",
+        );
         return Err(JobFault::Device);
     };
     let places = Places {

@@ -4,7 +4,7 @@ use Rattle.vault_base.specs.declared.refusal.Refusal.{Refusal}
 use Rattle.vault_base.specs.declared.refusal.Refusal.TheVariants.{MalformedBody}
 use Rattle.vault_core_model.specs.Checks.{◌>>=◌, administrator}
 use Rattle.vault_core_model.specs.Halts.{is_device_reply}
-use Rattle.vault_core_model.specs.Leaves.{count_after}
+use Rattle.vault_core_model.specs.Leaves.{Standing, count_after}
 use Rattle.vault_core_model.specs.Step.{Answers}
 use Rattle.vault_core_model.specs.Vault.{Vault}
 use Rattle.vault_core_model.specs.declared.reply.Answer.{Answer}
@@ -17,6 +17,7 @@ use Rattle.vault_http.specs.Stamped.{clock_of, closer_of, stamped_line_of}
 use Rattle.vault_io.specs.Begins.{Begins}
 use Rattle.vaultctl_replay.specs.Lines.{is_cr}
 use Rattle.vaultctl_replay.specs.Runs.{Began, Finished}
+use Rattle.vaultctl_serve_lines.specs.declared.doors.Heard.{Heard}
 
 -- What is asked by a line at what the clock shows. A CR without an LF after it is a byte of the line, so a CR alone is no empty line.
 abbrev pub heard_of : Bool → Option ℕ → List ℕ → Line
@@ -42,26 +43,37 @@ MayEnd v moment bytes = (who : List ℕ) × (closer_of bytes ≡ Some who) × Is
 abbrev pub IsEnded : Vault → Type 0
 IsEnded v = (moment : Option ℕ) × (bytes : List ℕ) × MayEnd v moment bytes
 
--- Somebody asked for the end: the vault stays, and a beginning of the reply is written. Honest says that the device has returned what was written.
-abbrev pub Ending : Type 0 → Vault → ℕ → Option (List ℕ) → Option ℕ → List ℕ → Vault → ℕ → Option (List ℕ) → Type 0
-Ending Honest v n w moment who v' n' w' =
-    (v' ≡ v) × ((reply : Reply) × (Honest → Answers (closing v moment who) v reply v') × (n' ≡ count_after n (is_device_reply reply)) × Begins w w' (reply_text reply))
+-- ---- what is left of a keeper, and what is written, beside what was before
+
+-- Somebody asked for the end: the vault stays, and a beginning of the reply is written.
+abbrev pub Ending : Standing → Standing → Option (List ℕ) → Option (List ℕ) → Option ℕ → List ℕ → Type 0
+Ending old new w w' moment who =
+    (new.vault ≡ old.vault)
+    × ((reply : Reply) × (new.is_honest → Answers (closing old.vault moment who) old.vault reply new.vault) × (new.count ≡ count_after old.count (is_device_reply reply)) × Begins w w' (reply_text reply))
+
+-- what is asked for was carried out, and its reply written
+abbrev pub AnswersOne : Standing → Standing → Option (List ℕ) → Option (List ℕ) → Line → Type 0
+AnswersOne old new w w' asked = Finished new.is_honest old.vault old.count w (asked ∷ []) new.vault new.count w'
+
+-- it was carried out or not, and a beginning of its reply is written
+abbrev pub LeavesOne : Standing → Standing → Option (List ℕ) → Option (List ℕ) → Line → Type 0
+LeavesOne old new w w' asked = Began new.is_honest old.vault old.count w (asked ∷ []) new.vault new.count w'
 
 -- a line was answered: it asks for a command, or that caller asks for the end
-abbrev pub AnswersLine : Option (List ℕ) → Type 0 → Vault → ℕ → Option (List ℕ) → Option ℕ → Line → Vault → ℕ → Option (List ℕ) → Type 0
-AnswersLine None Honest v n w moment asked v' n' w' = Finished Honest v n w (asked ∷ []) v' n' w'
-AnswersLine (Some who) Honest v n w moment asked v' n' w' = Ending Honest v n w moment who v' n' w'
+abbrev pub Answered : Option (List ℕ) → Standing → Standing → Option (List ℕ) → Option (List ℕ) → Option ℕ → Line → Type 0
+Answered None old new w w' moment asked = AnswersOne old new w w' asked
+Answered (Some who) old new w w' moment asked = Ending old new w w' moment who
 
--- a line was answered or not, and a beginning of its reply is written
-abbrev pub LeavesLine : Option (List ℕ) → Type 0 → Vault → ℕ → Option (List ℕ) → Option ℕ → Line → Vault → ℕ → Option (List ℕ) → Type 0
-LeavesLine None Honest v n w moment asked v' n' w' = Began Honest v n w (asked ∷ []) v' n' w'
-LeavesLine (Some who) Honest v n w moment asked v' n' w' = Ending Honest v n w moment who v' n' w'
+-- the same of a line that was answered or not
+abbrev pub Left : Option (List ℕ) → Standing → Standing → Option (List ℕ) → Option (List ℕ) → Option ℕ → Line → Type 0
+Left None old new w w' moment asked = LeavesOne old new w w' asked
+Left (Some who) old new w w' moment asked = Ending old new w w' moment who
 
--- of a line as it was heard
-abbrev pub LineAnswered : Type 0 → Vault → ℕ → Option (List ℕ) → Bool → Option ℕ → List ℕ → Vault → ℕ → Option (List ℕ) → Type 0
-LineAnswered Honest v n w ended moment bytes v' n' w' =
-    AnswersLine (ender_of (heard_of ended moment bytes) bytes) Honest v n w moment (heard_of ended moment bytes) v' n' w'
+-- the same of a line as it was heard
+abbrev pub LineAnswered : Standing → Standing → Option (List ℕ) → Option (List ℕ) → Option ℕ → Heard → Type 0
+LineAnswered old new w w' moment heard =
+    let asked = heard_of heard.is_ended moment heard.bytes.items in Answered (ender_of asked heard.bytes.items) old new w w' moment asked
 
-abbrev pub LineLeft : Type 0 → Vault → ℕ → Option (List ℕ) → Bool → Option ℕ → List ℕ → Vault → ℕ → Option (List ℕ) → Type 0
-LineLeft Honest v n w ended moment bytes v' n' w' =
-    LeavesLine (ender_of (heard_of ended moment bytes) bytes) Honest v n w moment (heard_of ended moment bytes) v' n' w'
+abbrev pub LineLeft : Standing → Standing → Option (List ℕ) → Option (List ℕ) → Option ℕ → Heard → Type 0
+LineLeft old new w w' moment heard =
+    let asked = heard_of heard.is_ended moment heard.bytes.items in Left (ender_of asked heard.bytes.items) old new w w' moment asked

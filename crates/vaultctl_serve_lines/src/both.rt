@@ -1,6 +1,7 @@
 //! A server with two doors: requests at a port, and lines at another or at a path.
-ghost use Rattle.std.specs.Prelude.{◌≡◌, ◌≤◌, IfOk, OnErr, OnOk};
+ghost use Rattle.std.specs.Prelude.{◌≡◌, IfOk, OnErr, OnOk};
 ghost use Rattle.vault_core_model.specs.Step.{Reached};
+ghost use Rattle.vault_http.specs.Left.{LeavesNoLess};
 ghost use Rattle.vaultctl_serve.specs.Serving.{ReportsOnce, Stepped};
 ghost use Rattle.vaultctl_serve_lines.specs.Closing.{IsEnded};
 
@@ -77,11 +78,11 @@ pub fn serve_with_lines<
     ensures end { IfOk result (λ next. next ≡ Next.End → K.is_honest keeper.new → IsEnded (K.vault keeper.new)) }
     ensures err { OnErr result (K.vault keeper.new ≡ K.vault keeper.old) }
     // That it listens is reported first, and then, once, that the device failed where it did.
-    ensures reported { OnOk result ((between : T) × T.listens_at_both reporter.old places.file.now places.port between × ReportsOnce T.fails (K.count keeper.old) (K.count keeper.new) between reporter.new) }
+    ensures reported { OnOk result ((between : T) × T.listens_at_both reporter.old places.file.now places.port between
+        × ReportsOnce T.fails (K.count keeper.old) (K.count keeper.new) between reporter.new) }
     // Where it can't listen nothing is reported.
     ensures unreported { OnErr result (reporter.new ≡ reporter.old) }
-    ensures honest { K.is_honest keeper.new → K.is_honest keeper.old }
-    ensures counted { K.count keeper.old ≤ K.count keeper.new }
+    ensures leaves { LeavesNoLess K.Kept keeper.old keeper.new }
 {
     let (requests, lines) = match listen(rt, places) {
         Ok(listeners) => listeners,

@@ -25,7 +25,10 @@ impl<W: Write> DoorReporter for W {
         let here = Ipv4Addr::LOCALHOST;
         let _ = match lines {
             LinePlace::Port(second) => {
-                writeln!(self, "serving {file} at {here}:{port}, lines at {here}:{second}")
+                writeln!(
+                    self,
+                    "serving {file} at {here}:{port}, lines at {here}:{second}"
+                )
             }
             LinePlace::Path(path) => {
                 writeln!(self, "serving {file} at {here}:{port}, lines at {path}")

@@ -29,7 +29,7 @@ pub enum News {
     Line,
 }
 
-/// The time from its first byte in which the next byte of a line has to come, where so many bytes of it have come.
+/// The time from its first byte in which the next byte of a line has to come, where `come` bytes of it have come.
 pub fn allowed(come: usize) -> Duration
     ensures { as_nanos result ≡ line_allowed come }
 {

@@ -1,17 +1,16 @@
 //! One line of the second door: what it asks for is carried out at the clock's reading, and its reply is written.
-ghost use Rattle.std.specs.Prelude.{◌≡◌, ◌≤◌, [], ◌∷◌, IfOk, IsOk, OnErr, OnOk, Result as AnyResult, Ok};
+ghost use Rattle.std.specs.Prelude.{◌≡◌, IfOk, IsOk, OnErr, OnOk, Result as AnyResult, Ok};
 ghost use Rattle.vault_base.specs.Days.{moment_at};
 ghost use Rattle.vault_base.specs.declared.refusal.Refusal.{Refusal as AnyRefusal};
 ghost use Rattle.vault_core_model.specs.Halts.{AnswersAs, is_device, is_device_reply};
-ghost use Rattle.vault_core_model.specs.Leaves.{LeavesSame};
+ghost use Rattle.vault_core_model.specs.Leaves.{LeavesSame, standing};
 ghost use Rattle.vault_core_model.specs.Step.{Answers};
 ghost use Rattle.vault_core_model.specs.Vault.{Vault};
 ghost use Rattle.vault_core_model.specs.declared.reply.Answer.{Answer as AnyAnswer};
-ghost use Rattle.vault_http.specs.Left.{AtMostOne};
+ghost use Rattle.vault_http.specs.Left.{AtMostOne, LeavesNoLess};
 ghost use Rattle.vault_http.specs.ReplyLine.{reply_text};
 ghost use Rattle.vault_io.specs.Begins.{Begins};
-ghost use Rattle.vaultctl_replay.specs.Runs.{Began, Finished};
-ghost use Rattle.vaultctl_serve_lines.specs.Closing.{closing, ender_of, Ending, heard_of, LineAnswered, LineLeft, MayEnd};
+ghost use Rattle.vaultctl_serve_lines.specs.Closing.{AnswersOne, closing, ender_of, Ending, heard_of, LeavesOne, LineAnswered, LineLeft, MayEnd};
 
 use crate::doors::Heard;
 use std::alloc::{AllocError, Global};
@@ -93,11 +92,7 @@ fn reply_to(given: Result<Answer, Halt>) -> Reply
 }
 
 /// Writes the line of a reply. `Write` comes where the writer fails, and `Memory` where room was refused.
-fn write_reply<W: Write>(
-    alloc: Global,
-    writer: &mut W,
-    reply: &Reply,
-) -> Result<(), ReplayFault>
+fn write_reply<W: Write>(alloc: Global, writer: &mut W, reply: &Reply) -> Result<(), ReplayFault>
     ensures { Begins (W.contents writer.old) (W.contents writer.new) (reply_text reply.now) }
 {
     let Ok(line) = reply_line(alloc, reply) else {
@@ -118,11 +113,9 @@ fn answer_end<W: Write, K: Keeper>(
     moment: Option<Moment>,
     who: &CallerName,
 ) -> Result<Next, ReplayFault>
-    ensures replied { Ending (K.is_honest keeper.new) (K.vault keeper.old) (K.count keeper.old) (W.contents writer.old) moment who.now (K.vault keeper.new) (K.count keeper.new) (W.contents writer.new) }
+    ensures replied { Ending (standing K.Kept keeper.old) (standing K.Kept keeper.new) (W.contents writer.old) (W.contents writer.new) moment who.now }
     ensures end { result ≡ Ok Next.End → K.is_honest keeper.new → IsOk (closing (K.vault keeper.old) moment who.now) }
-    ensures same { K.vault keeper.new ≡ K.vault keeper.old }
-    ensures honest { K.is_honest keeper.new → K.is_honest keeper.old }
-    ensures counted { K.count keeper.old ≤ K.count keeper.new }
+    ensures leaves { LeavesNoLess K.Kept keeper.old keeper.new }
 {
     let checked = check_end(keeper, moment, who);
     let may_end = checked.is_ok();
@@ -145,11 +138,10 @@ fn answer_asked<W: Write, K: Keeper>(
     keeper: &mut K,
     asked: Line,
 ) -> Result<Next, ReplayFault>
-    ensures ok { OnOk result (Finished (K.is_honest keeper.new) (K.vault keeper.old) (K.count keeper.old) (W.contents writer.old) (asked ∷ []) (K.vault keeper.new) (K.count keeper.new) (W.contents writer.new)) }
-    ensures err { OnErr result (Began (K.is_honest keeper.new) (K.vault keeper.old) (K.count keeper.old) (W.contents writer.old) (asked ∷ []) (K.vault keeper.new) (K.count keeper.new) (W.contents writer.new)) }
+    ensures ok { OnOk result (AnswersOne (standing K.Kept keeper.old) (standing K.Kept keeper.new) (W.contents writer.old) (W.contents writer.new) asked) }
+    ensures err { OnErr result (LeavesOne (standing K.Kept keeper.old) (standing K.Kept keeper.new) (W.contents writer.old) (W.contents writer.new) asked) }
     ensures on { ¬ (result ≡ Ok Next.End) }
-    ensures honest { K.is_honest keeper.new → K.is_honest keeper.old }
-    ensures counted { K.count keeper.old ≤ K.count keeper.new }
+    ensures leaves { LeavesNoLess K.Kept keeper.old keeper.new }
 {
     match answer(alloc, keeper, writer, &mut Silent, asked) {
         Ok(()) => Ok(Next::On),
@@ -165,12 +157,11 @@ fn serve_line_at<W: Write, K: Keeper>(
     keeper: &mut K,
     moment: Option<Moment>,
 ) -> Result<Next, ReplayFault>
-    ensures ok { OnOk result (LineAnswered (K.is_honest keeper.new) (K.vault keeper.old) (K.count keeper.old) (W.contents writer.old) heard.now.is_ended moment heard.now.bytes.items (K.vault keeper.new) (K.count keeper.new) (W.contents writer.new)) }
-    ensures err { OnErr result (LineLeft (K.is_honest keeper.new) (K.vault keeper.old) (K.count keeper.old) (W.contents writer.old) heard.now.is_ended moment heard.now.bytes.items (K.vault keeper.new) (K.count keeper.new) (W.contents writer.new)) }
+    ensures ok { OnOk result (LineAnswered (standing K.Kept keeper.old) (standing K.Kept keeper.new) (W.contents writer.old) (W.contents writer.new) moment heard.now) }
+    ensures err { OnErr result (LineLeft (standing K.Kept keeper.old) (standing K.Kept keeper.new) (W.contents writer.old) (W.contents writer.new) moment heard.now) }
     ensures end { result ≡ Ok Next.End → K.is_honest keeper.new → MayEnd (K.vault keeper.new) moment heard.now.bytes.items }
     ensures once { K.is_honest keeper.new → AtMostOne moment (K.vault keeper.old) (K.vault keeper.new) }
-    ensures honest { K.is_honest keeper.new → K.is_honest keeper.old }
-    ensures counted { K.count keeper.old ≤ K.count keeper.new }
+    ensures leaves { LeavesNoLess K.Kept keeper.old keeper.new }
 {
     let Ok(asked) = asked(alloc, heard, moment) else {
         return Err(ReplayFault::Memory);
@@ -194,14 +185,13 @@ pub fn serve_line<W: Write, K: Keeper>(
     reading: i64,
 ) -> Result<Next, ReplayFault>
     // What is written is the reply to what the line asks for at the reading.
-    ensures ok { OnOk result (LineAnswered (K.is_honest keeper.new) (K.vault keeper.old) (K.count keeper.old) (W.contents writer.old) heard.now.is_ended (moment_at reading) heard.now.bytes.items (K.vault keeper.new) (K.count keeper.new) (W.contents writer.new)) }
+    ensures ok { OnOk result (LineAnswered (standing K.Kept keeper.old) (standing K.Kept keeper.new) (W.contents writer.old) (W.contents writer.new) (moment_at reading) heard.now) }
     // Of a line that was carried out, or wasn't, a beginning of its reply is written.
-    ensures err { OnErr result (LineLeft (K.is_honest keeper.new) (K.vault keeper.old) (K.count keeper.old) (W.contents writer.old) heard.now.is_ended (moment_at reading) heard.now.bytes.items (K.vault keeper.new) (K.count keeper.new) (W.contents writer.new)) }
+    ensures err { OnErr result (LineLeft (standing K.Kept keeper.old) (standing K.Kept keeper.new) (W.contents writer.old) (W.contents writer.new) (moment_at reading) heard.now) }
     // Only a line that asks for the end ends the server, and only by a caller who has the right to administer.
     ensures end { result ≡ Ok Next.End → K.is_honest keeper.new → MayEnd (K.vault keeper.new) (moment_at reading) heard.now.bytes.items }
     ensures once { K.is_honest keeper.new → AtMostOne (moment_at reading) (K.vault keeper.old) (K.vault keeper.new) }
-    ensures honest { K.is_honest keeper.new → K.is_honest keeper.old }
-    ensures counted { K.count keeper.old ≤ K.count keeper.new }
+    ensures leaves { LeavesNoLess K.Kept keeper.old keeper.new }
 {
     serve_line_at(alloc, heard, writer, keeper, Moment::from_secs(reading))
 }

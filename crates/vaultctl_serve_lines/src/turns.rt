@@ -1,8 +1,8 @@
 //! Turns at two doors: one request or one line after another.
-ghost use Rattle.std.specs.Prelude.{◌≡◌, ◌≢◌, ◌≤◌, Ok};
+ghost use Rattle.std.specs.Prelude.{◌≡◌, ◌≢◌, Ok};
 ghost use Rattle.vault_base.specs.Days.{moment_at};
 ghost use Rattle.vault_core_model.specs.Step.{Reached};
-ghost use Rattle.vault_http.specs.Left.{AtMostOne};
+ghost use Rattle.vault_http.specs.Left.{AtMostOne, LeavesNoLess};
 ghost use Rattle.vaultctl_serve.specs.Serving.{ReportsOnce, Stepped};
 ghost use Rattle.vaultctl_serve_lines.specs.Closing.{IsEnded, MayEnd};
 ghost use Rattle.vaultctl_serve_lines.specs.Doors.{most_of, SteppedWithin, turn_after};
@@ -45,8 +45,7 @@ fn answer_talker<C: Clock, P: Peer, K: Keeper>(
 ) -> Result<Next, ReplayFault>
     ensures once { K.is_honest keeper.new → AtMostOne (moment_at reading) (K.vault keeper.old) (K.vault keeper.new) }
     ensures end { result ≡ Ok Next.End → K.is_honest keeper.new → MayEnd (K.vault keeper.new) (moment_at reading) heard.now.bytes.items }
-    ensures honest { K.is_honest keeper.new → K.is_honest keeper.old }
-    ensures counted { K.count keeper.old ≤ K.count keeper.new }
+    ensures leaves { LeavesNoLess K.Kept keeper.old keeper.new }
 {
     let Ok(since) = Instant::now(clock) else {
         return Err(ReplayFault::Read);
@@ -95,8 +94,7 @@ fn serve_turn<C: Clock, D: Doors, K: Keeper>(
 ) -> Turn
     ensures timely { K.is_honest keeper.new → SteppedWithin (most_of result) (D.tries doors.old) (D.tries doors.new) (K.vault keeper.old) (K.vault keeper.new) }
     ensures end { result ≡ Turn.End → K.is_honest keeper.new → IsEnded (K.vault keeper.new) }
-    ensures honest { K.is_honest keeper.new → K.is_honest keeper.old }
-    ensures counted { K.count keeper.old ≤ K.count keeper.new }
+    ensures leaves { LeavesNoLess K.Kept keeper.old keeper.new }
 {
     match doors.next() {
         Arrived::Request(peer) => {
@@ -130,8 +128,7 @@ fn watch_turn<C: Clock, D: Doors, K: Keeper, T: Reporter>(
     ensures reported { K.count keeper.old ≡ since → ReportsOnce T.fails since (K.count keeper.new) reporter.old reporter.new }
     // It isn't reported a second time.
     ensures once { K.count keeper.old ≢ since → reporter.new ≡ reporter.old }
-    ensures honest { K.is_honest keeper.new → K.is_honest keeper.old }
-    ensures counted { K.count keeper.old ≤ K.count keeper.new }
+    ensures leaves { LeavesNoLess K.Kept keeper.old keeper.new }
 {
     let had_failed = keeper.faults() != since;
     let turn = serve_turn(clock, alloc, doors, keeper);
@@ -165,8 +162,7 @@ pub fn serve_doors<C: Clock, D: Doors, K: Keeper, T: Reporter>(
     ensures end { result ≡ Next.End → K.is_honest keeper.new → IsEnded (K.vault keeper.new) }
     // A device that failed is reported, once; where none failed nothing is.
     ensures reported { ReportsOnce T.fails (K.count keeper.old) (K.count keeper.new) reporter.old reporter.new }
-    ensures honest { K.is_honest keeper.new → K.is_honest keeper.old }
-    ensures counted { K.count keeper.old ≤ K.count keeper.new }
+    ensures leaves { LeavesNoLess K.Kept keeper.old keeper.new }
 {
     let since = keeper.faults();
     let mut taken: u32 = 0;

@@ -91,7 +91,11 @@ impl<C: Clock> TwoDoors<'_, C> {
         let mut found = [
             waited_for(self.requests.as_raw_fd()),
             waited_for(talk),
-            waited_for(if another { NONE } else { self.lines.descriptor() }),
+            waited_for(if another {
+                NONE
+            } else {
+                self.lines.descriptor()
+            }),
         ];
         let _ = poll(&mut found, self.limit(another));
         let has_line = self.talk.as_ref().map_or(false, |open| open.has_line());
