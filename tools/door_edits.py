@@ -42,7 +42,7 @@ EDITS = [
     ("door", "socket.AF_INET if is_port else socket.AF_UNIX", "socket.AF_UNIX", DOORS + "test_a_door_at_a_port"),
     # what is answered there
     ("door", "raise EngineError(f\"{self.where}: the server gave no answer: {UNKNOWN}\")",
-     "return b'{\"ok\":{\"entries\":[],\"more\":false}}'", DOORS + "test_no_answer_may_mean_that_it_was_done"),
+     "return {\"ok\": {\"entries\": [], \"more\": False}}", DOORS + "test_no_answer_may_mean_that_it_was_done"),
     ("door", "while not found.endswith(b\"\\n\"):", "if True:", ASKED + "test_the_largest_content"),
     ("door", "and not _has_ended(process, self.patience):", "and False:", CLOSE + "test_it_waits_for_the_process"),
     ("closing", "    if \"error\" in reply:\n", "    if False:\n", CLOSE + "test_who_has_no_right_to_it_ends_nothing"),

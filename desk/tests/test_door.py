@@ -279,6 +279,7 @@ class Doors(ServedTest):
             done = self.answered(answer)
             self.assertEqual((done.status, done.out), (1, ""))
             self.assertIn("may have been done", done.err)
+        self.assertIn("no server of a vault", self.answered(lambda it: it.sendall(b"HTTP/1.1 400 no\n")).err)
         with mock.patch.object(door, "PATIENCE", 0.2):
             done = self.answered(lambda it: time.sleep(1))
         self.assertIn("no answer within", done.err)

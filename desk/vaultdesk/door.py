@@ -46,7 +46,7 @@ class LinesDoor:
         with self._connected(self.patience) as connection:
             reply = self._exchange(connection, line)
         after = moments.now()
-        return Answer(json.loads(reply), after, before == after)
+        return Answer(reply, after, before == after)
 
     def close(self) -> None:
         """Nothing is open between two lines."""
@@ -58,7 +58,7 @@ class LinesDoor:
         where no reply comes, or the process goes on."""
         before = moments.now()
         with self._connected(self.patience) as connection, _watched(connection) as process:
-            reply = json.loads(self._exchange(connection, {"as": caller, "do": "close"}))
+            reply = self._exchange(connection, {"as": caller, "do": "close"})
             if "ok" in reply and process is not None and not _has_ended(process, self.patience):
                 raise EngineError(f"{self.where}: the server answered, and hasn't ended in {self.patience:.0f} seconds")
         return Answer(reply, before, is_certain=False)
@@ -71,7 +71,7 @@ class LinesDoor:
         except _Nobody:
             return False
 
-    def _exchange(self, connection: socket.socket, line: Line) -> bytes:
+    def _exchange(self, connection: socket.socket, line: Line) -> Line:
         """The reply to a line, after which the connection is done."""
         found = bytearray()
         try:
@@ -86,7 +86,11 @@ class LinesDoor:
             raise EngineError(f"{self.where}: no answer within {self.patience:.0f} seconds: {UNKNOWN}") from error
         except OSError as error:
             raise EngineError(f"{self.where}: {error.strerror}: {UNKNOWN}") from error
-        return bytes(found)
+        try:
+            reply: Line = json.loads(found)
+        except ValueError as error:
+            raise EngineError(f"{self.where}: what answers there is no server of a vault") from error
+        return reply
 
     @contextmanager
     def _connected(self, patience: float) -> Iterator[socket.socket]:
