@@ -1,3 +1,4 @@
+pub mod ClosingLemmas
 pub mod HeardLemmas
 pub mod HearingLemmas
 pub mod TurnLemmas

@@ -1,11 +1,16 @@
 -- Turns, one after another, and how many of them took a request or a line.
-use Rattle.std.proofs.Common.{◌≡◌, ◌+◌, ◌≤◌, ℕ, List, [], ◌∷◌, ◌++◌, length, Option, refl, arith}
+use Rattle.std.proofs.Common.{◌≡◌, ◌+◌, ◌≤◌, ℕ, List, [], ◌∷◌, ◌++◌, length, Option, Result, Ok, Err, refl, arith}
 use Rattle.vault_core_model.specs.Step.{Reached}
 use Rattle.vault_core_model.specs.Vault.{Vault}
 use Rattle.vault_http.specs.Left.{AtMostOne}
 use Rattle.vaultctl_serve.specs.Serving.{Missed, ReadsAs, Stepped, SteppedAt, SteppedOnTime, Taken, Tries, Try}
 use Rattle.vaultctl_serve.proofs.ServingLemmas.{OnTime-taken, Stepped-append, Stepped-more, Stepped-none, Stepped-one, SteppedAt-append, Tries-append, Tries-none}
-use Rattle.vaultctl_serve_lines.specs.Doors.{SteppedWithin, taken_in}
+use Rattle.vaultctl_replay.specs.declared.fault.ReplayFault.{ReplayFault}
+use Rattle.vaultctl_serve_lines.specs.Doors.{most_of, SteppedWithin, taken_in, turn_after}
+use Rattle.vaultctl_serve_lines.specs.declared.line.Next.{Next}
+use Rattle.vaultctl_serve_lines.specs.declared.line.Next.TheVariants as next
+use Rattle.vaultctl_serve_lines.specs.declared.turns.Turn.{Turn}
+use Rattle.vaultctl_serve_lines.specs.declared.turns.Turn.TheVariants as turn
 
 taken-append : (tries more : List Try) → taken_in (tries ++ more) ≡ taken_in tries + taken_in more
 taken-append [] more = refl
@@ -16,6 +21,17 @@ taken-bound : (tries : List Try) → taken_in tries ≤ length tries
 taken-bound [] = omega arith
 taken-bound (Taken moment ∷ tries) = omega (arith, taken-bound tries)
 taken-bound (Missed ∷ tries) = omega (arith, taken-bound tries)
+
+-- a turn whose line was answered
+pub takes-one : (answered : Result Next ReplayFault) (made : Turn) → made ≡ turn_after answered → 1 ≤ most_of made
+takes-one (Ok next.On) made is = rw is (omega arith)
+takes-one (Ok next.End) made is = rw is (omega arith)
+takes-one (Err fault) made is = rw is (omega arith)
+
+pub ended-by : (answered : Result Next ReplayFault) (made : Turn) → made ≡ turn_after answered → made ≡ turn.End → answered ≡ Ok next.End
+ended-by (Ok next.On) made is e = cc
+ended-by (Ok next.End) made is e = refl
+ended-by (Err fault) made is e = cc
 
 -- no turn was made
 pub Within-none : (n : ℕ) (known : Option (List Try)) (vault : Vault) → SteppedWithin n known known vault vault

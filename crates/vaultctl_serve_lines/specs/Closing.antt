@@ -1,5 +1,5 @@
 -- What a line of the second door is answered by, and who ends a server.
-use Rattle.std.specs.Prelude.{ℕ, ◌≡◌, Bool, List, [], ◌∷◌, Option, Some, None, Result, Ok, Err, IsOk, if◌then◌else◌}
+use Rattle.std.specs.Prelude.{ℕ, ◌≡◌, Bool, true, false, List, [], ◌∷◌, Option, Some, None, Result, Ok, Err, IsOk, if◌then◌else◌}
 use Rattle.vault_base.specs.declared.refusal.Refusal.{Refusal}
 use Rattle.vault_base.specs.declared.refusal.Refusal.TheVariants.{MalformedBody}
 use Rattle.vault_core_model.specs.Checks.{◌>>=◌, administrator}
@@ -23,10 +23,15 @@ use Rattle.vaultctl_serve_lines.specs.declared.doors.Heard.{Heard}
 abbrev pub heard_of : Bool → Option ℕ → List ℕ → Line
 heard_of ended moment bytes = if ended then stamped_line_of moment bytes else (if is_cr bytes then line.Refused MalformedBody else stamped_line_of moment bytes)
 
+abbrev pub is_malformed : Refusal → Bool
+is_malformed MalformedBody = true
+is_malformed _ = false
+
 -- the caller by whom a line asks for the end, which is malformed as a line of a command
 abbrev pub ender_of : Line → List ℕ → Option (List ℕ)
-ender_of (line.Refused MalformedBody) bytes = closer_of bytes
-ender_of asked bytes = None
+ender_of (line.Refused r) bytes = if is_malformed r then closer_of bytes else None
+ender_of line.Skip bytes = None
+ender_of (line.Command t) bytes = None
 
 -- how the line that asks for the end is judged: by the clock, and then by the caller's right to administer
 abbrev pub closing : Vault → Option ℕ → List ℕ → Result (Answer × Vault) Refusal

@@ -78,7 +78,7 @@ pub fn serve_with_lines<
     ensures end { IfOk result (λ next. next ≡ Next.End → K.is_honest keeper.new → IsEnded (K.vault keeper.new)) }
     ensures err { OnErr result (K.vault keeper.new ≡ K.vault keeper.old) }
     // That it listens is reported first, and then, once, that the device failed where it did.
-    ensures reported { OnOk result ((between : T) × T.listens_at_both reporter.old places.file.now places.port between
+    ensures reported { OnOk result ((between : T) × T.listens_at_both reporter.old places.entry.file.now places.entry.port between
         × ReportsOnce T.fails (K.count keeper.old) (K.count keeper.new) between reporter.new) }
     // Where it can't listen nothing is reported.
     ensures unreported { OnErr result (reporter.new ≡ reporter.old) }

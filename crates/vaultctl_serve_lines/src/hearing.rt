@@ -1,5 +1,5 @@
 //! Lines as they come on a connection.
-ghost use Rattle.std.specs.Prelude.{◌≡◌, ◌+◌, ◌++◌, ℕ, List, IfOk, OnErr, length, take};
+ghost use Rattle.std.specs.Prelude.{◌≡◌, ◌==◌, ◌+◌, ◌++◌, ℕ, List, IfOk, OnErr, length, take};
 ghost use Rattle.std.specs.Duration.{as_nanos};
 ghost use Rattle.std.specs.List.{position};
 ghost use Rattle.vaultctl_serve_lines.specs.Hearing.{Cuts, Gave, line_allowed, news_of};
@@ -48,7 +48,7 @@ fn first_lf(bytes: &[u8]) -> Option<usize>
 }
 
 /// What these bytes are, which a read gave.
-fn news(bytes: &[u8]) -> News
+fn news_in(bytes: &[u8]) -> News
     ensures { result ≡ news_of bytes.now }
 {
     if bytes.is_empty() {
@@ -73,7 +73,7 @@ pub fn hear<I: Inbound>(inbound: &mut I, part: &mut Vec<u8>, begun: Duration) ->
     let mut buf = [0u8; SHORT];
     let count = inbound.read_within(&mut buf, left)?;
     part.extend_from_slice(&buf[..count])?;
-    Ok(news(&buf[..count]))
+    Ok(news_in(&buf[..count]))
 }
 
 /// Cuts a line that is longer than it may be: it is still too long.

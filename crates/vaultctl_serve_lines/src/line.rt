@@ -10,6 +10,7 @@ ghost use Rattle.vault_core_model.specs.declared.reply.Answer.{Answer as AnyAnsw
 ghost use Rattle.vault_http.specs.Left.{AtMostOne, LeavesNoLess};
 ghost use Rattle.vault_http.specs.ReplyLine.{reply_text};
 ghost use Rattle.vault_io.specs.Begins.{Begins};
+ghost use Rattle.vaultctl_serve_lines.specs.Closing as spec;
 ghost use Rattle.vaultctl_serve_lines.specs.Closing.{AnswersOne, closing, ender_of, Ending, heard_of, LeavesOne, LineAnswered, LineLeft, MayEnd};
 
 use crate::doors::Heard;
@@ -40,23 +41,39 @@ pub enum Next {
 }
 
 /// What a line asks for, at the moment that the clock shows. The error is want of memory.
-fn asked(alloc: Global, heard: &Heard, moment: Option<Moment>) -> Result<Line, AllocError>
-    ensures { IfOk result (λ read. read ≡ heard_of heard.now.is_ended moment heard.now.bytes.items) }
+fn asked(alloc: Global, heard: &Heard, moment: &Option<Moment>) -> Result<Line, AllocError>
+    ensures { IfOk result (λ read. read ≡ heard_of heard.now.is_ended moment.now heard.now.bytes.items) }
 {
     let line = heard.bytes.as_slice();
     if !heard.is_ended && line.len() == 1 && line[0] == b'\r' {
         return Ok(Line::Refused(Refusal::MalformedBody));
     }
-    stamp_line(alloc, line, moment)
+    stamp_line(alloc, line, *moment)
+}
+
+fn is_malformed(refusal: Refusal) -> bool
+    ensures { result ≡ spec.is_malformed refusal }
+{
+    match refusal {
+        Refusal::MalformedBody => true,
+        _ => false,
+    }
 }
 
 /// The caller by whom a line asks for the end, which is malformed as a line of a command. The error is want of memory.
-fn ender(alloc: Global, heard: &Heard, asked: &Line) -> Result<Option<CallerName>, AllocError>
+fn ender_in(alloc: Global, heard: &Heard, asked: &Line) -> Result<Option<CallerName>, AllocError>
     ensures { IfOk result (λ found. found ≡ ender_of asked.now heard.now.bytes.items) }
 {
     match asked {
-        Line::Refused(Refusal::MalformedBody) => closer(alloc, heard.bytes.as_slice()),
-        _ => Ok(None),
+        Line::Refused(refusal) => {
+            if is_malformed(*refusal) {
+                closer(alloc, heard.bytes.as_slice())
+            } else {
+                Ok(None)
+            }
+        }
+        Line::Skip => Ok(None),
+        Line::Command(_) => Ok(None),
     }
 }
 
@@ -65,16 +82,16 @@ fn ender(alloc: Global, heard: &Heard, asked: &Line) -> Result<Option<CallerName
 /// ClockOutOfRange; ClockBack; AccessDenied `unknown-caller`; AccessDenied `admin`.
 fn check_end<K: Keeper>(
     keeper: &mut K,
-    moment: Option<Moment>,
+    moment: &Option<Moment>,
     who: &CallerName,
 ) -> Result<Answer, Halt>
-    ensures meets { K.is_honest keeper.new → AnswersAs result (K.vault keeper.old) (K.vault keeper.new) (closing (K.vault keeper.old) moment who.now) }
+    ensures meets { K.is_honest keeper.new → AnswersAs result (K.vault keeper.old) (K.vault keeper.new) (closing (K.vault keeper.old) moment.now who.now) }
     ensures leaves { LeavesSame K.Kept keeper.old keeper.new (is_device result) }
 {
     let Some(at) = moment else {
         return Err(Halt::Refused(Refusal::ClockOutOfRange));
     };
-    drop(find_administrator(keeper, at, who)?);
+    drop(find_administrator(keeper, *at, who)?);
     Ok(Answer::Nothing)
 }
 
@@ -110,11 +127,11 @@ fn answer_end<W: Write, K: Keeper>(
     alloc: Global,
     writer: &mut W,
     keeper: &mut K,
-    moment: Option<Moment>,
+    moment: &Option<Moment>,
     who: &CallerName,
 ) -> Result<Next, ReplayFault>
-    ensures replied { Ending (standing K.Kept keeper.old) (standing K.Kept keeper.new) (W.contents writer.old) (W.contents writer.new) moment who.now }
-    ensures end { result ≡ Ok Next.End → K.is_honest keeper.new → IsOk (closing (K.vault keeper.old) moment who.now) }
+    ensures replied { Ending (standing K.Kept keeper.old) (standing K.Kept keeper.new) (W.contents writer.old) (W.contents writer.new) moment.now who.now }
+    ensures end { result ≡ Ok Next.End → K.is_honest keeper.new → IsOk (closing (K.vault keeper.old) moment.now who.now) }
     ensures leaves { LeavesNoLess K.Kept keeper.old keeper.new }
 {
     let checked = check_end(keeper, moment, who);
@@ -155,21 +172,23 @@ fn serve_line_at<W: Write, K: Keeper>(
     heard: &Heard,
     writer: &mut W,
     keeper: &mut K,
-    moment: Option<Moment>,
+    moment: &Option<Moment>,
 ) -> Result<Next, ReplayFault>
-    ensures ok { OnOk result (LineAnswered (standing K.Kept keeper.old) (standing K.Kept keeper.new) (W.contents writer.old) (W.contents writer.new) moment heard.now) }
-    ensures err { OnErr result (LineLeft (standing K.Kept keeper.old) (standing K.Kept keeper.new) (W.contents writer.old) (W.contents writer.new) moment heard.now) }
-    ensures end { result ≡ Ok Next.End → K.is_honest keeper.new → MayEnd (K.vault keeper.new) moment heard.now.bytes.items }
-    ensures once { K.is_honest keeper.new → AtMostOne moment (K.vault keeper.old) (K.vault keeper.new) }
+    ensures ok { OnOk result (LineAnswered (standing K.Kept keeper.old) (standing K.Kept keeper.new) (W.contents writer.old) (W.contents writer.new) moment.now heard.now) }
+    ensures err { OnErr result (LineLeft (standing K.Kept keeper.old) (standing K.Kept keeper.new) (W.contents writer.old) (W.contents writer.new) moment.now heard.now) }
+    ensures end { result ≡ Ok Next.End → K.is_honest keeper.new → MayEnd (K.vault keeper.new) moment.now heard.now.bytes.items }
+    ensures once { K.is_honest keeper.new → AtMostOne moment.now (K.vault keeper.old) (K.vault keeper.new) }
     ensures leaves { LeavesNoLess K.Kept keeper.old keeper.new }
 {
     let Ok(asked) = asked(alloc, heard, moment) else {
         return Err(ReplayFault::Memory);
     };
-    match ender(alloc, heard, &asked) {
-        Ok(Some(who)) => answer_end(alloc, writer, keeper, moment, &who),
-        Ok(None) => answer_asked(alloc, writer, keeper, asked),
-        Err(_) => Err(ReplayFault::Memory),
+    let Ok(ender) = ender_in(alloc, heard, &asked) else {
+        return Err(ReplayFault::Memory);
+    };
+    match ender {
+        Some(who) => answer_end(alloc, writer, keeper, moment, &who),
+        None => answer_asked(alloc, writer, keeper, asked),
     }
 }
 
@@ -193,5 +212,5 @@ pub fn serve_line<W: Write, K: Keeper>(
     ensures once { K.is_honest keeper.new → AtMostOne (moment_at reading) (K.vault keeper.old) (K.vault keeper.new) }
     ensures leaves { LeavesNoLess K.Kept keeper.old keeper.new }
 {
-    serve_line_at(alloc, heard, writer, keeper, Moment::from_secs(reading))
+    serve_line_at(alloc, heard, writer, keeper, &Moment::from_secs(reading))
 }
