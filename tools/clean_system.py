@@ -10,9 +10,9 @@ MIRROR = "http://deb.debian.org/debian"
 
 
 def check(holds, what):
-    """Ends the tool where something doesn't hold."""
+    """Ends the trial where something doesn't hold."""
     if not holds:
-        sys.exit(f"{sys.argv[1]}: {what}")
+        sys.exit(what)
 
 
 def said(*words, **how):

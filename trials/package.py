@@ -1,33 +1,30 @@
-#!/usr/bin/env python3
-"""Makes the package, and installs it in a clean system, where the manual is carried out word by word.
-
-  tools/try-package PROGRAM [ROOT]
+"""Package: it is made, and installed in a clean system, where the manual is carried out word by word.
 
 The package is made twice, with the same bytes. Its man pages, completions and units are looked at by mandoc, bash, zsh,
-fish and systemd-analyze. The clean system is made by debootstrap in a folder of its own, or is ROOT, a folder that
-debootstrap made before (with python3, curl, sqlite3 and openssl), of which a copy is taken. There every command of the manual is
-carried out, from the one that installs the package on, with nothing but what that installed; then those of the pages for
-the auditor, the engineer, several offices and the desk, and the desk around a server: the check, the night, a command while
-it is stopped, and a copy that is put back. The package is removed again, which leaves the vaults. systemd doesn't run in
-that system: its place is taken by a script that notes what it is asked. Needs root, and what tools/setup-trials installs.
+fish and systemd-analyze. The clean system is made by debootstrap in a folder of its own, or TRIALS_ROOT is a folder that
+debootstrap made before (with python3, curl, sqlite3 and openssl), of which a copy is taken. There every command of the
+manual is carried out, from the one that installs the package on, with nothing but what that installed; then those of the
+pages for the auditor, the engineer, several offices and the desk, and the desk around a server: the check, the night, a
+command while it is stopped, and a copy that is put back. The package is removed again, which leaves the vaults. systemd
+doesn't run in that system: its place is taken by a script that notes what it is asked. That needs root.
 """
 
+import functools
 import gzip
 import os
-import pathlib
 import re
 import shlex
 import shutil
 import subprocess
-import sys
-import tempfile
+import unittest
 
-sys.dont_write_bytecode = True
+from trials.pages import printed_as_shown
+from trials.program import EXAMPLES, PROGRAM, TOP, Case, check, needs, shared_folder
 import clean_system
 import desk_words
-from clean_system import Root, check, said
+from clean_system import Root, said
 
-TOP = pathlib.Path(__file__).resolve().parent.parent
+TAKES_LONG = True
 INCLUDED = "python3,curl,sqlite3,openssl"
 MIRROR = os.environ.get("MIRROR", clean_system.MIRROR)
 STOP = """\
@@ -53,7 +50,6 @@ esac
 COUNTING = '#!/bin/sh\necho "$1" >> /tmp/calls\nexec /usr/bin/vaultctl "$@"\n'
 SYNCHRONIZED = "#!/bin/sh\necho yes\n"
 NIGHT = "vault-serve@records.service"
-LEFT_OUT = []
 # Words of the desk up to the one that is completed, and what that may become.
 DESK_COMPLETED = [
     (("vaultdesk", "re"), ["register", "release", "report", "restore", "retain"]),
@@ -64,27 +60,21 @@ DESK_COMPLETED = [
 ]
 
 
-def has(name, what):
-    """Whether a program is there; what isn't tried without it is said at the end."""
-    if shutil.which(name):
-        return True
-    LEFT_OUT.append(f"no {name}: {what}")
-    return False
-
-
 # ---- the package itself
 
 
-def packages(program, folder):
-    """The package and the archive, which come out with the same bytes a second time."""
-    first, second = folder / "first", folder / "second"
+@functools.cache
+def packages():
+    """The package and the archive, which come out with the same bytes a second time; and the folder with its files."""
+    first, second, unpacked = (shared_folder() / it for it in ("first", "second", "unpacked"))
     for out in (first, second):
-        said(TOP / "tools" / "package", program, out)
+        said(TOP / "tools" / "package", PROGRAM, out)
     for it in first.iterdir():
         check(it.read_bytes() == (second / it.name).read_bytes(), f"{it.name} comes out otherwise a second time")
     (debian,) = first.glob("*.deb")
     (archive,) = first.glob("*.tar.gz")
-    return debian, archive
+    said("dpkg-deb", "-x", debian, unpacked)
+    return debian, archive, unpacked
 
 
 def try_archive(archive, unpacked, folder):
@@ -96,19 +86,21 @@ def try_archive(archive, unpacked, folder):
 
 def try_man_pages(unpacked):
     pages = sorted((unpacked / "usr/share/man").glob("man*/*"))
-    commands = re.findall(r"^!   ([a-z]+)  ", (TOP / "examples" / "help.txt").read_text(), re.M)
+    commands = re.findall(r"^!   ([a-z]+)  ", (EXAMPLES / "help.txt").read_text(), re.M)
     names = {it.name.removesuffix(".1.gz") for it in pages}
     check({f"vaultctl-{it}" for it in commands} < names, f"of {commands} there are the pages {names}")
     wanted = {"vaultdesk", *("-".join(it.words) for it in desk_words.desk().kinds)}
     check(wanted < names and len(wanted) > 20, f"of the desk's pages there aren't {wanted - names}")
-    if has("mandoc", "man pages aren't looked at"):
-        for page in pages:
-            text = gzip.decompress(page.read_bytes())
-            told = subprocess.run(["mandoc", "-Tlint", "-W", "warning"], input=text, capture_output=True)
-            check((told.returncode, told.stdout) == (0, b""), f"of {page.name} mandoc says {told.stdout}")
 
 
-def try_completions(unpacked):
+def try_mandoc(unpacked):
+    for page in sorted((unpacked / "usr/share/man").glob("man*/*")):
+        text = gzip.decompress(page.read_bytes())
+        ran = subprocess.run(["mandoc", "-Tlint", "-W", "warning"], input=text, capture_output=True)
+        check((ran.returncode, ran.stdout) == (0, b""), f"of {page.name} mandoc says {ran.stdout}")
+
+
+def try_bash(unpacked):
     folder = unpacked / "usr/share/bash-completion/completions"
     asked = '. "$1/$2"; shift; COMP_WORDS=("$@"); COMP_CWORD=$(($# - 1)); _$1; echo "${COMPREPLY[*]}"'
 
@@ -120,18 +112,18 @@ def try_completions(unpacked):
     check("--count" in completed("vaultctl", "serve", "-"), "bash completes no option")
     for words, wanted in DESK_COMPLETED:
         check(set(wanted) <= set(completed(*words)), f"bash: {words}: {completed(*words)}")
-    if has("fish", "its completions aren't tried"):
-        fish = unpacked / "usr/share/fish/vendor_completions.d"
-        for words, wanted in [(("vaultctl", "re"), ["report", "replay"]), (("vaultctl", "serve", "--"), ["--count"]), *DESK_COMPLETED]:
-            told = said("fish", "-c", f"source {fish}/{words[0]}.fish; complete -C '{' '.join(words)}'")
-            found = {it.split("\t")[0] for it in told.splitlines()}
-            check(set(wanted) <= found, f"fish: {words}: {found}")
-    if has("zsh", "its completions aren't tried"):
-        try_zsh(unpacked / "usr/share/zsh/vendor-completions", "vaultctl cert", "certificate ")
-        try_zsh(unpacked / "usr/share/zsh/vendor-completions", "vaultdesk offices reg", "registers ")
 
 
-def try_zsh(folder, typed, wanted):
+def try_fish(unpacked):
+    fish = unpacked / "usr/share/fish/vendor_completions.d"
+    ours = [(("vaultctl", "re"), ["report", "replay"]), (("vaultctl", "serve", "--"), ["--count"])]
+    for words, wanted in [*ours, *DESK_COMPLETED]:
+        completed = said("fish", "-c", f"source {fish}/{words[0]}.fish; complete -C '{' '.join(words)}'")
+        found = {it.split("\t")[0] for it in completed.splitlines()}
+        check(set(wanted) <= found, f"fish: {words}: {found}")
+
+
+def zsh_completes(folder, typed, wanted):
     """zsh completes, on a terminal that its own module gives it."""
     script = (
         f"zmodload zsh/zpty; zpty shell zsh -f; zpty -w shell 'PROMPT=; fpath=({folder} $fpath); autoload -Uz compinit;"
@@ -145,8 +137,6 @@ def try_zsh(folder, typed, wanted):
 
 def try_units(unpacked, folder):
     """systemd-analyze finds nothing to say of the units, with the programs where they are unpacked."""
-    if not has("systemd-analyze", "units aren't looked at"):
-        return
     folder.mkdir()
     for unit in sorted((unpacked / "usr/lib/systemd/system").iterdir()):
         text = re.sub(r"^(Exec\w+=\+?)(?=/usr)", rf"\1{unpacked}", unit.read_text(), flags=re.M)
@@ -175,7 +165,6 @@ def try_html(unpacked):
             if place and "://" not in target:
                 check(f'id="{place}"' in pages[file or name], f"{name} has a link to {target}, which isn't there")
         check(not re.search(r"^\|.*\|$", re.sub(r"<pre>.*?</pre>", "", text, flags=re.S), re.M), f"{name} has a table as text")
-    return len(pages)
 
 
 # ---- a clean system
@@ -227,11 +216,6 @@ class Installed(Root):
         return self.run(f"cd /var/lib/vaultctl; runuser -u vaultctl -- {words}")
 
 
-def try_page(root, page, *options):
-    """The commands of a page, as root and nobody carry them out in the clean system."""
-    print(said(TOP / "tools" / "try-page", *options, "--in", root.folder, f"docs/{page}", cwd=TOP), end="")
-
-
 def try_manual(root, debian):
     """The manual, word by word: it installs the package that lies in its folder."""
     beside = root.folder.parent / "delivered"
@@ -239,7 +223,7 @@ def try_manual(root, debian):
     shutil.copy(debian, beside)
     # What is recommended would be fetched from a mirror.
     (root.folder / "etc/apt/apt.conf.d/99trial").write_text('APT::Install-Recommends "0";\n')
-    try_page(root, "MANUAL.md", "--beside", beside)
+    printed_as_shown("docs/MANUAL.md", root.folder, beside)
     root.run("dpkg -V vaultctl")
     check(root.run("stat -c '%U %G %a' /var/lib/vaultctl").split() == ["vaultctl", "vaultctl", "750"], "the folder isn't the user's")
     check("Usage: vaultctl" in root.run("vaultctl --help", status=2), "the program doesn't run")
@@ -248,11 +232,8 @@ def try_manual(root, debian):
 def try_others(root):
     """The pages for the auditor and the engineer, with a script in the place of systemctl."""
     root.program("systemctl", SYSTEMCTL)
-    try_page(root, "AUDITOR.md")
-    try_page(root, "COURT.md")
-    try_page(root, "ENGINE.md")
-    try_page(root, "OFFICES.md")
-    try_page(root, "ENGINEER.md")
+    for page in ("AUDITOR", "COURT", "ENGINE", "OFFICES", "ENGINEER"):
+        printed_as_shown(f"docs/{page}.md", root.folder)
     units = ("vault-serve@records.service", "vault-check@records.timer", "vault-run@records.timer")
     asked = root.asked()
     check(asked == [f"enable --now {it}" for it in units], f"systemctl was asked {asked}")
@@ -481,35 +462,61 @@ def remove(root):
 AROUND_A_SERVER = (try_check, try_locked, try_backup, try_night, try_kept, try_jump, try_offline, try_restore, try_users)
 
 
-def main():
-    program = pathlib.Path(sys.argv[1]).resolve()
-    made = pathlib.Path(sys.argv[2]).resolve() if len(sys.argv) > 2 else None
-    with tempfile.TemporaryDirectory(prefix="try-package-") as name:
-        folder = pathlib.Path(name)
-        folder.chmod(0o755)
-        debian, archive = packages(program, folder)
-        unpacked = folder / "unpacked"
-        said("dpkg-deb", "-x", debian, unpacked)
-        check("python3-openpyxl" in said("dpkg-deb", "-f", debian, "Recommends"), "nothing brings what xlsx needs")
-        try_archive(archive, unpacked, folder)
-        try_man_pages(unpacked)
-        try_completions(unpacked)
-        try_units(unpacked, folder / "units")
-        count = try_html(unpacked)
-        print(f"{debian.name}: the same twice; pages, completions and units are in order, {count} pages of HTML")
-        if os.getuid() == 0 and (made or has("debootstrap", "nothing is installed")):
-            (folder / "root").mkdir(mode=0o755)
-            root = Installed(folder / "root", INCLUDED, made, MIRROR)
-            try:
-                try_manual(root, debian)
-                for part in (try_others, try_desk, *AROUND_A_SERVER, try_full_disk, remove):
-                    part(root)
-            finally:
-                root.stop()
-            print(f"{debian.name}: installed in a clean system, used there as the pages say, and removed")
-    for it in LEFT_OUT:
-        print(it, file=sys.stderr)
+class Files(Case):
+    """The package itself."""
+
+    def setUp(self):
+        super().setUp()
+        self.debian, self.archive, self.unpacked = packages()
+
+    def test_recommended(self):
+        recommended = said("dpkg-deb", "-f", self.debian, "Recommends")
+        self.assertIn("python3-openpyxl", recommended, "nothing brings what xlsx needs")
+
+    def test_archive(self):
+        try_archive(self.archive, self.unpacked, self.folder)
+
+    def test_man_pages(self):
+        try_man_pages(self.unpacked)
+
+    @needs("mandoc")
+    def test_mandoc(self):
+        try_mandoc(self.unpacked)
+
+    def test_bash(self):
+        try_bash(self.unpacked)
+
+    @needs("fish")
+    def test_fish(self):
+        try_fish(self.unpacked)
+
+    @needs("zsh")
+    def test_zsh(self):
+        folder = self.unpacked / "usr/share/zsh/vendor-completions"
+        zsh_completes(folder, "vaultctl cert", "certificate ")
+        zsh_completes(folder, "vaultdesk offices reg", "registers ")
+
+    @needs("systemd-analyze")
+    def test_units(self):
+        try_units(self.unpacked, self.folder / "units")
+
+    def test_html(self):
+        try_html(self.unpacked)
 
 
-if __name__ == "__main__":
-    main()
+@unittest.skipUnless(os.geteuid() == 0, "this isn't root, and nothing is installed")
+class InCleanSystem(Case):
+    def test_installed(self):
+        made = os.environ.get("TRIALS_ROOT")
+        if not made and not shutil.which("debootstrap"):
+            self.skipTest("there is no debootstrap: nothing is installed")
+        self.folder.chmod(0o755)
+        (self.folder / "root").mkdir(mode=0o755)
+        root = Installed(self.folder / "root", INCLUDED, made, MIRROR)
+        self.addCleanup(root.stop)
+        debian, _, _ = packages()
+        try_manual(root, debian)
+        # Each of them goes on with what those before it left.
+        for part in (try_others, try_desk, *AROUND_A_SERVER, try_full_disk, remove):
+            with self.subTest(part.__doc__ or part.__name__):
+                part(root)

@@ -1,11 +1,9 @@
-#!/usr/bin/env python3
-"""Refuses each allocation of a script in turn, and shows that want of memory loses nothing.
-
-  tools/refuse-allocations [--jobs N] [--keep FILE]
+"""Allocations: each of a script's is refused in turn, and want of memory loses nothing.
 
 The script is examples/every-command.jsonl, given to `replay`. The program is what `rt try` builds of the
-sources, unproved, with checks of each access to memory; it is kept in FILE, and taken from there. In each
-run one allocation is refused, from the program's first one on. The run is right where one of these holds:
+sources, unproved, with checks of each access to memory; it is kept in the file that TRIALS_KEPT names, if it names
+one, and taken from there. In each run one allocation is refused, from the program's first one on. The run is right
+where one of these holds:
 
   - A command, but no lifecycle run, answered Memory. Then each later reply is that of an untroubled
     run of the script without that line.
@@ -16,29 +14,25 @@ run one allocation is refused, from the program's first one on. The run is right
   - The replies are those of the untroubled run: the refusal made no difference.
 
 As the refused allocation moves on, so does the line that it troubles, and each line is troubled by
-some. Behind the last one the search ends with some runs in which nothing is refused.
+some. After the last one the search ends with some runs in which nothing is refused.
 
-Every right outcome is altered, in ways that would be faults of the vault, and the tool fails where it
+Every right outcome is altered, in ways that would be faults of the vault, and the trial fails where it
 lets one through.
 """
 
-import argparse
+import collections
 import itertools
 import json
 import os
-import pathlib
 import re
-import subprocess
-import sys
-import tempfile
 from concurrent.futures import ThreadPoolExecutor
 
-sys.dont_write_bytecode = True
+from trials.program import EXAMPLES, TOP, Case, check, ran_words
 from unproved import NEVER, Refusing
 
-TOP = pathlib.Path(__file__).resolve().parent.parent
-SCRIPT = TOP / "examples" / "every-command.jsonl"
-
+TAKES_LONG = True
+SCRIPT = EXAMPLES / "every-command.jsonl"
+JOBS = len(os.sched_getaffinity(0))
 # How many runs in a row that nothing troubles end the search.
 ENOUGH = 100
 # Empty lines, which are no commands: they keep the program running for seconds while it is taken.
@@ -78,7 +72,7 @@ class Reference:
         self.whole, self.without, self.changed = whole, without, changed
 
 
-class Wrong(Exception):
+class Wrong(AssertionError):
     """Why want of memory can't have an outcome."""
 
 
@@ -116,7 +110,7 @@ def altered(reference, outcome, line, how):
     replies, device = outcome.replies, '{"error":{"code":"Device","n":23}}'
 
     def put(at, reply):
-        return Outcome(replies[:at] + [reply] + replies[at + 1 :], outcome.status, outcome.said)
+        return Outcome(replies[:at] + [reply] + replies[at + 1:], outcome.status, outcome.said)
 
     for at in {0, line - 1, line + 1, len(replies) - 1}:
         if 0 <= at < len(replies):
@@ -135,13 +129,13 @@ def altered(reference, outcome, line, how):
     yield "another fault", put(line, device)
     if how == "stopped":
         yield "a run that is refused", put(line, MEMORY)
-    others = {"the line was carried out": reference.whole[line + 1 :]}
+    others = {"the line was carried out": reference.whole[line + 1:]}
     if line > 0:
         others["an earlier line was undone"] = reference.without[line - 1][1:]
     for k, rest in enumerate(reference.changed.get(line, [])):
         others[f"{k} changes were made"] = rest
     for what, rest in others.items():
-        if rest != replies[line + 1 :]:
+        if rest != replies[line + 1:]:
             yield what, Outcome(replies[: line + 1] + rest)
 
 
@@ -153,26 +147,25 @@ def fault_in(said):
 class Program:
     """The program with one of its allocations refused."""
 
-    def __init__(self, folder, kept):
-        self.folder = pathlib.Path(folder)
+    def __init__(self, folder):
+        self.folder = folder
         cases = self.folder / "cases"
         cases.mkdir()
         (cases / "held").write_text(HELD)
         # One step: the interpreter can't run a program that reads its words, so it needn't begin.
         options = ["--steps", "1", "--cases", str(cases), "--", "replay"]
-        self.program = Refusing(options, TOP / "crates" / "vaultctl", folder, kept)
+        self.program = Refusing(options, TOP / "crates" / "vaultctl", folder, os.environ.get("TRIALS_KEPT"))
 
     def run(self, lines, number=NEVER):
         """What it answers to a script where that allocation is refused, in an environment as empty as that of `rt try`."""
         script = "".join(it + "\n" for it in lines)
-        how = {"capture_output": True, "text": True, "env": {}, "timeout": LIMIT, "cwd": self.folder}
         with self.program.refusing(number) as words:
-            done = subprocess.run([*words, "replay"], input=script, **how)
-        replies = done.stdout.split("\n")
+            done = ran_words(*words, "replay", given=script, env={}, timeout=LIMIT, cwd=self.folder)
+        replies = done.out.split("\n")
         last = replies.pop()
         if last:
             replies.append(f"{last} (with no line's end)")
-        return Outcome(replies, done.returncode, fault_in(done.stderr))
+        return Outcome(replies, done.status, fault_in(done.err))
 
 
 def references(lines):
@@ -180,14 +173,14 @@ def references(lines):
     cases = {"whole": lines}
     runs = iter(CHANGES)
     for i, line in enumerate(lines):
-        cases[f"without-{i}"] = lines[:i] + lines[i + 1 :]
+        cases[f"without-{i}"] = lines[:i] + lines[i + 1:]
         asked = json.loads(line)
         if asked["do"] != "run":
             continue
         changes = next(runs)
         for k in range(len(changes) + 1):
             made = [json.dumps({**asked, **it}) for it in changes[:k]]
-            cases[f"changed-{i}-{k}"] = lines[:i] + made + lines[i + 1 :]
+            cases[f"changed-{i}-{k}"] = lines[:i] + made + lines[i + 1:]
     return cases
 
 
@@ -195,22 +188,22 @@ def check_references(lines, outcomes, wanted):
     """The untroubled replies, which have to be those that are kept beside the script."""
     for name in references(lines):
         if outcomes[name].status != 0 or outcomes[name].said or MEMORY in outcomes[name].replies:
-            sys.exit(f"{name}: an allocation was refused, or the program failed")
+            raise Wrong(f"{name}: an allocation was refused, or the program failed")
     whole = outcomes["whole"].replies
     if whole != wanted:
-        sys.exit("the replies aren't those beside the script")
+        raise Wrong("the replies aren't those beside the script")
     without = [outcomes[f"without-{i}"].replies[i:] for i in range(len(lines))]
     changed = {}
     for name in references(lines):
         if name.startswith("changed-"):
             i, k = map(int, name.split("-")[1:])
-            made = outcomes[name].replies[i : i + k]
+            made = outcomes[name].replies[i:i + k]
             if any(not it.startswith('{"ok":') for it in made):
-                sys.exit(f"{name}: a change of the run can't be made by hand: {made}")
-            changed.setdefault(i, []).append(outcomes[name].replies[i + k :])
+                raise Wrong(f"{name}: a change of the run can't be made by hand: {made}")
+            changed.setdefault(i, []).append(outcomes[name].replies[i + k:])
     for i, rests in changed.items():
-        if f'"changes":{len(rests) - 1},' not in whole[i] or rests[-1] != whole[i + 1 :]:
-            sys.exit(f"line {i + 1}: CHANGES has other changes than the run makes")
+        if f'"changes":{len(rests) - 1},' not in whole[i] or rests[-1] != whole[i + 1:]:
+            raise Wrong(f"line {i + 1}: CHANGES has other changes than the run makes")
     return Reference(whole, without, changed)
 
 
@@ -223,15 +216,14 @@ def count_refused(reference, here, line, how):
         except Wrong:
             count += 1
             continue
-        sys.exit(f"line {line + 1}, {how}: an altered outcome is let through: {what}")
+        raise Wrong(f"line {line + 1}, {how}: an altered outcome is let through: {what}")
     return count
 
 
-def sweep(program, lines, reference, jobs):
-    """Judges each run: the number of refused allocations by line and by what came of it, and the
-    number of altered outcomes that were refused."""
-    tally, alterations, last, untroubled = {}, 0, 0, 0
-    with ThreadPoolExecutor(jobs) as pool:
+def sweep(program, lines, reference):
+    """Judges each run. Fails where one is wrong, or a line is troubled by no refusal."""
+    troubled, ways, last, untroubled = set(), collections.Counter(), 0, 0
+    with ThreadPoolExecutor(JOBS) as pool:
         for begin in itertools.count(1, ENOUGH):
             numbers = range(begin, begin + ENOUGH)
             for number, here in zip(numbers, pool.map(lambda it: program.run(lines, it), numbers)):
@@ -239,61 +231,24 @@ def sweep(program, lines, reference, jobs):
                 if how == "none":
                     untroubled += 1
                     continue
-                if line < last:
-                    raise Wrong(f"allocation {number} troubles line {line + 1}, and an earlier one line {last + 1}")
-                tally[last, "none"] = tally.get((last, "none"), 0) + untroubled
+                check(line >= last, f"allocation {number} troubles line {line + 1}, after line {last + 1}")
                 last, untroubled = line, 0
-                tally[line, how] = tally.get((line, how), 0) + 1
-                alterations += count_refused(reference, here, line, how)
+                troubled.add(line)
+                ways[how] += 1
+                ways["altered outcomes, each refused"] += count_refused(reference, here, line, how)
             if untroubled >= ENOUGH:
                 break
-    passed = set(range(len(lines))) - {line for line, how in tally if how != "none"}
-    if passed:
-        raise Wrong(f"no allocation of lines {sorted(it + 1 for it in passed)} was refused")
-    return tally, alterations
+    passed = sorted(it + 1 for it in set(range(len(lines))) - troubled)
+    check(not passed, f"no allocation of lines {passed} was refused")
+    return ways
 
 
-def told(lines, tally):
-    """How many allocations were refused, by how the runs ended and by command."""
-    ways = {
-        "memory": "a command answered Memory",
-        "stopped": "a lifecycle run was stopped",
-        "ended": "the program ended",
-        "none": "no difference",
-    }
-    print(f"{sum(tally.values())} allocations refused, in {len(lines)} lines:")
-    for how, words in ways.items():
-        print(f"{sum(n for (_, it), n in tally.items() if it == how):6} {words}")
-    print("by command, in these ways:")
-    rows = {}
-    for (line, how), n in tally.items():
-        name = json.loads(lines[line])["do"]
-        row = rows.setdefault(name, dict.fromkeys(ways, 0))
-        row[how] += n
-    for name in sorted(rows):
-        print(f"  {name:15}" + "".join(f"{n:6}" for n in rows[name].values()))
-
-
-def main():
-    asked = argparse.ArgumentParser(usage=__doc__)
-    asked.add_argument("--jobs", type=int, default=len(os.sched_getaffinity(0)))
-    asked.add_argument("--keep")
-    asked = asked.parse_args()
-    lines = [it for it in SCRIPT.read_text().splitlines() if it]
-    wanted = SCRIPT.with_suffix(".out").read_text().splitlines()
-    with tempfile.TemporaryDirectory(prefix="refuse-allocations-") as folder:
-        program = Program(folder, asked.keep)
-        with ThreadPoolExecutor(asked.jobs) as pool:
+class Allocations(Case):
+    def test_script(self):
+        lines = [it for it in SCRIPT.read_text().splitlines() if it]
+        program = Program(self.folder)
+        with ThreadPoolExecutor(JOBS) as pool:
             cases = references(lines)
             outcomes = dict(zip(cases, pool.map(program.run, cases.values())))
-        try:
-            reference = check_references(lines, outcomes, wanted)
-            tally, alterations = sweep(program, lines, reference, asked.jobs)
-        except Wrong as fault:
-            sys.exit(f"wrong: {fault}")
-    told(lines, tally)
-    print(f"{alterations} altered outcomes were refused")
-
-
-if __name__ == "__main__":
-    main()
+        reference = check_references(lines, outcomes, SCRIPT.with_suffix(".out").read_text().splitlines())
+        print("allocations:", dict(sweep(program, lines, reference)))

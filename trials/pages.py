@@ -1,45 +1,43 @@
-#!/usr/bin/env python3
-"""Carries out the commands that pages show, and compares what they print with what the pages say.
-
-  tools/try-page [--beside FOLDER] PROGRAM PAGE..
-  tools/try-page [--beside FOLDER] --in ROOT PAGE..
+"""Pages: the commands that they show, and what these print.
 
 In a block of a page that begins with ```console, a line `$ COMMAND` is carried out by sh, and the lines after
 it, up to the next command, are what it prints on standard output and standard error. A line that is only `..`
 is for any lines. The port 8080 is for one that is free. After a command that starts something with `&`, the
 next one is given again for half a minute, until it prints what is shown. A command that begins by setting a variable
 (`NAME=`) counts for all later commands of its page. Where curl or sqlite3 isn't there, commands that use it are passed
-over, and standard error names them.
+over, and the test that comes last is skipped, which names them.
 
 Each page has a new folder of its own, in which `vault` is the program and `contrib` the folder of this repository;
-`vaultctl`, `vaultdesk` and `vault-recheck` are found as if they were installed. What lies in FOLDER is copied beside.
+`vaultctl`, `vaultdesk` and `vault-recheck` are found as if they were installed.
 
-With --in the commands are carried out in a system in which the package is, or that it is installed in, with nothing of
-this repository beside it: a block that begins with ```root has commands `# COMMAND`, which root carries out there, and
-all others are those of a user who is nobody. Without --in such blocks are passed over.
+`printed_as_shown` also carries them out in a system in which the package is, or that it is installed in, with nothing
+of this repository beside it: a block that begins with ```root has commands `# COMMAND`, which root carries out there,
+and all others are those of a user who is nobody. Here such blocks are passed over.
 """
 
-import argparse
 import contextlib
 import os
 import pathlib
 import re
 import shutil
 import signal
-import socket
 import subprocess
-import sys
 import tempfile
 import time
 
-TOP = pathlib.Path(__file__).resolve().parent.parent
-CONTRIB = TOP / "contrib"
+from trials.program import CONTRIB, DESK, NOBODY, PROGRAM, TOP, Case, a_test_each, check
+from trials.servers import free_port
+
+# The pages whose commands are tried here; others need vaults beside them, or a system in which the package is.
+PAGES = """
+    README.md contrib/README.md docs/MANUAL.md docs/AUDITOR.md docs/COURT.md docs/ENGINE.md docs/ENGINEER.md
+    docs/OFFICES.md
+""".split()
 PROMPTS = {"```console": "$ ", "```root": "# "}
 PORT = "8080"
 # What a machine may lack.
 OTHERS = re.compile(r"(?:^|[|;] *)(curl|sqlite3) ")
 SETS = re.compile(r"[A-Za-z_]\w*=")
-NOBODY = 65534
 # How long a command may take, and how long one after a command in the background is given again, in seconds.
 LIMIT, PATIENCE = 300, 30
 
@@ -54,7 +52,7 @@ def commands(page):
             command = {"line": number, "words": line[2:], "prints": [], "is_root": prompt == "# "}
             yield command
         elif prompt and command is None:
-            sys.exit(f"line {number}: a block begins with no command")
+            check(False, f"line {number}: a block begins with no command")
         elif prompt and is_continued(command):
             command["words"] += "\n" + line
         elif prompt:
@@ -74,33 +72,24 @@ def pattern(lines):
     return "".join("(?:.*\n)*?" if it == ".." else re.escape(it + "\n") for it in lines)
 
 
-def free_port():
-    with socket.socket() as it:
-        it.bind(("127.0.0.1", 0))
-        return str(it.getsockname()[1])
-
-
 class Here:
     """A folder of this system, with the program and what stands beside it."""
 
-    def __init__(self, folder, program):
+    def __init__(self, folder):
         self.folder = folder / "page"
         self.folder.mkdir()
         self.path = folder / "bin"
         self.path.mkdir()
-        (self.path / "vaultctl").symlink_to(program)
-        (self.folder / "vault").symlink_to(program)
+        (self.path / "vaultctl").symlink_to(PROGRAM)
+        (self.folder / "vault").symlink_to(PROGRAM)
         (self.folder / "contrib").symlink_to(CONTRIB)
 
     def runs(self, command):
-        """Whether a command is carried out; where a program is missing, it says so."""
-        missing = [it for it in OTHERS.findall(command["words"]) if not shutil.which(it)]
-        if missing:
-            print(f"no {missing[0]}: not tried: {command['words']}", file=sys.stderr)
-        return not command["is_root"] and not missing
+        """Whether a command is carried out here."""
+        return not command["is_root"] and all(map(shutil.which, OTHERS.findall(command["words"])))
 
     def how(self, command, words):
-        path = f"{self.path}:{TOP / 'desk' / 'bin'}:{CONTRIB}:{os.environ['PATH']}"
+        path = f"{self.path}:{DESK.parent}:{CONTRIB}:{os.environ['PATH']}"
         return ["sh", "-c", words], {"cwd": self.folder, "env": {**os.environ, "PATH": path}}
 
 
@@ -143,45 +132,43 @@ def printed(place, command, port, begun):
 
 
 def try_commands(page, place, begun):
-    """How many commands of a page print what it shows; one that doesn't ends the tool with its line."""
-    port, is_behind, count, variables = free_port(), False, 0, ""
+    """Fails unless the commands of a page print what it shows; how many there are."""
+    port, is_after, count, variables = str(free_port()), False, 0, ""
     for it in list(commands(page.read_text(encoding="utf-8"))):
         if not place.runs(it):
             continue
         it["words"] = variables + it["words"]
         if SETS.match(it["words"], len(variables)):
             variables = it["words"] + "\n"
-        until = time.monotonic() + (PATIENCE if is_behind else 0)
+        until = time.monotonic() + (PATIENCE if is_after else 0)
         given = printed(place, it, port, begun)
         while not re.fullmatch(pattern(it["prints"]), given):
-            if time.monotonic() >= until:
-                sys.exit(f"{page}:{it['line']}: wanted {it['prints']}, got {given.splitlines()}")
+            check(time.monotonic() < until, f"{page}:{it['line']}: wanted {it['prints']}, got {given.splitlines()}")
             time.sleep(0.1)
             given = printed(place, it, port, begun)
-        is_behind = bool(re.search(r" &(?: |$)", it["words"]))
+        is_after = bool(re.search(r" &(?: |$)", it["words"]))
         count += 1
     return count
 
 
-def main():
-    parser = argparse.ArgumentParser(description=__doc__, formatter_class=argparse.RawDescriptionHelpFormatter)
-    parser.add_argument("--beside", type=pathlib.Path)
-    parser.add_argument("--in", dest="root", type=pathlib.Path)
-    parser.add_argument("paths", nargs="+", type=pathlib.Path, metavar="PATH")
-    asked = parser.parse_args()
-    program, pages = (None, asked.paths) if asked.root else (asked.paths[0].resolve(), asked.paths[1:])
-    for page in pages:
-        inside = asked.root / "tmp" if asked.root else None
-        with tempfile.TemporaryDirectory(prefix="try-page-", dir=inside) as name, groups() as begun:
-            folder = pathlib.Path(name)
-            place = Installed(folder, asked.root) if asked.root else Here(folder, program)
-            if asked.beside:
-                shutil.copytree(asked.beside, place.folder, dirs_exist_ok=True)
-            count = try_commands(page, place, begun)
-        if not count:
-            sys.exit(f"{page} shows no command")
-        print(f"{page}: {count} commands, as shown")
-    return 0 if pages else 1
+def printed_as_shown(page, root=None, beside=None):
+    """Carries out the commands of a page, in the system of that folder if there is one, with copies of those files
+    beside them, and fails where one prints something else; how many there are."""
+    with tempfile.TemporaryDirectory(prefix="page-", dir=root and root / "tmp") as name, groups() as begun:
+        place = Installed(pathlib.Path(name), root) if root else Here(pathlib.Path(name))
+        if beside:
+            shutil.copytree(beside, place.folder, dirs_exist_ok=True)
+        count = try_commands(TOP / page, place, begun)
+    check(count, f"{page} shows no command")
+    return count
 
 
-sys.exit(main())
+@a_test_each(PAGES)
+class Pages(Case):
+    def look_at(self, page):
+        printed_as_shown(page)
+
+    def test_zz_nothing_is_missing(self):
+        missing = [it for it in ("curl", "sqlite3") if not shutil.which(it)]
+        if missing:
+            self.skipTest(f"there is no {' and no '.join(missing)}: commands that use it aren't tried")

@@ -1,22 +1,18 @@
-#!/usr/bin/env python3
-"""Has a server meet silent, slow, broken and oversized clients, beside honest ones that it has to answer in time.
+"""Serve: silent, slow, broken and oversized clients of a server, beside honest ones that it has to answer in time.
 
-  tools/try-serve PROGRAM [--slack S] [TRIAL..]
-
-Each trial serves a new vault in a folder of its own. Clients that misbehave come first. Behind them an honest one puts
+Each test serves a new vault in a folder of its own. Clients that misbehave come first. After them an honest one puts
 a version and gets it: its answers are right, and the first is there no later than the deadlines of those before it
 allow. A head of empty lines costs no more than ten of letters. A hundred clients come at once; none is answered
 wrongly. The server runs out of descriptors, and goes on once it has some. Its files are moved, removed and replaced:
 then it refuses each put, and nothing that it answered before is lost. It is killed under load and started again, five
 times, and whatever it had answered is there. At last `verify` says that the vault is sound. All of this takes less
-than three minutes; what is wrong is printed, and the status is 1.
+than three minutes.
 
-A busy machine makes no trial fail. What has to come at once is waited for S seconds (2 where nothing is said), and
-twenty times as long as the same machine took for a put and a get just before the trial. A trial in which an answer was
+A busy machine makes no test fail. What has to come at once is waited for TRIALS_SLACK seconds (2 where nothing is
+said), and twenty times as long as the same machine took for a put and a get just before. A test in which an answer was
 late all the same is tried again; what is late three times is wrong.
 """
 
-import argparse
 import contextlib
 import os
 import pathlib
@@ -24,29 +20,28 @@ import resource
 import select
 import shutil
 import socket
-import struct
-import subprocess
-import sys
 import tempfile
 import threading
 import time
 
+from trials.program import Case, a_test_each, check, make_office, printed
+from trials.servers import HOST, ended, free_port, read_all, reset, started
+
 # The server's deadlines, in seconds: for the head of a request, and for all of it, from when the connection was taken;
 # for a client that takes nothing of its answer; behind an answer, for one that sends nothing, and for one that goes on.
 HEAD, WHOLE, UNTAKEN, QUIET, GOING_ON = 5, 30, 10, 0.5, 5
-# How long a client waits at most, whatever the server does; and how long one waits for another run of the program.
-LIMIT, RUN_LIMIT = 60, 300
-# What has to come at once may take this many times as long as it took just before the trial.
+# How long a client waits at most, whatever the server does.
+LIMIT = 60
+# What has to come at once may take this many times as long as it took just before the test.
 TIMES = 20
 # What the server may need for each of a hundred requests.
 EACH = 0.05
 # The longest head; how many of each kind are sent, and how many times more one of empty lines may cost.
 LONGEST_HEAD, BLANK_HEADS, BLANK_FACTOR = 16_384, 20, 10
-# How often a trial is tried in which an answer is late.
+# How often something is tried in which an answer is late.
 TRIES = 3
-# How many wrongs are printed.
-TOLD = 20
-HOST, FILE = "127.0.0.1", "records.vault"
+FILE = "records.vault"
+# What is wrong of the test that runs.
 WRONGS = []
 
 
@@ -55,11 +50,7 @@ class Late(Exception):
 
 
 def wrong(text):
-    """Counts what is wrong, and tells the first few."""
     WRONGS.append(text)
-    if len(WRONGS) <= TOLD:
-        sys.stdout.write(f"wrong: {text}\n")
-        sys.stdout.flush()
 
 
 def put(key, content):
@@ -79,71 +70,18 @@ def content_of(answer):
     return answer.partition(b"\r\n\r\n")[2]
 
 
-def read_all(peer):
-    """What comes up to the connection's end, which a reset is too; what came so far where the end stays away."""
-    parts = []
-    with contextlib.suppress(ConnectionResetError, TimeoutError):
-        while part := peer.recv(65_536):
-            parts.append(part)
-    return b"".join(parts)
-
-
-def reset(peer):
-    """Closes the connection at once, and has what is under way thrown away."""
-    peer.setsockopt(socket.SOL_SOCKET, socket.SO_LINGER, struct.pack("ii", 1, 0))
-    peer.close()
-
-
-def call(program, *words):
-    done = subprocess.run([program, *words], capture_output=True, text=True, timeout=RUN_LIMIT)
-    if done.returncode != 0:
-        sys.exit(f"{words}: status {done.returncode}, {done.stdout}{done.stderr}")
-    return done.stdout
-
-
-def make(program, file):
-    """A vault with a bucket, and a caller who may put and get."""
-    asked = ["--as", "registrar"]
-    call(program, "init", file)
-    call(program, "dept", file, "records", *asked)
-    call(program, "caller", file, "ann", "put", "get", "--dept", "records", *asked)
-    call(program, "bucket", file, "docs", "records", *asked)
-
-
 class Server:
     """A program that serves a vault. `slack` is how long one waits for what has to come at once."""
 
-    def __init__(self, program, file, slack):
-        self.program, self.file, self.slack, self.puts, self.serving = program, file, slack, 0, None
-        with socket.socket() as free:
-            free.bind((HOST, 0))
-            self.port = free.getsockname()[1]
+    def __init__(self, file, slack):
+        self.file, self.slack, self.puts, self.serving, self.port = file, slack, 0, None, free_port()
 
     def start(self, *words):
-        """Starts the server, and waits until it says that it listens."""
-        words = [self.program, "serve", self.file, str(self.port), *words]
-        self.serving = subprocess.Popen(words, stderr=subprocess.PIPE)
-        wanted = f"serving {self.file} at {HOST}:{self.port}\n".encode()
-        said = b""
-        end = time.monotonic() + LIMIT
-        while not said.endswith(b"\n"):
-            if not select.select([self.serving.stderr], [], [], max(0, end - time.monotonic()))[0]:
-                break
-            part = os.read(self.serving.stderr.fileno(), 65_536)
-            if not part:
-                break
-            said += part
-        if said != wanted:
-            wrong(f"once it listens it says {said!r}, wanted {wanted!r}")
+        self.serving = started(self.file, self.port, *words)
 
     def kill(self):
         """Kills the server if it runs, and returns what it wrote on standard error since it listened."""
-        self.serving.kill()
-        self.serving.wait()
-        if self.serving.stderr.closed:
-            return ""
-        with self.serving.stderr as said:
-            return said.read().decode()
+        return ended(self.serving) if self.serving else ""
 
     def measure(self):
         """Waits as long for what has to come at once as an honest client's time allows."""
@@ -170,7 +108,7 @@ class Server:
             answer = read_all(peer)
         took = time.monotonic() - began
         if took > limit:
-            raise Late(f"{request[:20]!r}: {len(answer)} bytes within {took:.1f} s, wanted an answer within {limit:.1f} s")
+            raise Late(f"{request[:20]!r}: {len(answer)} bytes within {took:.1f} s, and not within {limit:.1f} s")
         return answer
 
     def read_at_once(self, peer):
@@ -497,12 +435,14 @@ def killed(server):
             it.join()
         server.start()
     lost = [key for key, content in answered.items() if content_of(server.ask(get(key))) != content]
-    print(f"  {len(answered)} puts were answered, {len(lost)} are lost", flush=True)
     if lost or len(answered) < 5:
         wrong(f"of {len(answered)} puts that were answered {lost} are lost")
 
 
-LOST = "the vault's file or its log isn't where it was opened: it was moved, removed or replaced, and no more changes are made\n"
+LOST = (
+    "the vault's file or its log isn't where it was opened: it was moved, removed or replaced, and no more changes are"
+    " made\n"
+)
 FAILED = "serve: the vault's file failed: where requests are answered 500, start the server anew\n"
 
 
@@ -514,7 +454,8 @@ def lose(server, away):
     server.wants(server.ask(put(key, content)), 200, b"x-amz-version-id", "a put")
     away()
     for number in range(2):
-        server.wants(server.ask(put(f"{key}-{number}", b"lost")), 500, b"Device", f"put {number} of a server that lost its files")
+        answer = server.ask(put(f"{key}-{number}", b"lost"))
+        server.wants(answer, 500, b"Device", f"put {number} of a server that lost its files")
     if content_of(server.ask(get(key))) != content:
         wrong("a server that lost its files doesn't read them")
     return key, content
@@ -525,7 +466,7 @@ def is_there(server, kept, how):
     said = server.kill()
     if said != LOST + FAILED:
         wrong(f"{how}: the server says {said!r}")
-    if call(server.program, "verify", server.file) != "sound\n":
+    if printed("verify", server.file) != "sound\n":
         wrong(f"{how}: the vault isn't sound")
     server.start()
     key, content = kept
@@ -577,52 +518,38 @@ TRIALS = {
 }
 
 
-def carry_out_once(name, program, made, slack):
-    """A trial over a copy of that vault. Late is raised where an answer was late."""
-    trial, words = TRIALS[name]
-    with tempfile.TemporaryDirectory(prefix="try-serve-") as folder:
-        for it in made.iterdir():
-            shutil.copy(it, folder)
-        server = Server(program, f"{folder}/{FILE}", slack)
-        try:
-            server.start(*words)
-            server.measure()
-            trial(server)
-        except ConnectionError as error:
-            wrong(f"{error}, and the server's status is {server.serving.poll()}")
-        finally:
-            server.kill()
-        if call(program, "verify", server.file) != "sound\n":
-            wrong("the vault isn't sound")
+@a_test_each(TRIALS)
+class Serve(Case):
+    is_alone = True
 
+    def setUp(self):
+        super().setUp()
+        WRONGS.clear()
+        make_office(self.folder / FILE, "put", "get")
 
-def carry_out(name, program, made, slack):
-    """A trial, which is tried again where an answer was late."""
-    began, before = time.monotonic(), len(WRONGS)
-    for number in range(1, TRIES + 1):
-        try:
-            carry_out_once(name, program, made, slack)
-            break
-        except Late as late:
-            print(f"{name}: late, {late}", flush=True)
-            if number == TRIES:
-                wrong(f"late {TRIES} times, {late}")
-    how = "as wanted" if len(WRONGS) == before else f"{len(WRONGS) - before} wrong"
-    print(f"{name}: {how}, {time.monotonic() - began:.1f} s", flush=True)
+    def look_at_once(self, name):
+        """A trial over a copy of that vault. Late is raised where an answer was late."""
+        trial, words = TRIALS[name]
+        with tempfile.TemporaryDirectory(dir=self.folder) as folder:
+            shutil.copy(self.folder / FILE, folder)
+            server = Server(f"{folder}/{FILE}", float(os.environ.get("TRIALS_SLACK", 2)))
+            try:
+                server.start(*words)
+                server.measure()
+                trial(server)
+            except ConnectionError as error:
+                wrong(f"{error}, and the server's status is {server.serving.poll()}")
+            finally:
+                server.kill()
+            check(printed("verify", server.file) == "sound\n", "the vault isn't sound")
 
-
-def main():
-    asked = argparse.ArgumentParser(usage=__doc__)
-    asked.add_argument("program", type=pathlib.Path)
-    asked.add_argument("trials", nargs="*", metavar="TRIAL", default=list(TRIALS))
-    asked.add_argument("--slack", type=float, default=2)
-    asked = asked.parse_args()
-    program = str(asked.program.resolve())
-    with tempfile.TemporaryDirectory(prefix="try-serve-") as folder:
-        make(program, f"{folder}/{FILE}")
-        for name in asked.trials:
-            carry_out(name, program, pathlib.Path(folder), asked.slack)
-    return 1 if WRONGS else 0
-
-
-sys.exit(main())
+    def look_at(self, name):
+        late = []
+        while len(late) < TRIES:
+            try:
+                self.look_at_once(name)
+                break
+            except Late as error:
+                late.append(str(error))
+        self.assertLess(len(late), TRIES, f"late each time: {late}")
+        self.assertEqual(WRONGS, [])

@@ -1,34 +1,23 @@
-#!/usr/bin/env python3
-"""Tries three vaults behind one port: nginx routes by bucket, registers and reports are gathered, each is backed up.
+"""Offices: three vaults behind one port. nginx routes by bucket, registers and reports are gathered, each is backed up.
 
-  tools/try-offices PROGRAM
-
-nginx runs with what `vaultdesk offices map` prints of the vaults, and with packaging/nginx-vaults.conf as it stands, but for
-its port, the paths of its files, and a certificate of its own; its users are those that `vaultdesk users` makes. Beside them
-it runs with packaging/nginx-vault.conf, before the first of the vaults alone. Each request reaches the vault that has its
-bucket, with the user's name as its caller; a vault that is down is named, and disturbs no other. What the vault answers 501
-is 501 through nginx too, and what nginx answers by itself has the form of the vault's answers. Needs
-nginx, openssl and curl (tools/setup-trials).
+nginx runs with what `vaultdesk offices map` prints of the vaults, and with packaging/nginx-vaults.conf as it is, but for
+its port, the paths of its files, and a certificate of its own; its users are those that `vaultdesk users` makes. Beside
+them it runs with packaging/nginx-vault.conf, before the first of the vaults alone. Each request reaches the vault that
+has its bucket, with the user's name as its caller; a vault that is down is named, and disturbs no other. What the vault
+answers 501 is 501 through nginx too, and what nginx answers by itself has the form of the vault's answers.
 """
 
-import contextlib
 import csv
 import io
 import json
 import os
-import pathlib
 import re
-import shutil
-import socket
 import subprocess
-import sys
-import tempfile
-import time
 
-TOP = pathlib.Path(__file__).resolve().parent.parent
-DESK = TOP / "desk" / "bin" / "vaultdesk"
+from trials.program import DESK, OPENED_AT, PROGRAM, TOP, Case, check, needs, printed, ran_words
+from trials.servers import ended, free_port, free_ports, started, wait_for
+
 PACKAGING = TOP / "packaging"
-AT = "2024-01-15T09:00:00Z"
 PASSWORD = "a long one"
 LATER = "2099-01-01T00:00:00Z"
 VAULTS = {"records": ("ann", ["letters", "drafts"]), "court": ("cid", ["cases"]), "land": ("lea", ["deeds", "maps"])}
@@ -50,30 +39,6 @@ TOO_LARGE = b'{"code":"EntityTooLarge","n":13}'
 DOWN = b'{"code":"Device","n":23}'
 
 
-def check(holds, what):
-    if not holds:
-        sys.exit(f"{sys.argv[1]}: {what}")
-
-
-def free_ports(count):
-    """So many ports of 127.0.0.1 that nobody has."""
-    with contextlib.ExitStack() as held:
-        taken = [held.enter_context(socket.socket()) for _ in range(count)]
-        for it in taken:
-            it.bind(("127.0.0.1", 0))
-        return [it.getsockname()[1] for it in taken]
-
-
-def wait_for(port):
-    """Waits until something listens at a port."""
-    for _ in range(200):
-        with socket.socket() as it:
-            if it.connect_ex(("127.0.0.1", port)) == 0:
-                return
-        time.sleep(0.05)
-    check(False, f"nothing listens at port {port}")
-
-
 def answered(*words, given=b""):
     """The status and the body of what curl is answered."""
     words = ["curl", "-s", "-w", "\n%{http_code}", *words]
@@ -84,10 +49,10 @@ def answered(*words, given=b""):
 class Offices:
     """Three vaults in a folder, their servers, and nginx before them."""
 
-    def __init__(self, program, folder):
-        self.program, self.folder = program, folder
+    def __init__(self, folder):
+        self.folder = folder
         *ports, self.port, self.single = free_ports(len(VAULTS) + 2)
-        (self.nowhere,) = free_ports(1)
+        self.nowhere = free_port()
         self.ports = dict(zip(VAULTS, ports))
         self.servers, self.nginx = {}, None
         for name in VAULTS:
@@ -95,8 +60,7 @@ class Offices:
         self.vaults = self.map()
 
     def run(self, *words, given=""):
-        ran = subprocess.run([self.program, *words], cwd=self.folder, input=given, stdout=subprocess.PIPE, text=True, check=True)
-        return ran.stdout
+        return printed(*words, cwd=self.folder, given=given)
 
     def make(self, name):
         caller, buckets = VAULTS[name]
@@ -105,25 +69,20 @@ class Offices:
         rights = ["put", "get", "list", "delete-version", "report"]
         lines += [{"do": "add-caller", "caller": caller, "dept": name, "rights": rights}]
         lines += [{"do": "add-bucket", "bucket": it, "dept": name} for it in buckets]
-        given = "".join(json.dumps({"at": AT, "as": "registrar", **it}) + "\n" for it in lines)
+        given = "".join(json.dumps({"at": OPENED_AT, "as": "registrar", **it}) + "\n" for it in lines)
         check("error" not in self.run("replay", f"{name}.vault", given=given), f"{name} isn't made")
 
     def start(self, name):
-        words = [self.program, "serve", f"{name}.vault", str(self.ports[name])]
-        self.servers[name] = subprocess.Popen(words, cwd=self.folder, stdout=subprocess.DEVNULL, stderr=subprocess.DEVNULL)
-        wait_for(self.ports[name])
+        self.servers[name] = started(f"{name}.vault", self.ports[name], folder=self.folder)
 
     def stop(self, name):
-        server = self.servers.pop(name)
-        server.kill()
-        server.wait()
+        ended(self.servers.pop(name))
 
-    def desk(self, *words, given=None):
+    def desk(self, *words, given=""):
         """What the desk does with these words, whose vaults and configurations are those of the trial."""
-        places = {"VAULT_CONF": self.folder / "conf", "VAULT_FOLDER": self.folder, "VAULTCTL": self.program}
+        places = {"VAULT_CONF": self.folder / "conf", "VAULT_FOLDER": self.folder, "VAULTCTL": PROGRAM}
         env = {**os.environ, **{name: str(path) for name, path in places.items()}}
-        how = {"cwd": self.folder, "env": env, "text": True, "capture_output": True}
-        return subprocess.run([DESK, *words], input=given, **how)
+        return ran_words(DESK, *words, given=given, cwd=self.folder, env=env)
 
     def map(self):
         """The file of nginx with the ports and buckets of the vaults, as the desk prints it."""
@@ -131,8 +90,8 @@ class Offices:
         for name, port in self.ports.items():
             (self.folder / "conf" / f"{name}.conf").write_text(f"PORT={port}\nBACKUP={self.folder}\n")
         made = self.desk("offices", "map", "--nowhere", str(self.nowhere))
-        check((made.returncode, made.stderr) == (0, ""), f"the map's answer is {made}")
-        (self.folder / "vaults.conf").write_text(made.stdout)
+        check((made.status, made.err) == (0, ""), f"the map's answer is {made}")
+        (self.folder / "vaults.conf").write_text(made.out)
         return f"include {self.folder}/vaults.conf;"
 
     def configured(self, name):
@@ -151,7 +110,7 @@ class Offices:
         subprocess.run(words, cwd=self.folder, check=True, capture_output=True)
         for caller, _ in VAULTS.values():
             added = self.desk("users", "add", "vaults.users", caller, given=f"{PASSWORD}\n")
-            check(added.returncode == 0, f"a user's answer is {added}")
+            check(added.status == 0, f"a user's answer is {added}")
         paths = " ".join(f"{it}_temp_path {self.folder}/{it};" for it in ("client_body", "proxy", "fastcgi", "uwsgi", "scgi"))
         sites = "\n".join([self.vaults, *map(self.configured, ("nginx-vaults.conf", "nginx-vault.conf"))])
         user = "user root;" if os.getuid() == 0 else ""
@@ -290,59 +249,54 @@ def try_down(offices):
 def try_listed(offices):
     """A new bucket of a vault that is served is in the map once it is named, and one that another vault has never is."""
     made = offices.desk("backup", "records.vault", ".")
-    check(made.returncode == 1 and "locked" in made.stderr, f"the answer to a backup while a vault is served is {made}")
+    check(made.status == 1 and "locked" in made.err, f"the answer to a backup while a vault is served is {made}")
     made = offices.desk("offices", "map", "records")
-    check((made.returncode, made.stdout) == (1, ""), f"of a vault that is served, without a copy, there is a map: {made}")
+    check((made.status, made.out) == (1, ""), f"of a vault that is served, without a copy, there is a map: {made}")
 
 
 def try_gathered(offices):
     """The registers and reports of all are those of each."""
     files = [f"{it}.vault" for it in VAULTS]
     busy = offices.desk("offices", "registers", *files)
-    check(busy.returncode == 1 and busy.stdout == "", f"a register is read while its vault is served: {busy}")
+    check(busy.status == 1 and busy.out == "", f"a register is read while its vault is served: {busy}")
     for name in VAULTS:
         offices.stop(name)
-    rows = list(csv.DictReader(io.StringIO(offices.desk("offices", "registers", *files).stdout)))
+    rows = list(csv.DictReader(io.StringIO(offices.desk("offices", "registers", *files).out)))
     wanted = [
         {"vault": name, **row}
         for name in VAULTS
         for row in csv.DictReader(io.StringIO(offices.run("register", f"{name}.vault")))
     ]
     check(len(rows) == 3 and rows == sorted(wanted, key=lambda it: it["removed"]), f"the registers are {rows}")
-    told = offices.desk("offices", "reports", "--at", LATER, *files).stdout.splitlines()
+    told = offices.desk("offices", "reports", "--at", LATER, *files).out.splitlines()
     each = [offices.run("report", f"{it}.vault", it, "--as", "registrar", "--at", LATER).split() for it in VAULTS]
     wanted = [",".join([name, *words[1::2]]) for name, words in zip(VAULTS, each)]
     check(told[1:] == wanted and told[0].startswith("vault,department,at,"), f"the reports are {told}, and not {wanted}")
     backed = offices.desk("offices", "backup", "copies", *files)
-    copies = backed.stdout.split()
-    check(backed.returncode == 0 and len(copies) == 3, f"the answer to a backup is {backed}")
+    copies = backed.out.split()
+    check(backed.status == 0 and len(copies) == 3, f"the answer to a backup is {backed}")
     for name, copy in zip(VAULTS, copies):
         same = offices.run("register", copy) == offices.run("register", f"{name}.vault")
         check(same and offices.run("verify", copy) == "sound\n", f"{copy} isn't {name}'s")
     (offices.folder / "court.vault").write_bytes(b"no vault")
     backed = offices.desk("offices", "backup", "more", *files)
-    check(backed.returncode == 1 and len(backed.stdout.split()) == 2, f"the answer to what is no vault is {backed}")
+    check(backed.status == 1 and len(backed.out.split()) == 2, f"the answer to what is no vault is {backed}")
 
 
-def main():
-    program = pathlib.Path(sys.argv[1]).resolve()
-    missing = [it for it in ("nginx", "openssl", "curl") if not shutil.which(it)]
-    if missing:
-        print(f"no {', '.join(missing)}: vaults behind one port are not tried", file=sys.stderr)
-        return
-    with tempfile.TemporaryDirectory(prefix="try-offices-") as folder:
+class OfOffices(Case):
+    def test_ports(self):
         try_ports()
-        offices = Offices(program, pathlib.Path(folder))
-        try:
-            for name in VAULTS:
-                offices.start(name)
-            offices.start_nginx()
-            for part in (try_routes, try_who_asks, try_refused, try_dropped, try_own_answers, try_down, try_listed, try_gathered):
+
+    @needs("nginx", "openssl", "curl")
+    def test_three_vaults(self):
+        offices = Offices(self.folder)
+        self.addCleanup(offices.close)
+        for name in VAULTS:
+            offices.start(name)
+        offices.start_nginx()
+        # Each of them goes on with what those before it left.
+        for part in (
+            try_routes, try_who_asks, try_refused, try_dropped, try_own_answers, try_down, try_listed, try_gathered,
+        ):  # fmt: skip
+            with self.subTest(part.__doc__):
                 part(offices)
-        finally:
-            offices.close()
-    print(f"{sys.argv[1]}: three vaults behind one port, each for itself, and their registers, reports and copies")
-
-
-if __name__ == "__main__":
-    main()

@@ -1,7 +1,4 @@
-#!/usr/bin/env python3
-"""Runs the program over files as a transcript says, and compares what it writes and its statuses.
-
-  tools/try-program PROGRAM TRANSCRIPT
+"""Transcripts among the examples: runs of the program over files, what it writes, and its statuses.
 
 In a transcript, `$ WORDS` is a run of the program, and the lines after it are `< ` a line of standard input,
 `> ` one of standard output, `! ` one of standard error, and `= ` the status. Between the runs, `+ PATH TEXT` makes a
@@ -17,13 +14,12 @@ the text of a file `\\n` ends a line. No run may end with another status than 0 
 
 import contextlib
 import os
-import pathlib
 import re
 import shlex
 import sqlite3
-import subprocess
-import sys
-import tempfile
+from typing import Any, Iterator
+
+from trials.program import EXAMPLES, Case, Ran, a_test_each, check, ran
 
 # The marks of what is made beside files of a few bytes.
 OTHERS = ("*", "@", "|", "/")
@@ -31,12 +27,12 @@ OTHERS = ("*", "@", "|", "/")
 READS = ("(", ")")
 
 
-def bytes_of(text):
+def bytes_of(text: str) -> bytes:
     """A text in which a backslash, an x and two digits stand for a byte."""
     return re.sub(rb"\\x([0-9A-F]{2})", lambda it: bytes.fromhex(it[1].decode()), os.fsencode(text))
 
 
-def steps(text):
+def steps(text: str) -> Iterator[dict[str, Any]]:
     """The steps of a transcript, each with its line: runs, with what they are to write, and what is between them."""
     run = None
     for number, line in enumerate(text.split("\n"), 1):
@@ -51,7 +47,7 @@ def steps(text):
         elif mark in ("+", "~", "%", "&", "-", "?") or mark in OTHERS or mark in READS:
             yield {"line": number, mark: rest}
         elif mark not in ("", "#"):
-            sys.exit(f"line {number} doesn't belong in a transcript")
+            check(False, f"line {number} doesn't belong in a transcript")
 
 
 def file_of(folder, rest):
@@ -110,17 +106,13 @@ def read_on(readers, folder, path):
     readers[path] = reader
 
 
-def run_program(program, folder, run):
+def run_program(folder, run):
     """What differs from what the run is to write; None where nothing does."""
-    how = {"capture_output": True, "cwd": folder, "timeout": 60}
-    done = subprocess.run([program, *run["$"]], input=run["<"].encode(), **how)
-    given = {">": done.stdout.decode(), "!": done.stderr.decode(), "=": str(done.returncode)}
-    for mark, what in given.items():
-        if what != run[mark]:
-            return f"wanted {mark} {run[mark]!r}, got {what!r}"
-    if done.returncode and not done.stderr:
-        return "it is refused without a word"
-    return None
+    given = ran(*run["$"], given=run["<"], cwd=folder, timeout=60)
+    wanted = Ran(int(run["="]), run[">"], run["!"])
+    if given != wanted:
+        return f"wanted {wanted}, got {given}"
+    return "it is refused without a word" if given.status and not given.err else None
 
 
 def make_or_read(folder, step, transcript, readers):
@@ -151,25 +143,17 @@ def what_differs(folder, step):
     return None
 
 
-def carry_out(program, folder, step, transcript, readers):
-    """What is wrong with a step; None where nothing is."""
-    if "$" in step:
-        return run_program(program, folder, step)
-    make_or_read(folder, step, transcript, readers)
-    return what_differs(folder, step)
-
-
-def main():
-    program, transcript = pathlib.Path(sys.argv[1]).resolve(), pathlib.Path(sys.argv[2])
-    count, readers = 0, {}
-    with tempfile.TemporaryDirectory(prefix="try-program-") as folder:
+@a_test_each(it.stem for it in sorted(EXAMPLES.glob("*.txt")))
+class Transcripts(Case):
+    def look_at(self, name):
+        """Carries out the steps of a transcript."""
+        transcript, readers, count = EXAMPLES / f"{name}.txt", {}, 0
         for step in list(steps(transcript.read_text())):
-            wrong = carry_out(program, pathlib.Path(folder), step, transcript, readers)
-            if wrong:
-                sys.exit(f"{transcript}:{step['line']}: {wrong}")
+            if "$" in step:
+                wrong = run_program(self.folder, step)
+            else:
+                make_or_read(self.folder, step, transcript, readers)
+                wrong = what_differs(self.folder, step)
+            check(not wrong, f"{transcript}:{step['line']}: {wrong}")
             count += "$" in step
-    print(f"{transcript}: {count} runs, as wanted")
-    return 0 if count else 1
-
-
-sys.exit(main())
+        check(count, f"{transcript} has no run")

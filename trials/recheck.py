@@ -1,7 +1,4 @@
-#!/usr/bin/env python3
-"""Puts `contrib/vault-recheck` beside the program, on vaults that are sound, damaged and forged.
-
-  tools/try-recheck PROGRAM [--short] [--vaults N] [--seed SEED] [--jobs N]
+"""Recheck: `contrib/vault-recheck` beside the program, on vaults that are sound, damaged and forged.
 
 Forgeries: in the files of `examples/forgeries`, `* NAME` begins a row. `% SQL` are statements that Python's sqlite3
 carries out in a copy of the vault that the program makes by `vault.jsonl`; `mend.sql` follows, which puts right what
@@ -19,13 +16,13 @@ it, and the seal of that half comes out of it. Then a row is changed at random, 
 `compare`.
 
 On each sound vault `contrib/queries/events-text.sql` has the text of `events`, of all and before the moment of one.
-Where the program has `lawful`, `events` and `seal` too, their answers are compared wherever these are asked. What
-differs is printed, and the status is then 1. --short takes 12 generated vaults in the place of 300, and a part of the
-examples.
+The program's answers to `lawful`, `events` and `seal` are compared wherever these are asked. There are 12 generated
+vaults and a part of the examples, or, where a run may be long, 300 and all; TRIALS_VAULTS is another number of them,
+and TRIALS_SEED, which is 1 if nothing is said, has other ones made.
 """
 
-import argparse
 import contextlib
+import functools
 import hashlib
 import io
 import json
@@ -36,57 +33,30 @@ import random
 import shutil
 import sqlite3
 import subprocess
-import sys
-import tempfile
-from concurrent.futures import ProcessPoolExecutor
-from typing import Any, Callable, Iterable, Iterator, NamedTuple, Optional
+from typing import Any, NamedTuple, Optional
 
-TOP = pathlib.Path(__file__).resolve().parent.parent
-EXAMPLES = TOP / "examples"
+from trials import damages
+from trials.program import (
+    CONTRIB, EXAMPLES, IS_LONG, LIMIT, PROGRAM, Case, Ran, a_test_each, carry_out, check, printed, ran, ran_words,
+    shared_folder,
+)
+from vault_recheck import vault, words
+
 FORGERIES = EXAMPLES / "forgeries"
-DAMAGES = EXAMPLES / "damages"
-EVENTS = TOP / "contrib" / "queries" / "events-text.sql"
-EARLIER = ("schema1", "schema2")
+EVENTS = CONTRIB / "queries" / "events-text.sql"
 SEALED = ("2024-02-15T00:00:00Z", "2024-03-20T09:00:00Z")
 FORGERIES_OF_EACH = 8
 DAY = 86_400
-LIMIT = 300
-
-sys.dont_write_bytecode = True
-sys.path.insert(0, str(TOP / "contrib"))
-
-from vault_recheck import vault, words  # noqa: E402
-
-
-class Wrong(Exception):
-    """What differs from what is wanted."""
-
-
-class Ran(NamedTuple):
-    """What a run wrote, and its status."""
-
-    out: str
-    err: str
-    status: int
+VAULTS = int(os.environ.get("TRIALS_VAULTS", 300 if IS_LONG else 12))
+SEED = os.environ.get("TRIALS_SEED", "1")
 
 
 class Row(NamedTuple):
-    """A row of a family: where it stands, what it changes in which vault, and what is answered then."""
+    """A row of forgeries: where it is, what it changes, and what is answered then."""
 
     place: str
-    name: str
-    beginning: str
     changes: list[str]
     answers: dict[str, list[str]]
-
-
-class Task(NamedTuple):
-    """Something that a process of its own tries: what, with which program and folder, and on what."""
-
-    what: Callable[..., list[str]]
-    program: str
-    folder: str
-    given: Any
 
 
 def recheck(*given: object) -> Ran:
@@ -97,61 +67,32 @@ def recheck(*given: object) -> Ran:
             status = words.main([str(it) for it in given])
         except SystemExit as ended:
             status = int(ended.code or 0)
-    return Ran(out.getvalue(), err.getvalue(), status)
+    return Ran(status, out.getvalue(), err.getvalue())
 
 
-def run(program: str, *given: object, lines: str = "") -> Ran:
-    """What the program writes for these words and this input, and its status."""
-    command = [program, *(str(it) for it in given)]
-    done = subprocess.run(command, input=lines.encode(errors="surrogateescape"), capture_output=True, timeout=LIMIT)
-    return Ran(done.stdout.decode(), done.stderr.decode(), done.returncode)
-
-
-def check(holds: object, what: str) -> None:
-    if not holds:
-        raise Wrong(what)
-
-
-def carry_out(file: pathlib.Path, statements: Iterable[str]) -> None:
-    """Carries out statements in a file, without a look at foreign keys; its log is part of it then."""
-    with contextlib.closing(sqlite3.connect(file, isolation_level=None)) as base:
-        for it in statements:
-            base.executescript(it)
-        base.execute("PRAGMA wal_checkpoint(TRUNCATE)")
-
-
-def make(program: str, file: pathlib.Path, script: str) -> list[str]:
+def make(file: pathlib.Path, script: str) -> list[str]:
     """The replies to a script over a new vault, whose log is part of the file then."""
-    made, played = run(program, "init", file), run(program, "replay", file, lines=script)
-    check(made.status == 0 and played.status == 0, f"{file.name} can't be made: {made}, {played}")
+    printed("init", file)
+    played = printed("replay", file, given=script)
     carry_out(file, [])
-    return played.out.splitlines()
+    return played.splitlines()
 
 
 # ---- what both are asked
 
 
-def answers_alike(program: str, file: pathlib.Path, name: str) -> str:
+def answers_alike(file: pathlib.Path, name: str) -> str:
     """What `verify` and `audit` answer of a file; fails unless it is the same."""
-    said, found = run(program, "verify", file), recheck("audit", file)
-    same = (said.out, said.status) == (found.out, found.status)
-    check(same, f"{name}: verify says {said.out + said.err!r}, audit {found.out + found.err!r}")
+    said, found = ran("verify", file), recheck("audit", file)
+    check(said[:2] == found[:2], f"{name}: verify says {said}, audit {found}")
     return said.out.strip()
 
 
-def commands_of(program: str) -> list[str]:
-    """Those of `lawful`, `events` and `seal` that the program has."""
-    with tempfile.TemporaryDirectory(prefix="try-recheck-") as folder:
-        file = pathlib.Path(folder) / "v"
-        run(program, "init", file)
-        return [it for it in ("lawful", "events", "seal") if run(program, it, file).status != 2]
-
-
-def compare_with_program(task: Task, file: pathlib.Path, name: str) -> None:
+def compare_with_program(file: pathlib.Path, name: str) -> None:
     """Fails unless what the program answers beside vault-recheck is the same, of a file that is sound."""
-    for command in task.given["commands"]:
-        said, found = run(task.program, command, file), recheck(command, file)
-        check((said.out, said.status) == (found.out, found.status), f"{name}: {command} says {said}, and {found}")
+    for command in ("lawful", "events", "seal"):
+        said, found = ran(command, file), recheck(command, file)
+        check(said[:2] == found[:2], f"{name}: {command} says {said}, and {found}")
 
 
 def events_by_query(file: pathlib.Path, before: Optional[str]) -> str:
@@ -171,37 +112,53 @@ def compare_with_query(file: pathlib.Path, name: str) -> None:
         check(events_by_query(file, before) == some, f"{name}: events-text.sql has other events before {before}")
 
 
-def looks_lawful(task: Task, file: pathlib.Path, name: str) -> None:
+def looks_lawful(file: pathlib.Path, name: str) -> None:
     """Fails unless the file is sound and lawful, and the events have the removals of the register."""
-    check(answers_alike(task.program, file, name) == "sound", f"{name} isn't sound")
+    check(answers_alike(file, name) == "sound", f"{name} isn't sound")
     for it in ("lawful", "coherent"):
         found = recheck(it, file)
-        check(found == Ran(f"{it}\n", "", 0), f"{name}: {found}")
+        check(found == Ran(0, f"{it}\n", ""), f"{name}: {found}")
     removed = [it.split(",")[0] for it in recheck("events", file).out.splitlines() if it.split(",")[1] == "removed"]
-    register = [it.split(",")[0] for it in run(task.program, "register", file).out.splitlines()[1:]]
+    register = [it.split(",")[0] for it in printed("register", file).splitlines()[1:]]
     check(removed == register, f"{name}: the events have the removals of {removed}, the register of {register}")
-    compare_with_program(task, file, name)
+    compare_with_program(file, name)
     compare_with_query(file, name)
 
 
 # ---- forgeries and damages
 
 
-def rows_of(path: pathlib.Path) -> list[Row]:
-    """The rows of a family, in their order."""
-    found: list[Row] = []
-    for number, line in enumerate(path.read_text().split("\n"), 1):
-        mark, text = line[:1], line[2:]
-        if mark == "*":
-            found.append(Row(f"{path.parent.name}/{path.name}:{number}", text, "vault", [], {}))
-        elif mark == "@":
-            found[-1] = found[-1]._replace(beginning=text)
-        elif mark == "%":
-            found[-1].changes.append(text)
-        elif mark == ">" and path.parent == FORGERIES:
-            command, _, answer = text.partition(": ")
-            found[-1].answers.setdefault(command, []).append(answer)
+def forgeries() -> dict[str, Row]:
+    """The rows of all families, by family and name."""
+    found: dict[str, Row] = {}
+    for path in sorted(FORGERIES.glob("*.txt")):
+        name = ""
+        for number, line in enumerate(path.read_text().split("\n"), 1):
+            mark, text = line[:1], line[2:]
+            if mark == "*":
+                name = f"{path.stem}: {text}"
+                check(name not in found, f"two rows have the name {name}")
+                found[name] = Row(f"{path.name}:{number}", [], {})
+            elif mark == "%":
+                found[name].changes.append(text)
+            elif mark == ">":
+                command, _, answer = text.partition(": ")
+                found[name].answers.setdefault(command, []).append(answer)
     return found
+
+
+@functools.cache
+def honest() -> pathlib.Path:
+    """The vault of which forgeries are copies; its seals are in the file `seals` beside it."""
+    folder = shared_folder() / "honest"
+    folder.mkdir()
+    replies = make(folder / "vault", (FORGERIES / "vault.jsonl").read_text())
+    refused = [it for it in replies if not it.startswith('{"ok":')]
+    check(not refused, f"lines of examples/forgeries/vault.jsonl are refused: {refused}")
+    sealed = recheck("seal", folder / "vault", "--before", SEALED[0], "--before", SEALED[1])
+    check(sealed.status == 0, f"no seals: {sealed}")
+    (folder / "seals").write_text(sealed.out)
+    return folder / "vault"
 
 
 def answer_of(ran: Ran) -> str:
@@ -215,32 +172,6 @@ def seal_answer(file: pathlib.Path, seals: pathlib.Path) -> str:
     return " ".join(days) or answer_of(ran)
 
 
-def try_forgery(task: Task) -> list[str]:
-    """What differs of a row of forgeries."""
-    row: Row = task.given["row"]
-    honest, seals = pathlib.Path(task.folder) / "honest", pathlib.Path(task.folder) / "seals"
-    with tempfile.TemporaryDirectory(prefix="forged-", dir=task.folder) as folder:
-        file = pathlib.Path(folder) / "vault"
-        shutil.copyfile(honest, file)
-        carry_out(file, [*row.changes, (FORGERIES / "mend.sql").read_text()])
-        found = {
-            "verify": [run(task.program, "verify", file).out.strip()],
-            "audit": [recheck("audit", file).out.strip()],
-            "lawful": [answer_of(recheck("lawful", file))],
-            "coherent": answer_of(recheck("coherent", file)).splitlines(),
-            "seal": [seal_answer(file, seals)],
-            "compare": answer_of(recheck("compare", honest, file)).splitlines(),
-        }
-        if found["verify"] == ["sound"]:
-            compare_with_program(task, file, row.name)
-    wanted = {"verify": ["sound"], "audit": ["sound"], "coherent": ["coherent"], **row.answers}
-    return [
-        f"{row.place}, {row.name}: {command}: wanted {wanted.get(command)}, got {found[command]}"
-        for command in found
-        if not are_wanted(command, found[command], wanted.get(command, []))
-    ]
-
-
 def are_wanted(command: str, found: list[str], wanted: list[str]) -> bool:
     """Of `coherent` and `compare` the beginning of each line is wanted, of the others the whole answer."""
     if command not in ("coherent", "compare"):
@@ -248,128 +179,128 @@ def are_wanted(command: str, found: list[str], wanted: list[str]) -> bool:
     return len(found) == len(wanted) and all(line.startswith(it) for line, it in zip(found, wanted))
 
 
-def try_damage(task: Task) -> list[str]:
-    """What `verify` and `audit` answer otherwise than each other, of a damaged file."""
-    row: Row = task.given["row"]
-    with tempfile.TemporaryDirectory(prefix="damaged-", dir=task.folder) as folder:
-        file = pathlib.Path(folder) / "vault"
-        if row.beginning != "none":
-            shutil.copyfile(pathlib.Path(task.folder) / row.beginning, file)
+ROWS = forgeries()
+
+
+@a_test_each(ROWS)
+class Forgeries(Case):
+    def look_at(self, name: str) -> None:
+        row, file = ROWS[name], self.folder / "vault"
+        shutil.copyfile(honest(), file)
+        carry_out(file, [*row.changes, (FORGERIES / "mend.sql").read_text()])
+        found = {
+            "verify": [ran("verify", file).out.strip()],
+            "audit": [recheck("audit", file).out.strip()],
+            "lawful": [answer_of(recheck("lawful", file))],
+            "coherent": answer_of(recheck("coherent", file)).splitlines(),
+            "seal": [seal_answer(file, honest().with_name("seals"))],
+            "compare": answer_of(recheck("compare", honest(), file)).splitlines(),
+        }
+        if found["verify"] == ["sound"]:
+            compare_with_program(file, row.place)
+        wanted = {"verify": ["sound"], "audit": ["sound"], "coherent": ["coherent"], **row.answers}
+        for it, lines in found.items():
+            right = are_wanted(it, lines, wanted.get(it, []))
+            check(right, f"{row.place}: {it}: wanted {wanted.get(it)}, got {lines}")
+
+
+@a_test_each(damages.ROWS)
+class Damages(Case):
+    def look_at(self, name: str) -> None:
+        row, file = damages.ROWS[name], self.folder / "vault"
+        beginning = damages.beginnings()[row.beginning]
+        if beginning is not None:
+            file.write_bytes(beginning)
         if row.changes:
             carry_out(file, row.changes)
-        answers_alike(task.program, file, f"{row.place}, {row.name}")
-    return []
-
-
-def make_beginnings(program: str, folder: pathlib.Path) -> None:
-    """The vaults of which the rows are copies, and the seals of the honest one."""
-    scripts: dict[str, list[str]] = {"new": [], "vault": ["vault.jsonl"], "moved": ["vault.jsonl", "moved.jsonl"]}
-    for name, parts in scripts.items():
-        make(program, folder / name, "".join((DAMAGES / it).read_text() for it in parts))
-    for name in EARLIER:
-        carry_out(folder / name, [(EXAMPLES / "earlier" / name / "rows.sql").read_text()])
-    replies = make(program, folder / "honest", (FORGERIES / "vault.jsonl").read_text())
-    refused = [it for it in replies if not it.startswith('{"ok":')]
-    check(not refused, f"lines of examples/forgeries/vault.jsonl are refused: {refused}")
-    sealed = recheck("seal", folder / "honest", "--before", SEALED[0], "--before", SEALED[1])
-    check(sealed.status == 0, f"no seals: {sealed}")
-    (folder / "seals").write_text(sealed.out)
+        answers_alike(file, row.place)
 
 
 # ---- words, seals and logs
 
 
-def try_words(task: Task) -> list[str]:
-    """What is answered to words that aren't understood, moments that are too late, and files that aren't there."""
-    honest = pathlib.Path(task.folder) / "honest"
-    before = honest.read_bytes()
-    wanted = {
-        ("events", honest, "--before", "2024-02-30T00:00:00Z"): ("", 2),
-        ("seal", honest, "--before", "2024-03-20"): ("", 2),
-        ("seal", honest, "--before", "2024-03-20T09:00:01Z"): ("", 1),
-        ("check-seals", honest, honest.with_name("none")): ("", 1),
-        ("check-seals", honest, FORGERIES / "mend.sql"): ("", 1),
-        ("audit", honest.with_name("none")): ("damaged meta\n", 1),
-        ("lawful", honest.with_name("none")): ("", 1),
-        ("compare", honest, honest.with_name("none")): ("", 1),
-        ("compare", honest, honest): ("unaltered\n", 0),
-        ("seal", honest): (recheck("seal", honest, "--before", SEALED[1]).out, 0),
-    }
-    for given, answer in wanted.items():
-        ran = recheck(*given)
-        check((ran.out, ran.status) == answer, f"{given}: wanted {answer}, got {ran}")
-        check(ran.status == 0 or ran.err, f"{given}: no word on standard error")
-    check(honest.read_bytes() == before, "a file that was read has changed")
-    return []
+class Words(Case):
+    def test_words(self) -> None:
+        """What is answered to words that aren't understood, moments that are too late, and files that aren't there."""
+        vault = honest()
+        before = vault.read_bytes()
+        wanted = {
+            ("events", vault, "--before", "2024-02-30T00:00:00Z"): ("", 2),
+            ("seal", vault, "--before", "2024-03-20"): ("", 2),
+            ("seal", vault, "--before", "2024-03-20T09:00:01Z"): ("", 1),
+            ("check-seals", vault, vault.with_name("none")): ("", 1),
+            ("check-seals", vault, FORGERIES / "mend.sql"): ("", 1),
+            ("audit", vault.with_name("none")): ("damaged meta\n", 1),
+            ("lawful", vault.with_name("none")): ("", 1),
+            ("compare", vault, vault.with_name("none")): ("", 1),
+            ("compare", vault, vault): ("unaltered\n", 0),
+            ("seal", vault): (recheck("seal", vault, "--before", SEALED[1]).out, 0),
+        }
+        for given, answer in wanted.items():
+            ran = recheck(*given)
+            check((ran.out, ran.status) == answer, f"{given}: wanted {answer}, got {ran}")
+            check(ran.status == 0 or ran.err, f"{given}: no word on standard error")
+        check(vault.read_bytes() == before, "a file that was read has changed")
 
+    def test_seals(self) -> None:
+        """Each seal is of the text that `events` prints for its moment."""
+        vault = honest()
+        seals = vault.with_name("seals").read_text().splitlines()
+        for at, moment in enumerate(SEALED):
+            text = recheck("events", vault, "--before", moment).out
+            rows = text.splitlines()[1:]
+            admitted = sum(it.split(",")[1] == "admitted" for it in rows)
+            digest = hashlib.sha256(text.encode()).hexdigest()
+            wanted = [f"before: {moment}", f"entries: {admitted}", f"events: {len(rows)}", f"sha256: {digest}"]
+            check(seals[4 * at:4 * at + 4] == wanted, f"the seal of {moment} is {seals}, and the events make {wanted}")
 
-def try_seals(task: Task) -> list[str]:
-    """Each seal is of the text that `events` prints for its moment."""
-    honest = pathlib.Path(task.folder) / "honest"
-    seals = (pathlib.Path(task.folder) / "seals").read_text().splitlines()
-    for at, moment in enumerate(SEALED):
-        text = recheck("events", honest, "--before", moment).out
-        rows = text.splitlines()[1:]
-        admitted = sum(it.split(",")[1] == "admitted" for it in rows)
-        digest = hashlib.sha256(text.encode()).hexdigest()
-        wanted = [f"before: {moment}", f"entries: {admitted}", f"events: {len(rows)}", f"sha256: {digest}"]
-        check(seals[4 * at:4 * at + 4] == wanted, f"the seal of {moment} is {seals}, and the events make {wanted}")
-    return []
+    def test_progress(self) -> None:
+        """A terminal shows how far a check of seals has come, and nothing else does."""
+        command = [str(CONTRIB / "vault-recheck"), "check-seals", str(honest()), str(honest().with_name("seals"))]
+        terminal, end = pty.openpty()
+        with open(terminal, "rb", buffering=0) as told:
+            done = subprocess.run(command, stdout=subprocess.PIPE, stderr=end, timeout=LIMIT)
+            os.close(end)
+            said = told.read(4_096)
+        check(done.stdout == b"as sealed\n", f"on a terminal: {done.stdout!r}")
+        check(said == b"\r15 of 15 entries\r\n", f"a terminal shows {said!r}")
+        check(ran_words(*command) == Ran(0, "as sealed\n", ""), "without a terminal something is said")
 
-
-def try_progress(task: Task) -> list[str]:
-    """A terminal shows how far a check of seals has come, and nothing else does."""
-    honest, seals = (pathlib.Path(task.folder) / it for it in ("honest", "seals"))
-    command = [str(TOP / "contrib" / "vault-recheck"), "check-seals", str(honest), str(seals)]
-    terminal, end = pty.openpty()
-    with open(terminal, "rb", buffering=0) as told:
-        done = subprocess.run(command, stdout=subprocess.PIPE, stderr=end, timeout=LIMIT)
-        os.close(end)
-        said = told.read(4_096)
-    check(done.stdout == b"as sealed\n", f"on a terminal: {done.stdout!r}")
-    check(said == b"\r15 of 15 entries\r\n", f"a terminal shows {said!r}")
-    check(run(command[0], *command[1:]) == Ran("as sealed\n", "", 0), "without a terminal something is said")
-    return []
-
-
-def try_log(task: Task) -> list[str]:
-    """A change that stands in the log alone is read, and left out with --immutable, which is said."""
-    honest = pathlib.Path(task.folder) / "honest"
-    with tempfile.TemporaryDirectory(prefix="log-", dir=task.folder) as folder:
-        written, copy = pathlib.Path(folder) / "written", pathlib.Path(folder) / "copy"
-        shutil.copyfile(honest, written)
+    def test_log(self) -> None:
+        """A change that stands in the log alone is read, and left out with --immutable, which is said."""
+        written, copy = self.folder / "written", self.folder / "copy"
+        shutil.copyfile(honest(), written)
         with contextlib.closing(sqlite3.connect(written, isolation_level=None)) as base:
             base.execute("PRAGMA wal_autocheckpoint = 0")
             base.execute("UPDATE settings SET until = until + 1 WHERE id = 2 AND n = 1")
             shutil.copyfile(written, copy)
             shutil.copyfile(f"{written}-wal", f"{copy}-wal")
-        alone, both = recheck("compare", honest, copy, "--immutable"), recheck("compare", honest, copy)
-    check(alone.out == "unaltered\n" and "copy-wal isn't read" in alone.err, f"without the log: {alone}")
-    check(both.out.startswith("setting 1 of version 2 was") and both.status == 1, f"with the log: {both}")
-    return []
+        alone, both = recheck("compare", honest(), copy, "--immutable"), recheck("compare", honest(), copy)
+        check(alone.out == "unaltered\n" and "copy-wal isn't read" in alone.err, f"without the log: {alone}")
+        check(both.out.startswith("setting 1 of version 2 was") and both.status == 1, f"with the log: {both}")
 
 
 # ---- the vaults of the examples
 
 
-def try_example(task: Task) -> list[str]:
-    """What isn't sound or lawful of the vault that a script or an earlier version leaves."""
-    name: str = task.given["example"]
-    with tempfile.TemporaryDirectory(prefix="example-", dir=task.folder) as folder:
-        file = pathlib.Path(folder) / "vault"
-        if name in EARLIER:
-            ran = run(task.program, "migrate", pathlib.Path(task.folder) / name, file)
-            check(ran.status == 0, f"{name}: {ran}")
-        else:
-            make(task.program, file, pathlib.Path(name).read_text(errors="surrogateescape"))
-        looks_lawful(task, file, name)
-    return []
-
-
 def examples() -> list[str]:
     scripts = [*EXAMPLES.glob("*.jsonl"), *EXAMPLES.glob("rows/*.jsonl"), *FORGERIES.glob("*.jsonl")]
-    alone = [TOP / "contrib" / "example-year.jsonl", DAMAGES / "vault.jsonl"]
-    return [*EARLIER, *sorted(str(it) for it in [*alone, *scripts])]
+    alone = [CONTRIB / "example-year.jsonl", damages.DAMAGES / "vault.jsonl"]
+    found = [*damages.EARLIER, *sorted(str(it.relative_to(CONTRIB.parent)) for it in [*alone, *scripts])]
+    return found if IS_LONG else found[::4]
+
+
+@a_test_each(examples())
+class Examples(Case):
+    def look_at(self, name: str) -> None:
+        """The vault that a script leaves, or the copy of one of an earlier version, is sound and lawful."""
+        file = self.folder / "vault"
+        if name in damages.EARLIER:
+            (self.folder / "old").write_bytes(damages.beginnings()[name])
+            self.printed("migrate", "old", file)
+        else:
+            make(file, (CONTRIB.parent / name).read_text(errors="surrogateescape"))
+        looks_lawful(file, name)
 
 
 # ---- generated vaults
@@ -381,8 +312,8 @@ class Office:
     RIGHTS = ["config", "put", "retain", "hold", "get", "list", "delete", "delete-version", "run", "report", "bypass"]
     DEPTS = ["records", "court", "archive"]
 
-    def __init__(self, program: str, file: pathlib.Path, chance: random.Random) -> None:
-        self.program, self.file, self.chance = program, file, chance
+    def __init__(self, file: pathlib.Path, chance: random.Random) -> None:
+        self.file, self.chance = file, chance
         self.now, self.done, self.given = 1_600_000_000, 0, 0
         self.buckets = {"docs": "records", "drafts": "records", "rolls": "court"}
         self.callers: dict[str, str] = {}
@@ -392,7 +323,7 @@ class Office:
 
     def opens(self) -> None:
         """The program waits for lines from here on."""
-        command = [self.program, "replay", str(self.file)]
+        command = [PROGRAM, "replay", self.file]
         pipe = subprocess.PIPE
         self.replay = subprocess.Popen(command, stdin=pipe, stdout=pipe, stderr=subprocess.DEVNULL, text=True)
 
@@ -595,89 +526,35 @@ def forge(chance: random.Random, file: pathlib.Path) -> Optional[Change]:
     return change
 
 
-def try_generated(task: Task) -> list[str]:
-    """What differs of a generated vault and of forgeries of it."""
-    number, seed = task.given["number"], task.given["seed"]
-    chance, name = random.Random(f"{seed} {number}"), f"generated vault {number} of seed {seed}"
-    with tempfile.TemporaryDirectory(prefix="generated-", dir=task.folder) as folder:
-        file, half, seals = (pathlib.Path(folder) / it for it in ("vault", "half", "seals"))
-        run(task.program, "init", file)
-        office = Office(task.program, file, chance)
+@a_test_each(str(it) for it in range(VAULTS))
+class Generated(Case):
+    def look_at(self, number: str) -> None:
+        """A vault that random lines make, and forgeries of it."""
+        chance, name = random.Random(f"{SEED} {number}"), f"generated vault {number} of seed {SEED}"
+        file, half, seals = (self.folder / it for it in ("vault", "half", "seals"))
+        self.printed("init", file)
+        office = Office(file, chance)
         grow(office, 30)
         shutil.copyfile(file, half)
         seals.write_text(recheck("seal", half).out)
         grow(office, 30)
         check(office.done * 3 > office.given, f"{name}: {office.done} of {office.given} lines are done")
-        looks_lawful(task, file, name)
+        looks_lawful(file, name)
         kept = recheck("check-seals", file, seals), recheck("compare", half, file)
         check([it.out for it in kept] == ["as sealed\n", "unaltered\n"], f"{name}: its first half: {kept}")
-        return [it for at in range(FORGERIES_OF_EACH) for it in try_random_forgery(task, chance, file, f"{name}, {at}")]
+        for at in range(FORGERIES_OF_EACH):
+            with self.subTest(forgery=at):
+                self.look_at_forgery(chance, file, f"{name}, {at}")
 
-
-def try_random_forgery(task: Task, chance: random.Random, honest: pathlib.Path, name: str) -> list[str]:
-    forged = honest.with_name("forged")
-    shutil.copyfile(honest, forged)
-    change = forge(chance, forged)
-    if change is None:
-        return []
-    try:
-        answer = answers_alike(task.program, forged, f"{name}: {change.text}")
+    def look_at_forgery(self, chance: random.Random, file: pathlib.Path, name: str) -> None:
+        forged = file.with_name("forged")
+        shutil.copyfile(file, forged)
+        change = forge(chance, forged)
+        if change is None:
+            return
+        answer = answers_alike(forged, f"{name}: {change.text}")
         if answer == "sound":
-            compare_with_program(task, forged, f"{name}: {change.text}")
+            compare_with_program(forged, f"{name}: {change.text}")
             if change.is_of_past:
-                found = recheck("compare", honest, forged)
+                found = recheck("compare", file, forged)
                 check(found.status == 1 and found.out, f"{name}: {change.text}: not seen by compare: {found}")
-    except Wrong as wrong:
-        return [str(wrong)]
-    return []
-
-
-# ---- all of it
-
-
-def carry_out_task(task: Task) -> list[str]:
-    try:
-        return task.what(task)
-    except (Wrong, OSError, ValueError, sqlite3.Error, subprocess.SubprocessError) as wrong:
-        return [str(wrong)]
-
-
-def tasks_of(asked: argparse.Namespace, program: str, folder: str) -> Iterator[Task]:
-    commands = commands_of(program)
-    forgeries = [row for it in sorted(FORGERIES.glob("*.txt")) for row in rows_of(it)]
-    damages = [row for it in sorted(DAMAGES.glob("*.txt")) for row in rows_of(it)]
-    vaults = asked.vaults if asked.vaults is not None else 12 if asked.short else 300
-    given: list[tuple[Callable[[Task], list[str]], dict[str, Any]]] = [
-        (try_words, {}),
-        (try_seals, {}),
-        (try_progress, {}),
-        (try_log, {}),
-        *((try_forgery, {"row": it}) for it in forgeries),
-        *((try_damage, {"row": it}) for it in damages),
-        *((try_example, {"example": it}) for it in (examples()[::4] if asked.short else examples())),
-        *((try_generated, {"number": it, "seed": asked.seed}) for it in range(vaults)),
-    ]
-    for what, more in given:
-        yield Task(what, program, folder, {**more, "commands": commands})
-
-
-def main() -> int:
-    parser = argparse.ArgumentParser(usage=__doc__)
-    parser.add_argument("program", type=pathlib.Path)
-    parser.add_argument("--short", action="store_true")
-    parser.add_argument("--vaults", type=int)
-    parser.add_argument("--seed", default="1")
-    parser.add_argument("--jobs", type=int, default=len(os.sched_getaffinity(0)))
-    asked = parser.parse_args()
-    program = str(asked.program.resolve())
-    with tempfile.TemporaryDirectory(prefix="try-recheck-") as folder, ProcessPoolExecutor(asked.jobs) as pool:
-        make_beginnings(program, pathlib.Path(folder))
-        tasks = list(tasks_of(asked, program, folder))
-        differing = [it for found in pool.map(carry_out_task, tasks) for it in found]
-    print(*differing, sep="\n", end="\n" if differing else "")
-    print(f"{asked.program}: {len(tasks)} forgeries, damages, examples and generated vaults, {len(differing)} differ")
-    return 1 if differing else 0
-
-
-if __name__ == "__main__":
-    sys.exit(main())

@@ -52,7 +52,7 @@ def pages(at, entries):
     """Listings of these entries, a page each, with the replies."""
     after = {}
     for begin in range(0, max(len(entries), 1), MOST_LISTED):
-        page = entries[begin : begin + MOST_LISTED]
+        page = entries[begin:begin + MOST_LISTED]
         more = begin + MOST_LISTED < len(entries)
         yield line(at, "ann", "list-versions", bucket="docs", **after), {"ok": {"entries": page, "more": more}}
         if page:
