@@ -140,7 +140,7 @@ def altered(reference, outcome, line, how):
 
 
 def fault_in(said):
-    """The first line of standard error that isn't on a line of the script, as `replay: Memory`; nothing where there is none."""
+    """The first line of standard error that isn't on a line of the script, as `replay: Memory`; or nothing."""
     return next((it for it in said.splitlines() if not re.match("line [0-9]+: ", it)), "")
 
 
@@ -157,7 +157,7 @@ class Program:
         self.program = Refusing(options, TOP / "crates" / "vaultctl", folder, os.environ.get("TRIALS_KEPT"))
 
     def run(self, lines, number=NEVER):
-        """What it answers to a script where that allocation is refused, in an environment as empty as that of `rt try`."""
+        """What it answers to a script where that allocation is refused, in an empty environment, as `rt try` has."""
         script = "".join(it + "\n" for it in lines)
         with self.program.refusing(number) as words:
             done = ran_words(*words, "replay", given=script, env={}, timeout=LIMIT, cwd=self.folder)

@@ -147,7 +147,8 @@ YEAR = [
         ("2025-01-01T00:00:00Z", "court", 55, 55, 0, 8_408),
         ("2025-01-01T00:00:00Z", "records", 290, 220, 70, 41_933),
     ]),
-    ("removed", {"since": "2024-07-16T10:00:01Z", "before": "2025-01-21T03:00:01Z"}, ("version", "key", "cause", "cause_by", "days"), [
+    ("removed", {"since": "2024-07-16T10:00:01Z", "before": "2025-01-21T03:00:01Z"},
+     ("version", "key", "cause", "cause_by", "days"), [
         (4, "d/plan", "rule", "old versions", 102),
         (5, "d/plan", "rule", "drafts expire", 204),
         (10, "d/budget", "request", "ann", 2),
@@ -156,7 +157,8 @@ YEAR = [
     ("removed", {"before": "2024-07-16"}, ("version",), []),
     ("buckets", {}, ("bucket", "department", "default", "rules", "versions", "bytes", "holds", "markers"), [
         ("cases", "court", "-", "-", 1, 48, 1, 0),
-        ("drafts", "records", "GOVERNANCE 90 days", "old versions, drafts expire, small notes (disabled)", 4, 130, 0, 2),
+        ("drafts", "records", "GOVERNANCE 90 days", "old versions, drafts expire, small notes (disabled)",
+         4, 130, 0, 2),
         ("letters", "records", "COMPLIANCE 1 year", "-", 4, 138, 1, 0),
     ]),
     ("version", {"id": 10}, ("moment", "event", "by", "detail"), [
@@ -174,14 +176,16 @@ YEAR = [
     ("find", {"prefix": "_024"}, ("version",), []),
     ("find", {"text": "%"}, ("version",), []),
     ("find", {"sha256": hashlib.sha256(b"What the shelves cost.").hexdigest()[:8].upper()}, ("version",), [(10,)]),
-    ("find", {"since": "2025-05-02T09:00:00Z", "before": "2025-05-09T09:00:00Z"}, ("version", "kind"), [(13, "version")]),
+    ("find", {"since": "2025-05-02T09:00:00Z", "before": "2025-05-09T09:00:00Z"}, ("version", "kind"),
+     [(13, "version")]),
     ("find", {"since": "2025-05-09T09:00:01Z"}, ("version", "kind", "sha256", "admitted_by"), [
         (15, "marker", "", "ann"),
         (16, "marker", "", "rule drafts expire"),
     ]),
     ("find", {"state": "removed"}, ("version",), [(4,), (5,), (7,), (9,), (10,)]),
     ("find", {"state": "held", "bucket": "letters"}, ("version",), [(1,), (2,), (3,), (12,)]),
-    ("events", {"id": 10}, ("event", "moment", "by", "mode", "until", "hold", "bypass", "cause", "department", "move"), [
+    ("events", {"id": 10},
+     ("event", "moment", "by", "mode", "until", "hold", "bypass", "cause", "department", "move"), [
         ("admitted", "2024-11-04T09:00:00Z", "ann", "", "", "", "", "", "records", ""),
         ("locked", "2024-11-04T09:00:00Z", "ann", "GOVERNANCE", "2025-02-02T09:00:00Z", "OFF", "false", "", "", ""),
         ("locked", "2024-11-06T09:00:00Z", "gov", "GOVERNANCE", "2024-11-06T10:00:00Z", "OFF", "true", "", "", ""),
@@ -198,8 +202,9 @@ YEAR = [
 
 # What is neither a date nor a moment. A number is what `.parameter set :at 2025-06-10` makes of a date.
 NO_MOMENTS = [
-    "", "10.06.2025", "2025-13-01", "2025-02-30", "2025-6-1", "2025-06-10 12:00:00", "2025-06-10T12:00:00", "2025-06-10T12:00Z",
-    "2025-06-10T12:00:00+02:00", "2025-06-10T24:00:00Z", "2025-06-10T12:00:00.5Z", "now", "tomorrow", 2009, 2_460_000.5,
+    "", "10.06.2025", "2025-13-01", "2025-02-30", "2025-6-1", "2025-06-10 12:00:00", "2025-06-10T12:00:00",
+    "2025-06-10T12:00Z", "2025-06-10T12:00:00+02:00", "2025-06-10T24:00:00Z", "2025-06-10T12:00:00.5Z",
+    "now", "tomorrow", 2009, 2_460_000.5,
 ]  # fmt: skip
 
 
@@ -534,12 +539,13 @@ class Page(OfTheYear):
         wanted = {it["bucket"]: it["default"].replace(" ", " for ", 1).replace("-", "none") for it in asked}
         check(defaults == wanted, f"the defaults are {wanted}, and shown {defaults}")
         rules = [(row[0], row[1], row[2]) for row in tables["rules"][1:]]
-        wanted = [("drafts", "old versions", "yes"), ("drafts", "drafts expire", "yes"), ("drafts", "small notes", "no")]
+        wanted = [("drafts", *it) for it in (("old versions", "yes"), ("drafts expire", "yes"), ("small notes", "no"))]
         check(rules == wanted, f"the rules are shown as {rules}")
         callers = {(row[0], row[1].replace("none", "-"), row[2], row[3]) for row in tables["callers"][1:]}
         wanted = {(it["caller"], it["department"], it["state"], it["rights"]) for it in self.vault.query("callers")}
         check(callers == wanted, f"the callers are {wanted}, and shown {callers}")
-        for name, table in (("buckets", "buckets"), ("rules", "rules"), ("callers", "callers"), ("removals", "register")):
+        for name in ("buckets", "rules", "callers", "removals"):
+            table = "register" if name == "removals" else name
             rows = [[str(it).replace(",", "") for it in row.values()] for row in told[name]]
             plain = [[it.replace(",", "") for it in row] for row in tables[table][1:]]
             check(rows == plain, f"as JSON the {name} are {rows}")
@@ -559,7 +565,8 @@ class Page(OfTheYear):
         check("CONSOLE" not in ran.err, f"the browser says {ran.err}")
         ids = sorted((int(it["version"]) for it in self.vault.register()), reverse=True)
         by_rule = sorted((int(it["version"]) for it in self.vault.register() if it["cause"] == "rule"), reverse=True)
-        wanted = f"<title>{len(by_rule)} of {len(ids)}: {','.join(map(str, ids))}; {','.join(map(str, by_rule))}</title>"
+        all_ids, those_by_rule = (",".join(map(str, it)) for it in (ids, by_rule))
+        wanted = f"<title>{len(by_rule)} of {len(ids)}: {all_ids}; {those_by_rule}</title>"
         check(wanted in ran.out, f"wanted {wanted}, got {ran.out[:3000]}")
 
     @needs("chromium", "pdftotext")

@@ -1,10 +1,11 @@
 """Offices: three vaults behind one port. nginx routes by bucket, registers and reports are gathered, each is backed up.
 
-nginx runs with what `vaultdesk offices map` prints of the vaults, and with packaging/nginx-vaults.conf as it is, but for
-its port, the paths of its files, and a certificate of its own; its users are those that `vaultdesk users` makes. Beside
-them it runs with packaging/nginx-vault.conf, before the first of the vaults alone. Each request reaches the vault that
-has its bucket, with the user's name as its caller; a vault that is down is named, and disturbs no other. What the vault
-answers 501 is 501 through nginx too, and what nginx answers by itself has the form of the vault's answers.
+nginx runs with what `vaultdesk offices map` prints of the vaults, and with packaging/nginx-vaults.conf as it is, but
+for its port, the paths of its files, and a certificate of its own; its users are those that `vaultdesk users` makes.
+Beside them it runs with packaging/nginx-vault.conf, before the first of the vaults alone. Each request reaches the
+vault that has its bucket, with the user's name as its caller; a vault that is down is named, and disturbs no other.
+What the vault answers 501 is 501 through nginx too, and what nginx answers by itself has the form of the vault's
+answers.
 """
 
 import csv
@@ -97,7 +98,8 @@ class Offices:
     def configured(self, name):
         """A file of nginx with the ports and paths of this trial."""
         text = (PACKAGING / name).read_text()
-        text = text.replace("proxy_pass http://127.0.0.1:8080;", f"proxy_pass http://127.0.0.1:{self.ports['records']};")
+        passes = "proxy_pass http://127.0.0.1:"
+        text = text.replace(f"{passes}8080;", f"{passes}{self.ports['records']};")
         port = self.single if name == "nginx-vault.conf" else self.port
         text = text.replace("listen 443", f"listen 127.0.0.1:{port}")
         text = re.sub(r"/etc/(?:ssl|nginx)/", f"{self.folder}/", text).replace("/vault.", "/vaults.")
@@ -111,7 +113,8 @@ class Offices:
         for caller, _ in VAULTS.values():
             added = self.desk("users", "add", "vaults.users", caller, given=f"{PASSWORD}\n")
             check(added.status == 0, f"a user's answer is {added}")
-        paths = " ".join(f"{it}_temp_path {self.folder}/{it};" for it in ("client_body", "proxy", "fastcgi", "uwsgi", "scgi"))
+        kinds = ("client_body", "proxy", "fastcgi", "uwsgi", "scgi")
+        paths = " ".join(f"{it}_temp_path {self.folder}/{it};" for it in kinds)
         sites = "\n".join([self.vaults, *map(self.configured, ("nginx-vaults.conf", "nginx-vault.conf"))])
         user = "user root;" if os.getuid() == 0 else ""
         (self.folder / "nginx.conf").write_text(
@@ -160,7 +163,8 @@ def try_routes(offices):
 
 
 def try_who_asks(offices):
-    """The caller is the user whom nginx knows, whatever a client's header says; one vault's caller is nobody in another."""
+    """The caller is the user whom nginx knows, whatever a client's header says; one vault's caller is nobody in
+    another."""
     status, body = offices.ask("ann", "/cases/a")
     check((status, json.loads(body)["reason"]) == (403, "unknown-caller"), f"ann reads {body} in the court's vault")
     status, body = offices.ask("ann", "/cases/a", "-H", "x-vault-caller: cid")
@@ -169,7 +173,8 @@ def try_who_asks(offices):
     status, _ = answered("-k", "-u", "cid:another one", f"https://127.0.0.1:{offices.port}/cases/a")
     check(status == 401, f"a user with another password is answered {status}")
     for path in ("/dogs/a", "/", "/lettersx/a", "/%6cetters/a"):
-        check(offices.ask("ann", path) == (404, b'{"code":"NoSuchBucket","n":4}'), f"{path} is answered {offices.ask('ann', path)}")
+        given = offices.ask("ann", path)
+        check(given == (404, b'{"code":"NoSuchBucket","n":4}'), f"{path} is answered {given}")
         check(offices.ask("eve", path)[0] == 401, f"{path} is answered to nobody")
 
 
@@ -222,7 +227,7 @@ def try_own_answers(offices):
             given = offices.ask("eve", path, "-i", port=port)
             head, _, body = given[1].partition(b"\r\n\r\n")
             check((given[0], body) == (401, UNKNOWN), f"a user whom nobody knows: {given}")
-            check(b"www-authenticate: basic" in head.lower(), f"a user whom nobody knows isn't asked for a password: {head}")
+            check(b"www-authenticate: basic" in head.lower(), f"nobody is asked for a password: {head}")
             check(b"content-type: application/json" in head.lower(), f"of a user whom nobody knows: {head}")
     offices.stop("records")
     given = offices.ask("ann", "/letters/a", port=offices.single)
@@ -247,7 +252,7 @@ def try_down(offices):
 
 
 def try_listed(offices):
-    """A new bucket of a vault that is served is in the map once it is named, and one that another vault has never is."""
+    """A new bucket of a vault that is served is in the map once it is named; one that another vault has never is."""
     made = offices.desk("backup", "records.vault", ".")
     check(made.status == 1 and "locked" in made.err, f"the answer to a backup while a vault is served is {made}")
     made = offices.desk("offices", "map", "records")
@@ -271,7 +276,8 @@ def try_gathered(offices):
     told = offices.desk("offices", "reports", "--at", LATER, *files).out.splitlines()
     each = [offices.run("report", f"{it}.vault", it, "--as", "registrar", "--at", LATER).split() for it in VAULTS]
     wanted = [",".join([name, *words[1::2]]) for name, words in zip(VAULTS, each)]
-    check(told[1:] == wanted and told[0].startswith("vault,department,at,"), f"the reports are {told}, and not {wanted}")
+    has_names = told[0].startswith("vault,department,at,")
+    check(told[1:] == wanted and has_names, f"the reports are {told}, and not {wanted}")
     backed = offices.desk("offices", "backup", "copies", *files)
     copies = backed.out.split()
     check(backed.status == 0 and len(copies) == 3, f"the answer to a backup is {backed}")

@@ -1,12 +1,12 @@
 """Package: it is made, and installed in a clean system, where the manual is carried out word by word.
 
 The package is made twice, with the same bytes. Its man pages, completions and units are looked at by mandoc, bash, zsh,
-fish and systemd-analyze. The clean system is made by debootstrap in a folder of its own, or TRIALS_ROOT is a folder that
-debootstrap made before (with python3, curl, sqlite3 and openssl), of which a copy is taken. There every command of the
-manual is carried out, from the one that installs the package on, with nothing but what that installed; then those of the
-pages for the auditor, the engineer, several offices and the desk, and the desk around a server: the check, the night, a
-command while it is stopped, and a copy that is put back. The package is removed again, which leaves the vaults. systemd
-doesn't run in that system: its place is taken by a script that notes what it is asked. That needs root.
+fish and systemd-analyze. The clean system is made by debootstrap in a folder of its own, or TRIALS_ROOT is a folder
+that debootstrap made before (with python3, curl, sqlite3 and openssl), of which a copy is taken. There every command of
+the manual is carried out, from the one that installs the package on, with nothing but what that installed; then those
+of the pages for the auditor, the engineer, several offices and the desk, and the desk around a server: the check, the
+night, a command while it is stopped, and a copy that is put back. The package is removed again, which leaves the
+vaults. systemd doesn't run in that system: its place is taken by a script that notes what it is asked. That needs root.
 """
 
 import functools
@@ -19,7 +19,7 @@ import subprocess
 import unittest
 
 from trials.pages import printed_as_shown
-from trials.program import EXAMPLES, PROGRAM, TOP, Case, check, needs, shared_folder
+from trials.program import EXAMPLES, PROGRAM, TOP, Case, check, needs, ran_words, shared_folder
 import clean_system
 import desk_words
 from clean_system import Root, said
@@ -127,12 +127,13 @@ def zsh_completes(folder, typed, wanted):
     """zsh completes, on a terminal that its own module gives it."""
     script = (
         f"zmodload zsh/zpty; zpty shell zsh -f; zpty -w shell 'PROMPT=; fpath=({folder} $fpath); autoload -Uz compinit;"
-        ' compinit -u -D; bindkey "^I" complete-word; zstyle ":completion:*" format "<%d>"; echo rea""dy\'; zpty -r -m shell t'
-        f" '*ready*' && zpty -w -n shell $'{typed}\\t' && zpty -r -m shell t '*{wanted}*' && print -r -- $t;"
+        ' compinit -u -D; bindkey "^I" complete-word; zstyle ":completion:*" format "<%d>"; echo rea""dy\';'
+        f" zpty -r -m shell t '*ready*' && zpty -w -n shell $'{typed}\\t'"
+        f" && zpty -r -m shell t '*{wanted}*' && print -r -- $t;"
         " zpty -d shell"
     )
-    told = subprocess.run(["zsh", "-fc", script], capture_output=True, text=True, timeout=120, env={**os.environ, "TERM": "dumb"})
-    check(wanted in told.stdout, f"zsh says {told}")
+    ran = ran_words("zsh", "-fc", script, env={**os.environ, "TERM": "dumb"})
+    check(wanted in ran.out, f"zsh says {ran}")
 
 
 def try_units(unpacked, folder):
@@ -149,8 +150,8 @@ def try_units(unpacked, folder):
 
 
 def try_html(unpacked):
-    """Each link of a page leads to a page of the package or into the page itself, each picture that it shows is there, and
-    each table is one."""
+    """Each link of a page leads to a page of the package or into the page itself, each picture that it shows is there,
+    and each table is one."""
     folder = unpacked / "usr/share/doc/vaultctl/html"
     pages = {it.name: it.read_text() for it in folder.glob("*.html")}
     there = {it.name for it in folder.iterdir()} - pages.keys()
@@ -164,7 +165,8 @@ def try_html(unpacked):
             check("://" in target or not file or file in pages, f"{name} has a link to {target}")
             if place and "://" not in target:
                 check(f'id="{place}"' in pages[file or name], f"{name} has a link to {target}, which isn't there")
-        check(not re.search(r"^\|.*\|$", re.sub(r"<pre>.*?</pre>", "", text, flags=re.S), re.M), f"{name} has a table as text")
+        plain = re.sub(r"<pre>.*?</pre>", "", text, flags=re.S)
+        check(not re.search(r"^\|.*\|$", plain, re.M), f"{name} has a table as text")
 
 
 # ---- a clean system
@@ -184,7 +186,8 @@ class Installed(Root):
 
     def listens(self):
         """Words of the shell that wait until something answers at the port."""
-        return f"for it in $(seq 300); do ! curl -s -o /tmp/answer http://127.0.0.1:{self.port}/ || break; sleep 0.2; done"
+        asks = f"curl -s -o /tmp/answer http://127.0.0.1:{self.port}/"
+        return f"for it in $(seq 300); do ! {asks} || break; sleep 0.2; done"
 
     def stop(self):
         """Stops the server, if one runs."""
@@ -225,7 +228,7 @@ def try_manual(root, debian):
     (root.folder / "etc/apt/apt.conf.d/99trial").write_text('APT::Install-Recommends "0";\n')
     printed_as_shown("docs/MANUAL.md", root.folder, beside)
     root.run("dpkg -V vaultctl")
-    check(root.run("stat -c '%U %G %a' /var/lib/vaultctl").split() == ["vaultctl", "vaultctl", "750"], "the folder isn't the user's")
+    check(root.run("stat -c '%U %G %a' /var/lib/vaultctl") == "vaultctl vaultctl 750\n", "the folder isn't the user's")
     check("Usage: vaultctl" in root.run("vaultctl --help", status=2), "the program doesn't run")
 
 
@@ -244,10 +247,12 @@ def try_others(root):
 def try_desk(root):
     """The desk, a query and the page, as they are installed, by a user who is nobody."""
     script = (
-        "cd /tmp/desk; vaultctl init y.vault; vaultctl replay y.vault < /usr/share/doc/vaultctl/examples/example-year.jsonl > replies;"
+        "cd /tmp/desk; vaultctl init y.vault;"
+        " vaultctl replay y.vault < /usr/share/doc/vaultctl/examples/example-year.jsonl > replies;"
         " export VAULT=y.vault VAULT_CALLER=ann; printf 'one two\\n' > in; vaultdesk put letters 'a \"b\"' in > id;"
         " vaultdesk get letters 'a \"b\"' out; cmp in out; vaultdesk ls letters | grep -q 'a \"b\"$';"
-        " vaultdesk hold letters 'a \"b\"' --as gov | grep -q ON; vaultdesk page > page.html; grep -q '</html>' page.html;"
+        " vaultdesk hold letters 'a \"b\"' --as gov | grep -q ON;"
+        " vaultdesk page > page.html; grep -q '</html>' page.html;"
         " vaultdesk history 2 | grep -q admitted; vaultdesk find --held | grep -q letters; vaultdesk seal > seal;"
         " sqlite3 -readonly y.vault < /usr/share/vaultctl/queries/due.sql > due; vaultdesk --version > version"
     )
@@ -292,7 +297,7 @@ def try_locked(root):
     check("nobody is served (503 ClockBack)" in says, f"of a vault that is dated ahead the check says {says}")
     root.stop()
     says = root.run("vaultdesk night records", status=1)
-    check("is before the vault's last change" in says and "marked" not in says, f"of a vault dated ahead the night says {says}")
+    check("is before the vault's last change" in says and "marked" not in says, f"a vault dated ahead: {says}")
     root.run("cp -p /tmp/records.vault* /var/lib/vaultctl")
     root.asked()
 
@@ -301,7 +306,8 @@ def try_backup(root):
     """A copy is its owner's alone, and none is made while the vault is served."""
     root.serve("")
     says = root.run("cd /var/lib/vaultctl; vaultdesk backup records.vault /tmp/copies", status=1)
-    check("locked" in says and not any((root.folder / "tmp/copies").iterdir()), f"of a backup while it is served is said {says}")
+    is_copied = any((root.folder / "tmp/copies").iterdir())
+    check("locked" in says and not is_copied, f"of a backup while it is served is said {says}")
     root.stop()
     copy = root.run("cd /var/lib/vaultctl; vaultdesk backup records.vault /tmp/copies").strip()
     for it in root.run(f"stat -c '%U %a' /tmp/copies {copy}*").splitlines():
@@ -320,7 +326,7 @@ def try_night(root):
     root.configure("records", BUCKETS="drafts cases:night-court")
     root.serve("")
     says = root.run(night, status=1)
-    check("isn't synchronized" in says and "marked" not in says, f"with a clock that nobody has set the night says {says}")
+    check("isn't synchronized" in says and "marked" not in says, f"a clock that nobody has set: {says}")
     asked = root.asked()
     check(asked == [f"stop {NIGHT}", f"reset-failed {NIGHT}", f"start {NIGHT}"], f"systemctl was asked {asked}")
     root.program("timedatectl", SYNCHRONIZED)
@@ -333,18 +339,19 @@ def try_night(root):
     check(calls == ["replay", "verify"], f"the night calls the program to {calls}")
     (copy,) = re.findall(r"^/var/backups/vaultctl/records-.*$", says, re.M)
     check(says.count("\nsha256: ") == 1, f"the night says no seal: {says}")
-    check(root.run(f"vaultctl verify {copy}; stat -c '%U %a' {copy}") == "sound\nvaultctl 600\n", f"{copy} isn't a copy")
-    check(root.run("stat -c %U /var/lib/vaultctl/records.night") == "vaultctl\n", "the night's mark isn't the vaults' user's")
+    found = root.run(f"vaultctl verify {copy}; stat -c '%U %a' {copy}; stat -c %U /var/lib/vaultctl/records.night")
+    check(found == "sound\nvaultctl 600\nvaultctl\n", f"of {copy} and the night's mark there is {found}")
     root.configure("records", BUCKETS="drafts cases")
     says = root.run(f"sleep 1; {night}", status=1)
-    check("the rules of cases weren't carried out" in says and says.count(" marked, ") == 1, f"by a caller of one department: {says}")
+    is_partly_done = "the rules of cases weren't carried out" in says and says.count(" marked, ") == 1
+    check(is_partly_done, f"by a caller of one department: {says}")
     root.configure("records", BUCKETS="drafts *")
     check("BUCKETS has *" in root.run(f"sleep 1; {night}", status=1), "what isn't a bucket is passed on")
     root.asked()
 
 
 def try_kept(root):
-    """KEEP copies stay, the newest; what isn't a copy of this vault stays too. Want of memory is said before it comes."""
+    """KEEP copies stay, the newest; what isn't a copy of this vault stays too. Want of memory is said beforehand."""
     root.configure("records", KEEP=2)
     folder = "/var/backups/vaultctl"
     others = ["records-2-20200101T000000Z.vault", "records-20200101T000000Z.vault.damaged", "records-old.vault"]
@@ -357,7 +364,8 @@ def try_kept(root):
     root.as_owner("vaultdesk put drafts k /tmp/hello --vault records.vault --as ann")
     says = root.run("vaultdesk night records")
     (root.folder / "proc/meminfo").unlink()
-    check("warning: the vault holds 5 bytes, and 0 bytes of memory are free" in says, f"with no memory the night says {says}")
+    warning = "warning: the vault holds 5 bytes, and 0 bytes of memory are free"
+    check(warning in says, f"with no memory the night says {says}")
     there = {it.name for it in (root.folder / folder.lstrip("/")).iterdir()}
     kept = {it for it in there if not it.endswith("-wal")} - set(others)
     check(set(others) <= there and len(kept) == 2 and old[2] in kept, f"of the copies there are {there}")
@@ -394,7 +402,7 @@ def try_offline(root):
     root.configure("records")
     root.serve("")
     says = root.run("echo hello | vaultdesk offline records sh -c 'cat; id -un; pwd; id -Gn; umask; exit 7'", status=7)
-    check(says == "hello\nvaultctl\n/var/lib/vaultctl\nvaultctl\n0077\n", f"a command that is given to offline says {says}")
+    check(says == "hello\nvaultctl\n/var/lib/vaultctl\nvaultctl\n0077\n", f"a command of offline says {says}")
     asked = root.asked()
     check(asked == [f"stop {NIGHT}", f"reset-failed {NIGHT}", f"start {NIGHT}"], f"systemctl was asked {asked}")
     says = root.run("vaultdesk offline records vaultctl dept records.vault offline --as registrar")
@@ -435,14 +443,15 @@ def try_users(root):
 
 
 def try_full_disk(root):
-    """A server whose disk is full refuses what it can't keep and goes on: here it may write no file beyond some blocks."""
+    """A server whose disk is full refuses what it can't keep and goes on: it may write no file beyond some blocks."""
     root.run(
         "rm -f /tmp/asked; cd /var/lib/vaultctl;"
         " runuser -u vaultctl -- vaultctl caller records.vault bob put get --dept records --as registrar"
     )
     root.serve("trap '' XFSZ; ulimit -f 2000;")
     told = root.run(
-        "head -c 400000 /dev/zero > /tmp/large; for it in 1 2 3 4 5 6; do curl -s -o /dev/null -w '%{http_code} ' -X PUT"
+        "head -c 400000 /dev/zero > /tmp/large;"
+        " for it in 1 2 3 4 5 6; do curl -s -o /dev/null -w '%{http_code} ' -X PUT"
         f" -H 'x-vault-caller: bob' --data-binary @/tmp/large http://127.0.0.1:{root.port}/drafts/$it; done"
     )
     check(told.startswith("200 ") and "500 " in told, f"puts on a full disk are answered {told}")
@@ -453,13 +462,18 @@ def try_full_disk(root):
 
 
 def remove(root):
-    root.run("cd /etc/systemd/system; mkdir -p multi-user.target.wants; ln -s nothing multi-user.target.wants/vault-serve@a.service")
+    link = "/etc/systemd/system/multi-user.target.wants/vault-serve@a.service"
+    root.run(f"mkdir -p $(dirname {link}); ln -s nothing {link}")
     root.run("dpkg -r vaultctl; dpkg -P vaultctl")
     root.run("test -f /var/lib/vaultctl/records.vault; test ! -e /usr/bin/vaultctl; test ! -e /usr/bin/vaultdesk")
-    root.run("test -f /etc/vaultctl/records.conf; test ! -L /etc/systemd/system/multi-user.target.wants/vault-serve@a.service")
+    root.run(f"test -f /etc/vaultctl/records.conf; test ! -L {link}")
 
 
-AROUND_A_SERVER = (try_check, try_locked, try_backup, try_night, try_kept, try_jump, try_offline, try_restore, try_users)
+# In their order: each goes on with what those before it left.
+PARTS = (
+    try_others, try_desk, try_check, try_locked, try_backup, try_night, try_kept, try_jump, try_offline, try_restore,
+    try_users, try_full_disk, remove,
+)  # fmt: skip
 
 
 class Files(Case):
@@ -516,7 +530,6 @@ class InCleanSystem(Case):
         self.addCleanup(root.stop)
         debian, _, _ = packages()
         try_manual(root, debian)
-        # Each of them goes on with what those before it left.
-        for part in (try_others, try_desk, *AROUND_A_SERVER, try_full_disk, remove):
+        for part in PARTS:
             with self.subTest(part.__doc__ or part.__name__):
                 part(root)

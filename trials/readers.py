@@ -1,9 +1,9 @@
 """Readers: other programs that read what the vault's program writes.
 
 A vault in a file gets two versions, of which one is removed. Python's `sqlite3` opens the file, finds it sound and
-reads its rows; Python's `csv` reads the register and the events; and `hashlib` makes the digest of a seal, and seals the
-certificate anew, and those that stand in `examples/certificates.txt`, which the program prints too. The vault is sound
-afterwards.
+reads its rows; Python's `csv` reads the register and the events; and `hashlib` makes the digest of a seal, and seals
+the certificate anew, and those that stand in `examples/certificates.txt`, which the program prints too. The vault is
+sound afterwards.
 """
 
 import contextlib

@@ -166,7 +166,7 @@ class Rows(Case):
     def look_at(self, name):
         row = rows()[name]
         if self.is_in_file:
-            self.assertEqual(self.printed("init", name), "")
+            self.assertEqual(self.ran("init", name), (0, "", ""))
         replies, explained = self.ways(row)
         compare(replies, row.replies)
         check(not any(tells_of_fault(it) for it in replies.splitlines()), "a reply is of a fault")
