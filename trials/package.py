@@ -16,17 +16,14 @@ import re
 import shlex
 import shutil
 import subprocess
-import unittest
 
 from trials.pages import printed_as_shown
 from trials.program import EXAMPLES, PROGRAM, TOP, Case, check, needs, ran_words, shared_folder
-import clean_system
+from trials.clean_system import Root, needs_system, said
 import desk_words
-from clean_system import Root, said
 
 TAKES_LONG = True
 INCLUDED = "python3,curl,sqlite3,openssl"
-MIRROR = os.environ.get("MIRROR", clean_system.MIRROR)
 STOP = """\
 read -r server < /tmp/server
 rm /tmp/server
@@ -518,15 +515,11 @@ class Files(Case):
         try_html(self.unpacked)
 
 
-@unittest.skipUnless(os.geteuid() == 0, "this isn't root, and nothing is installed")
 class InCleanSystem(Case):
+    @needs_system
     def test_installed(self):
-        made = os.environ.get("TRIALS_ROOT")
-        if not made and not shutil.which("debootstrap"):
-            self.skipTest("there is no debootstrap: nothing is installed")
         self.folder.chmod(0o755)
-        (self.folder / "root").mkdir(mode=0o755)
-        root = Installed(self.folder / "root", INCLUDED, made, MIRROR)
+        root = Installed(self.folder / "root", INCLUDED)
         self.addCleanup(root.stop)
         debian, _, _ = packages()
         try_manual(root, debian)

@@ -1,27 +1,19 @@
-#!/usr/bin/env python3
-"""Tries the tests of the desk on wrong bodies: each edit below has to make the test fail that stands beside it.
+"""Desk: its tests on wrong bodies. Each edit below has to make the test fail that is beside it.
 
-  tools/try-desk PROGRAM [PART]
-  tools/try-desk --dry
-
-Those of the gateway for clients of S3 stand in s3_edits.py. An edit is made in a copy of `desk`, which runs over PROGRAM. PART takes the edits alone whose file or test has it. What
-is let through, or can't be made any more, is printed, and the status is then 1. --dry looks only whether each edit can
-be made, and its test is there.
+Those of the gateway for clients of S3 are in s3_edits.py. An edit is made in a copy of `desk`, which runs over the
+program. The gate looks only whether each edit can be made, and its test is there (`CanBeMade`).
 """
 
-import argparse
 import os
 import pathlib
 import shutil
-import subprocess
 import sys
-import tempfile
 from typing import NamedTuple
 
-sys.dont_write_bytecode = True
-import s3_edits
+from trials import s3_edits
+from trials.program import PROGRAM, TOP, Case, a_test_each, check, ran_words
 
-TOP = pathlib.Path(__file__).resolve().parent.parent
+TAKES_LONG = True
 
 
 class Edit(NamedTuple):
@@ -190,48 +182,27 @@ def unmade(desk: pathlib.Path, edit: Edit) -> str:
     return "" if is_there else f"there is no test {edit.test}"
 
 
-def failing(program: pathlib.Path, desk: pathlib.Path, edit: Edit) -> str:
-    """What is wrong with an edit: nothing where its test fails."""
-    if why := unmade(desk, edit):
-        return why
-    module = place_of(desk, edit)
-    text = module.read_text(encoding="utf-8")
-    module.write_text(text.replace(edit.old, edit.new), encoding="utf-8")
-    try:
-        words = [sys.executable, "-B", "-m", "unittest", f"tests.{edit.test}"]
-        ran = subprocess.run(words, cwd=desk, env={**os.environ, "VAULTCTL": str(program)}, capture_output=True, text=True)
-    finally:
-        module.write_text(text, encoding="utf-8")
-    if "Ran 1 test" not in ran.stderr or "AttributeError: type object" in ran.stderr:
-        return f"{edit.test}: it wasn't tried: {ran.stderr}"
-    return f"{edit.module}: {edit.old!r} as {edit.new!r} is let through by {edit.test}" if ran.returncode == 0 else ""
+class CanBeMade(Case):
+    def test_edits(self) -> None:
+        self.assertEqual([why for it in EDITS if (why := unmade(TOP / "desk", it))], [])
 
 
-def main() -> int:
-    parser = argparse.ArgumentParser(description=__doc__, formatter_class=argparse.RawDescriptionHelpFormatter)
-    parser.add_argument("--dry", action="store_true")
-    parser.add_argument("program", nargs="?", type=pathlib.Path, metavar="PROGRAM")
-    parser.add_argument("part", nargs="?", default="", metavar="PART")
-    asked = parser.parse_args()
-    if asked.dry:
-        found = [why for it in EDITS if (why := unmade(TOP / "desk", it))]
-        print("".join(f"{it}\n" for it in found), end="")
-        return 1 if found else 0
-    if asked.program is None:
-        parser.error("PROGRAM, or --dry")
-    edits = [it for it in EDITS if asked.part in it.module or asked.part in it.test]
-    found = []
-    with tempfile.TemporaryDirectory(prefix="try-desk-") as name:
-        desk = pathlib.Path(name) / "desk"
-        shutil.copytree(TOP / "desk", desk)
-        shutil.copytree(TOP / "contrib", pathlib.Path(name) / "contrib")
-        for edit in edits:
-            wrong = failing(asked.program.resolve(), desk, edit)
-            print(wrong or f"{edit.module}: {edit.test} fails, as it should", flush=True)
-            found += [wrong] if wrong else []
-    print(f"{len(edits)} wrong bodies, {len(found)} of them let through or not tried")
-    return 1 if found else 0
+NAMED = {f"{number} {it.module} {it.test}": it for number, it in enumerate(EDITS)}
 
 
-if __name__ == "__main__":
-    sys.exit(main())
+@a_test_each(NAMED)
+class Desk(Case):
+    def look_at(self, name: str) -> None:
+        """Fails unless the test of an edit fails."""
+        edit, desk = NAMED[name], self.folder / "desk"
+        for it in ("desk", "contrib"):
+            shutil.copytree(TOP / it, self.folder / it)
+        why = unmade(desk, edit)
+        check(not why, why)
+        module = place_of(desk, edit)
+        module.write_text(module.read_text(encoding="utf-8").replace(edit.old, edit.new), encoding="utf-8")
+        env = {**os.environ, "VAULTCTL": str(PROGRAM)}
+        ran = ran_words(sys.executable, "-B", "-m", "unittest", f"tests.{edit.test}", cwd=desk, env=env)
+        is_tried = "Ran 1 test" in ran.err and "AttributeError: type object" not in ran.err
+        check(is_tried, f"{edit.test}: it wasn't tried: {ran.err}")
+        check(ran.status, f"{edit.module}: {edit.old!r} as {edit.new!r} is let through by {edit.test}")

@@ -1,6 +1,6 @@
-"""Wrong bodies of the gateway for clients of S3, each with the test that has to fail by it (tools/try-desk).
+"""Wrong bodies of the gateway for clients of S3, each with the test that has to fail by it (`desk.py`).
 
-A row has the module of `desk/vaultdesk/s3`, a text that stands in it, the text in its place, and the test.
+A row has the module of `desk/vaultdesk/s3`, a text that is in it, the text in its place, and the test.
 """
 
 PUBLISHED, KEPT, REFUSED = "test_s3_signatures.Published.", "test_s3_signatures.Kept.", "test_s3_signatures.Refused."

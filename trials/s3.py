@@ -1,36 +1,27 @@
-#!/usr/bin/env python3
-"""Has the clients of S3 that are on this machine work on a vault through its gateway (`vaultdesk s3 serve`).
+"""S3: the clients that are on this machine work on a vault through its gateway (`vaultdesk s3 serve`).
 
-  tools/try-s3 PROGRAM [CLIENT..]
-
-CLIENT is one of boto3, again (boto3, whose answers are lost), nginx (boto3, through nginx), aws, s3cmd, rclone; if none
-is given, all. boto3 is the one of the Python that runs this, and aws is each that is on the path or in /usr/bin. A client
-that isn't there is named, and not tried: `tools/setup-trials` installs Debian's. Each client has a vault and a gateway of
-its own; afterwards the vault is sound. The requests that these clients sent once, byte for byte, are in `desk/tests`,
-which need none of them and no network.
-
-The status is 1 where an answer isn't the one that is wanted, or a refusal left a version.
+They are boto3, boto3 whose answers are lost, boto3 through nginx, aws, s3cmd and rclone. boto3 is the one of the Python
+that runs this, and aws is each that is on the path or in /usr/bin; `tools/setup-trials` installs Debian's. Each client
+has a vault and a gateway of its own; afterwards the vault is sound, and no refusal has left a version. The requests
+that these clients sent once, byte for byte, are in `desk/tests`, which need none of them and no network.
 """
 
-import argparse
 import contextlib
 import datetime as dt
 import importlib.util
 import json
 import os
-import pathlib
 import shutil
 import socket
 import subprocess
-import sys
-import tempfile
 import threading
 import time
+import unittest
 from concurrent.futures import ThreadPoolExecutor
 
-sys.dont_write_bytecode = True
-TOP = pathlib.Path(__file__).resolve().parent.parent
-DESK = TOP / "desk" / "bin" / "vaultdesk"
+from trials.program import DESK, PROGRAM, TOP, Case, check, needs
+
+TAKES_LONG = True
 RIGHTS = ["config", "put", "retain", "hold", "get", "list", "delete", "delete-version", "run", "report", "bypass"]
 PLAIN = ["put", "retain", "get", "list", "delete", "delete-version"]
 OPENING = [
@@ -45,11 +36,6 @@ ODD = ["a b", "a+b", "100%", "%2F", "?", "#", ";=:@&$,!*'()", '"quoted"', " blan
        "<&>", "\\back", "..", "a" * 1_024]
 TOO_LARGE = 1_048_577
 TRIED = 300  # seconds for one run of a client, and for what the gateway is waited for; a busy machine takes long
-
-
-def check(holds, what):
-    if not holds:
-        raise AssertionError(what)
 
 
 class Gateway:
@@ -391,7 +377,7 @@ def try_nginx(program, folder):
     """boto3 over TLS through nginx, with the lines that the page has for it."""
     made_certificate(folder)
     page = (TOP / "docs" / "S3.md").read_text()
-    block = page[page.index("location / {") :].partition("```")[0]
+    block = page[page.index("location / {"):].partition("```")[0]
     with Gateway(program, folder) as gateway:
         with socket.create_server(("127.0.0.1", 0)) as free:
             port = free.getsockname()[1]
@@ -526,37 +512,32 @@ def try_rclone(program, folder):
         check(all(it["ok"]["retention"] for it in gateway.lines(*lines)), "a version of rclone's isn't locked")
 
 
-TRIALS = {"boto3": try_boto3, "again": try_again, "nginx": try_nginx, "aws": try_aws, "s3cmd": try_s3cmd, "rclone": try_rclone}
+needs_boto3 = unittest.skipUnless(importlib.util.find_spec("boto3"), "there is no boto3")
 
 
-def is_there(name):
-    has_boto3 = importlib.util.find_spec("boto3") is not None
-    if name in ("boto3", "again"):
-        return has_boto3
-    if name == "nginx" and not has_boto3:
-        return False
-    return shutil.which(name) is not None or os.path.exists(f"/usr/bin/{name}")
+class S3(Case):
+    @needs_boto3
+    @needs("openssl")
+    def test_boto3(self):
+        try_boto3(PROGRAM, self.folder)
 
+    @needs_boto3
+    def test_again(self):
+        try_again(PROGRAM, self.folder)
 
-def main():
-    parser = argparse.ArgumentParser(description=__doc__, formatter_class=argparse.RawDescriptionHelpFormatter)
-    parser.add_argument("program", type=pathlib.Path, metavar="PROGRAM")
-    parser.add_argument("clients", nargs="*", choices=[[], *TRIALS], metavar="CLIENT")
-    asked = parser.parse_args()
-    wrong = 0
-    for name in asked.clients or TRIALS:
-        if not is_there(name):
-            print(f"{name} isn't tried: boto3 or the program isn't there", flush=True)
-            continue
-        begun = time.monotonic()
-        with tempfile.TemporaryDirectory(prefix="try-s3-") as folder:
-            try:
-                TRIALS[name](asked.program.resolve(), pathlib.Path(folder))
-                print(f"{name}: as wanted, {time.monotonic() - begun:.0f} seconds", flush=True)
-            except (AssertionError, subprocess.SubprocessError) as error:
-                wrong += 1
-                print(f"{name}: {error}", flush=True)
-    return 1 if wrong else 0
+    @needs_boto3
+    @needs("openssl", "nginx")
+    def test_nginx(self):
+        try_nginx(PROGRAM, self.folder)
 
+    @needs("aws")
+    def test_aws(self):
+        try_aws(PROGRAM, self.folder)
 
-sys.exit(main())
+    @needs("s3cmd")
+    def test_s3cmd(self):
+        try_s3cmd(PROGRAM, self.folder)
+
+    @needs("rclone")
+    def test_rclone(self):
+        try_rclone(PROGRAM, self.folder)

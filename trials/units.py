@@ -1,11 +1,8 @@
-#!/usr/bin/env python3
-"""Has a systemd of its own carry out the package's units in a clean system, which is started by systemd-nspawn.
+"""Units: a systemd of its own carries out the package's units in a clean system, which systemd-nspawn starts.
 
-  tools/try-units PROGRAM [ROOT]
-
-The package of the program is installed in a clean system, which debootstrap makes or which is a copy of ROOT (with
-python3, curl, sqlite3, systemd-sysv and dbus). That system is booted with no network but its own loopback. In it a vault
-is made as docs/ENGINEER.md says, its units are enabled, and then:
+The package of the program is installed in a clean system, which debootstrap makes or which is a copy of TRIALS_ROOT
+(with python3, curl, sqlite3, systemd-sysv and dbus). That system is booted with no network but its own loopback. In it
+a vault is made as docs/ENGINEER.md says, its units are enabled, and then:
 
   - a name without a vault fails as it is started
   - a start is done once the server answers as the user vaultctl, shut in; killed, it is started again
@@ -18,19 +15,16 @@ is made as docs/ENGINEER.md says, its units are enabled, and then:
   - a vault that isn't sound is given up after five starts, which is reported; the copy is put back by root and served
   - a second boot serves it by itself; with the package the server goes, and comes again
 
-Needs root, systemd-nspawn (systemd-container) and debootstrap. Takes some minutes.
+That needs root.
 """
 
 import os
-import pathlib
 import subprocess
-import sys
-import tempfile
 
-sys.dont_write_bytecode = True
-from clean_system import Root, check, said
+from trials.clean_system import Root, needs_system, said
+from trials.program import PROGRAM, TOP, Case, check, needs
 
-TOP = pathlib.Path(__file__).resolve().parent.parent
+TAKES_LONG = True
 INCLUDED = "python3,curl,sqlite3,systemd-sysv,dbus"
 BOOT_LIMIT = 3600  # seconds
 
@@ -286,16 +280,14 @@ def booted(root, script):
     return [line for line in text.splitlines() if line.startswith("trial: ")]
 
 
-def main():
-    program = pathlib.Path(sys.argv[1]).resolve()
-    made = pathlib.Path(sys.argv[2]).resolve() if len(sys.argv) > 2 else None
-    with tempfile.TemporaryDirectory(prefix="try-units-") as name:
-        folder = pathlib.Path(name)
-        folder.chmod(0o755)
-        said(TOP / "tools" / "package", program, folder / "made")
-        (folder / "root").mkdir(mode=0o755)
-        root = Root(folder / "root", INCLUDED, made)
-        (debian,) = (folder / "made").glob("*.deb")
+class Units(Case):
+    @needs_system
+    @needs("systemd-nspawn")
+    def test_boots(self):
+        self.folder.chmod(0o755)
+        said(TOP / "tools" / "package", PROGRAM, self.folder / "made")
+        root = Root(self.folder / "root", INCLUDED)
+        (debian,) = (self.folder / "made").glob("*.deb")
         (root.folder / "trial").mkdir()
         root.put(debian, "/trial/vaultctl.deb")
         root.run("dpkg -i /trial/vaultctl.deb")
@@ -306,6 +298,3 @@ def main():
         (wants / "trial.service").symlink_to("../trial.service")
         for script in (FIRST, SECOND):
             print("\n".join(booted(root, script)))
-
-
-main()
