@@ -74,52 +74,6 @@ def packages():
     return debian, archive, unpacked
 
 
-def try_archive(archive, unpacked, folder):
-    """The archive has the same files as the package."""
-    said("tar", "-xzf", archive, "-C", folder)
-    (top,) = folder.glob("vaultctl-*")
-    said("diff", "-r", "--no-dereference", top, unpacked)
-
-
-def try_man_pages(unpacked):
-    pages = sorted((unpacked / "usr/share/man").glob("man*/*"))
-    commands = re.findall(r"^!   ([a-z]+)  ", (EXAMPLES / "help.txt").read_text(), re.M)
-    names = {it.name.removesuffix(".1.gz") for it in pages}
-    check({f"vaultctl-{it}" for it in commands} < names, f"of {commands} there are the pages {names}")
-    wanted = {"vaultdesk", *("-".join(it.words) for it in desk_words.desk().kinds)}
-    check(wanted < names and len(wanted) > 20, f"of the desk's pages there aren't {wanted - names}")
-
-
-def try_mandoc(unpacked):
-    for page in sorted((unpacked / "usr/share/man").glob("man*/*")):
-        text = gzip.decompress(page.read_bytes())
-        ran = subprocess.run(["mandoc", "-Tlint", "-W", "warning"], input=text, capture_output=True)
-        check((ran.returncode, ran.stdout) == (0, b""), f"of {page.name} mandoc says {ran.stdout}")
-
-
-def try_bash(unpacked):
-    folder = unpacked / "usr/share/bash-completion/completions"
-    asked = '. "$1/$2"; shift; COMP_WORDS=("$@"); COMP_CWORD=$(($# - 1)); _$1; echo "${COMPREPLY[*]}"'
-
-    def completed(*words):
-        return said("bash", "-c", asked, "bash", folder, *words).split()
-
-    check(completed("vaultctl", "re") == ["report", "register", "replay"], f"bash: {completed('vaultctl', 're')}")
-    check(completed("vaultctl", "caller", "f", "ann", "del") == ["delete", "delete-version"], "bash completes no right")
-    check("--count" in completed("vaultctl", "serve", "-"), "bash completes no option")
-    for words, wanted in DESK_COMPLETED:
-        check(set(wanted) <= set(completed(*words)), f"bash: {words}: {completed(*words)}")
-
-
-def try_fish(unpacked):
-    fish = unpacked / "usr/share/fish/vendor_completions.d"
-    ours = [(("vaultctl", "re"), ["report", "replay"]), (("vaultctl", "serve", "--"), ["--count"])]
-    for words, wanted in [*ours, *DESK_COMPLETED]:
-        completed = said("fish", "-c", f"source {fish}/{words[0]}.fish; complete -C '{' '.join(words)}'")
-        found = {it.split("\t")[0] for it in completed.splitlines()}
-        check(set(wanted) <= found, f"fish: {words}: {found}")
-
-
 def zsh_completes(folder, typed, wanted):
     """zsh completes, on a terminal that its own module gives it."""
     script = (
@@ -131,39 +85,6 @@ def zsh_completes(folder, typed, wanted):
     )
     ran = ran_words("zsh", "-fc", script, env={**os.environ, "TERM": "dumb"})
     check(wanted in ran.out, f"zsh says {ran}")
-
-
-def try_units(unpacked, folder):
-    """systemd-analyze finds nothing to say of the units, with the programs where they are unpacked."""
-    folder.mkdir()
-    for unit in sorted((unpacked / "usr/lib/systemd/system").iterdir()):
-        text = re.sub(r"^(Exec\w+=\+?)(?=/usr)", rf"\1{unpacked}", unit.read_text(), flags=re.M)
-        (folder / unit.name).write_text(text)
-    for unit in sorted(folder.iterdir()):
-        ran = subprocess.run(["systemd-analyze", "verify", unit], capture_output=True, text=True)
-        # the manual pages that the units name aren't installed here
-        ours = [it for it in ran.stderr.splitlines() if "vault-" in it and "Command 'man " not in it]
-        check(ours == [], f"{unit.name}: {ours}")
-
-
-def try_html(unpacked):
-    """Each link of a page leads to a page of the package or into the page itself, each picture that it shows is there,
-    and each table is one."""
-    folder = unpacked / "usr/share/doc/vaultctl/html"
-    pages = {it.name: it.read_text() for it in folder.glob("*.html")}
-    there = {it.name for it in folder.iterdir()} - pages.keys()
-    shown = {it for text in pages.values() for it in re.findall(r'<img [^>]*src="([^"]*)"', text)}
-    check("images-vault-page.png" in shown and shown == there, f"the pages show {shown}, and beside them are {there}")
-    unlisted = pages.keys() - {it.partition("#")[0] for it in re.findall(r'href="([^"]*)"', pages["index.html"])}
-    check(unlisted == {"index.html"}, f"index.html has no link to {unlisted}")
-    for name, text in pages.items():
-        for target in re.findall(r'href="([^"]*)"', text):
-            file, _, place = target.partition("#")
-            check("://" in target or not file or file in pages, f"{name} has a link to {target}")
-            if place and "://" not in target:
-                check(f'id="{place}"' in pages[file or name], f"{name} has a link to {target}, which isn't there")
-        plain = re.sub(r"<pre>.*?</pre>", "", text, flags=re.S)
-        check(not re.search(r"^\|.*\|$", plain, re.M), f"{name} has a table as text")
 
 
 # ---- a clean system
@@ -485,34 +406,87 @@ class Files(Case):
         self.assertIn("python3-openpyxl", recommended, "nothing brings what xlsx needs")
 
     def test_archive(self):
-        try_archive(self.archive, self.unpacked, self.folder)
+        """The archive has the same files as the package."""
+        said("tar", "-xzf", self.archive, "-C", self.folder)
+        (top,) = self.folder.glob("vaultctl-*")
+        said("diff", "-r", "--no-dereference", top, self.unpacked)
 
     def test_man_pages(self):
-        try_man_pages(self.unpacked)
+        pages = sorted((self.unpacked / "usr/share/man").glob("man*/*"))
+        commands = re.findall(r"^!   ([a-z]+)  ", (EXAMPLES / "help.txt").read_text(), re.M)
+        names = {it.name.removesuffix(".1.gz") for it in pages}
+        check({f"vaultctl-{it}" for it in commands} < names, f"of {commands} there are the pages {names}")
+        wanted = {"vaultdesk", *("-".join(it.words) for it in desk_words.desk().kinds)}
+        check(wanted < names and len(wanted) > 20, f"of the desk's pages there aren't {wanted - names}")
 
     @needs("mandoc")
     def test_mandoc(self):
-        try_mandoc(self.unpacked)
+        for page in sorted((self.unpacked / "usr/share/man").glob("man*/*")):
+            text = gzip.decompress(page.read_bytes())
+            ran = subprocess.run(["mandoc", "-Tlint", "-W", "warning"], input=text, capture_output=True)
+            check((ran.returncode, ran.stdout) == (0, b""), f"of {page.name} mandoc says {ran.stdout}")
 
     def test_bash(self):
-        try_bash(self.unpacked)
+        folder = self.unpacked / "usr/share/bash-completion/completions"
+        asked = '. "$1/$2"; shift; COMP_WORDS=("$@"); COMP_CWORD=$(($# - 1)); _$1; echo "${COMPREPLY[*]}"'
+
+        def completed(*words):
+            return said("bash", "-c", asked, "bash", folder, *words).split()
+
+        check(completed("vaultctl", "re") == ["report", "register", "replay"], f"bash: {completed('vaultctl', 're')}")
+        rights = completed("vaultctl", "caller", "f", "ann", "del")
+        check(rights == ["delete", "delete-version"], f"bash: {rights}")
+        check("--count" in completed("vaultctl", "serve", "-"), "bash completes no option")
+        for words, wanted in DESK_COMPLETED:
+            check(set(wanted) <= set(completed(*words)), f"bash: {words}: {completed(*words)}")
 
     @needs("fish")
     def test_fish(self):
-        try_fish(self.unpacked)
+        fish = self.unpacked / "usr/share/fish/vendor_completions.d"
+        ours = [(("vaultctl", "re"), ["report", "replay"]), (("vaultctl", "serve", "--"), ["--count"])]
+        for words, wanted in [*ours, *DESK_COMPLETED]:
+            completed = said("fish", "-c", f"source {fish}/{words[0]}.fish; complete -C '{' '.join(words)}'")
+            found = {it.split("\t")[0] for it in completed.splitlines()}
+            check(set(wanted) <= found, f"fish: {words}: {found}")
+
+    @needs("systemd-analyze")
+    def test_units(self):
+        """systemd-analyze finds nothing to say of the units, with the programs where they are unpacked."""
+        units = self.folder / "units"
+        units.mkdir()
+        for unit in sorted((self.unpacked / "usr/lib/systemd/system").iterdir()):
+            text = re.sub(r"^(Exec\w+=\+?)(?=/usr)", rf"\1{self.unpacked}", unit.read_text(), flags=re.M)
+            (units / unit.name).write_text(text)
+        for unit in sorted(units.iterdir()):
+            ran = subprocess.run(["systemd-analyze", "verify", unit], capture_output=True, text=True)
+            # the manual pages that the units name aren't installed here
+            ours = [it for it in ran.stderr.splitlines() if "vault-" in it and "Command 'man " not in it]
+            check(ours == [], f"{unit.name}: {ours}")
+
+    def test_html(self):
+        """Each link of a page leads to a page of the package or into the page itself, each picture that it shows is
+        there, and each table is one."""
+        folder = self.unpacked / "usr/share/doc/vaultctl/html"
+        pages = {it.name: it.read_text() for it in folder.glob("*.html")}
+        there = {it.name for it in folder.iterdir()} - pages.keys()
+        shown = {it for text in pages.values() for it in re.findall(r'<img [^>]*src="([^"]*)"', text)}
+        check("images-vault-page.png" in shown and shown == there, f"the pages show {shown}, and there are {there}")
+        unlisted = pages.keys() - {it.partition("#")[0] for it in re.findall(r'href="([^"]*)"', pages["index.html"])}
+        check(unlisted == {"index.html"}, f"index.html has no link to {unlisted}")
+        for name, text in pages.items():
+            for target in re.findall(r'href="([^"]*)"', text):
+                file, _, place = target.partition("#")
+                check("://" in target or not file or file in pages, f"{name} has a link to {target}")
+                if place and "://" not in target:
+                    check(f'id="{place}"' in pages[file or name], f"{name} has a link to {target}, which isn't there")
+            plain = re.sub(r"<pre>.*?</pre>", "", text, flags=re.S)
+            check(not re.search(r"^\|.*\|$", plain, re.M), f"{name} has a table as text")
 
     @needs("zsh")
     def test_zsh(self):
         folder = self.unpacked / "usr/share/zsh/vendor-completions"
         zsh_completes(folder, "vaultctl cert", "certificate ")
         zsh_completes(folder, "vaultdesk offices reg", "registers ")
-
-    @needs("systemd-analyze")
-    def test_units(self):
-        try_units(self.unpacked, self.folder / "units")
-
-    def test_html(self):
-        try_html(self.unpacked)
 
 
 class InCleanSystem(Case):

@@ -20,6 +20,7 @@ import unittest
 from concurrent.futures import ThreadPoolExecutor
 
 from trials.program import DESK, PROGRAM, TOP, Case, check, needs
+from trials.servers import free_port
 
 TAKES_LONG = True
 RIGHTS = ["config", "put", "retain", "hold", "get", "list", "delete", "delete-version", "run", "report", "bypass"]
@@ -48,8 +49,7 @@ class Gateway:
         self.env |= {"VAULTCTL": str(program), "HOME": str(folder), "PYTHONDONTWRITEBYTECODE": "1"}
         subprocess.run([program, "init", self.file], check=True)
         self.lines(*OPENING)
-        with socket.create_server(("127.0.0.1", 0)) as free:
-            self.port = free.getsockname()[1]
+        self.port = free_port()
         given = {"vault": str(self.file), "keys": str(folder / "keys.toml"), "etags": str(folder / "etags"), "port": self.port,
                  **settings}
         self.settings = folder / "s3.toml"
@@ -379,8 +379,7 @@ def try_nginx(program, folder):
     page = (TOP / "docs" / "S3.md").read_text()
     block = page[page.index("location / {"):].partition("```")[0]
     with Gateway(program, folder) as gateway:
-        with socket.create_server(("127.0.0.1", 0)) as free:
-            port = free.getsockname()[1]
+        port = free_port()
         block = block.replace("127.0.0.1:9000", f"127.0.0.1:{gateway.port}")
         (folder / "nginx.conf").write_text(NGINX.format(folder=folder, port=port, block=block))
         folder.chmod(0o755)

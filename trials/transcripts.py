@@ -108,7 +108,7 @@ def read_on(readers, folder, path):
 
 def run_program(folder, run):
     """What differs from what the run is to write; None where nothing does."""
-    given = ran(*run["$"], given=run["<"], cwd=folder, timeout=60)
+    given = ran(*run["$"], given=run["<"], cwd=folder)
     wanted = Ran(int(run["="]), run[">"], run["!"])
     if given != wanted:
         return f"wanted {wanted}, got {given}"
