@@ -28,7 +28,7 @@ use Rattle.vault_audit.specs.InOrder.{AreRowsRight, IsRight, IsToldInOrder, Told
 
 -- ---- places
 
--- the tables behind meta
+-- the tables after meta
 abbrev pub behind_meta : List Table
 behind_meta = Departments ∷ Callers ∷ Buckets ∷ Rules ∷ Entries ∷ Contents ∷ Settings ∷ Intake ∷ Heads ∷ Tenures ∷ []
 
@@ -133,7 +133,7 @@ module _ (n : Edition) (db : Database) where
   pub told_by_rows : (t : Table) → ((u : Table) → place_of u < place_of t → IsRight n db u) → AreRowsRight n db t false → ((v : Vault) → ¬ AreSoundAs n db v) → ToldInOrder n db (Some t)
   told_by_rows t before wrong none = (record { before = before; here = inr (inl wrong) }, none)
 
-  -- meta is told
+  -- meta is reported
   pub meta_by_form : IsToldIn n db.schema Meta → ToldInOrder n db (Some Meta)
   meta_by_form it = told_by_form Meta (λ u less. absurd (omega (arith, less))) it
 

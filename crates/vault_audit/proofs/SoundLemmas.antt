@@ -27,7 +27,7 @@ use Rattle.vault_audit.proofs.FoundLemmas.{found_spelled, found_sums}
 use Rattle.vault_audit.specs.Looks.{ArePast}
 use Rattle.vault_audit.specs.Whole.{AllFound}
 
--- the row tells an entry that is past
+-- the row holds an entry that is past
 abbrev TellsPast : ℕ → Row → Type 0
 TellsPast last row = (e : Entry) × (row ≡ entry_row e) × IsPast last e
 

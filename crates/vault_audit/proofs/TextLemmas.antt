@@ -1,4 +1,4 @@
--- What the first look at each table reads, where the tables up to that one are known and others may stand behind them.
+-- What the first look at each table reads, where the tables up to that one are known and others may stand after them.
 use Rattle.std.proofs.Common.{◌≡◌, List, ℕ, pos, ◌+◌, [], ◌∷◌, ◌++◌, take, drop, codes, false, refl, sym, ap, subst, ◌∙◌, arith, take-append-drop}
 use Rattle.sqlite_tied.specs.Compute.{everything}
 use Rattle.sqlite.specs.Command.TheVariants.{Select}

@@ -1,4 +1,4 @@
--- Which table is told: they are looked at in their order.
+-- Which table is reported: they are looked at in their order.
 use Rattle.std.specs.Prelude.{◌≡◌, ◌<◌, ◌⊎◌, Bool, true, false, map, Option, Some, None}
 use Rattle.sqlite.specs.Effect.{Database}
 use Rattle.vault_base.specs.declared.refusal.Table.{Table}
@@ -45,7 +45,7 @@ pub record IsToldInOrder (n : Edition) (db : Database) (told : Table) : Type 0 w
   pub before : (t : Table) → place_of t < place_of told → IsRight n db t
   pub here : ¬ IsInPlace n db.schema.tables told ⊎ AreRowsRight n db told false ⊎ (AreInPlace n db.schema.tables × (db.schema ≡ schema_of n → AreRight n db))
 
--- each table is right by itself; or one is told, and the tables are sound for no vault
+-- each table is right by itself; or one is reported, and the tables are sound for no vault
 abbrev pub ToldInOrder : Edition → Database → Option Table → Type 0
 ToldInOrder n db None = (db.schema ≡ schema_of n) × AreRight n db
 ToldInOrder n db (Some table) = IsToldInOrder n db table × ((v : Vault) → ¬ AreSoundAs n db v)

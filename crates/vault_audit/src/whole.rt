@@ -65,7 +65,7 @@ pub fn audit<S: Alter>(
     ensures sound { HasCleanDisk (state S.Store conn.new) → OnOk result ((v : Vault) × AreSoundAs edition (state S.Store conn.new).now v) }
     // or they are those of none.
     ensures damaged { HasCleanDisk (state S.Store conn.new) → IfErr result (λ r. (t : Table) → r ≡ Refusal.Damaged t → (v : Vault) → ¬ AreSoundAs edition (state S.Store conn.new).now v) }
-    // The table that is told is the first in their order that isn't right by itself, whatever the schema; or all are.
+    // The table that is reported is the first in order that isn't right by itself, whatever the schema; or all are.
     ensures first { HasCleanDisk (state S.Store conn.new) → IfErr result (λ r. (t : Table) → r ≡ Refusal.Damaged t → IsToldInOrder edition (state S.Store conn.new).now t) }
     ensures faults { IfErr result IsTold }
     // A store that works is never told as one that failed.

@@ -1,4 +1,4 @@
--- A row tells one row of contents.
+-- A row holds one row of contents.
 use Rattle.std.proofs.Common.{◌≡◌, ℕ, List, refl, sym, ◌∙◌}
 use Rattle.sqlite_value.specs.Order.{Row}
 use Rattle.vault_audit_model.specs.declared.rows.ContentRow.{ContentRow}

@@ -94,7 +94,7 @@ pub head_cmp_total : IsTotalOrder head_cmp
 head_cmp_total = then_total (on_texts (λ (h : HeadRow). h.bucket)) (on_texts (λ (h : HeadRow). h.key))
 
 module _ (v : Vault) where
-  -- of its key, no entry behind it is held
+  -- of its key, no entry after it is held
   none_newer : (h : History) → is_current v h ≡ true → AllByRecursion (λ g. is_held_at h.entry.bucket h.entry.key g.entry ≡ true → nat_lt h.entry.id g.entry.id ≡ true → ⊥) v.histories
   none_newer h current =
       under_filter (λ (g : History). is_held_at h.entry.bucket h.entry.key g.entry) (λ g. nat_lt h.entry.id g.entry.id ≡ true → ⊥) v.histories

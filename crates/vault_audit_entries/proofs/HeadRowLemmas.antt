@@ -1,4 +1,4 @@
--- A row tells one head.
+-- A row holds one head.
 use Rattle.std.proofs.Common.{◌≡◌, ℕ, List, refl, sym, ap, ◌∙◌}
 use Rattle.sqlite_value.specs.Order.{Row, column}
 use Rattle.vault_audit_model.specs.declared.rows.HeadRow.{HeadRow}

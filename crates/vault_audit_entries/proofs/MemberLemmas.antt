@@ -119,7 +119,7 @@ module _ {A : Type 0} (cmp : A → A → Ordering) (total : IsTotalOrder cmp) wh
   same_first x y xs ys low high (inr i) (inl f) = sym f
   same_first x y xs ys low high (inr i) (inr j) = absurd (both_ways x y (at_in (λ w. cmp x w ≡ Less) xs low y j) (at_in (λ w. cmp y w ≡ Less) ys high x i))
 
-  -- what is behind the first of the one is behind the first of the other
+  -- what is after the first of the one is after the first of the other
   behind_too : (x y : A) (xs ys : List A) → x ≡ y → AllByRecursion (λ w. cmp x w ≡ Less) xs → (z : A) → In z xs → In z (y ∷ ys) → In z ys
   behind_too x y xs ys same low z i (inl e) = absurd (less_apart x z (at_in (λ w. cmp x w ≡ Less) xs low z i) (same ∙ sym e))
   behind_too x y xs ys same low z i (inr j) = j

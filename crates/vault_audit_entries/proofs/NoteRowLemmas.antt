@@ -1,4 +1,4 @@
--- A row tells one note.
+-- A row holds one note.
 use Rattle.std.proofs.Common.{◌≡◌, [], ◌∷◌, sym, ap, ◌∙◌}
 use Rattle.sqlite_value.specs.Order.{Row, column}
 use Rattle.vault_core_model.specs.declared.records.Note.{Note}

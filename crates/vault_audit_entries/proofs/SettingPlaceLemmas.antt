@@ -26,7 +26,7 @@ below_or (suc a) (suc b) low = up (below_or a b (omega (arith, low)))
     up (inl same) = inl (omega (arith, same))
     up (inr less) = inr (omega (arith, less))
 
--- behind all settings of an id, those of the next one begin
+-- after all settings of an id, those of the next one begin
 pub enter : (n : ℕ) (xs : List SettingRow) → Fit (at_place n 0) xs → Fit (at_place (n + 1) 1) xs
 enter n [] fit = tt
 enter n (x ∷ xs) ((is, inl (same, place)), more) = absurd (omega (arith, is.place.0, place))
@@ -39,7 +39,7 @@ enter n (x ∷ xs) ((is, inr (up, place)), more) = begun (below_or (n + 1) x.id 
 row_alike : (x : SettingRow) (id place : ℕ) → x.id ≡ id → x.place ≡ place → x ≡ record { id = id; place = place; setting = x.setting }
 row_alike x id place p q = ap₂ (λ (i n : ℕ). record { id = i; place = n; setting = x.setting }) p q
 
--- the settings of the id from this place on, and the rows behind them
+-- the settings of the id from this place on, and the rows after them
 pub record Cut (id next : ℕ) (xs : List SettingRow) : Type 0 where
   pub settings : List Setting
   pub rest : List SettingRow
@@ -123,14 +123,14 @@ has_append i xs ys = list_any-append (λ x. x.id == i) xs ys
 
 -- ---- from the settings of one id
 
--- they fit, where what follows fits behind any of them
+-- they fit, where what follows fits after any of them
 pub run_fits : (id place : ℕ) (ss : List Setting) (rest : List SettingRow) → IsTrue (is_version_id id) → 1 ≤ place → place + length ss ≤ 1000000001 → AllByRecursion IsSetting ss → ((k : ℕ) → Fit (at_place id k) rest)
     → Fit (at_place id place) (settings_from id place ss ++ rest)
 run_fits id place [] rest is low high all behind = behind place
 run_fits id place (s ∷ ss) rest is low high all behind =
     ((record { id = is; place = (low, omega (arith, high)); setting = all.0 }, inl (refl, refl)), run_fits id (place + 1) ss rest is (omega (arith, low)) (omega (arith, high)) all.1 behind)
 
--- so they do behind an earlier id
+-- so they do after an earlier id
 pub first_fits : (p : SettingPass) (id : ℕ) (ss : List Setting) (rest : List SettingRow) → p.id < id → IsTrue (is_version_id id) → length ss ≤ 1000000000 → AllByRecursion IsSetting ss → ((k : ℕ) → Fit (at_place id k) rest) → Fit p rest
     → Fit p (settings_from id 1 ss ++ rest)
 first_fits p id [] rest low is high all behind here = here

@@ -1,4 +1,4 @@
--- One row tells one setting, and the rows of settings that come one after the other rise.
+-- One row holds one setting, and the rows of settings that come one after the other rise.
 use Rattle.std.proofs.Common.{◌≡◌, ◌<◌, ◌+◌, ◌⊎◌, inl, inr, ℕ, pos, List, [], ◌∷◌, map, Less, Equal, refl, sym, ◌∙◌, arith}
 use Rattle.std.specs.List.{AllByRecursion}
 use Rattle.std.specs.Ordering.{int_cmp}
@@ -14,7 +14,7 @@ use Rattle.vault_audit_walk.proofs.PairLemmas.{pair_cmp}
 use Rattle.vault_audit_entries.specs.declared.settings.placed.SettingPass.{SettingPass}
 use Rattle.vault_audit_entries.specs.SettingPlaces.{ComesNext, with_setting}
 
--- ---- one row tells one setting
+-- ---- one row holds one setting
 
 pub one_setting : (row : Row) (x y : SettingRow) → row ≡ setting_row x → row ≡ setting_row y → x ≡ y
 one_setting row x y is_x is_y = same_setting x y (sym is_x ∙ is_y)

@@ -13,7 +13,7 @@ module _ {A : Type 0} (cmp : A → A → Ordering) where
   in_order [] = []
   in_order (x ∷ xs) = placed cmp x (in_order xs)
 
-  -- none of them ties with one behind it
+  -- none of them ties with one after it
   abbrev pub AreApart : List A → Type 0
   AreApart [] = Unit {0}
   AreApart (x ∷ xs) = IsApart cmp x xs × AreApart xs

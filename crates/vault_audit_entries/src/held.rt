@@ -20,7 +20,7 @@ use vault_audit_walk::walk::{Pass, walk};
 /// The counts of held entries as they run.
 #[derive(Drop)]
 pub struct HeldCount {
-    /// How many rows told a held entry.
+    /// How many rows had a held entry.
     pub entries: u64,
     /// How many of these told a version.
     pub versions: u64,

@@ -69,7 +69,7 @@ fn note_in(row: &Row) -> Result<Note, Misread>
     })
 }
 
-/// The note that a row tells, where the version beside it is of its bucket, key, size and digest.
+/// The note that a row holds, where the version beside it is of its bucket, key, size and digest.
 fn read_noted(row: &Row) -> Result<Note, Misread>
     ensures row { IfOk result (λ n. row.now ≡ noted_row n) }
     ensures fits { IfOk result IsNote }
@@ -146,8 +146,8 @@ impl Pass for NotePass {
     }
 }
 
-/// Whether each row of `intake` tells a note of a version of its bucket, key, size and digest, and no
-/// two are of one line of a batch. It is told of entries whose ids are 1, 2, 3 and so on.
+/// Whether each row of `intake` holds a note of a version of its bucket, key, size and digest, and no
+/// two are of one line of a batch. It is meant for entries whose ids are 1, 2, 3 and so on.
 pub fn check_notes<S: Alter>(conn: &mut Connection<S>, edition: Edition) -> Result<bool, Error>
     requires { IsOfEdition S.Store conn.old edition }
     ensures told { HasCleanDisk (state S.Store conn.new) → IfOk result (λ found. (es : List Entry) → AreEntries (state S.Store conn.new).now es → TellNotes (state S.Store conn.new).now es found) }

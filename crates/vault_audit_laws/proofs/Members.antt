@@ -39,7 +39,7 @@ module _ {A B : Type 0} where
   matched f xs ys rows given same x h =
       has_mapped f ys (f x) (permuted_within (map f ys) rows same (f x) (permuted_within rows (map f xs) (IsPermutation-sym (map f xs) rows given) (f x) (mapped_has f xs x h)))
 
-  -- and stands there itself, where a row tells one record
+  -- and stands there itself, where a row holds one record
   pub within_by_rows : (f : A → B) → ((x y : A) → f x ≡ f y → x ≡ y) → (xs ys : List A) (rows : List B) → IsPermutation (map f xs) rows → IsPermutation (map f ys) rows → IsWithin xs ys
   within_by_rows f one xs ys rows given same x h = let it = matched f xs ys rows given same x h in subst (Has ys) (sym (one x it.0 it.2)) it.1
 

@@ -1,4 +1,4 @@
--- What the references between rows say of the records that the rows tell.
+-- What the references between rows say of the records that the rows hold.
 use Rattle.std.proofs.Common.{◌≡◌, ◌⊎◌, inl, inr, ℕ, Bool, true, false, cond, List, [], ◌∷◌, map, flat_map, find, Option, Some, None, option_map, IsSome, IfSome, IsTrue, IsPermutation, refl, sym, ap, subst, ◌∙◌}
 use Rattle.std.specs.List.{AllByRecursion}
 use Rattle.std.specs.Str.{bytes_eq}

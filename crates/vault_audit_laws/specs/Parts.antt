@@ -28,7 +28,7 @@ AreDepartments db ds =
     IsPermutation (map (λ d. Text d) ds) (map (λ r. column r 1) (db.trees departments_tree)) × IsAscending name_cmp ds
     × AllByRecursion IsPlainName ds
 
--- the row of meta is this one, of that edition, whose next id is behind all entries
+-- the row of meta is this one, of that edition, whose next id is above all entries
 abbrev pub IsMeta : Edition → Database → List Entry → MetaRow → Type 0
 IsMeta ed db es m =
     IsPermutation (meta_row m ∷ []) (map (meta_columns_as ed) (db.trees meta_tree)) × IsMetaRow m × (m.next ≡ length es + 1) × (m.schema ≡ number_of ed)

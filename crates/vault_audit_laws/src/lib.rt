@@ -32,7 +32,7 @@ pub fn live_tables_are_tied()
     ensures { (n : Edition) (db : Database) → IsDatabase db → db.schema ≡ schema_of n → AreTied n db }
 {}
 
-/// Where it does, the records that the rows tell have what they name: a caller the department, if it has
+/// Where it does, the records that the rows hold have what they name: a caller the department, if it has
 /// one, a bucket its department, and an entry its bucket; a tenure its department, where the buckets that tell it
 /// without a row have theirs.
 pub fn tied_records_have_what_they_name()

@@ -1,4 +1,4 @@
--- What an error of the store is told as.
+-- What an error of the store is reported as.
 use Rattle.sqlite.specs.declared.error.Error.{Error}
 use Rattle.sqlite.specs.declared.error.Error.TheVariants.{SqliteFailure}
 use Rattle.sqlite.specs.declared.error.ErrorCode.TheVariants as code

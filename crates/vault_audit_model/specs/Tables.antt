@@ -1,4 +1,4 @@
--- The tables, as a database knows them once they are made. An edition has columns more at the end of a table than the one before it, or a table or an index more behind the others.
+-- The tables, as a database knows them once they are made. An edition has columns more at the end of a table than the one before it, or a table or an index more after the others.
 use Rattle.std.specs.Prelude.{ℕ, Bool, true, false, List, [], ◌∷◌, None, Some, Option, codes}
 use Rattle.sqlite_value.specs.Keys.{plain}
 use Rattle.sqlite_value.specs.declared.keys.Order.{Order}

@@ -1,4 +1,4 @@
-//! What an error of the store is told as.
+//! What an error of the store is reported as.
 ghost use Rattle.std.specs.Prelude.{◌≡◌};
 ghost use Rattle.vault_audit_model.specs.Faults.{refusal_of};
 

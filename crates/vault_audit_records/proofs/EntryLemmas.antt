@@ -1,4 +1,4 @@
--- What two entries share that one row tells.
+-- What two entries share that one row holds.
 use Rattle.std.proofs.Common.{◌≡◌, ℕ, Option, Some, None, ◌≤◌, sym, subst, ◌∙◌}
 use Rattle.sqlite_value.specs.Order.{Row}
 use Rattle.vault_core_model.specs.declared.records.Entry.{Entry}
@@ -22,6 +22,6 @@ as_past last row x y is_x is_y h =
     let removal : removal_at x.removal ≡ removal_at y.removal = cc in
     (subst (λ t. t ≤ last) admitted h.0, removed_as y.admitted last x.removal y.removal removal (subst (λ t. LiesBetween t last x.removal) admitted h.1))
 
--- one row tells one entry
+-- one row holds one entry
 pub one_entry : (row : Row) (x y : Entry) → row ≡ entry_row x → row ≡ entry_row y → x ≡ y
 one_entry row x y is_x is_y = same_entry x y (sym is_x ∙ is_y)

@@ -40,7 +40,7 @@ counted : (p : NumberPass) (es : List Entry) → (end_of p es).next ≡ p.next +
 counted p [] = sym (add-zero p.next)
 counted p (e ∷ es) = let it = counted (with_entry p e) es in omega (arith, it)
 
--- an entry is below those whose ids go on behind it
+-- an entry is below those whose ids go on after it
 above : (p : NumberPass) (x : Entry) (es : List Entry) → x.id < p.next → Fit p es → AllByRecursion (λ row. first_cmp (entry_row x) row ≡ Less) (map entry_row es)
 above p x [] less fit = tt
 above p x (e ∷ es) less fit =

@@ -1,4 +1,4 @@
--- One row tells one caller, or the name of one department.
+-- One row holds one caller, or the name of one department.
 use Rattle.std.proofs.Common.{◌≡◌, sym, ap, ◌∙◌}
 use Rattle.sqlite_value.specs.Order.{Row, column}
 use Rattle.vault_core_model.specs.declared.records.Caller.{Caller}

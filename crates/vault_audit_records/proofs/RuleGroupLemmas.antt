@@ -22,7 +22,7 @@ use Rattle.vault_audit_records.proofs.RuleRiseLemmas.{FitBuckets, FitRules, end_
 abbrev pub at_rules : List ℕ → List Rule → RulesSoFar
 at_rules name rules = record { bucket = Some name; rules = rules }
 
--- rules that begin a bucket behind that one
+-- rules that begin a bucket after that one
 abbrev pub Begins : Option (List ℕ) → List RuleRow → Type 0
 Begins before [] = Unit {0}
 Begins before (x ∷ xs) = (IsRuleRow x × IsAfter before x.bucket × (x.place ≡ 1)) × FitRules (at_rules x.bucket (x.rule ∷ [])) xs × IsWhole (end_of (at_rules x.bucket (x.rule ∷ [])) xs)
@@ -79,7 +79,7 @@ cut name gone (x ∷ xs) some ((is, inr (up, place)), fit) whole =
 
 -- ---- the buckets of rules that begin
 
--- each rule is of a bucket behind that one
+-- each rule is of a bucket after that one
 abbrev AreLater : List ℕ → List RuleRow → Type 0
 AreLater name = AllByRecursion (λ x. name_cmp name x.bucket ≡ Less)
 

@@ -57,7 +57,7 @@ grown p r (inl (same, place)) = by (r.place == 1) refl
     by false is = length-append p.rules (r.rule ∷ []) ∙ sym place
 grown p r (inr (up, place)) = rw place refl
 
--- the state behind a rule that goes on, and behind one that begins a bucket
+-- the state after a rule that goes on, and after one that begins a bucket
 abbrev run_of : RuleRow → List Rule → RulesSoFar
 run_of r rules = record { bucket = Some r.bucket; rules = rules }
 

@@ -1,4 +1,4 @@
--- One row tells one bucket or one rule.
+-- One row holds one bucket or one rule.
 use Rattle.std.proofs.Common.{◌≡◌, sym, ◌∙◌}
 use Rattle.sqlite_value.specs.Order.{Row}
 use Rattle.vault_audit_model.specs.declared.rows.BucketRow.{BucketRow}

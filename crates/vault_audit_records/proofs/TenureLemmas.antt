@@ -31,7 +31,7 @@ by_last_moment : (admitted last : ℕ) (removal : Option Removal) → last ≤ l
 by_last_moment admitted last None low between = low
 by_last_moment admitted last (Some r) low between = let by = between.1 in omega (arith, low, by)
 
--- one tenure begins by the end, and those behind it are in their limits
+-- one tenure begins by the end, and those after it are in their limits
 followed : (v : Vault) (end : ℕ) (t : Tenure) (ts : List Tenure) → AllByRecursion IsPlainName v.departments → end ≤ last_moment → v.moves ≤ most_moves
     → FollowOn v.moves end t ts → AllByRecursion (λ u. IsTrue (has_department v u.dept)) ts → (t.from ≤ last_moment) × AllByRecursion IsTenure ts
 followed v end t [] names low few follow there = (omega (arith, low, follow), tt)

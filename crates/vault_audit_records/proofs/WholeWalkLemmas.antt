@@ -1,4 +1,4 @@
--- A walk that took the whole answer ends as it does behind any items that fit and have these rows.
+-- A walk that took the whole answer ends as it does after any items that fit and have these rows.
 use Rattle.std.proofs.Common.{◌≡◌, ℕ, List, [], ◌∷◌, map, true, Ordering, Less, IsPermutation, IsSorted, sym, ap, subst, ◌∙◌}
 use Rattle.std.proofs.lemmas.List.Sorted.{IsPermutation-trans}
 use Rattle.std.specs.Cmp.{IsTotalOrder}

@@ -22,7 +22,7 @@ pub use Rattle.vault_audit_model.specs.Relations.{IsAfter}
 abbrev pub IsNextBucket : Option (List ℕ) → BucketRow → Type 0
 IsNextBucket before b = IsBucketRow b × IsAfter before b.name
 
--- the name of the last bucket, behind this one
+-- the name of the last bucket, after this one
 abbrev pub with_bucket : Option (List ℕ) → BucketRow → Option (List ℕ)
 with_bucket before b = Some b.name
 
@@ -54,7 +54,7 @@ IsNext p r = ((p.bucket ≡ Some r.bucket) × (r.place ≡ length p.rules + 1)) 
 abbrev pub ComesNext : RulesSoFar → RuleRow → Type 0
 ComesNext p r = IsRuleRow r × IsNext p r
 
--- the rules of the last bucket, behind this rule
+-- the rules of the last bucket, after this rule
 abbrev pub with_rule : RulesSoFar → RuleRow → RulesSoFar
 with_rule p r = record { bucket = Some r.bucket; rules = if r.place == 1 then r.rule ∷ [] else p.rules ++ r.rule ∷ [] }
 
@@ -66,7 +66,7 @@ no_rule = record { bucket = None; rules = [] }
 abbrev pub AreRowsOf : Edition → Database → List RuleRow → Type 0
 AreRowsOf n db xs = IsPermutation (map rule_row xs) (map (rule_columns_as n) (db.trees rules_tree))
 
--- each comes next behind those before it, and the last bucket's are whole
+-- each comes next after those before it, and the last bucket's are whole
 abbrev pub AreWholeSets : List RuleRow → Type 0
 AreWholeSets xs = AllFit rule_row ComesNext with_rule no_rule xs × IsWhole (after rule_row ComesNext with_rule no_rule xs)
 

@@ -62,7 +62,7 @@ impl Pass for BucketPass {
     }
 }
 
-/// Whether the rows of `buckets` tell buckets in their limits, of which no two have one name.
+/// Whether the rows of `buckets` hold buckets in their limits, of which no two have one name.
 pub(crate) fn are_buckets<S: Alter>(
     conn: &mut Connection<S>,
     edition: Edition,

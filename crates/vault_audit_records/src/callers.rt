@@ -64,7 +64,7 @@ impl Pass for CallerPass {
     }
 }
 
-/// Whether the rows of `callers` tell callers with values in their limits, of which no two have one name.
+/// Whether the rows of `callers` hold callers with values in their limits, of which no two have one name.
 pub fn check_callers_by_name<S: Alter>(
     conn: &mut Connection<S>,
     edition: Edition,

@@ -9,7 +9,7 @@ use vault_audit_rows::records::{
 };
 use vault_audit_walk::check::Check;
 
-/// What an unread row is told as: a row that tells no such record doesn't pass, and want of memory is an error.
+/// What an unread row is reported as: a row that holds no such record doesn't pass, and want of memory is an error.
 pub fn refused(misread: Misread) -> Result<bool, Error>
     ensures wrong { IfOk result (λ passes. (passes ≡ false) × (misread ≡ Misread.Wrong)) }
     ensures memory { IfErr result (λ error. (misread ≡ Misread.Memory) × (error ≡ Error.SqliteFailure ErrorCode.OutOfMemory)) }

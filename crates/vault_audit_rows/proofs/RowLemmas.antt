@@ -1,4 +1,4 @@
--- A row of so many columns is its columns.
+-- A row of n columns is its columns.
 use Rattle.std.proofs.Common.{◌≡◌, [], ◌∷◌, length, arith}
 use Rattle.sqlite_value.specs.declared.value.Value.{Value}
 use Rattle.sqlite_value.specs.Order.{Row, column}

@@ -66,7 +66,7 @@ fn in_range(period: Period) -> Option<Period>
     period.is_in_range().then_some(period)
 }
 
-/// The period of so many days or years, of which one is given.
+/// The period of n days or years, of which one is given.
 fn period_of(days: Option<u32>, years: Option<u32>) -> Option<Period>
     ensures { MatchOption result
         ((p : Period) → IsTrue (is_period p) → days ≡ days_of p → years ≢ years_of p)

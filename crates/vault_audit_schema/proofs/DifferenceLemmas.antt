@@ -1,4 +1,4 @@
--- Which table is told.
+-- Which table is reported.
 use Rattle.std.proofs.Common.{◌≡◌, ◌⊎◌, ℕ, zero, suc, ◌+◌, ◌<◌, ◌≤◌, List, [], ◌∷◌, length, map, Some, take, refl, ap, subst, sym, ◌∙◌, inl, inr, arith, take-take}
 use Rattle.std.specs.List.{slice_get}
 use Rattle.std.specs.Option.{option_map}

@@ -15,7 +15,7 @@ HasTable n t = place_of t < length (schema_of n).tables
 abbrev pub IsInPlace : Edition → List Made → Table → Type 0
 IsInPlace n tables t = HasTable n t → slice_get tables (place_of t) ≡ slice_get (schema_of n).tables (place_of t)
 
--- each of the edition's tables does, whatever stands behind them
+-- each of the edition's tables does, whatever stands after them
 abbrev pub AreInPlace : Edition → List Made → Type 0
 AreInPlace n tables = (t : Table) → IsInPlace n tables t
 
@@ -23,7 +23,7 @@ AreInPlace n tables = (t : Table) → IsInPlace n tables t
 abbrev pub BeginTo : Edition → List Made → Table → Type 0
 BeginTo n tables t = take (place_of t + 1) tables ≡ take (place_of t + 1) (schema_of n).tables
 
--- the tables differ from the vault's, and this one is told: all before it stand in their places, and it doesn't, or all do
+-- the tables differ from the vault's, and this one is reported: all before it stand in their places, and it doesn't, or all do
 pub record IsToldOf (n : Edition) (tables : List Made) (told : Table) : Type 0 where
   pub differs : ¬ (tables ≡ (schema_of n).tables)
   pub begin : (t : Table) → place_of t < place_of told → BeginTo n tables t
@@ -31,7 +31,7 @@ pub record IsToldOf (n : Edition) (tables : List Made) (told : Table) : Type 0 w
   -- if they differ at one of its tables, then this is the first such
   pub first : (t : Table) → ((u : Table) → place_of u < place_of t → IsInPlace n tables u) → ¬ IsInPlace n tables t → told ≡ t
 
--- the schema differs from the vault's, and this table is told: all before it stand in their places, and it doesn't, or all do
+-- the schema differs from the vault's, and this table is reported: all before it stand in their places, and it doesn't, or all do
 pub record IsToldIn (n : Edition) (schema : Schema) (told : Table) : Type 0 where
   pub differs : ¬ (schema ≡ schema_of n)
   pub begin : (t : Table) → place_of t < place_of told → BeginTo n schema.tables t

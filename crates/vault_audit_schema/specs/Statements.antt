@@ -15,7 +15,7 @@ use Rattle.vault_audit_model.specs.Commands.{commanded, statement_in}
 use Rattle.vault_audit_model.specs.Order.{place_of}
 use Rattle.vault_audit_model.specs.Tables.{vault_schema, entries}
 
--- the first so many tables of a vault, with the indexes that they bring
+-- the first n tables of a vault, with the indexes that they bring
 abbrev pub schema_of_first : ℕ → Schema
 schema_of_first n = record {
   tables = take n vault_schema.tables;
@@ -23,7 +23,7 @@ schema_of_first n = record {
   views = [];
 }
 
--- the text, all of it, makes this table as a vault has it, behind those that come before it
+-- the text, all of it, makes this table as a vault has it, after those that come before it
 pub record IsCreationOf (t : Table) (text : List ℕ) : Type 0 where
   pub command : commanded (understood (schema_of_first (place_of t)) text) ≡ CreateTable
   pub whole : statement_in text (understood (schema_of_first (place_of t)) text) ≡ text
@@ -32,7 +32,7 @@ pub record IsCreationOf (t : Table) (text : List ℕ) : Type 0 where
   pub defined : table_defined_by text ≡ Ok made
   pub next : created (schema_of_first (place_of t)) made ≡ schema_of_first (place_of t + 1)
 
--- the text, all of it, makes the index of the entries, behind all tables
+-- the text, all of it, makes the index of the entries, after all tables
 pub record IsIndexCreation (text : List ℕ) : Type 0 where
   pub command : commanded (understood (schema_of_first 11) text) ≡ CreateIndex (place_of table.Entries)
   pub whole : statement_in text (understood (schema_of_first 11) text) ≡ text

@@ -293,7 +293,7 @@ pub(crate) const TENURES: TableForm = table!(
 );
 
 /// The tables in the order in which they are made: those of which editions have forms of their own, between the others,
-/// and behind them those that an edition has besides.
+/// and after them those that an edition has besides.
 macro_rules! tables {
     ($meta:ident, $departments:ident, $rules:ident $(, $later:ident)*) => {
         [

@@ -123,7 +123,7 @@ module _ (moves last : ℕ) where
   abbrev pub Starts : OwnedTenure → Type 0
   Starts t = IsOwned t × IsTimely moves last t × IsFirst t
 
-  -- behind all tenures of an id, those of a later one begin
+  -- after all tenures of an id, those of a later one begin
   abbrev pub Anew : ℕ → List OwnedTenure → Type 0
   Anew id [] = Unit {0}
   Anew id (t ∷ ts) = (id < t.id) × Starts t × Fit (at (Some t)) ts × AreEnded (at (Some t)) ts
@@ -152,7 +152,7 @@ module _ (moves last : ℕ) where
   row_alike : (t : OwnedTenure) (id : ℕ) → t.id ≡ id → row_of t ≡ tenure_at id t.tenure
   row_alike t id same = ap (λ i. tenure_at i t.tenure) same
 
-  -- the tenures behind one of the same version, and the rows behind them
+  -- the tenures after one of the same version, and the rows after them
   pub record Cut (s : OwnedTenure) (ts : List OwnedTenure) : Type 0 where
     pub run : List Tenure
     pub rest : List OwnedTenure

@@ -78,7 +78,7 @@ module _ (hs : List History) where
     all_total [] named low = tt
     all_total (n ∷ ns) named low = (has_total n named.0 low.0, all_total ns named.1 low.1)
 
-    -- what the rows tell beside the totals is told of the table
+    -- what the rows hold beside the totals is told of the table
     pub table_told : (n : Edition) (db : Database) (hold : Bool) → AreRecords department_row (HasTotal t) (map (department_columns_as n) (db.trees departments_tree)) hold → TellSums n db hs hold
     table_told n db true (ds, are, all) =
         let each = each_has ds all in

@@ -28,7 +28,7 @@ below_or (suc a) (suc b) low = up (below_or a b (omega (arith, low)))
     up (inl same) = inl (omega (arith, same))
     up (inr less) = inr (omega (arith, less))
 
--- what is the same for the entries behind one
+-- what is the same for the entries after one
 set_less : (id : ℕ) (run : List Tenure) (rest : List TenureRow) (es : List Entry) → AllByRecursion (λ e. id + 1 ≤ e.id) es → AllByRecursion (HasSome (run_of id run ++ rest)) es → AllByRecursion (HasSome rest) es
 set_less id run rest [] up all = tt
 set_less id run rest (e ∷ es) up all = (sym (skip e.id id run rest (apart id e.id (omega (arith, up.0)))) ∙ all.0, set_less id run rest es up.1 all.1)

@@ -190,7 +190,7 @@ is_owned bs e all is = record {
   dept = dept_named (bucket_in bs e.bucket) (first_holds IsBucket (λ b. bytes_eq b.name e.bucket) bs all);
 }
 
--- each of these rows tells an entry in its limits
+-- each of these rows holds an entry in its limits
 pub each_tells : (next low : ℕ) (bs : List Bucket) (es : List Entry) → AllByRecursion IsBucket bs → AreNumbered next low es → AllByRecursion (TellsOne owned_row IsOwned) (map owned_row (map (owned_in bs) es))
 each_tells next low bs [] all are = tt
 each_tells next low bs (e ∷ es) all are = ((owned_in bs e, refl, is_owned bs e all are.0.0), each_tells (next + 1) e.admitted bs es all are.1)

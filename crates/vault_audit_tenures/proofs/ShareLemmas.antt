@@ -54,7 +54,7 @@ one_version e first t (u ∷ us) rest later =
     ap (λ b. share_where b first (told e t) (told e u) ∷ shares_told (not b) (told e u ∷ (map (told e) us ++ rest))) (same_id e.id)
     ∙ ap (λ ss. share e.size first t (Some (day u.from)) false ∷ ss) (one_version e false u us rest later)
 
--- ---- the versions behind it
+-- ---- the versions after it
 
 both_all : {X : Type 0} (P : X → Type 0) (xs ys : List X) → AllByRecursion P xs → AllByRecursion P ys → AllByRecursion P (xs ++ ys)
 both_all P [] ys a b = b

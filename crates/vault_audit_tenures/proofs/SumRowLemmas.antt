@@ -1,4 +1,4 @@
--- One row tells one entry beside its bucket, one tenure beside its version, or one department.
+-- One row holds one entry beside its bucket, one tenure beside its version, or one department.
 use Rattle.std.proofs.Common.{◌≡◌, ℕ, List, [], ◌∷◌, length, Bool, Option, refl, sym, ◌∙◌}
 use Rattle.sqlite_value.specs.declared.value.Value.{Value}
 use Rattle.sqlite_value.specs.Order.{Row, column}

@@ -1,4 +1,4 @@
--- One row tells one tenure beside its version, and the rows of tenures that come one after the other rise.
+-- One row holds one tenure beside its version, and the rows of tenures that come one after the other rise.
 use Rattle.std.proofs.Common.{◌≡◌, ◌<◌, ◌⊎◌, inl, inr, ℕ, pos, List, [], ◌∷◌, length, map, Option, Some, Less, refl, sym, ◌∙◌, arith}
 use Rattle.std.specs.List.{AllByRecursion}
 use Rattle.sqlite_value.specs.declared.value.Value.{Value}
@@ -15,7 +15,7 @@ use Rattle.vault_audit_tenures.specs.declared.chain.TenurePass.{TenurePass}
 use Rattle.vault_audit_tenures.specs.OwnedTenures.{owned_row}
 use Rattle.vault_audit_tenures.specs.Chain.{Follows, Fit, with_tenure}
 
--- ---- one row tells one tenure
+-- ---- one row holds one tenure
 
 pub row_of_7 : (r : Row) (v0 v1 v2 v3 v4 v5 v6 : Value) → length r ≡ 7 → column r 0 ≡ v0 → column r 1 ≡ v1 → column r 2 ≡ v2 → column r 3 ≡ v3 → column r 4 ≡ v4 → column r 5 ≡ v5 → column r 6 ≡ v6 → r ≡ v0 ∷ v1 ∷ v2 ∷ v3 ∷ v4 ∷ v5 ∷ v6 ∷ []
 row_of_7 = rows.row_of_7

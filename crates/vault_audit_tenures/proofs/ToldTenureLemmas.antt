@@ -191,7 +191,7 @@ tells_one : (e : Entry) (ts : List Tenure) (rest : List ToldTenure) → IsEntry 
 tells_one e [] rest is all more = more
 tells_one e (t ∷ ts) rest is all more = ((told e t, refl, record { id = is.id; tenure = all.0; removed = removed_by e.removal is.removal }), tells_one e ts rest is all.1 more)
 
--- each of these rows tells a tenure in its limits
+-- each of these rows holds a tenure in its limits
 pub each_tells : (next low : ℕ) (hs : List History) → AreNumbered next low (entries_in hs) → AllByRecursion AreTenuresInLimits hs → AllByRecursion (TellsOne told_row IsTold) (map told_row (flat_map told_in hs))
 each_tells next low [] are all = tt
 each_tells next low (h ∷ hs) are all = tells_one h.entry h.tenures (flat_map told_in hs) are.0.0 all.0 (each_tells (next + 1) h.entry.admitted hs are.1 all.1)

@@ -45,7 +45,7 @@ IsLast t = EndsAs t.removed t.owner (Some t.tenure)
 
 -- ---- all, by version and move
 
--- behind the one before it, of the same version or of an earlier one that ends there
+-- after the one before it, of the same version or of an earlier one that ends there
 abbrev pub Follows : Option OwnedTenure → OwnedTenure → Type 0
 Follows None t = IsFirst t
 Follows (Some s) t = ((t.id ≡ s.id) × IsNext s.tenure t.tenure) ⊎ ((s.id < t.id) × IsFirst t × IsLast s)

@@ -72,6 +72,6 @@ abbrev pub GoesIn : TenurePass → Values → TenurePass → Type 0
 GoesIn p row q = (t : ToldTenure) × (row ≡ told_row t) × CountsPending p.totals p.pending t q.totals
     × (q.pending ≡ Some (record { told = t; first = begins p.pending t }))
 
--- the row tells no tenure in its limits beside a version
+-- the row holds no tenure in its limits beside a version
 abbrev pub TellsNone : TenurePass → Values → Type 0
 TellsNone p row = (t : ToldTenure) → IsTold t → row ≢ told_row t

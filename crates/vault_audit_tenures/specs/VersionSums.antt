@@ -43,6 +43,6 @@ CountsEntry s e t = (name : List ℕ) → IsCounted (counts_for name e) (total_o
 abbrev pub GoesIn : SumPass → Values → SumPass → Type 0
 GoesIn p row q = (e : OwnedEntry) × (row ≡ owned_row e) × CountsEntry p.totals e q.totals
 
--- the row tells no entry in its limits
+-- the row holds no entry in its limits
 abbrev pub TellsNone : SumPass → Values → Type 0
 TellsNone p row = (e : OwnedEntry) → IsOwned e → row ≢ owned_row e

@@ -41,7 +41,7 @@ fn is_first(tenure: &OwnedTenure) -> bool
     tenure.tenure.number == 0 && tenure.tenure.from == tenure.admitted
 }
 
-/// Whether a tenure may come next behind another of the same version.
+/// Whether a tenure may come next after another of the same version.
 fn is_next(before: &Tenure, tenure: &Tenure) -> bool
     ensures { IsTrue result ↔ IsNext before.now tenure.now }
 {
@@ -61,7 +61,7 @@ fn is_last(tenure: &OwnedTenure) -> bool
     }
 }
 
-/// Whether a tenure may come behind the one before it, if there is one.
+/// Whether a tenure may come after the one before it, if there is one.
 fn follows(before: &Option<OwnedTenure>, tenure: &OwnedTenure) -> bool
     ensures { IsTrue result ↔ Follows before.now tenure.now }
 {
@@ -120,7 +120,7 @@ impl Pass for TenurePass {
 }
 
 /// Whether the tenures of each version that has any follow one another, from its admission to its
-/// end, where so many moves were made by the last moment.
+/// end, where n moves were made by the last moment.
 pub(crate) fn are_chains<S: Alter>(
     conn: &mut Connection<S>,
     moves: u64,

@@ -26,7 +26,7 @@ pub struct OwnedTenure {
     pub owner: Option<DeptName>,
 }
 
-/// The tenure that a row tells.
+/// The tenure that a row holds.
 #[tactic(auto, using(crate::proofs::TenureRowLemmas::row_of_7))]
 pub fn read_owned(row: &Row) -> Result<OwnedTenure, Misread>
     ensures ok { IfOk result (λ t. (row.now ≡ owned_row t) × IsOwned t) }

@@ -19,7 +19,7 @@ use vault_audit_model::schema::Edition;
 use vault_base::moment::Moment;
 
 /// Whether each version has tenures from its admission to its end, the last of them of its bucket's
-/// department while it is held, and whether no other tenure is there, where so many moves were made
+/// department while it is held, and whether no other tenure is there, where n moves were made
 /// by the last moment.
 fn check_rows_of_tenures<S: Alter>(
     conn: &mut Connection<S>,
@@ -40,7 +40,7 @@ fn check_rows_of_tenures<S: Alter>(
 }
 
 /// Whether the tenures of the versions are those of a vault with this row of `meta`. An edition
-/// without that table tells none, and then no bucket was moved.
+/// without that table reports none, and then no bucket was moved.
 pub fn check_tenures<S: Alter>(
     conn: &mut Connection<S>,
     edition: Edition,

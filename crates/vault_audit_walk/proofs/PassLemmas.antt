@@ -64,7 +64,7 @@ module _ {P X : Type 0} (row_of : X → Row) (Fits : P → X → Type 0) (next :
         let order = sorted_unique cmp total (map row_of xs) ((rows ++ row ∷ []) ++ on.0) (rise xs fit) (IsPermutation-trans _ _ _ are whole.0) whole.1 in
         stuck p m rows row on.0 xs goes never (sym (append_assoc rows (row ∷ []) on.0) ∙ order) fit
 
--- the same, where the row tells the item
+-- the same, where the row holds the item
 module _ {P X : Type 0} (row_of : X → Row) (Fits : P → X → Type 0) (next : P → X → P) (same_row : (x y : X) → row_of x ≡ row_of y → x ≡ y) where
   leads_on : (p : P) (x y : X) → row_of x ≡ row_of y → next p x ≡ next p y
   leads_on p x y e = ap (next p) (same_row x y e)

@@ -73,7 +73,7 @@ scanned schema sql t columns names it old new has same rows h =
 -- ---- records
 
 module _ {X : Type 0} (row_of : X → Row) (Is : X → Type 0) where
-  -- rows that tell a record each are those of a list of records
+  -- rows that hold a record each are those of a list of records
   told : (rows : List Row) → AllByRecursion (TellsOne row_of Is) rows → (xs : List X) × (rows ≡ map row_of xs) × AllByRecursion Is xs
   told [] all = ([], refl, tt)
   told (r ∷ rows) (one, all) =

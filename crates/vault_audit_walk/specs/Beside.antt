@@ -10,7 +10,7 @@ abbrev pub IsAbsentAs : Bool → Value → Type 0
 IsAbsentAs true v = v ≡ Null
 IsAbsentAs false v = v ≢ Null
 
--- the first value tells whether the second is absent
+-- the first value says whether the second is absent
 abbrev pub TellsAbsence : Row → Type 0
 TellsAbsence row = (b : Bool) × (column row 0 ≡ flag b) × IsAbsentAs b (column row 1)
 

@@ -10,7 +10,7 @@ Checked Takes sql old new true = (rows : List Row) × Shown sql [] old new rows 
 Checked Takes sql old new false = (rows : List Row) × (row : Row) × Begins sql [] new (rows ++ row ∷ []) × (¬ Takes row)
 
 module _ {X : Type 0} (row_of : X → Row) (Is : X → Type 0) where
-  -- the row tells such a record
+  -- the row holds such a record
   abbrev pub TellsOne : Row → Type 0
   TellsOne row = (x : X) × (row ≡ row_of x) × Is x
 

@@ -24,7 +24,7 @@ next_year year = day_count-next_year (pos year) (pos (year + 1)) (omega (arith, 
 
 -- ---- the walk over the years
 
--- so many days after the first of a year end in that year, no later than the last
+-- n days after the first of a year end in that year, no later than the last
 record EndsInYear (year last days : ℕ) (p : Passed) : Type 0 where
   low : year ≤ p.number
   high : p.number ≤ last

@@ -20,14 +20,14 @@ pub record Passed : Type 0 where
   pub number : ℕ
   pub days : ℕ
 
--- the year in which so many days after the first of a year end; the first number bounds the years to be tried
+-- the year in which n days after the first of a year end; the first number bounds the years to be tried
 abbrev pub year_after : ℕ → ℕ → ℕ → Passed
 year_after zero year days = record { number = year; days = days }
 year_after (suc more) year days =
     let later = year_after more (year + 1) (days - days_in_year (pos year)) in
     if nat_lt days (days_in_year (pos year)) then record { number = year; days = days } else later
 
--- the month of that year in which so many days after the first of a month end
+-- the month of that year in which n days after the first of a month end
 abbrev pub month_after : ℕ → ℕ → ℕ → ℕ → Passed
 month_after zero year month days = record { number = month; days = days }
 month_after (suc more) year month days =
@@ -58,16 +58,16 @@ days_of_months year (suc n) = days_of_months year n + days_in_month (pos year) (
 abbrev pub day_of_date : Date → ℕ
 day_of_date d = days_of_years (d.year - first_year) + days_of_months d.year (d.month - 1) + (d.day - 1)
 
--- the same month and day so many years later, 29 February cut to the 28th
+-- the same month and day n years later, 29 February cut to the 28th
 abbrev pub date_years_later : ℕ → Date → Date
 date_years_later n d =
     record { year = d.year + n; month = d.month; day = min d.day (days_in_month (pos (d.year + n)) d.month) }
 
--- the same second of the same month and day so many years later
+-- the same second of the same month and day n years later
 abbrev pub years_later : ℕ → ℕ → ℕ
 years_later n t = day_length * day_of_date (date_years_later n (date_of (day t))) + t % day_length
 
--- u shows the date so many years after that of t, and the same time of day
+-- u shows the date n years after that of t, and the same time of day
 abbrev pub IsYearsLater : ℕ → ℕ → ℕ → Type 0
 IsYearsLater n t u =
     (date_of (day u) ≡ date_years_later n (date_of (day t))) × (u % day_length ≡ t % day_length)

@@ -48,7 +48,7 @@ day_of text = do
   day ← pair_at text 8
   day_number (100 * century + year) month day
 
--- THH:MM:SS behind it: the seconds of the day
+-- THH:MM:SS after it: the seconds of the day
 unfoldable pub seconds_of : List ℕ → Result ℕ MomentFault
 seconds_of text = do
   _ ← mark_at text 10 84
@@ -66,7 +66,7 @@ digits_in_front text = prefix_len is_digit text
 abbrev pub has_other_than_zero : List ℕ → Bool
 has_other_than_zero digits = list_any (λ b. not (b == 48)) digits
 
--- what stands behind the seconds: a fraction of one to nine digits, or none. Whether it isn't zero, and how many bytes it takes
+-- what stands after the seconds: a fraction of one to nine digits, or none. Whether it isn't zero, and how many bytes it takes
 unfoldable pub fraction_of : List ℕ → Result (Bool × ℕ) MomentFault
 fraction_of text =
     if slice_index text 0 == 46

@@ -52,7 +52,7 @@ impl Date {
         civil::Date::constrain(self.year as i16, self.month, self.day).to_unix_epoch_day() as u32
     }
 
-    /// The same month and day so many years later, 29 February cut to the 28th; none after 9999.
+    /// The same month and day n years later, 29 February cut to the 28th; none after 9999.
     pub fn plus_years(self, years: u16) -> Option<Date>
         requires { spec.IsDate self }
         ensures value { result ≡ (if nat_le (self.year + years) spec.last_year then Some (spec.date_years_later years self) else None) }
@@ -71,7 +71,7 @@ impl Date {
     }
 }
 
-/// The same month and day so many years later, 29 February cut to the 28th; none after 9999.
+/// The same month and day n years later, 29 February cut to the 28th; none after 9999.
 /// Days are counted from 0 for 1970-01-01.
 pub fn day_years_later(day: u32, years: u16) -> Option<u32>
     requires { day ≤ last_day }

@@ -57,7 +57,7 @@ impl Moment {
     ghost use Rattle.vault_base_time.specs.Grammar.{Reads};
     ghost use Rattle.vault_base_time.specs.Moment.{moment_of, moment_text};
 
-    /// The moment so many seconds after 1970-01-01T00:00:00Z, if it is one.
+    /// The moment n seconds after 1970-01-01T00:00:00Z, if it is one.
     pub fn from_secs(seconds: i64) -> Option<Moment>
         ensures { result ≡ moment_at seconds }
     {
@@ -121,7 +121,7 @@ impl Moment {
         writing::moment_text(alloc, self.seconds)
     }
 
-    /// The moment so many days of 86,400 seconds later, if it is one.
+    /// The moment n days of 86,400 seconds later, if it is one.
     pub fn plus_days(self, days: u64) -> Option<Moment>
         ensures { result ≡ as_moment (self + day_length * days) }
     {
@@ -131,7 +131,7 @@ impl Moment {
         Moment::from_count(self.seconds + DAY * days)
     }
 
-    /// The same time of the same month and day so many years later, 29 February cut to the 28th,
+    /// The same time of the same month and day n years later, 29 February cut to the 28th,
     /// if it is a moment.
     pub fn plus_years(self, years: u16) -> Option<Moment>
         ensures value { result ≡ as_moment (years_later years self) }

@@ -15,7 +15,7 @@ use vault_rules::plan::Held;
 use vault_rules::rule_set::RuleSet;
 use vault_tally::row::Row;
 
-/// A keeper that passes so many changes on, refuses the next with `Device`, and passes all after.
+/// A keeper that passes n changes on, refuses the next with `Device`, and passes all after.
 #[derive(Drop)]
 pub struct FuseKeeper<K> {
     keeper: K,
@@ -27,7 +27,7 @@ pub struct FuseKeeper<K> {
 impl<K> FuseKeeper<K> {
     ghost use Rattle.std.specs.Prelude.{◌≡◌, false};
 
-    /// A keeper over another one, that refuses the change after so many.
+    /// A keeper over another one, that refuses the change after n.
     pub fn new(keeper: K, changes: u64) -> FuseKeeper<K>
         ensures below { result.keeper ≡ keeper }
         ensures left { result.left ≡ changes }

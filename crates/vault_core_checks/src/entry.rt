@@ -106,7 +106,7 @@ fn find_current<K: Keeper>(
 
 /// The content version that is meant: the current one, or that of the id.
 ///
-/// Without an id NoSuchKey, which tells whether a marker is on top; with one NoSuchVersion, and
+/// Without an id NoSuchKey, which says whether a marker is on top; with one NoSuchVersion, and
 /// MethodNotAllowed for a marker.
 pub fn find_version<K: Keeper>(
     keeper: &mut K,

@@ -15,7 +15,7 @@ use vault_core_model::halt::Halt;
 use vault_core_model::keeper::Keeper;
 use vault_core_model::limits::{MOST_MOVES, MOST_SETTINGS};
 
-/// The department may admit or receive so many bytes more; else QuotaExceeded.
+/// The department may admit or receive n bytes more; else QuotaExceeded.
 pub fn check_quota<K: Keeper>(keeper: &mut K, dept: &DeptName, size: u64) -> Result<(), Halt>
     ensures found { K.is_honest keeper.new → ChecksAs result (within_quota (K.vault keeper.old) dept.now size) }
     ensures fits { K.is_honest keeper.new → OnOk result (admitted_bytes (K.vault keeper.old) dept.now + received_bytes (K.vault keeper.old) dept.now + size ≤ quota) }
@@ -67,7 +67,7 @@ pub fn check_moves<K: Keeper>(keeper: &mut K) -> Result<(), Halt>
     }
 }
 
-/// One setting more may be made of a version that has so many; else VaultFull.
+/// One setting more may be made of a version that has n; else VaultFull.
 pub fn check_settings(count: u64) -> Result<(), Refusal>
     ensures exact { result ≡ check (nat_lt count most_settings) VaultFull }
     ensures fits { OnOk result (count < most_settings) }

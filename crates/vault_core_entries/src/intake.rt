@@ -44,7 +44,7 @@ pub fn intake<K: Keeper>(
     answer
 }
 
-/// Admits the version of a line, unless a note tells that the line was accepted before.
+/// Admits the version of a line, unless a note says that the line was accepted before.
 fn take_in_once<K: Keeper>(
     alloc: Global,
     keeper: &mut K,

@@ -86,7 +86,7 @@ fn count_entries<K: Keeper>(keeper: &mut K) -> Result<u32, Fault>
     Ok(u32::try_from(next.saturating_sub(1)).unwrap_or(u32::MAX))
 }
 
-/// The first of so many entries that breaks a law. `now` is the last moment.
+/// The first of n entries that breaks a law. `now` is the last moment.
 fn find_breach<K: Keeper>(
     alloc: Global,
     keeper: &mut K,

@@ -93,7 +93,7 @@ pub IsRun-outcome : (v : Vault) (cs : List Timed) → AllByRecursion (λ c. CanB
 IsRun-outcome v [] given = refl
 IsRun-outcome v (c ∷ cs) given = ((outcome v c.at c.who c.command).vault, IsStep-outcome v c.at c.who c.command given.0, IsRun-outcome (outcome v c.at c.who c.command).vault cs given.1)
 
--- ---- a reply that tells of no fault is the function's
+-- ---- a reply that reports no fault is the function's
 
 Answers-is_outcome : (judged : Result (Answer × Vault) Refusal) (v : Vault) (r : Reply) (v' : Vault) → tells_fault r ≡ false → Answers judged v r v' → IsOutcome (settled v judged) r v'
 Answers-is_outcome judged v (Done a) v' clear h = (ap (λ j. (settled v j).reply) (sym h), ap (λ j. (settled v j).vault) (sym h))
@@ -124,7 +124,7 @@ AnswersRun-is_outcome judged v bucket t (Stopped n VaultFull) v' clear (plan, e,
       m ∙ ap (λ k. after_steps v bucket t (take k plan)) many ∙ ap (after_steps v bucket t) (take-with_ids (length v.histories) plan) ∙ sym (ap (λ o. o.vault) is),
     )
 
--- a step that tells of no fault is the outcome
+-- a step that reports no fault is the outcome
 pub IsStep-is_outcome : (v : Vault) (t : ℕ) (who : List ℕ) (c : Command) (r : Reply) (v' : Vault) → tells_fault r ≡ false → IsStep v t who c r v' → IsOutcome (outcome v t who c) r v'
 IsStep-is_outcome v t who (command.AddDept c) r v' clear h = Answers-is_outcome (records.add_dept v t who c) v r v' clear h
 IsStep-is_outcome v t who (command.AddCaller c) r v' clear h = Answers-is_outcome (records.add_caller v t who c) v r v' clear h

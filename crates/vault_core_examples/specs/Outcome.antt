@@ -84,7 +84,7 @@ abbrev pub CanBeGiven : Command → Type 0
 CanBeGiven (command.SetRules c) = IsTrue (is_rule_set c.rules)
 CanBeGiven _ = Unit {0}
 
--- the reply tells of want of memory or of a failing device
+-- the reply reports want of memory or of a failing device
 abbrev pub tells_fault : Reply → Bool
 tells_fault (Done a) = false
 tells_fault (Refused r) = is_fault r

@@ -13,7 +13,7 @@ pub takes-more : {S : Type 0} (takes : Taking S) (s mid s' : S) (es : List Entry
 takes-more takes s mid s' [] e same took = (s', subst (λ t. takes t e true s') same took, refl)
 takes-more takes s mid s' (x ∷ es) e all took = (all.0, all.1, takes-more takes all.0 mid s' es e all.2 took)
 
--- an entry more, which the sink refused, whatever is behind it
+-- an entry more, which the sink refused, whatever is after it
 pub refuses-next : {S : Type 0} (takes : Taking S) (s mid s' : S) (es : List Entry) (e : Entry) (rest : List Entry) → TakesAll takes s es mid → takes mid e false s' → Refuses takes s (es ++ e ∷ rest) s'
 refuses-next takes s mid s' [] e rest same refused = inl (subst (λ t. takes t e false s') same refused)
 refuses-next takes s mid s' (x ∷ es) e rest all refused = inr (all.0, all.1, refuses-next takes all.0 mid s' es e rest all.2 refused)
@@ -36,7 +36,7 @@ removed-more hs i h lt is gone =
 pub removed-held : (hs : List History) (i : ℕ) (h : History) → i < length hs → h ≡ get_or hs i h → not (is_held h.entry) ≡ false → removed (take (i + 1) hs) ≡ removed (take i hs)
 removed-held hs i h lt is held = ap (map (λ (g : History). g.entry)) (other-more (λ (g : History). not (is_held g.entry)) hs i h lt is held)
 
--- those before a removed entry, the entry, and those behind it
+-- those before a removed entry, the entry, and those after it
 pub removed-around : (hs : List History) (i : ℕ) (h : History) → i < length hs → h ≡ get_or hs i h → not (is_held h.entry) ≡ true → removed hs ≡ removed (take i hs) ++ h.entry ∷ removed (drop (i + 1) hs)
 removed-around hs i h lt is gone =
     ap removed (sym (take-append-drop (i + 1) hs))

@@ -50,10 +50,10 @@ known-with_key k (x ∷ xs) known =
 abbrev pub keys_of_those : (History → Bool) → List History → List (List ℕ)
 keys_of_those p hs = key_set (map (λ h. h.entry.key) (filter p hs))
 
--- from behind, an entry more of those that pass
+-- from the end, an entry more of those that pass
 pub keys-more : (p : History → Bool) (hs : List History) (n : ℕ) (h : History) → n < length hs → h ≡ get_or hs n h → p h ≡ true → keys_of_those p (reverse (take (n + 1) hs)) ≡ with_key h.entry.key (keys_of_those p (reverse (take n hs)))
 keys-more p hs n h lt is passes = rw (take_more hs n h lt, ← is, reverse-append (take n hs) (h ∷ []), passes) refl
 
--- from behind, an entry more of the others
+-- from the end, an entry more of the others
 pub keys-other : (p : History → Bool) (hs : List History) (n : ℕ) (h : History) → n < length hs → h ≡ get_or hs n h → p h ≡ false → keys_of_those p (reverse (take (n + 1) hs)) ≡ keys_of_those p (reverse (take n hs))
 keys-other p hs n h lt is other = rw (take_more hs n h lt, ← is, reverse-append (take n hs) (h ∷ []), other) refl

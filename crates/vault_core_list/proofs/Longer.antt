@@ -37,7 +37,7 @@ begun-next f [] i d lt = absurd (omega arith)
 begun-next f (x ∷ xs) zero d lt = refl
 begun-next f (x ∷ xs) (suc i) d lt = begun-next f xs i d (omega arith)
 
--- those behind one that was written
+-- those after one that was written
 pub drop-written : {X : Type 0} (xs ys : List X) (i : ℕ) (x : X) → i < length xs → i < length ys → drop i xs ≡ drop i ys → drop (i + 1) (set xs i x) ≡ drop (i + 1) ys
 drop-written xs ys i x lt lt' same =
     let past : i < i + 1 = omega arith in

@@ -1,4 +1,4 @@
--- The place of a record is behind those that come before it.
+-- The place of a record is after those that come before it.
 use Rattle.std.proofs.Common.{◌≡◌, ◌+◌, List, [], ◌∷◌, insert, suc, refl, ap, arith}
 use Rattle.std.specs.List.{prefix_len}
 use Rattle.std.specs.Ordering.{is_gt}

@@ -30,7 +30,7 @@ items_by-append dept xs ys =
 pub items_in-append : (dept : List ℕ) (hs gs : List History) → items_in dept (hs ++ gs) ≡ items_in dept hs ++ items_in dept gs
 items_in-append dept hs gs = flat_map-append (λ (h : History). items_by dept (shares_of h)) hs gs
 
--- the first so many items are bounded, where all are
+-- the first n items are bounded, where all are
 pub bounded-shares : (items : List Item) (dept : List ℕ) (ss : List Share) (i : ℕ) → AreBounded (items ++ items_by dept ss) → AreBounded (items ++ items_by dept (take i ss))
 bounded-shares items dept ss i bounded =
     let P : List Share → Type 0 = λ xs. AreBounded (items ++ items_by dept xs) in

@@ -15,7 +15,7 @@ shares-cons : (e : Entry) (first : Bool) (t : Tenure) (ts : List Tenure) → sha
 shares-cons e first t [] = refl
 shares-cons e first t (u ∷ us) = refl
 
--- a tenure more, behind the first one
+-- a tenure more, after the first one
 later-more : (e : Entry) (ts : List Tenure) (i : ℕ) (t : Tenure) → i < length ts → t ≡ get_or ts i t → take (suc i) (shares e false ts) ≡ take i (shares e false ts) ++ share_by e false t (slice_get (drop (suc i) ts) 0) ∷ []
 later-more e [] i t lt is = absurd (omega arith)
 later-more e (x ∷ xs) zero t lt is = rw (is, shares-cons e false x xs) refl

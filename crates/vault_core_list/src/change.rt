@@ -14,7 +14,7 @@ use vault_core_model::records::{
 use vault_lock::retention::Default;
 use vault_rules::rule_set::RuleSet;
 
-/// Puts a history behind the others, and its note, where it has one, at its place: both or neither.
+/// Puts a history after the others, and its note, where it has one, at its place: both or neither.
 pub(crate) fn admit(
     histories: &mut Vec<History>,
     notes: &mut Vec<Note>,

@@ -61,14 +61,14 @@ fn held(
     Ok(keys)
 }
 
-/// Whether the key comes behind that one; every key comes behind the empty text.
+/// Whether the key comes after that one; every key comes after the empty text.
 fn is_behind(key: &ObjectKey, after: &KeyPrefix) -> bool
     ensures { result ≡ is_behind key.now after.now }
 {
     after.as_str().is_empty() || key.as_str() > after.as_str()
 }
 
-/// The first of the bucket's keys behind `after` that have a held entry: at most `most`.
+/// The first of the bucket's keys after `after` that have a held entry: at most `most`.
 pub(crate) fn behind(
     alloc: Global,
     histories: &[History],

@@ -1,4 +1,4 @@
--- The whole listing: what is left of the key at which it begins, and the keys behind it, a page at a time.
+-- The whole listing: what is left of the key at which it begins, and the keys after it, a page at a time.
 use Rattle.std.proofs.Common.{◌≡◌, ℕ, ◌+◌, ◌-◌, ◌<◌, ◌≤◌, ◌++◌, ◌&&◌, ◌||◌, Bool, true, false, Option, Some, None, List, [], ◌∷◌, length, map, take, drop, get_or, refl, sym, ap, subst, ◌∙◌, arith, append_assoc}
 use Rattle.std.specs.Prelude.{not, filter, flat_map, if◌then◌else◌, reverse, ◌==◌, nat_eq, nat_le, slice_get, is_none}
 use Rattle.std.specs.Str.{bytes_eq}
@@ -91,7 +91,7 @@ by_keys v c (k ∷ ks) =
     ∙ map-append (outcome.listed v) (filter p (reverse (held_at v c.bucket k))) (filter p rest)
     ∙ ap (λ (ls : List Listed). asked_at v c k ++ ls) (by_keys v c ks)
 
--- what is asked for: of the key at which the listing begins, and of those behind it
+-- what is asked for: of the key at which the listing begins, and of those after it
 parts : (v : Vault) (c : ListVersions) → Sound v → flat_map (asked_at v c) (keys_of v c.bucket) ≡ asked_first v c ++ flat_map (asked_at v c) (keys_behind v c.bucket c.after_key)
 parts v c sound = by_length (length c.after_key == 0) refl
   where
@@ -194,7 +194,7 @@ last_page v mid c page page' after keys same lt is now =
     now ∙ ap (λ w. filled c.most page (flat_map (asked_at w c) keys)) same
     ∙ ap (λ ks. filled c.most page (flat_map (asked_at v c) ks)) (is ∙ take_all 256 all few)
 
--- behind a whole page the walk goes on
+-- after a whole page the walk goes on
 pub next_page : (v mid : Vault) (c : ListVersions) (page page' : Page) (after last next : List ℕ) (keys : List (List ℕ))
     → mid ≡ v → 256 ≤ length keys → keys ≡ keys_after v c.bucket after 256
     → Some last ≡ slice_get keys (length keys - 1) → next ≡ last → (length last == 0) ≡ false

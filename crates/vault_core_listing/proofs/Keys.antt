@@ -1,4 +1,4 @@
--- The keys of a bucket rise by their bytes, and what stands behind one of them.
+-- The keys of a bucket rise by their bytes, and what stands after one of them.
 use Rattle.std.proofs.Common.{◌≡◌, ℕ, ◌++◌, ◌||◌, Bool, true, false, List, [], ◌∷◌, length, refl, sym, ap, subst, ◌∙◌}
 use Rattle.std.specs.Prelude.{filter, flat_map, if◌then◌else◌, ◌==◌}
 use Rattle.std.specs.List.{AllByRecursion}
@@ -166,7 +166,7 @@ pick : (P : List ℕ → Type 0) (xs : List (List ℕ)) (x : List ℕ) (ys : Lis
 pick P [] x ys all = all.0
 pick P (w ∷ xs) x ys all = pick P xs x ys all.1
 
--- behind the last key of a page stand the keys of the pages after it
+-- after the last key of a page stand the keys of the pages after it
 pub behind_page : (ks : List (List ℕ)) (a : List ℕ) (xs : List (List ℕ)) (x : List ℕ) (ys : List (List ℕ)) → IsRising ks
     → filter (λ k. is_behind k a) ks ≡ xs ++ x ∷ ys → (length x == 0) ≡ false
     → filter (λ k. is_behind k x) ks ≡ ys
@@ -194,7 +194,7 @@ among-with a k (x ∷ xs) = by_order (cmp k x) refl (among-with a k xs)
 pub among-set : (a k : List ℕ) (ks : List (List ℕ)) → is_among a (key_set (k ∷ ks)) ≡ (bytes_eq k a || is_among a (key_set ks))
 among-set a k ks = among-with a k (key_set ks)
 
--- ---- keys behind one
+-- ---- keys after one
 
 behind_one : (last : List ℕ) (ks : List (List ℕ)) → (length last == 0) ≡ false → AllByRecursion (λ k. is_behind k last ≡ true) ks → IsOver last ks
 behind_one last [] named all = tt

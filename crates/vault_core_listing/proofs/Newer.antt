@@ -22,7 +22,7 @@ all_newer m n [] le rising = refl
 all_newer m n (h ∷ hs) le rising =
     rw (lt-ltb m h.entry.id (omega (arith, rising.0))) (ap (λ (l : List History). h ∷ l) (all_newer m h.entry.id hs (omega (arith, rising.0)) rising.1))
 
--- what is newer than one of them is what comes behind it
+-- what is newer than one of them is what comes after it
 newer_behind : (n : ℕ) (gs : List History) (h : History) (hs : List History) → IsRising n (gs ++ h ∷ hs) → (n < h.entry.id) × (filter (λ g. nat_lt h.entry.id g.entry.id) (gs ++ h ∷ hs) ≡ hs)
 unfolding IsRising
 newer_behind n [] h hs rising =
@@ -44,7 +44,7 @@ held_there bucket key h here =
     let second = and_parts (bytes_eq h.entry.key key) (is_held h.entry) first.1 in
     record { held = second.1; bucket_is = (bytes_eq-Decides h.entry.bucket bucket).0 first.0; key_is = (bytes_eq-Decides h.entry.key key).0 second.0 }
 
--- each is current where nothing comes behind it, is found by its id, and has that key
+-- each is current where nothing comes after it, is found by its id, and has that key
 AreListedUp : Vault → List ℕ → List History → Type 0
 AreListedUp v key [] = Unit {0}
 AreListedUp v key (h ∷ hs) =
@@ -67,7 +67,7 @@ listed_up v bucket key gs (h ∷ hs) all rising here found =
 
 -- ---- newest first
 
--- the first is current or not, as told, and none behind it is; each is found by its id, and has that key
+-- the first is current or not, as told, and none after it is; each is found by its id, and has that key
 abbrev pub AreListed : Vault → List ℕ → Bool → List History → Type 0
 AreListed v key current [] = Unit {0}
 AreListed v key current (h ∷ hs) =

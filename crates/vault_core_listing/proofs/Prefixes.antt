@@ -1,4 +1,4 @@
--- Keys behind one that is past a prefix don't begin with it.
+-- Keys after one that is past a prefix don't begin with it.
 use Rattle.std.proofs.Common.{◌≡◌, ◌⊎◌, inl, inr, ℕ, ◌<◌, ◌&&◌, Bool, true, false, List, [], ◌∷◌, refl, sym, ap, ◌∙◌, arith, cond}
 use Rattle.std.specs.Prelude.{nat_eq, nat_lt, ◌==◌}
 use Rattle.std.specs.List.{starts_with}

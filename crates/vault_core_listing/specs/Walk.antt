@@ -26,7 +26,7 @@ filled most page (l ∷ ls) = filled most (grown most page l) ls
 abbrev pub has_prefix : ListVersions → List ℕ → Bool
 has_prefix c key = starts_with nat_eq key c.prefix
 
--- all keys behind that one begin otherwise
+-- all keys after that one begin otherwise
 abbrev pub is_past : ListVersions → List ℕ → Bool
 is_past c key = is_gt (slice_cmp nat_cmp key c.prefix) && not (has_prefix c key)
 
@@ -43,15 +43,15 @@ asked_at v c key = map (listed v) (filter (λ h. is_asked_for c h.entry) (revers
 abbrev pub asked_first : Vault → ListVersions → List Listed
 asked_first v c = if length c.after_key == 0 then [] else asked_at v c c.after_key
 
--- the keys of the bucket behind that one
+-- the keys of the bucket after that one
 abbrev pub keys_behind : Vault → List ℕ → List ℕ → List (List ℕ)
 keys_behind v bucket after = filter (λ k. is_behind k after) (keys_of v bucket)
 
--- the page once it has the entries of all keys behind that one
+-- the page once it has the entries of all keys after that one
 abbrev pub completed : Vault → ListVersions → Page → List ℕ → Page
 completed v c page after = filled c.most page (flat_map (asked_at v c) (keys_behind v c.bucket after))
 
--- the walk is done with that page, or goes on behind a key after at least 256 more
+-- the walk is done with that page, or goes on after a key after at least 256 more
 abbrev pub EndsOrAdvances : Vault → ListVersions → Page → List ℕ → Page → Option (List ℕ) → Type 0
 EndsOrAdvances v c page after page' None = page' ≡ completed v c page after
 EndsOrAdvances v c page after page' (Some next) =

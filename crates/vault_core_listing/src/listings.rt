@@ -27,7 +27,7 @@ const MOST_KEYS: u32 = 256;
 /// So many pages of keys hold a key for each id that there is.
 const MOST_PAGES: u32 = 3_906_251;
 
-/// Lists the held entries of a bucket that are asked for, and tells whether there are more.
+/// Lists the held entries of a bucket that are asked for, and says whether there are more.
 pub fn list_versions<K: Keeper>(
     alloc: Global,
     keeper: &mut K,
@@ -56,7 +56,7 @@ fn check_most(most: u32) -> Result<(), Halt>
 }
 
 /// The page that is asked for: first what is left of the key at which the listing begins, then the keys
-/// behind it.
+/// after it.
 fn find_page<K: Keeper>(
     alloc: Global,
     keeper: &mut K,
@@ -92,7 +92,7 @@ fn list_first<K: Keeper>(
     list_key(keeper, page, command, &key)
 }
 
-/// Lists what is asked for of the keys behind the one at which the listing begins, a page of keys at a
+/// Lists what is asked for of the keys after the one at which the listing begins, a page of keys at a
 /// time, up to the first entry that finds the page full.
 fn list_behind<K: Keeper>(
     keeper: &mut K,
@@ -112,7 +112,7 @@ fn list_behind<K: Keeper>(
     Ok(())
 }
 
-/// Lists what is asked for of the next page of keys, and tells behind which key to go on.
+/// Lists what is asked for of the next page of keys, and tells after which key to go on.
 fn list_keys_behind<K: Keeper>(
     keeper: &mut K,
     page: &mut Page,
@@ -208,7 +208,7 @@ fn has_prefix(command: &ListVersions, key: &ObjectKey) -> bool
     key.as_str().as_bytes().starts_with(prefix)
 }
 
-/// Whether all keys behind this one begin otherwise.
+/// Whether all keys after this one begin otherwise.
 fn is_past(command: &ListVersions, key: &ObjectKey) -> bool
     ensures { result ≡ is_past command.now key.now }
 {
@@ -222,7 +222,7 @@ fn is_asked(command: &ListVersions, key: &ObjectKey, id: VersionId) -> bool
     has_prefix(command, key) && (is_behind(&command.after_key, key) || is_left_of(command, key, id))
 }
 
-/// Whether the key comes behind that one; every key comes behind the empty text.
+/// Whether the key comes after that one; every key comes after the empty text.
 fn is_behind(after: &KeyPrefix, key: &ObjectKey) -> bool
     ensures { result ≡ is_behind key.now after.now }
 {
@@ -230,7 +230,7 @@ fn is_behind(after: &KeyPrefix, key: &ObjectKey) -> bool
     after.is_empty() || key.as_str() > after
 }
 
-/// Whether an entry of the key at which the listing begins comes behind the one given.
+/// Whether an entry of the key at which the listing begins comes after the one given.
 fn is_left_of(command: &ListVersions, key: &ObjectKey, id: VersionId) -> bool
     ensures { result ≡ (bytes_eq key.now command.now.after_key && outcome.is_below command.now.after_id id) }
 {

@@ -24,11 +24,11 @@ abbrev pub is_below : Option ℕ → ℕ → Bool
 is_below None id = false
 is_below (Some after) id = nat_lt id after
 
--- the entry comes behind the place after which a listing begins
+-- the entry comes after the place after which a listing begins
 abbrev pub is_after : ListVersions → Entry → Bool
 is_after c e = is_behind e.key c.after_key || (bytes_eq e.key c.after_key && is_below c.after_id e.id)
 
--- its key begins as asked, and it comes behind that place
+-- its key begins as asked, and it comes after that place
 abbrev pub is_asked_for : ListVersions → Entry → Bool
 is_asked_for c e = starts_with nat_eq e.key c.prefix && is_after c e
 

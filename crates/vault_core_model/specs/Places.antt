@@ -33,7 +33,7 @@ is_current v h = is_held h.entry && (length (newer v h) == 0)
 abbrev pub current : Vault → List ℕ → List ℕ → Option History
 current v bucket key = find (is_current v) (held_at v bucket key)
 
--- the key comes behind that one, by their bytes; every key comes behind the empty text
+-- the key comes after that one, by their bytes; every key comes after the empty text
 abbrev pub is_behind : List ℕ → List ℕ → Bool
 is_behind key after = length after == 0 || is_gt (slice_cmp nat_cmp key after)
 

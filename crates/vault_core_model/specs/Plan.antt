@@ -91,7 +91,7 @@ counts ps = record {
   lone = count_by (λ p. is_lone_removal p.step) ps;
 }
 
--- the steps up to the first mark that finds no id left, where so many ids are taken
+-- the steps up to the first mark that finds no id left, where n ids are taken
 abbrev pub with_ids : ℕ → List Planned → List Planned
 with_ids taken [] = []
 with_ids taken (p ∷ ps) =

@@ -66,7 +66,7 @@ held_of h = record { id = h.entry.id; marker = h.entry.marker; size = h.entry.si
 abbrev pub entries_of : Vault → List ℕ → List ℕ → List Held
 entries_of v bucket key = map held_of (held_at v bucket key)
 
--- the first of the bucket's keys behind that one
+-- the first of the bucket's keys after that one
 abbrev pub keys_after : Vault → List ℕ → List ℕ → ℕ → List (List ℕ)
 keys_after v bucket after most = take most (filter (λ k. is_behind k after) (keys_of v bucket))
 

@@ -54,7 +54,7 @@ IsWholeAs true e content settings = (e.size ≡ 0) × (e.digest ≡ None) × (co
 abbrev pub IsWhole : History → Type 0
 IsWhole h = IsWholeAs h.entry.marker h.entry h.content h.settings
 
--- the tenures behind this one: each by a later move, from no earlier moment, and of another department than the one before; none begins after the end
+-- the tenures after this one: each by a later move, from no earlier moment, and of another department than the one before; none begins after the end
 abbrev pub FollowOn : ℕ → ℕ → Tenure → List Tenure → Type 0
 FollowOn moves end t [] = t.from ≤ end
 FollowOn moves end t (u ∷ us) =

@@ -106,9 +106,9 @@ pub struct ListVersions {
     pub bucket: BucketName,
     /// Only keys that begin so are listed.
     pub prefix: KeyPrefix,
-    /// Only what comes behind this key is listed, and with `after_id` also the key's older entries.
+    /// Only what comes after this key is listed, and with `after_id` also the key's older entries.
     pub after_key: KeyPrefix,
-    /// The entry of `after_key` behind which the listing begins; with none, behind all of them.
+    /// The entry of `after_key` after which the listing begins; with none, after all of them.
     pub after_id: Option<VersionId>,
     /// How many entries are listed at most: 1 to 1,000.
     pub most: u32,

@@ -27,7 +27,7 @@ pub trait Sink {
     /// What it does with an entry: the sink before, the entry, whether it took it, the sink after.
     ghost takes: { Taking Self };
 
-    /// Takes an entry, or refuses it and every one behind it.
+    /// Takes an entry, or refuses it and every one after it.
     fn take(&mut self, entry: &Entry) -> bool
         ensures { takes self.old entry.now result self.new };
 }
@@ -102,7 +102,7 @@ pub trait Keeper: Kept {
         ensures value { Self.is_honest self.new → IfOk result (λ found. found ≡ content_of (Self.vault self.old) id) }
         ensures leaves { ReadsAs Self.Kept self.old self.new result };
 
-    /// The first of the bucket's keys behind `after` that have a held entry, by their bytes: at most `most`.
+    /// The first of the bucket's keys after `after` that have a held entry, by their bytes: at most `most`.
     fn keys(
         &mut self,
         bucket: &BucketName,

@@ -68,7 +68,7 @@ impl Listing {
     }
 }
 
-/// A listing, and whether entries behind it were left out.
+/// A listing, and whether entries after it were left out.
 #[derive(Drop)]
 pub struct Page {
     pub entries: Listing,

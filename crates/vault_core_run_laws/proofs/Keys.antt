@@ -54,7 +54,7 @@ one_list (k ∷ ks) (j ∷ js) rk rj f g =
     back : (x : List ℕ) → IsIn x js → IsIn x (k ∷ ks) → IsIn x ks
     back x i = ⊎_elim (λ (e : x ≡ k). absurd (irreflexive j (under_in j j js rj.0 (subst (λ y. IsIn y js) (e ∙ same) i)))) (λ (h : IsIn x ks). h)
 
--- a key that stands behind others is none of them
+-- a key that stands after others is none of them
 pub later_others : (done rest : List (List ℕ)) (k : List ℕ) → IsRising (done ++ rest) → IsIn k rest → IsIn k done → ⊥
 later_others [] rest k r i j = j
 later_others (x ∷ done) rest k r i j =

@@ -132,7 +132,7 @@ append_in : (x : List ℕ) (ks js : List (List ℕ)) → IsIn x js → IsIn x (k
 append_in x [] js i = i
 append_in x (k ∷ ks) js i = inr (append_in x ks js i)
 
--- what stands in the front comes before what stands behind it
+-- what stands in the front comes before what stands after it
 before : (y x : List ℕ) (ks js : List (List ℕ)) → IsRising (ks ++ js) → IsIn y ks → IsIn x js → slice_cmp nat_cmp y x ≡ Less
 before y x [] js r i h = absurd i
 before y x (k ∷ ks) js r i h =
@@ -143,7 +143,7 @@ last_in : (k : List ℕ) (ks : List (List ℕ)) → IsIn (last_key (k ∷ ks)) (
 last_in k [] = inl refl
 last_in k (j ∷ js) = inr (last_in j js)
 
--- none of rising keys comes behind the last of them
+-- none of rising keys comes after the last of them
 up_to_last : (k : List ℕ) (ks : List (List ℕ)) (x : List ℕ) → IsRising (k ∷ ks) → IsIn x (k ∷ ks) → (x ≡ last_key (k ∷ ks)) ⊎ (slice_cmp nat_cmp x (last_key (k ∷ ks)) ≡ Less)
 up_to_last k [] x r i = ⊎_elim (λ (e : x ≡ k). inl e) (λ (h : ⊥). absurd h) i
 up_to_last k (j ∷ js) x r i =
@@ -177,7 +177,7 @@ filter_rises p (k ∷ ks) r = cases (p k) (filter_rises p ks r.1)
     cases true h = (under_each k (filter p ks) (λ x i. under_in k x ks r.0 (in_filter p x ks i).0), h)
     cases false h = h
 
--- a key behind the last of rising keys is none of them
+-- a key after the last of rising keys is none of them
 is_later : (k : List ℕ) (ks : List (List ℕ)) (x : List ℕ) → 1 ≤ length (last_key (k ∷ ks)) → IsRising (k ∷ ks) → is_behind x (last_key (k ∷ ks)) ≡ true → IsIn x (k ∷ ks) → ⊥
 is_later k ks x some r behind i =
     ⊎_elim (λ (e : x ≡ a). irreflexive a (ap (slice_cmp nat_cmp a) (sym e) ∙ less))
@@ -205,7 +205,7 @@ module _ (v : Vault) (b : List ℕ) (t : ℕ) (done rest : List (List ℕ)) (may
   as_before : (x : List ℕ) → (IsIn x done → ⊥) → entries_of (after_steps v b t (plans_at v b t done)) b x ≡ entries_of v b x
   as_before x n = other_keys_stay v b t done (plans_at v b t done) [] x may (rising_left done rest all_rise) (sym (append-nil (plans_at v b t done))) ids n
 
-  -- the keys behind the last that is done are the rest, by what is among them
+  -- the keys after the last that is done are the rest, by what is among them
   page_by : (a : List ℕ) → ((x : List ℕ) → is_behind x a ≡ true → IsIn x done → ⊥) → ((x : List ℕ) → IsIn x rest → is_behind x a ≡ true)
       → filter (λ k. is_behind k a) (keys_of (after_steps v b t (plans_at v b t done)) b) ≡ rest
   page_by a later behind =

@@ -26,7 +26,7 @@ VaultPlansRepeat =
     (v : Vault) (bucket : List ℕ) (t n : ℕ) → IsOrderly v bucket t
     → plan (after_steps v bucket t (take n (plan v bucket t))) bucket t ≡ drop n (plan v bucket t)
 
--- the reply tells that a fault stopped the run
+-- the reply says that a fault stopped the run
 abbrev pub IsCut : Reply → Type 0
 IsCut (Done a) = ⊥
 IsCut (Refused r) = ⊥
@@ -38,7 +38,7 @@ abbrev pub AreCut : List Reply → Type 0
 AreCut [] = Unit {0}
 AreCut (r ∷ rs) = IsCut r × AreCut rs
 
--- how many changes it tells that the run made
+-- how many changes it says that the run made
 abbrev pub changes_told : Reply → ℕ
 changes_told (Done (Ran n)) = n.changes
 changes_told (Done _) = 0

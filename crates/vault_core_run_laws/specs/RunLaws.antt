@@ -25,7 +25,7 @@ KeysRise = (v : Vault) (bucket : List ℕ) → IsRising (keys_of v bucket)
 abbrev pub EntriesRise : Type 0
 EntriesRise = (v : Vault) (bucket key : List ℕ) → Sound v → IsTrue (ids_rise (entries_of v bucket key))
 
--- what the first steps at some keys leave: a run may go on with the rest of them; the rules and the bucket are as they were, and so many ids more are taken as there were marks; the steps are few
+-- what the first steps at some keys leave: a run may go on with the rest of them; the rules and the bucket are as they were, and n ids more are taken as there were marks; the steps are few
 pub record Leaves (v : Vault) (bucket : List ℕ) (t : ℕ) (keys : List (List ℕ)) (ps qs : List Planned) (v1 : Vault) : Type 0 where
   pub may : MayRun v1 bucket t
   pub rest : plans_at v1 bucket t keys ≡ qs
@@ -69,11 +69,11 @@ OtherKeysStay =
     → MayRun v bucket t → IsRising keys → plans_at v bucket t keys ≡ ps ++ qs → HaveIds v ps → (IsIn key keys → ⊥)
     → entries_of (after_steps v bucket t ps) bucket key ≡ entries_of v bucket key
 
--- a key that stands behind others in a rising list is none of them
+-- a key that stands after others in a rising list is none of them
 abbrev pub LaterKeysAreOthers : Type 0
 LaterKeysAreOthers = (done rest : List (List ℕ)) (key : List ℕ) → IsRising (done ++ rest) → IsIn key rest → IsIn key done → ⊥
 
--- after all steps of the first keys, the keys behind the last of them are the rest
+-- after all steps of the first keys, the keys after the last of them are the rest
 abbrev pub PagesGoOn : Type 0
 PagesGoOn =
     (v : Vault) (bucket : List ℕ) (t most : ℕ) (done rest : List (List ℕ))

@@ -39,7 +39,7 @@ pub fn other_keys_stay()
     ensures others { LaterKeysAreOthers }
 {}
 
-/// After all steps of the first keys, the keys behind the last of them are the rest: a run may ask
+/// After all steps of the first keys, the keys after the last of them are the rest: a run may ask
 /// for its keys page by page.
 pub fn pages_go_on()
     ensures { PagesGoOn }

@@ -1,4 +1,4 @@
--- The reply of a run tells how far it came.
+-- The reply of a run says how far it came.
 use Rattle.std.proofs.Common.{◌≡◌, ℕ, ◌<◌, ◌≤◌, List, length, take, Some, Result, Ok, refl, sym, ap, subst, ◌∙◌, inr, zero-add}
 use Rattle.vault_base.specs.declared.refusal.Refusal.{Refusal}
 use Rattle.vault_rules.specs.KeyPlan.{Planned}

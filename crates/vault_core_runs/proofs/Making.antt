@@ -95,7 +95,7 @@ pub MakesSteps-then : {X : Type 0} (v v1 v2 : Vault) (b : List ℕ) (t : ℕ) (p
 MakesSteps-then v v1 v2 b t ps qs (Ok u) x y z m n = MakesAll-then v v1 v2 b t ps qs x y z m n
 MakesSteps-then v v1 v2 b t ps qs (Err e) x y z m n = MakesAll-first v v1 v2 b t ps qs e x y z m n
 
--- an error that is handed on tells why the steps stop
+-- an error that is handed on says why the steps stop
 pub MakesSteps-err : {X : Type 0} (r : Result X Halt) (e : Halt) (v : Vault) (b : List ℕ) (t : ℕ) (ps : List Planned) (x y : Counts) (v' : Vault) → IsErrAnd r (λ (h : Halt). h ≡ e) → MakesUpTo v b t ps e x y v' → MakesSteps r v b t ps x y v'
 MakesSteps-err (Ok u) e v b t ps x y v' h m = absurd h
 MakesSteps-err (Err f) e v b t ps x y v' h m = subst (λ (k : Halt). MakesUpTo v b t ps k x y v') (sym h) m

@@ -110,7 +110,7 @@ module _ (v v1 : Vault) (b : List ℕ) (t : ℕ) (after : List ℕ) (x y : Count
       (MakesAll-first v v1 v2 b t (plans_at v b t d.done) (plans_at v b t keys) h x y z d.makes
       (subst (λ (ps : List Planned). MakesUpTo v1 b t ps h y z v2) (page_plans most keys e) m)))
 
-  -- a fault behind a page
+  -- a fault after a page
   pub stopped_behind : (most : ℕ) (keys : List (List ℕ)) (f : Fault) (z : Counts) (v2 : Vault) → keys ≡ take most d.rest
       → MakesAll v1 b t (plans_at v1 b t keys) y z v2 → MakesUpTo v b t (plan v b t) (halt.Fault f) x z v2
   stopped_behind most keys f z v2 e m =
@@ -140,7 +140,7 @@ last_key-at (k ∷ j ∷ ks) d h =
 byte_of : (k : List ℕ) → IsTrue (is_object_key k) → 1 ≤ length k
 byte_of k h = le_of_test 1 (length k) (both (nat_le 1 (length k)) (is_key_prefix k) h).0
 
--- the key at the last place, which is an object's, as a place to go on behind
+-- the key at the last place, which is an object's, as a place to go on after
 pub IsLastKey-of : (keys : List (List ℕ)) (k after : List ℕ) → 1 ≤ length keys → k ≡ get_or keys (length keys - 1) [] → after ≡ k → IsTrue (is_object_key k) → IsLastKey keys after
 IsLastKey-of keys k after some at same named = record {
   some = some;

@@ -11,7 +11,7 @@ use Rattle.vault_core_model.specs.Checks.{most_ids}
 use Rattle.vault_core_model.specs.Plan.{after_steps, change_at, change_of, counts, with_ids, is_mark, is_removal, is_lone_removal}
 use Rattle.vault_core_runs.specs.Making.{plus}
 
--- how many ids are taken after these steps, where so many were
+-- how many ids are taken after these steps, where n were
 pub taken : ℕ → List Planned → ℕ
 taken n [] = n
 taken n (p ∷ ps) = taken (cond (is_mark p.step) (n + 1) n) ps

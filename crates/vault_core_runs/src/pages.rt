@@ -39,7 +39,7 @@ pub fn run_pages<K: Keeper>(
         };
         after = last;
     }
-    // No bucket has so many pages.
+    // No bucket has n pages.
     Err(Halt::Fault(Fault::Memory))
 }
 
@@ -53,7 +53,7 @@ fn before_all(alloc: Global) -> Result<KeyPrefix, AllocError>
     }
 }
 
-/// The last key of a whole page, behind which the next page begins; none of the last page.
+/// The last key of a whole page, after which the next page begins; none of the last page.
 fn last_seen(keys: &[ObjectKey]) -> Result<Option<KeyPrefix>, AllocError>
     ensures { IfOk result (λ found. MatchOption found (length keys.now < 256) (λ last. IsLastKey keys.now last)) }
 {

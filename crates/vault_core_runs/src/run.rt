@@ -94,7 +94,7 @@ fn stop_of(halt: Halt) -> Stop
     }
 }
 
-/// Makes the plan of a bucket, and tells how far it came.
+/// Makes the plan of a bucket, and says how far it came.
 fn run_bucket<K: Keeper>(alloc: Global, keeper: &mut K, run: &BucketRun) -> Reply
     requires may { K.is_honest keeper.old → MayRun (K.vault keeper.old) run.now.bucket run.now.at }
     requires given { K.is_honest keeper.old → rules_in (K.vault keeper.old) run.now.bucket ≡ run.now.rules }

@@ -31,7 +31,7 @@ impl Read for FailingReader<'_> {
     }
 }
 
-/// Keeps what is written, and fails once so many writes were made.
+/// Keeps what is written, and fails once n writes were made.
 #[derive(Drop)]
 pub struct FailingWriter {
     /// What was written.

@@ -110,7 +110,7 @@ record Does (v : Vault) (t : ℕ) (who : List ℕ) (c : Intake) (x : Answer) (af
 abbrev answered : Answer → Vault → Result (Answer × Vault) Refusal
 answered x v = Ok (x, v)
 
--- what the line of a note is told, as the note agrees or not
+-- what the line of a note is reported, as the note agrees or not
 abbrev told_by : Bool → ℕ → Result TakenIn Refusal
 told_by b id = if b then Ok (record { id = id; again = true }) else Err IntakeConflict
 

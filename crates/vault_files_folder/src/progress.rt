@@ -23,7 +23,7 @@ pub struct ToldFolder<F: Drop> {
 impl<F: Drop> ToldFolder<F> {
     ghost use Rattle.std.specs.Prelude.{◌≡◌};
 
-    /// A folder of which no file was asked for yet, and the terminal that is told.
+    /// A folder of which no file was asked for yet, and the terminal that is reported.
     pub fn new(folder: F, terminal: Option<Stderr>) -> ToldFolder<F>
         ensures folder { result.folder ≡ folder }
         ensures terminal { result.terminal ≡ terminal }

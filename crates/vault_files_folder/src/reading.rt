@@ -17,7 +17,7 @@ pub(crate) fn fault_of(error: &io::Error) -> Fault
     }
 }
 
-/// The first bytes of a reader, so many at most. What lies behind them isn't read.
+/// The first bytes of a reader, n at most. What lies after them isn't read.
 pub(crate) fn read_at_most<R: Read + Drop>(
     alloc: Global,
     reader: R,

@@ -1,4 +1,4 @@
--- What the replies to rows tell of the count of failures.
+-- What the replies to rows hold of the count of failures.
 use Rattle.std.proofs.Common.{◌≡◌, List, Bool, true, false, refl}
 use Rattle.std.specs.Prelude.{◌||◌, Some}
 use Rattle.std.specs.List.{list_any}
@@ -11,6 +11,6 @@ neither : (b c : Bool) → (b || c) ≡ false → (b ≡ false) × (c ≡ false)
 neither true c e = absurd (cc)
 neither false c e = (refl, e)
 
--- neither the rows tell it, nor what stopped them
+-- neither the rows hold it, nor what stopped them
 pub none_stopped : (rows : List RowReply) (r : Refusal) → report_tells_device rows (Some r) ≡ false → (list_any is_device_row rows ≡ false) × (is_device_refusal r ≡ false)
 none_stopped rows r e = neither (list_any is_device_row rows) (is_device_refusal r) e

@@ -10,7 +10,7 @@ use Rattle.vault_files_intake.specs.declared.folder.File.{File}
 use Rattle.vault_files_intake.specs.declared.report.RowReply.{RowReply}
 use Rattle.vault_files_intake.specs.TakenIn.{TakesRows, TakesOne, StopsAt, StopsBefore}
 
--- one row more behind those that were taken
+-- one row more after those that were taken
 taken-next : (files : Option (List File)) (t : ℕ) (who bucket batch : List ℕ) (n m : ℕ) (xs : List (List (List ℕ))) (cells : List (List ℕ)) (v mid v' : Vault) (rows after : List RowReply)
     → m ≡ n + length xs → TakesRows files t who bucket batch n xs v rows None mid → TakesOne files t who bucket batch (m + 1) cells mid rows after v' → TakesRows files t who bucket batch n (xs ++ cells ∷ []) v after None v'
 taken-next files t who bucket batch n m [] cells v mid v' [] after count h one =
@@ -22,7 +22,7 @@ taken-next files t who bucket batch n m (x ∷ xs) cells v mid v' (row ∷ rows)
     let more : m ≡ (n + 1) + length xs = omega (arith, count) in
     rw (one.2) (h.0, h.1, h.2, h.3, taken-next files t who bucket batch (n + 1) m xs cells h.2 mid v' rows (rows ++ record { line = m + 1; reply = one.1 } ∷ []) more h.4 (one.0, one.1, refl, one.3))
 
--- a stop behind those that were taken
+-- a stop after those that were taken
 taken-stop : (files : Option (List File)) (t : ℕ) (who bucket batch : List ℕ) (n m : ℕ) (xs later : List (List (List ℕ))) (r : Refusal) (v mid v' : Vault) (rows : List RowReply)
     → m ≡ n + length xs → TakesRows files t who bucket batch n xs v rows None mid → StopsAt m later r → v' ≡ mid → TakesRows files t who bucket batch n (xs ++ later) v rows (Some r) v'
 taken-stop files t who bucket batch n m [] later r v mid v' [] count h stops same =

@@ -11,7 +11,7 @@ use Rattle.vault_files_intake.specs.Row.{cell_at}
 abbrev pub most_list : ℕ
 most_list = 16777216
 
--- these are all the records of a list as CSV, behind a byte order mark if there is one; blank lines are none (RFC 4180)
+-- these are all the records of a list as CSV, after a byte order mark if there is one; blank lines are none (RFC 4180)
 abbrev pub AreRecordsOf : List ℕ → List (List (List ℕ)) → Type 0
 AreRecordsOf list records = AreRecords default_config StartRecord (strip_bom list) records
 

@@ -10,7 +10,7 @@ use Rattle.vault_values.specs.Words.{hold_named}
 use Rattle.vault_files_intake.specs.FileName.{text_of, file_name_of}
 use Rattle.vault_files_intake.specs.declared.row.Row.{Row}
 
--- the cell at a place, counted from 0; there is no other than an empty one behind the last
+-- the cell at a place, counted from 0; there is no other than an empty one after the last
 abbrev pub cell_at : ℕ → List (List ℕ) → List ℕ
 cell_at place cells = unwrap_or (field_at cells place) []
 

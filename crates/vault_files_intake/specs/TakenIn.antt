@@ -56,7 +56,7 @@ is_fault_reply (reply.Done answer) = false
 is_fault_reply (reply.Refused r) = is_fault r
 is_fault_reply (reply.Stopped n s) = false
 
--- the refusal that tells a fault, and the reply
+-- the refusal that reports a fault, and the reply
 abbrev pub refusal_of : Fault → Refusal
 refusal_of fault.Memory = refusal.Memory
 refusal_of fault.Device = refusal.Device
@@ -74,7 +74,7 @@ abbrev pub AnswersRow : Option (List File) → ℕ → List ℕ → List ℕ →
 AnswersRow files t who bucket batch line cells v answer v' =
     (folder : List ℕ → Option (List ℕ)) × MayAnswer files folder × Judged (command_of folder bucket batch line cells) t who v answer v'
 
--- Why an intake stops before the first of these records, of which so many rows stand above: its length isn't five, no line has its number, or a fault came.
+-- Why an intake stops before the first of these records, of which n rows stand above: its length isn't five, no line has its number, or a fault came.
 abbrev pub StopsAt : ℕ → List (List (List ℕ)) → Refusal → Type 0
 StopsAt above records refusal.Memory = Unit {0}
 StopsAt above records refusal.Device = Unit {0}
@@ -82,7 +82,7 @@ StopsAt above (cells ∷ later) refusal.MalformedBody = is_of_five cells ≡ fal
 StopsAt above (cells ∷ later) refusal.EntityTooLarge = 4294967295 < above + 1
 StopsAt above records r = ⊥
 
--- The records below the header, of which so many rows stand above, lead from v to v': one row for each, up to the stop.
+-- The records below the header, of which n rows stand above, lead from v to v': one row for each, up to the stop.
 abbrev pub TakesRows : Option (List File) → ℕ → List ℕ → List ℕ → List ℕ → ℕ → List (List (List ℕ)) → Vault → List RowReply → Option Refusal → Vault → Type 0
 TakesRows files t who bucket batch above records v [] None v' = (records ≡ []) × (v' ≡ v)
 TakesRows files t who bucket batch above records v [] (Some r) v' = StopsAt above records r × (v' ≡ v)
@@ -91,7 +91,7 @@ TakesRows files t who bucket batch above (cells ∷ later) v (row ∷ rows) stop
     (row.line ≡ above + 1) × (is_of_five cells ≡ true) × (mid : Vault) × AnswersRow files t who bucket batch (above + 1) cells v row.reply mid
     × TakesRows files t who bucket batch (above + 1) later mid rows stop v'
 
--- one row more: its reply stands behind those of the rows above
+-- one row more: its reply stands after those of the rows above
 abbrev pub TakesOne : Option (List File) → ℕ → List ℕ → List ℕ → List ℕ → ℕ → List (List ℕ) → Vault → List RowReply → List RowReply → Vault → Type 0
 TakesOne files t who bucket batch line cells v rows rows' v' =
     (is_of_five cells ≡ true) × (answer : Reply) × (rows' ≡ rows ++ record { line = line; reply = answer } ∷ []) × AnswersRow files t who bucket batch line cells v answer v'

@@ -156,10 +156,10 @@ fn take_below<K: Keeper, F: Folder>(
 
 /// Takes in files of a folder by a list, each row as a line of an intake batch of that bucket.
 ///
-/// The list is CSV behind a byte order mark or none, at most 16,777,216 bytes long, and its first record is
+/// The list is CSV after a byte order mark or none, at most 16,777,216 bytes long, and its first record is
 /// `file,key,mode,until,hold`. A row's number counts the records below it, from 1; blank lines are none. A row
 /// is refused by the first fault of its cells, in their order, then for a file that isn't there
-/// (`InvalidArgument`) or is too large (`EntityTooLarge`), and then by its command; the intake goes on behind
+/// (`InvalidArgument`) or is too large (`EntityTooLarge`), and then by its command; the intake goes on after
 /// it. It stops at a wrong or missing first record or a record of another length (`MalformedBody`), at a list
 /// that is too long (`EntityTooLarge`, no row), where room for a row was refused (`Memory`), and where the
 /// vault or the folder failed (`Device`); the rows above stand.

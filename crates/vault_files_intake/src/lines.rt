@@ -80,7 +80,7 @@ fn push_stopped(out: &mut String, refusal: Refusal) -> Result<(), AllocError>
     out.push_str("\n")
 }
 
-/// The line that tells what stopped an intake, as `stopped Device`. The error is want of memory.
+/// The line that says what stopped an intake, as `stopped Device`. The error is want of memory.
 pub fn stopped_line(alloc: Global, refusal: Refusal) -> Result<String, AllocError>
     ensures { IfOk result (λ text. string_bytes text ≡ spec.stopped_line refusal) }
 {

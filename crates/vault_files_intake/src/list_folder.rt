@@ -36,7 +36,7 @@ pub struct ListFolder {
 }
 
 impl ListFolder {
-    /// An empty folder. With a number it refuses the read behind so many.
+    /// An empty folder. With a number it refuses the read after n.
     pub fn new(alloc: Global, left: Option<u64>) -> ListFolder
         ensures files { result.files.items ≡ [] }
         ensures left { result.left ≡ left }

@@ -24,7 +24,7 @@ pub struct Row {
     pub hold: Option<bool>,
 }
 
-/// The cell at a place of a record; behind the last cell it is empty.
+/// The cell at a place of a record; after the last cell it is empty.
 pub(crate) fn cell(cells: &ByteRecord, place: usize) -> &[u8]
     ensures { result.now ≡ spec.cell_at place (fields_of cells.now) }
 {

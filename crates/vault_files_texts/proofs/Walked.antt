@@ -40,7 +40,7 @@ handed_name contents s es (Err f) t h = some_name contents s es t h
 nothing : (a : Option (List ℕ)) (bytes : List ℕ) → Begins a a bytes
 nothing a bytes = ([], bytes, refl, Appends-nil a)
 
--- a beginning behind what was written whole
+-- a beginning after what was written whole
 later : (a b c : Option (List ℕ)) (front back : List ℕ) → Appends a b front → Begins b c back → Begins a c (front ++ back)
 later a b c front back w h = (front ++ h.0, h.1, ap (λ l. front ++ l) h.2 ∙ sym (append_assoc front h.0 h.1), Appends-trans a b c front h.0 w h.3)
 

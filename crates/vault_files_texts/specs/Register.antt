@@ -8,7 +8,7 @@ use Rattle.vault_core_model.specs.declared.records.Entry.{Entry}
 use Rattle.vault_core_model.specs.declared.records.Removal.{Removal}
 use Rattle.vault_files_texts.specs.Removed.{digest_text, author_text, cause_kind, cause_name, days_between}
 
--- the names of the columns, with an LF behind
+-- the names of the columns, with an LF after it
 abbrev pub header : List ℕ
 header = codes "version,bucket,key,kind,size,sha256,admitted,admitted_by,removed,cause,cause_by,days\n"
 
@@ -33,7 +33,7 @@ removal_cells e r = moment_text r.at ∷ cause_kind r.cause ∷ cause_name r.cau
 abbrev pub cells : Entry → Removal → List (List ℕ)
 cells e r = name_cells e ++ origin_cells e ++ removal_cells e r
 
--- the text of a record, as `csv` writes it by default: commas between, quotes where needed, an LF behind
+-- the text of a record, as `csv` writes it by default: commas between, quotes where needed, an LF after it
 abbrev pub record_text : List (List ℕ) → List ℕ
 record_text cells = row_text default_writer cells
 

@@ -4,11 +4,11 @@ use Rattle.std.specs.Fmt.{decimal}
 use Rattle.vault_base.specs.Moment.{moment_text}
 use Rattle.vault_core_model.specs.declared.reply.Report.{Report}
 
--- so many blanks
+-- n blanks
 abbrev pub blanks : ℕ → List ℕ
 blanks n = replicate n 32
 
--- a text filled up to 12 places with blanks behind it
+-- a text filled up to 12 places with blanks after it
 abbrev pub left_in_12 : List ℕ → List ℕ
 left_in_12 text = text ++ blanks (12 - length text)
 

@@ -16,7 +16,7 @@ ghost use Rattle.vault_files_texts.specs.ReportText as spec;
 use std::alloc::{AllocError, Global};
 use vault_core_model::reply::Report;
 
-/// Appends so many blanks.
+/// Appends n blanks.
 fn push_blanks(out: &mut String, count: usize) -> Result<(), AllocError>
     ensures { OnOk result (string_bytes out.new ≡ string_bytes out.old ++ spec.blanks count) }
 {

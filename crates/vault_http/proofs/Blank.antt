@@ -77,7 +77,7 @@ is_some_head ends = record {
   fields = All-nil IsField;
 }
 
--- what stands behind the first of six parts is of one piece
+-- what stands after the first of six parts is of one piece
 five_behind : (a b c d e f : List ℕ) → a ++ b ++ c ++ d ++ e ++ f ≡ a ++ (b ++ c ++ d ++ e ++ f)
 five_behind a b c d e f =
     let two : a ++ b ++ c ≡ a ++ (b ++ c) = append_assoc a b c in

@@ -34,7 +34,7 @@ module _ (Honest : Type 0) (result : Result (Unit {0}) ServeFault) (at : ℕ) (s
       cases true e = inr (c, reply, refl, step, e, sent)
       cases false e = inl (steady e)
 
-  -- behind what a client that waits was told
+  -- after what a client that waits was told
   pub plan_steady : (judged : Result Command Refusal) (waits : Bool) (a b c : Option (List ℕ)) → Appends a b (told waits) → JudgedSteady Honest result at shown who judged old new n n' b c → Steady Honest result (Some at) old new n n' a c
   plan_steady judged waits a b c p s =
       elim s [

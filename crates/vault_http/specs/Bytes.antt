@@ -7,6 +7,6 @@ abbrev pub NextByte : Option (List ℕ) → Option (List ℕ) → Option ℕ →
 NextByte old new None = Consumes old new [] × IsAtEnd new
 NextByte old new (Some b) = Consumes old new (b ∷ [])
 
--- a reader that had old gave the first so many bytes of buf and has new; it gave none only at its end
+-- a reader that had old gave the first n bytes of buf and has new; it gave none only at its end
 abbrev pub NextBytes : Option (List ℕ) → Option (List ℕ) → List ℕ → ℕ → Type 0
 NextBytes old new buf n = Consumes old new (take n buf) × (n ≡ 0 → IsAtEnd new)

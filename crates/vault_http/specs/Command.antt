@@ -7,7 +7,7 @@ use Rattle.vault_http_request.specs.Command.{command_of}
 use Rattle.vault_http_request.specs.declared.order.Order.{Order}
 use Rattle.vault_http_request.specs.declared.terms.Locks.{Locks}
 
--- so many bytes of what comes behind the head, or nothing where there are fewer
+-- n bytes of what comes after the head, or nothing where there are fewer
 unfoldable pub body_of : Option ℕ → List ℕ → Option (List ℕ)
 body_of None rest = Some []
 body_of (Some n) rest = if nat_le n (length rest) then Some (take n rest) else None
@@ -20,11 +20,11 @@ abbrev pub command_of_body : Order → Locks → Option (List ℕ) → Result Co
 command_of_body order locks None = Err MalformedBody
 command_of_body order locks (Some body) = command_with order locks body
 
--- the command of an order and of what comes behind its head
+-- the command of an order and of what comes after its head
 abbrev pub command_after : Order → Locks → Option ℕ → List ℕ → Result Command Refusal
 command_after order locks size rest = command_of_body order locks (body_of size rest)
 
--- what was taken behind the head: nothing where there is no body, and no more than its length
+-- what was taken after the head: nothing where there is no body, and no more than its length
 abbrev pub IsWithinLength : Option ℕ → List ℕ → Type 0
 IsWithinLength None taken = taken ≡ []
 IsWithinLength (Some n) taken = length taken ≤ n

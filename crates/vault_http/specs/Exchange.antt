@@ -48,7 +48,7 @@ abbrev pub Judged : Type 0 → ℕ → Bool → List ℕ → Result Command Refu
 Judged Failed at shown who (Ok c) old out new = Done Failed at shown who c old out new
 Judged Failed at shown who (Err r) old out new = Denied (Some at) shown r None old out new
 
--- ---- a head, and what comes behind it
+-- ---- a head, and what comes after it
 
 -- HTTP/1.1 100 Continue and a blank line
 abbrev pub go_on : List ℕ
@@ -63,11 +63,11 @@ abbrev pub plan_of : ℕ → Order → Option ℕ → List ℕ → Locks → Boo
 plan_of at order size caller locks waits =
     record { at = at; order = order; terms = record { length = size; caller = caller; locks = locks; waits = waits } }
 
--- the command of a plan and of what comes behind its head
+-- the command of a plan and of what comes after its head
 abbrev pub planned_command : Plan → List ℕ → Result Command Refusal
 planned_command plan rest = command_after plan.order plan.terms.locks plan.terms.length rest
 
--- what is written for a plan and what comes behind its head
+-- what is written for a plan and what comes after its head
 abbrev pub PlanServed : Type 0 → Bool → Plan → List ℕ → Vault → List ℕ → Vault → Type 0
 PlanServed Failed shown plan rest old out new =
     (answer : List ℕ) × (out ≡ told plan.terms.waits ++ answer) × Judged Failed plan.at shown plan.terms.caller (planned_command plan rest) old answer new
@@ -102,7 +102,7 @@ is_shown method = not (is_head method)
 abbrev pub head_asked : Option ℕ → RequestHead → Result Asked Refusal
 head_asked moment h = asked_of moment h.method h.target h.minor (map name_and_value h.fields)
 
--- what is written for a head and what comes behind it
+-- what is written for a head and what comes after it
 abbrev pub HeadServed : Type 0 → Option ℕ → RequestHead → List ℕ → Vault → List ℕ → Vault → Type 0
 HeadServed Failed moment h rest old out new = HeadJudged Failed moment (is_shown h.method) (head_asked moment h) rest old out new
 

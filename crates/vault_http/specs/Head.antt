@@ -36,7 +36,7 @@ IsWithin buf headers Nothing = Unit {0}
 IsWithin buf headers NoHead = Unit {0}
 IsWithin buf headers (Head spans) = IsRequestWithin buf headers spans
 
--- behind a line with which no head can come, of whatever length, nothing was taken
+-- after a line with which no head can come, of whatever length, nothing was taken
 abbrev pub IsPrompt : List ℕ → Type 0
 IsPrompt buf = (line later : List ℕ) → buf ≡ (line ++ 10 ∷ []) ++ later → NeverHasRequest (line ++ 10 ∷ []) → later ≡ []
 

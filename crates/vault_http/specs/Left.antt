@@ -38,7 +38,7 @@ abbrev pub Stepped : ℕ → List ℕ → Result Command Refusal → Vault → V
 Stepped at who (Ok c) old new = (reply : Reply) × IsStep old at who c reply new
 Stepped at who (Err r) old new = ⊥
 
--- Behind the body nothing is read any more. Where the answer found no room nothing is written, and at most that step was made; where writing it failed a beginning of it is written, and the vault is as it says.
+-- After the body nothing is read any more. Where the answer found no room nothing is written, and at most that step was made; where writing it failed a beginning of it is written, and the vault is as it says.
 -- Failed says that the device failed, as in Exchange.
 abbrev pub JudgedLeft : Type 0 → ServeFault → ℕ → Bool → List ℕ → Result Command Refusal → Vault → Vault → Option (List ℕ) → Option (List ℕ) → Type 0
 JudgedLeft Failed faults.Read at shown who judged old new before after = ⊥
@@ -50,7 +50,7 @@ DenyLeft faults.Read moment r a shown before after = ⊥
 DenyLeft faults.Memory moment r a shown before after = after ≡ before
 DenyLeft faults.Write moment r a shown before after = (out : List ℕ) × AnswersRefusal moment r a shown out × Begins before after out
 
--- After Read and Memory no byte of an answer is written, only that a client that waits is to go on; or, where the head found no room, nothing, and no step was made. After Read none was made, after Memory at most that one. After Write 100 Continue failed, nothing of the body was read and no step was made, or the answer failed behind a 100 Continue that was written whole, where the client waits, and the vault is as the answer says; what is written is a beginning of that.
+-- After Read and Memory no byte of an answer is written, only that a client that waits is to go on; or, where the head found no room, nothing, and no step was made. After Read none was made, after Memory at most that one. After Write 100 Continue failed, nothing of the body was read and no step was made, or the answer failed after a 100 Continue that was written whole, where the client waits, and the vault is as the answer says; what is written is a beginning of that.
 abbrev pub PlanLeft : Type 0 → ServeFault → Bool → Plan → List ℕ → Option (List ℕ) → Vault → Vault → Option (List ℕ) → Option (List ℕ) → Type 0
 PlanLeft Failed faults.Read shown plan rest unread old new before after = (new ≡ old) × Appends before after (told plan.terms.waits)
 PlanLeft Failed faults.Memory shown plan rest unread old new before after =
@@ -89,7 +89,7 @@ Left Failed e moment input unread old new before after =
 
 -- ---- what was read
 
--- behind a head: nothing where no body belongs to it, else no more than the length of the body
+-- after a head: nothing where no body belongs to it, else no more than the length of the body
 abbrev pub IsAskedTaken : Asked → List ℕ → Type 0
 IsAskedTaken (asked.Plan plan) taken = IsWithinLength plan.terms.length taken
 IsAskedTaken (asked.NotAllowed r) taken = taken ≡ []

@@ -57,7 +57,7 @@ abbrev pub is_marker : Option Allow → Bool
 is_marker (Some allow.Marker) = true
 is_marker _ = false
 
--- a refusal tells of a delete marker: on top of its key, or named by its id
+-- a refusal is about a delete marker: on top of its key, or named by its id
 abbrev pub tells_marker : Refusal → Option Allow → Bool
 tells_marker (refusal.NoSuchKey marker) a = marker
 tells_marker _ a = is_marker a

@@ -20,12 +20,12 @@ ReplySent (Err faults.Read) at c shown reply before after = ⊥
 ReplySent (Err faults.Write) at c shown reply before after = (out : List ℕ) × AnswersReply (Some at) (drops c) reply shown out × Begins before after out
 ReplySent (Err faults.Memory) at c shown reply before after = after ≡ before
 
--- The count of failures is as it was; or the command was carried out, its reply tells that the device failed, and that is what is answered. Here and below Honest says that the device has returned what was written; what is said of a step holds then.
+-- The count of failures is as it was; or the command was carried out, its reply says that the device failed, and that is what is answered. Here and below Honest says that the device has returned what was written; what is said of a step holds then.
 abbrev pub JudgedSteady : Type 0 → Result (Unit {0}) ServeFault → ℕ → Bool → List ℕ → Result Command Refusal → Vault → Vault → ℕ → ℕ → Option (List ℕ) → Option (List ℕ) → Type 0
 JudgedSteady Honest result at shown who judged old new n n' before after =
     (n' ≡ n) ⊎ ((c : Command) × (reply : Reply) × (judged ≡ Ok c) × (Honest → IsStep old at who c reply new) × IsTrue (is_device_reply reply) × ReplySent result at c shown reply before after)
 
--- the same of a request, whose answer stands behind what a client that waits was told
+-- the same of a request, whose answer stands after what a client that waits was told
 abbrev pub Steady : Type 0 → Result (Unit {0}) ServeFault → Option ℕ → Vault → Vault → ℕ → ℕ → Option (List ℕ) → Option (List ℕ) → Type 0
 Steady Honest result moment old new n n' before after =
     (n' ≡ n)

@@ -30,7 +30,7 @@ use vault_http_request::plan::{Asked, Plan, asked_of};
 use vault_http_request::terms::{Locks, Terms};
 use vault_values::fault::LineFault;
 
-/// Serves the parts of a plan, with what comes behind its head.
+/// Serves the parts of a plan, with what comes after its head.
 fn serve_parts<R: Read, W: Write, K: Keeper>(
     alloc: Global,
     reader: &mut R,
@@ -58,7 +58,7 @@ fn serve_parts<R: Read, W: Write, K: Keeper>(
     conclude(alloc, writer, keeper, at, caller, judged, shown)
 }
 
-/// Serves a plan, with what comes behind its head.
+/// Serves a plan, with what comes after its head.
 fn serve_plan<R: Read, W: Write, K: Keeper>(
     alloc: Global,
     reader: &mut R,
@@ -131,7 +131,7 @@ fn spans_asked(
     )
 }
 
-/// Serves what a head asks for, with what comes behind it.
+/// Serves what a head asks for, with what comes after it.
 fn serve_asked<R: Read, W: Write, K: Keeper>(
     alloc: Global,
     reader: &mut R,
@@ -164,7 +164,7 @@ fn serve_asked<R: Read, W: Write, K: Keeper>(
     }
 }
 
-/// Serves what was judged of a head, with what comes behind it.
+/// Serves what was judged of a head, with what comes after it.
 fn serve_judged<R: Read, W: Write, K: Keeper>(
     alloc: Global,
     reader: &mut R,
@@ -191,7 +191,7 @@ fn serve_judged<R: Read, W: Write, K: Keeper>(
     }
 }
 
-/// Serves a head, with what comes behind it.
+/// Serves a head, with what comes after it.
 fn serve_head<R: Read, W: Write, K: Keeper>(
     alloc: Global,
     reader: &mut R,
@@ -262,7 +262,7 @@ fn serve_at<R: Read, W: Write, K: Keeper>(
 /// Serves one request: what is written is the answer to what is read, by at most one step at the reading,
 /// which is in seconds since 1970. Not one byte is answered by none.
 ///
-/// Nothing behind the head is read where no body belongs to the request, and of a body no more than
+/// Nothing after the head is read where no body belongs to the request, and of a body no more than
 /// its `content-length`; of a head the reader is asked for one byte at a time, so give a `BufReader` over a
 /// file or a socket.
 ///
@@ -288,7 +288,7 @@ pub fn serve_one<R: Read, W: Write, K: Keeper>(
     ensures taken { OnOk result (IfSome (R.remaining reader.old) (λ input. (taken : List ℕ) × Consumes (R.remaining reader.old) (R.remaining reader.new) taken × left.IsTaken (moment_at reading) input taken)) }
     ensures honest { K.is_honest keeper.new → K.is_honest keeper.old }
     ensures counted { K.count keeper.old ≤ K.count keeper.new }
-    // Where the count rose, the reply of the one step tells that the device failed, and what is written is its
+    // Where the count rose, the reply of the one step says that the device failed, and what is written is its
     // answer, or a beginning of that.
     ensures steady { Steady (K.is_honest keeper.new) result (moment_at reading) (K.vault keeper.old) (K.vault keeper.new) (K.count keeper.old) (K.count keeper.new) (W.contents writer.old) (W.contents writer.new) }
 {

@@ -3,7 +3,7 @@ use Rattle.std.proofs.Common.{◌≡◌, ◌<◌, ◌+◌, ℕ, suc, zero, List,
 use Rattle.std.specs.List.{starts_with}
 use Rattle.vault_http_request.specs.Supported.{contains}
 
--- where it doesn't begin, it stands behind, if at all
+-- where it doesn't begin, it stands after, if at all
 pub contains_behind : (part text : List ℕ) (i : ℕ) → i < length text → starts_with nat_eq (drop i text) part ≡ false → contains part (drop (suc i) text) ≡ contains part (drop i text)
 contains_behind part [] i h e = absurd (omega arith)
 contains_behind part (b ∷ bs) zero h e = rw e refl

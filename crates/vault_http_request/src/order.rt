@@ -8,7 +8,7 @@ use vault_core_model::command::{
 };
 use vault_http_target::target::{Object, Target};
 
-/// The kind of a target, by which its methods are told.
+/// The kind of a target, by which its methods are reported.
 #[derive(Clone, Copy, PartialEq, Eq, Debug)]
 pub enum Resource {
     Object,

@@ -12,7 +12,7 @@ count_before stop bytes = prefix_len (λ b. not (b == stop)) bytes
 abbrev pub before : ℕ → List ℕ → List ℕ
 before stop bytes = take (count_before stop bytes) bytes
 
--- the bytes behind it
+-- the bytes after it
 abbrev pub behind : ℕ → List ℕ → List ℕ
 behind stop bytes = drop (count_before stop bytes + 1) bytes
 

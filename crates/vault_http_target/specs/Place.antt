@@ -27,7 +27,7 @@ key_of_bucket bucket part = do
   key ← key_in part
   Ok (Key bucket key)
 
--- behind the bucket's slash stands a key, or nothing
+-- after the bucket's slash stands a key, or nothing
 unfoldable pub place_within : List ℕ → List ℕ → Result Place Refusal
 place_within bucket part = if length part == 0 then Ok (Bucket bucket) else key_of_bucket bucket part
 

@@ -92,7 +92,7 @@ abbrev pub names_of_bucket : Fields → Result ⊤ Refusal
 names_of_bucket pairs =
     if are_known_of_bucket pairs then (if are_single_of_bucket pairs then Ok tt else Err InvalidArgument) else Err NotImplemented
 
--- the entry behind which a listing begins means nothing without its key
+-- the entry after which a listing begins means nothing without its key
 abbrev pub with_key : Bool → Option ℕ → Result (Option ℕ) Refusal
 with_key has_key id = if is_some id && not has_key then Err InvalidArgument else Ok id
 
@@ -137,7 +137,7 @@ abbrev pub target_at : Place → Fields → List ℕ → Result Target Refusal
 target_at (place.Bucket bucket) pairs method = target_of_bucket bucket pairs
 target_at (place.Key bucket key) pairs method = target_of_key bucket key pairs method
 
--- the query stands behind the first question mark
+-- the query stands after the first question mark
 unfoldable pub target_of : List ℕ → List ℕ → Result Target Refusal
 target_of method target = do
   place ← place_of (before 63 target)

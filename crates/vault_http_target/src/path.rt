@@ -26,7 +26,7 @@ pub fn before(bytes: &[u8], stop: u8) -> &[u8]
     &bytes[..count_before(bytes, stop)]
 }
 
-/// The bytes behind the first such byte, if there are any.
+/// The bytes after the first such byte, if there are any.
 pub fn behind(bytes: &[u8], stop: u8) -> &[u8]
     ensures { result.now ≡ spec.behind stop bytes.now }
 {
@@ -38,7 +38,7 @@ pub fn behind(bytes: &[u8], stop: u8) -> &[u8]
     }
 }
 
-/// The bytes behind the first one.
+/// The bytes after the first one.
 pub fn behind_first(bytes: &[u8]) -> &[u8]
     ensures { result.now ≡ drop 1 bytes.now }
 {

@@ -54,7 +54,7 @@ fn place_within(alloc: Global, bucket: BucketName, part: &[u8]) -> Result<Place,
 
 /// The place that a path names: it has a route, and the bucket is one, and then the key.
 ///
-/// `InvalidArgument` tells that there is no route, or that the key isn't UTF-8 or no key;
+/// `InvalidArgument` says that there is no route, or that the key isn't UTF-8 or no key;
 /// `KeyTooLongError` that it is too long; `InvalidBucketName` is the bucket's only refusal.
 #[tactic(auto, unfolding(crate::specs::Place::place_of))]
 pub fn place_of(alloc: Global, path: &[u8]) -> Result<Place, LineFault>

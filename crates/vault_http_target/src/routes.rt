@@ -1,4 +1,4 @@
-//! The routes: a bucket, with a slash behind it or not, and a key behind that slash.
+//! The routes: a bucket, with a slash after it or not, and a key after that slash.
 ghost use Rattle.std.specs.Prelude.{◌≡◌, Bool, IfOk, Ok};
 ghost use Rattle.vault_values.specs.Fault.{Gives};
 ghost use Rattle.vault_http_target.specs.Routes as spec;

@@ -171,7 +171,7 @@ fn prefix_if_given(alloc: Global, text: Option<&str>) -> Result<KeyPrefix, LineF
     }
 }
 
-/// The entry behind which a listing begins; it means nothing without its key.
+/// The entry after which a listing begins; it means nothing without its key.
 #[tactic(auto, unfolding(crate::specs::Target::after_id_of))]
 fn after_id(pairs: &[Pair]) -> Result<Option<VersionId>, LineFault>
     ensures { Gives (λ x. x) result (spec.after_id_of (map shown pairs.now)) }
@@ -183,7 +183,7 @@ fn after_id(pairs: &[Pair]) -> Result<Option<VersionId>, LineFault>
     Ok(id)
 }
 
-/// How many entries are listed at most. Whether a listing may have so many is the command's matter.
+/// How many entries are listed at most. Whether a listing may have n is the command's matter.
 fn most(text: Option<&str>) -> Result<u32, LineFault>
     ensures { Gives (λ x. x) result (spec.most (option_map (λ t. t.now) text.entry)) }
 {

@@ -87,8 +87,8 @@ pub fn key(alloc: Global, value: &Value) -> Result<ObjectKey, LineFault>
     key_named(alloc, text)
 }
 
-/// What keys are held against: what they begin with, or the key behind which a listing begins. A member that
-/// may be left out, which is the empty text: any key begins with it, and each comes behind it.
+/// What keys are held against: what they begin with, or the key after which a listing begins. A member that
+/// may be left out, which is the empty text: any key begins with it, and each comes after it.
 #[tactic(auto, unfolding(crate::specs::Values::prefix_of))]
 pub fn prefix(alloc: Global, name: &str, value: &Value) -> Result<KeyPrefix, LineFault>
     ensures { Gives (λ x. x) result (spec.prefix_of name.now (view value.now)) }

@@ -1,6 +1,6 @@
 //! Reads and writes that a signal may interrupt, and all of some bytes to a writer.
 //!
-//! What stands written after a fault is told, which the standard library's `write_all` leaves open.
+//! What stands written after a fault is reported, which the standard library's `write_all` leaves open.
 #![tactic(auto)]
 
 pub mod retry;

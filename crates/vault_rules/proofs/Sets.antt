@@ -29,7 +29,7 @@ not_less_itself n = grind (arith, nat_tests)
 not_less_back : (m n : ℕ) → IsTrue (nat_lt m n) → nat_lt n m ≡ false
 not_less_back m n h = grind (arith, nat_tests)
 
--- what is newer than x stands behind it
+-- what is newer than x stands after it
 newer_behind : (before : List Held) (x : Held) (after : List Held) → IsTrue (ids_rise (before ++ x ∷ after)) → newer_among (before ++ x ∷ after) x ≡ after
 newer_behind [] x after h =
     ap (λ b. cond b (x ∷ newer_among after x) (newer_among after x)) (not_less_itself x.id)

@@ -19,7 +19,7 @@ is_smaller (Some bound) size = nat_lt size bound
 abbrev pub fits : Rule → List ℕ → ℕ → Bool
 fits r key size = r.enabled && starts_with nat_eq key r.prefix && is_larger r.larger size && is_smaller r.smaller size
 
--- the midnight has come that ends so many days from a moment (S3 User Guide, "Lifecycle configuration elements": How Amazon S3 calculates how long an object has been noncurrent, and rounding)
+-- the midnight has come that ends n days from a moment (S3 User Guide, "Lifecycle configuration elements": How Amazon S3 calculates how long an object has been noncurrent, and rounding)
 abbrev pub have_passed : ℕ → ℕ → ℕ → Bool
 have_passed days from t = nat_le (midnight_from (from + day_length * days)) t
 

@@ -8,7 +8,7 @@ use Rattle.vault_rules.specs.declared.plan.Step.{Step}
 use Rattle.vault_rules.specs.declared.plan.Step.TheVariants.{Mark, Remove, RemoveLone}
 use Rattle.vault_rules.specs.Due.{due_current, due_noncurrent, due_marker}
 
--- each id is below those that stand behind it
+-- each id is below those that stand after it
 abbrev pub ids_rise : List Held → Bool
 ids_rise [] = true
 ids_rise (x ∷ xs) = list_all (λ y. nat_lt x.id y.id) xs && ids_rise xs

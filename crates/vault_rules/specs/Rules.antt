@@ -63,7 +63,7 @@ fault_where false fault later = later
 abbrev pub has_id : List Rule → List ℕ → Bool
 has_id rules id = list_any (λ r. bytes_eq r.id id) rules
 
--- the fault of a rule that stands behind these
+-- the fault of a rule that stands after these
 abbrev pub fault_of : List Rule → Rule → Option RuleFault
 fault_of before r =
     fault_where (has_id before r.id) SameId
@@ -75,7 +75,7 @@ abbrev pub first_of_both : Option RuleFault → Option RuleFault → Option Rule
 first_of_both None later = later
 first_of_both (Some fault) later = Some fault
 
--- the fault of the first rule at fault, behind those before it
+-- the fault of the first rule at fault, after those before it
 abbrev pub first_fault : List Rule → List Rule → Option RuleFault
 first_fault before [] = None
 first_fault before (r ∷ rs) = first_of_both (fault_of before r) (first_fault (before ++ r ∷ []) rs)

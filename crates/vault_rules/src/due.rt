@@ -22,7 +22,7 @@ pub fn due_current(
 }
 
 /// The place of the first rule that makes a noncurrent entry due, which has that size, became
-/// noncurrent then and has so many newer noncurrent entries above it.
+/// noncurrent then and has n newer noncurrent entries above it.
 pub fn due_noncurrent(
     rules: &RuleSet,
     key: &ObjectKey,

@@ -97,7 +97,7 @@ pub fn are_bounds(larger: Option<u64>, smaller: Option<u64>) -> bool
         && are_in_order(larger, smaller)
 }
 
-/// Whether the midnight has come that ends so many days from a moment.
+/// Whether the midnight has come that ends n days from a moment.
 fn have_passed(days: u32, from: Moment, now: Moment) -> bool
     ensures { result ≡ have_passed days from now }
 {

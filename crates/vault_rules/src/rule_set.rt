@@ -102,7 +102,7 @@ fn has_id(rules: &[Rule], id: &RuleId) -> bool
     rules.iter().any(|rule| rule.id == *id)
 }
 
-/// The fault of a rule that stands behind these.
+/// The fault of a rule that stands after these.
 fn fault_of(before: &[Rule], rule: &Rule) -> Option<RuleFault>
     ensures { result ≡ fault_of before.now rule.now }
 {

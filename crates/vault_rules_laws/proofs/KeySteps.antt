@@ -191,7 +191,7 @@ withouts_elsewhere (Mark r ∷ ss) hs a = withouts_elsewhere ss hs a
 withouts_elsewhere (Remove i r ∷ ss) hs a = ap (λ l. withouts l ss) (without_absent i hs a.0) ∙ withouts_elsewhere ss hs a.1
 withouts_elsewhere (RemoveLone i r ∷ ss) hs a = withouts_elsewhere ss hs a
 
--- x goes from behind those before it
+-- x leaves its place after those before it
 without_middle : (before : List Held) (x : Held) (after : List Held) → IsInOrder (before ++ x ∷ after) → without x.id (before ++ x ∷ after) ≡ before ++ after
 without_middle [] x after o = without_first x after o.0
 without_middle (b ∷ bs) x after o = without_other x.id b (bs ++ x ∷ after) (below b bs o.0) ∙ ap (λ l. b ∷ l) (without_middle bs x after o.1)

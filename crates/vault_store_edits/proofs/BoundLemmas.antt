@@ -1,4 +1,4 @@
--- Parameters as the rows tell them.
+-- Parameters as the rows hold them.
 use Rattle.std.proofs.Common.{◌≡◌, ℕ, pos, List, Bool, true, false, if◌then◌else◌, Option, Some, None, option_map, refl}
 use Rattle.sqlite_value.specs.declared.value.Value.TheVariants.{Int, Text}
 use Rattle.sqlite.specs.Values.{bound_value, or_null}

@@ -112,6 +112,6 @@ pub on_err_given : {A E : Type 0} {P : Type 0} (Q : Type 0) (r : Result A E) →
 on_err_given Q (Ok a) f = tt
 on_err_given Q (Err e) f = f
 
--- what fails behind an edit commits nothing either
+-- what fails after an edit commits nothing either
 pub kept_after : (old mid new : State) (edit : Rows → Rows) → Edits old mid edit → KeepsCommit mid new → KeepsCommit old new
 kept_after old mid new edit e kept = record { was_open = λ _. e.was_open; committed = λ is_open. kept.committed is_open ∙ e.committed }

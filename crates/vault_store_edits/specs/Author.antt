@@ -1,4 +1,4 @@
--- The text by which a row tells who admitted an entry.
+-- The text by which a row holds who admitted an entry.
 use Rattle.std.specs.Prelude.{ℕ, List}
 use Rattle.vault_core_model.specs.declared.records.Author.{Author}
 use Rattle.vault_core_model.specs.declared.records.Author.TheVariants as author

@@ -1,7 +1,7 @@
 //! Edits of the tables of a vault: the statements, one function for each, and the transaction that makes
 //! them as a whole or not at all.
 //!
-//! An error is want of memory, told as `ErrorCode::OutOfMemory`, `ErrorCode::TooBig` for a number that a
+//! An error is want of memory, reported as `ErrorCode::OutOfMemory`, `ErrorCode::TooBig` for a number that a
 //! column can't take, or a failure of the store.
 #![tactic(auto)]
 

@@ -85,7 +85,7 @@ dropped name (b ∷ bs) =
     ∙ ap (λ l. l ++ filter (λ row. not (is_named name row)) (map rule_row (flat_map rules_in bs))) (named_if_given name b.name b.rules)
     ∙ dropped_where (bytes_eq b.name name) (map rule_row (rules_in b)) (filter (λ row. not (is_named name row)) (map rule_row (flat_map rules_in bs))) b (filter (λ c. not (bytes_eq c.name name)) bs) refl (dropped name bs)
 
--- a bucket behind another of that name has another name
+-- a bucket after another of that name has another name
 other_name : (name : List ℕ) (b c : Bucket) → bytes_eq b.name name ≡ true → bucket_cmp b c ≡ Less → bytes_eq c.name name ≡ false
 other_name name b c here before =
     elim (bytes_eq c.name name) as (λ x. bytes_eq c.name name ≡ x → x ≡ false) [

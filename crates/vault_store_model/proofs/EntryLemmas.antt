@@ -28,7 +28,7 @@ use Rattle.vault_store_model.proofs.ListLemmas.{flat_map-append, flat_map_one}
 pub apart : (a b : ℕ) → b < a → (a == b) ≡ false
 apart a b less = grind (arith, less)
 
--- those behind an id have others
+-- those after an id have others
 pub other_ids : (n id : ℕ) (hs : List History) → id < n → AreIdsFrom n hs → AllByRecursion (λ h. (h.entry.id == id) ≡ false) hs
 other_ids n id [] less ids = tt
 other_ids n id (h ∷ hs) less ids = (apart h.entry.id id (omega (arith, ids.0)), other_ids (n + 1) id hs (omega arith) ids.1)

@@ -160,7 +160,7 @@ module _ (f : Item → ℕ) (name owner : List ℕ) where
         ) in
         subst (λ ts. P h.entry.removal ts) (sym m.are) (subst (λ r. P r (m.one ∷ m.more)) (sym m.held) there)
 
-    -- what is received is put behind
+    -- what is received is put after them
     pub received : (hs : List History) → AllByRecursion (λ h. MovesIf (is_held_version_in name h.entry) owner h) hs → bytes_eq x.dept d ≡ true
         → sum_by f (items_in d (map (tenured_if name x) hs)) ≡ sum_by f (items_in d hs ++ received_items (day x.from) (sizes name hs))
     received [] all own = refl

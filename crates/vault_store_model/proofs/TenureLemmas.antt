@@ -99,7 +99,7 @@ ends_behind size from end xs was is it = record {
   ended = ap (λ l. xs ++ l) it.ended ∙ sym (append_assoc xs it.before (removed_item it.first size from end ∷ it.after));
 }
 
--- and behind them
+-- and after them
 pub ends_before : (size from end : ℕ) (xs was is : List Item) → EndsOne size from end was is → EndsOne size from end (was ++ xs) (is ++ xs)
 ends_before size from end xs was is it = record {
   first = it.first;

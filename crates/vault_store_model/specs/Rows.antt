@@ -27,7 +27,7 @@ rows_in db table.Intake = map note_columns (db.trees intake_tree)
 rows_in db table.Heads = map head_columns (db.trees heads_tree)
 rows_in db table.Tenures = map tenure_columns (db.trees tenures_tree)
 
--- the rows that tell a vault, with its running numbers and its heads
+-- the rows that hold a vault, with its running numbers and its heads
 abbrev pub rows_of : Vault → Rows
 rows_of v table.Meta = meta_row (meta_of v) ∷ []
 rows_of v table.Departments = map (λ d. department_row (department_in v d)) v.departments
@@ -45,7 +45,7 @@ rows_of v table.Tenures = map tenure_row (flat_map tenures_in v.histories)
 abbrev pub AreSameRows : Rows → Rows → Type 0
 AreSameRows xs ys = (t : Table) → IsPermutation (xs t) (ys t)
 
--- the tables of a vault have the rows that tell this one, which may be kept
+-- the tables of a vault have the rows that hold this one, which may be kept
 pub record HasRows (db : Database) (v : Vault) : Type 0 where
   pub schema : db.schema ≡ vault_schema
   pub rows : AreSameRows (rows_of v) (rows_in db)

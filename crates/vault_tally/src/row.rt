@@ -74,7 +74,7 @@ impl Row {
         }
     }
 
-    /// Whether so many bytes more are still within the quota.
+    /// Whether n bytes more are still within the quota.
     pub fn fits(&self, size: u64) -> bool
         ensures { IsTrue result ↔ (self.now.admitted + self.now.received + size ≤ quota) }
     {
@@ -84,7 +84,7 @@ impl Row {
             <= QUOTA
     }
 
-    /// Counts in a version of so many bytes, admitted on that day.
+    /// Counts in a version of n bytes, admitted on that day.
     pub fn admit(&mut self, size: u64, day: u64)
         ensures { (items : List Item) → IsRowOf self.old items →
             AreBounded (items ++ held_item true size day ∷ []) →
@@ -95,7 +95,7 @@ impl Row {
         self.weighted = self.weighted.saturating_add(size.saturating_mul(day));
     }
 
-    /// Counts the removal, on the last of the days, of a version of so many bytes that the
+    /// Counts the removal, on the last of the days, of a version of n bytes that the
     /// department has from the first.
     pub fn remove(&mut self, size: u64, from_day: u64, day: u64)
         ensures { (before : List Item) (first : Bool) (after : List Item) →
@@ -110,7 +110,7 @@ impl Row {
         self.closed = self.closed.saturating_add(size.saturating_mul(days));
     }
 
-    /// Counts in versions of so many bytes in all, received with a bucket on that day.
+    /// Counts in versions of n bytes in all, received with a bucket on that day.
     pub fn receive(&mut self, bytes: u64, day: u64)
         ensures { (items : List Item) (sizes : List ℕ) → IsRowOf self.old items → sum sizes ≡ bytes →
             AreBounded (items ++ received_items day sizes) →
@@ -121,7 +121,7 @@ impl Row {
         self.weighted = self.weighted.saturating_add(bytes.saturating_mul(day));
     }
 
-    /// Counts that held versions, of so many bytes and so much weight in all, are handed over with
+    /// Counts that held versions, of n bytes and so much weight in all, are handed over with
     /// a bucket on that day.
     pub fn hand_over(&mut self, bytes: u64, weight: u64, day: u64)
         ensures { (kept : List Item) (going : List Item) → IsRowOf self.old (kept ++ going) →
@@ -136,7 +136,7 @@ impl Row {
         self.closed = self.closed.saturating_add(byte_days);
     }
 
-    /// Counts in a tenure of a version of so many bytes: whether it is the version's first, from which
+    /// Counts in a tenure of a version of n bytes: whether it is the version's first, from which
     /// day, up to which one if it ended, and whether it is the version's last.
     pub fn count(&mut self, size: u64, first: bool, from_day: u64, ended: Option<u64>, last: bool)
         ensures { (items : List Item) → IsRowOf self.old items →

@@ -26,7 +26,7 @@ const REPLIES: [&str; 6] = [
     "{\"ok\":{\"admitted\":5,\"at\":\"2024-01-16T00:00:00Z\",\"byte_days\":5,\"dept\":\"d\",\"handed\":0,\"held\":5,\"received\":0,\"removed\":0}}\n",
 ];
 
-/// The replies from the one of that number on, which is counted from 0: so many.
+/// The replies from the one of that number on, which is counted from 0: n.
 fn replies_from(alloc: Global, number: usize, count: usize) -> Result<String, Fail> {
     let mut text = String::new(alloc);
     for reply in REPLIES.iter().skip(number).take(count) {
@@ -79,7 +79,7 @@ fn go_on<K: Keeper>(alloc: Global, keeper: &mut K, number: usize) -> Result<(), 
     compare_replies(alloc, written, number, REPLIES.len())
 }
 
-/// Fails unless these are the replies from that number on, so many.
+/// Fails unless these are the replies from that number on, n.
 fn compare_replies(
     alloc: Global,
     written: String,
@@ -100,7 +100,7 @@ fn compare_ends(
     Err(Fail::new(format_args!("wanted {wanted:?}, got {given:?}")))
 }
 
-/// Fails unless what a reader gives ends so, and has so many of the first replies.
+/// Fails unless what a reader gives ends so, and has n of the first replies.
 fn compare_read<R: Read, K: Keeper>(
     alloc: Global,
     keeper: &mut K,
@@ -113,7 +113,7 @@ fn compare_read<R: Read, K: Keeper>(
     compare_replies(alloc, String::from_utf8(written)?, 0, count)
 }
 
-/// The first bytes of the script, behind which the reader fails.
+/// The first bytes of the script, after which the reader fails.
 #[derive(Clone, Copy)]
 struct CutReader<'a> {
     bytes: &'a [u8],
@@ -159,7 +159,7 @@ impl Read for InterruptedReader<'_> {
     }
 }
 
-/// The script with 1,000 empty lines behind it.
+/// The script with 1,000 empty lines after it.
 fn with_empty_lines(alloc: Global) -> Result<String, Fail> {
     let mut input = String::new(alloc);
     input.push_str(SCRIPT)?;
@@ -182,13 +182,13 @@ impl Trial for Interrupted {
     }
 }
 
-/// The script with 1,000 empty lines behind it, in pieces of one byte: a signal is no fault of the reader.
+/// The script with 1,000 empty lines after it, in pieces of one byte: a signal is no fault of the reader.
 #[test]
 fn a_reader_that_is_interrupted(rt: HostRuntime) -> Result<(), Fail> {
     try_on_empty(rt.alloc(), &Interrupted)
 }
 
-/// So many writes, each of one reply, behind which the writer fails.
+/// n writes, each of one reply, after which the writer fails.
 #[derive(Clone, Copy)]
 struct CutWriter {
     writes: usize,
@@ -247,7 +247,7 @@ impl Trial for HeldBack {
     }
 }
 
-/// What is held back is handed on before the input counts as answered, and a fault of that is told.
+/// What is held back is handed on before the input counts as answered, and a fault of that is reported.
 #[test]
 fn a_writer_that_holds_back(rt: HostRuntime) -> Result<(), Fail> {
     try_on_empty(rt.alloc(), &HeldBack)
@@ -322,7 +322,7 @@ const MOVE: &str = r#"
   {"ok":{"admitted":0,"at":"2024-01-18T00:00:00Z","byte_days":5,"dept":"court","handed":0,"held":5,"received":5,"removed":0}}
 "#;
 
-/// Behind how many changes the device refuses one.
+/// After how many changes the device refuses one.
 const DEVICES: [(u64, FailsOnce); 3] = [
     (0, FailsOnce { transcript: PUT }),
     (

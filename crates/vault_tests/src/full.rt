@@ -23,7 +23,7 @@ const BEFORE: &str = r#"
   {"ok":{"delete_marker":true,"version_id":5}}
 "#;
 
-/// A transcript over a vault that has so many ids left, and one where ids are left again.
+/// A transcript over a vault that has n ids left, and one where ids are left again.
 #[derive(Clone, Copy)]
 struct Full {
     ids: u64,
@@ -45,7 +45,7 @@ impl Trial for Full {
     }
 }
 
-/// A mark that finds no id stops the run: the changes before it stand, those behind it wait.
+/// A mark that finds no id stops the run: the changes before it stand, those after it wait.
 const MARK_WITHOUT_ID: &str = r#"
 {"at":"2024-03-03T00:00:00Z","as":"ann","do":"run","bucket":"docs"}
   {"stopped":{"changes":2,"fault":"VaultFull"}}

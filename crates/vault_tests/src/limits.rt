@@ -22,7 +22,7 @@ fn named<T: Drop>(read: Result<Result<T, NameFault>, AllocError>) -> Result<T, F
     }
 }
 
-/// Puts so many bytes.
+/// Puts n bytes.
 fn put(alloc: Global, size: usize) -> Result<Put, Fail> {
     let bucket = named(BucketName::read(alloc, "docs"))?;
     let key = named(ObjectKey::read(alloc, "a"))?;
@@ -158,13 +158,13 @@ impl Trial for ThreePuts {
 }
 
 /// Each command has a reply, and where room for the replies is refused none is carried out. Here nothing is refused:
-/// that is for `tools/refuse-growths`, to which a run without room is told as a failure of its own.
+/// that is for `tools/refuse-growths`, to which a run without room is reported as a failure of its own.
 #[test]
 fn a_run_has_room_for_its_replies(rt: HostRuntime) -> Result<(), Fail> {
     try_on_new(rt.alloc(), &ThreePuts)
 }
 
-/// What the keeper of a vault tells that can't be filled up to a limit, and what comes of a script there.
+/// What the keeper of a vault says that can't be filled up to a limit, and what comes of a script there.
 #[derive(Clone, Copy)]
 struct Limit {
     admitted: u64,
@@ -277,7 +277,7 @@ const SIX_AND_FIVE_BYTES_BEHIND: &str = r#"
   {"error":{"code":"Memory","n":22}}
 "#;
 
-/// What is carried out before; the bytes admitted, the next id and the moves that are told; and what comes of a script.
+/// What is carried out before; the bytes admitted, the next id and the moves reported; and what comes of a script.
 const LIMITS: [(&str, u64, u64, u32, &str, u64); 12] = [
     // A department admits up to 1,000,000,000,000 bytes, and empty versions where it is full.
     ("", 999_999_999_995, 1, 0, SIX_BYTES, 0),

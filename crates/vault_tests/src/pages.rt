@@ -1,4 +1,4 @@
-//! What a run asks of its keeper over buckets of so many keys that they are read in pages.
+//! What a run asks of its keeper over buckets of n keys that they are read in pages.
 use crate::watched_keeper::WatchedKeeper;
 use std::alloc::Global;
 use std::test::Fail;
@@ -72,7 +72,7 @@ fn fill<K: Keeper>(
     Ok(())
 }
 
-/// What a run asks of its keeper at the key of that number. Behind 256 keys it asks for more.
+/// What a run asks of its keeper at the key of that number. After 256 keys it asks for more.
 fn calls_at(alloc: Global, number: u32, change: &str) -> Result<String, Fail> {
     let key = text_of(alloc, number.saturating_add(1_000))?;
     let key = key.as_str();
@@ -100,7 +100,7 @@ fn push_calls(alloc: Global, calls: &mut String, number: u32, change: &str) -> R
 /// What a run asks of its keeper before the first key.
 const FIRST_CALLS: &str = "last\ncaller ann\nbucket docs\nrules docs\n256 keys after \n";
 
-/// What a run asks of its keeper over so many keys, each with this change: at most 256 keys behind the last
+/// What a run asks of its keeper over n keys, each with this change: at most 256 keys after the last
 /// one seen, and at each key its entries before its change. A page of fewer keys is the last.
 fn calls_wanted(alloc: Global, keys: u32, change: &str) -> Result<String, Fail> {
     let mut calls = String::from_str(alloc, FIRST_CALLS)?;
@@ -159,7 +159,7 @@ fn calls_over_three_keys(rt: HostRuntime) -> Result<(), Fail> {
     Ok(())
 }
 
-/// A run over so many keys.
+/// A run over n keys.
 #[derive(Clone, Copy)]
 struct Run<'a> {
     filling: &'a Filling,
@@ -184,7 +184,7 @@ impl Trial for Run<'_> {
     }
 }
 
-/// By the filling and the number of keys. A page of 256 keys may have another behind it; a 257th key is on a page of
+/// By the filling and the number of keys. A page of 256 keys may have another after it; a 257th key is on a page of
 /// its own; three pages are read of 600 keys. The last key seen is the place to go on from, also where it is gone.
 const RUNS: [(usize, u32, &str); 6] = [
     (

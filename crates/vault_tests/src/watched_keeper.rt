@@ -16,10 +16,10 @@ use vault_rules::plan::Held;
 use vault_rules::rule_set::RuleSet;
 use vault_tally::row::Row;
 
-/// The id behind the last one that an entry may have.
+/// The id after the last one that an entry may have.
 const PAST_THE_LAST: u64 = 1_000_000_001;
 
-/// Answers what the keeper below does, and notes each call but walks as a line. After so many ids it says that none is
+/// Answers what the keeper below does, and notes each call but walks as a line. After n ids it says that none is
 /// left. Once it has said so, it refuses every change with `Memory`.
 #[derive(Drop)]
 pub struct WatchedKeeper<'a, K> {
@@ -31,7 +31,7 @@ pub struct WatchedKeeper<'a, K> {
 }
 
 impl<'a, K> WatchedKeeper<'a, K> {
-    /// A keeper over another one, of which nothing was asked yet, that tells so many ids before it is full.
+    /// A keeper over another one, of which nothing was asked yet, that tells n ids before it is full.
     pub fn new(alloc: Global, keeper: &'a mut K, ids: u64) -> WatchedKeeper<'a, K> {
         WatchedKeeper {
             keeper,

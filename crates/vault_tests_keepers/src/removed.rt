@@ -11,11 +11,11 @@ use vault_tests_keepers_rows::texts::OPENING;
 use vault_transcript::transcript::play;
 use vault_transcript::trial::compare;
 
-/// What is told behind a transcript.
+/// What is told after a transcript.
 #[derive(Clone, Copy)]
 struct Removed<'a> {
     transcript: &'a str,
-    /// Walks over the removed entries, one behind the other: the room, whether all are taken, and their lines.
+    /// Walks over the removed entries, one after the other: the room, whether all are taken, and their lines.
     walks: &'a [(u32, bool, &'a str)],
     /// Who or which rule admitted the entry of an id.
     authors: &'a [(u32, &'a str)],
@@ -115,7 +115,7 @@ fn compare_walk<K: Keeper>(
 
 const ALL: &str = "1 b rule r1\n2 a bypass gov\n4 a request ann\n";
 
-/// By rising id. A sink that refuses is handed none behind the one that it refused. With room for just all of them it
+/// By rising id. A sink that refuses is handed none after the one that it refused. With room for just all of them it
 /// refuses none.
 const OF_THREE_REMOVALS: Removed<'static> = Removed {
     transcript: THREE_REMOVALS,

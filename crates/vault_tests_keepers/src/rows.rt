@@ -5,7 +5,7 @@ use std::alloc::Global;
 use std::test::Fail;
 use vault_tests_keepers_rows::texts::{LOCKS, MOVES, RUNS, SUMS};
 
-/// Each row holds on a vault of its own, behind the opening lines.
+/// Each row holds on a vault of its own, after the opening lines.
 fn all_hold(alloc: Global, texts: &[&str]) -> Result<(), Fail> {
     for text in texts {
         let row = Stopped {

@@ -8,10 +8,10 @@ use vault_core_model::keeper::Keeper;
 use vault_tests_keepers_rows::texts::OPENING;
 use vault_transcript::transcript::play;
 
-/// A run over a device that refuses the change behind so many.
+/// A run over a device that refuses the change after n.
 #[derive(Clone, Copy)]
 pub struct Stopped<'a> {
-    /// What is carried out before, behind the opening lines.
+    /// What is carried out before, after the opening lines.
     pub before: &'a str,
     pub changes: u64,
     /// The run, and the run given again.
@@ -136,7 +136,7 @@ const TWO_KEYS_STOPS: [Stopped<'static>; 4] = [
         after: TWO_KEYS_AFTER,
         faults: 1,
     },
-    // Behind its first mark.
+    // After its first mark.
     Stopped {
         before: TWO_KEYS,
         changes: 1,
@@ -162,7 +162,7 @@ const TWO_KEYS_STOPS: [Stopped<'static>; 4] = [
         after: TWO_KEYS_AFTER,
         faults: 1,
     },
-    // Behind its second mark.
+    // After its second mark.
     Stopped {
         before: TWO_KEYS,
         changes: 3,
@@ -229,7 +229,7 @@ const MOVED_STOPS: [Stopped<'static>; 4] = [
         after: MOVED_AFTER,
         faults: 1,
     },
-    // Behind its first mark.
+    // After its first mark.
     Stopped {
         before: MOVED,
         changes: 1,
@@ -255,7 +255,7 @@ const MOVED_STOPS: [Stopped<'static>; 4] = [
         after: MOVED_AFTER,
         faults: 1,
     },
-    // Behind its second mark.
+    // After its second mark.
     Stopped {
         before: MOVED,
         changes: 3,
@@ -346,7 +346,7 @@ const LONE_STOPS: [Stopped<'static>; 5] = [
         after: LONE_AFTER,
         faults: 1,
     },
-    // Behind its mark: the marker stands, and what is below it is still due.
+    // After its mark: the marker stands, and what is below it is still due.
     Stopped {
         before: LONE,
         changes: 1,
@@ -391,7 +391,7 @@ const LONE_STOPS: [Stopped<'static>; 5] = [
         after: LONE_AFTER,
         faults: 1,
     },
-    // Behind the last change: the device would fail at a fifth, and a run asks for none.
+    // After the last change: the device would fail at a fifth, and a run asks for none.
     Stopped {
         before: LONE,
         changes: 4,

@@ -48,7 +48,7 @@ fn later_moments(rt: HostRuntime) -> Result<(), Fail> {
     Ok(())
 }
 
-/// The day of the moment so many seconds after 1970 began.
+/// The day of the moment n seconds after 1970 began.
 fn day_of(secs: i64) -> Option<u64> {
     match Moment::from_secs(secs) {
         Some(moment) => Some(moment.day()),

@@ -58,7 +58,7 @@ fn fault(alloc: Global, kind: Kind, text: &str) -> Result<Option<NameFault>, All
     }
 }
 
-/// The same of a text that is given so many times over.
+/// The same of a text that is given n times over.
 fn fault_of(
     alloc: Global,
     kind: Kind,

@@ -4,7 +4,7 @@ use sqlite_disk::{Crash, Disk, Fuse, Memory};
 use std::alloc::Global;
 use std::test::Fail;
 
-/// A vault's log and database file, each of which passes so many calls on.
+/// A vault's log and database file, each of which passes n calls on.
 pub type VaultFiles = Files<Fuse<Memory>>;
 
 /// The tables of all tests here are in such files: a store of another kind would have the whole vault compiled for it too.
@@ -20,7 +20,7 @@ pub enum Which {
     Database,
 }
 
-/// Empty files, of which one fails behind so many calls.
+/// Empty files, of which one fails after n calls.
 pub fn fused(alloc: Global, which: Which, calls: u64) -> VaultFiles {
     let (log_calls, database_calls) = match which {
         Which::Log => (calls, ALL_CALLS),

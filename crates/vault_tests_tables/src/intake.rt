@@ -94,7 +94,7 @@ fn take<K: Keeper>(alloc: Global, keeper: &mut K, first: &str, wanted: &str) -> 
     compare("the list", lines?.as_str(), wanted)
 }
 
-/// Takes the list in behind two versions, again, and again over a first file of other bytes.
+/// Takes the list in after two versions, again, and again over a first file of other bytes.
 pub fn take_in_twice<K: Keeper>(alloc: Global, keeper: &mut K) -> Result<(), Fail> {
     play(alloc, keeper, PUTS)?;
     take(alloc, keeper, "A", "1 admitted 3\n2 admitted 4\n")?;

@@ -50,7 +50,7 @@ fn carry_out_in<S: Alter, T: Trial>(
     }
 }
 
-/// The same, and actions that are taken over the tables behind it.
+/// The same, and actions that are taken over the tables after it.
 fn carry_out_and_take<S: Alter, T: Trial>(
     alloc: Global,
     conn: Connection<S>,
@@ -71,7 +71,7 @@ fn try_in_new<T: Trial>(alloc: Global, trial: &T, actions: &[Action<'_>]) -> Res
     tried
 }
 
-/// A list that is taken in behind two versions, again, and again with other bytes in its first file.
+/// A list that is taken in after two versions, again, and again with other bytes in its first file.
 struct Intake;
 
 impl Trial for Intake {
@@ -119,7 +119,7 @@ impl Trial for Requests {
     }
 }
 
-/// The vault is opened behind them; and again, with one byte more in the department's row.
+/// The vault is opened after them; and again, with one byte more in the department's row.
 const REOPENED: [Action<'static>; 3] = [
     Action::Open(None),
     Action::Change("UPDATE departments SET held = held + 1 WHERE name = 'records'"),

@@ -35,7 +35,7 @@ pub fn try_on_new<T: Trial>(alloc: Global, trial: &T) -> Result<(), Fail> {
     try_behind(alloc, "", trial)
 }
 
-/// Carries a trial out on a new vault whose device refuses the change behind so many.
+/// Carries a trial out on a new vault whose device refuses the change after n.
 pub fn try_on_failing<T: Trial>(alloc: Global, changes: u64, trial: &T) -> Result<(), Fail> {
     let mut keeper: FuseKeeper<ListKeeper> = FuseKeeper::new(opened(alloc)?, changes);
     let tried = trial.carry_out(alloc, &mut keeper);

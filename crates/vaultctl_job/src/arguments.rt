@@ -160,7 +160,7 @@ fn made<'a>(alloc: Global, argument: Argument) -> Arg<'a>
     }
 }
 
-/// The command with these words behind those that it has, in their order.
+/// The command with these words after those that it has, in their order.
 pub(crate) fn with_arguments<'a>(
     alloc: Global,
     mut command: Command<'a>,

@@ -89,7 +89,7 @@ fn with_subcommand<'a>(
     }
 }
 
-/// The command with these subcommands behind those that it has, in their order.
+/// The command with these subcommands after those that it has, in their order.
 fn with_subcommands<'a>(
     alloc: Global,
     mut command: Command<'a>,
@@ -103,7 +103,7 @@ fn with_subcommands<'a>(
     Ok(command)
 }
 
-/// The command with all subcommands behind those that it has, in the order in which help shows them.
+/// The command with all subcommands after those that it has, in the order in which help shows them.
 pub(crate) fn with_all<'a>(alloc: Global, command: Command<'a>) -> Result<Command<'a>, AllocError>
     ensures { IfOk result (λ c. app_of c ≡ fold with_subcommand (app_of command.entry) spec.subcommands) }
 {

@@ -1,4 +1,4 @@
-//! The first look at `entries`: its rows tell entries, none after the last moment.
+//! The first look at `entries`: its rows hold entries, none after the last moment.
 ghost use Rattle.std.specs.Prelude.{◌≡◌, false, map, IfOk, IfErr};
 ghost use Rattle.sqlite.specs.State.{HasCleanDisk};
 ghost use Rattle.sqlite.specs.Held.{state};
@@ -18,7 +18,7 @@ use vault_audit_records::entries::row::EntryCheck;
 use vault_audit_walk::check::check_rows;
 use vault_base::moment::Moment;
 
-/// Whether each row of `entries` tells an entry in its limits, none after the last moment and none
+/// Whether each row of `entries` holds an entry in its limits, none after the last moment and none
 /// removed before it was admitted.
 pub fn check_entries<S: Alter>(
     conn: &mut Connection<S>,

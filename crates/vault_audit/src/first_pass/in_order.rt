@@ -22,7 +22,7 @@ use vault_audit_model::rows::MetaRow;
 use vault_audit_model::schema::Edition;
 use vault_base::refusal::Table;
 
-/// The tables behind `meta`, in their order.
+/// The tables after `meta`, in their order.
 static BEHIND_META: [Table; 10] = [
     Table::Departments,
     Table::Callers,
@@ -76,8 +76,8 @@ fn check_rows_of<S: Alter>(
     }
 }
 
-/// The first table behind `meta` that isn't right by itself, where this is the row of `meta`: the schema differs at it,
-/// or one of its rows tells no record in its limits.
+/// The first table after `meta` that isn't right by itself, where this is the row of `meta`: the schema differs at it,
+/// or one of its rows holds no record in its limits.
 pub fn look_at_tables<S: Alter>(
     conn: &mut Connection<S>,
     edition: Edition,

@@ -28,7 +28,7 @@ fn meta_query(edition: Edition) -> &'static str
     }
 }
 
-/// The one row of `meta`, or none where it isn't one row that tells a moment, an id and a number of moves.
+/// The one row of `meta`, or none where it isn't one row that holds a moment, an id and a number of moves.
 pub fn check_meta<S: Alter>(
     conn: &mut Connection<S>,
     edition: Edition,

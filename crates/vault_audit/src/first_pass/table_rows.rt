@@ -1,4 +1,4 @@
-//! The first look at each table: its rows tell records, with values in their limits.
+//! The first look at each table: its rows hold records, with values in their limits.
 ghost use Rattle.std.specs.Prelude.{◌≡◌, false, map, IsTrue, IfOk, IfErr};
 ghost use Rattle.sqlite.specs.State.{HasCleanDisk};
 ghost use Rattle.sqlite.specs.Held.{state};
@@ -22,7 +22,7 @@ use vault_audit_records::row_check::{
 };
 use vault_audit_walk::check::check_rows;
 
-/// Whether each row of `departments` tells a record in its limits.
+/// Whether each row of `departments` holds a record in its limits.
 pub fn check_departments<S: Alter>(
     conn: &mut Connection<S>,
     edition: Edition,
@@ -36,7 +36,7 @@ pub fn check_departments<S: Alter>(
     check_rows(conn, departments_query(edition), &DepartmentCheck {})
 }
 
-/// Whether each row of `callers` tells a record in its limits.
+/// Whether each row of `callers` holds a record in its limits.
 pub fn check_callers<S: Alter>(conn: &mut Connection<S>, edition: Edition) -> Result<bool, Error>
     requires { HasCleanDisk (state S.Store conn.old) → BeginTo edition (state S.Store conn.old).now.schema.tables table.Callers }
     ensures told { HasCleanDisk (state S.Store conn.new) → IfOk result (AreRecords caller_row IsCaller (map caller_columns ((state S.Store conn.new).now.trees callers_tree))) }
@@ -51,7 +51,7 @@ pub fn check_callers<S: Alter>(conn: &mut Connection<S>, edition: Edition) -> Re
     )
 }
 
-/// Whether each row of `buckets` tells a record in its limits.
+/// Whether each row of `buckets` holds a record in its limits.
 pub fn check_buckets<S: Alter>(conn: &mut Connection<S>, edition: Edition) -> Result<bool, Error>
     requires { HasCleanDisk (state S.Store conn.old) → BeginTo edition (state S.Store conn.old).now.schema.tables table.Buckets }
     ensures told { HasCleanDisk (state S.Store conn.new) → IfOk result (AreRecords bucket_row IsBucketRow (map bucket_columns ((state S.Store conn.new).now.trees buckets_tree))) }
@@ -80,7 +80,7 @@ fn rules_text(edition: Edition) -> &'static str
     }
 }
 
-/// Whether each row of `rules` tells a record in its limits.
+/// Whether each row of `rules` holds a record in its limits.
 pub fn check_rules<S: Alter>(conn: &mut Connection<S>, edition: Edition) -> Result<bool, Error>
     requires { HasCleanDisk (state S.Store conn.old) → BeginTo edition (state S.Store conn.old).now.schema.tables table.Rules }
     ensures told { HasCleanDisk (state S.Store conn.new) → IfOk result (AreRecords rule_row IsRuleRow (map (rule_columns_as edition) ((state S.Store conn.new).now.trees rules_tree))) }
@@ -91,7 +91,7 @@ pub fn check_rules<S: Alter>(conn: &mut Connection<S>, edition: Edition) -> Resu
     check_rows(conn, rules_text(edition), &RuleCheck {})
 }
 
-/// Whether each row of `contents` tells a record in its limits.
+/// Whether each row of `contents` holds a record in its limits.
 pub fn check_contents<S: Alter>(conn: &mut Connection<S>, edition: Edition) -> Result<bool, Error>
     requires { HasCleanDisk (state S.Store conn.old) → BeginTo edition (state S.Store conn.old).now.schema.tables table.Contents }
     ensures told { HasCleanDisk (state S.Store conn.new) → IfOk result (AreRecords content_row IsContentRow (map content_columns ((state S.Store conn.new).now.trees contents_tree))) }
@@ -102,7 +102,7 @@ pub fn check_contents<S: Alter>(conn: &mut Connection<S>, edition: Edition) -> R
     check_rows(conn, "SELECT id, bytes FROM contents", &ContentCheck {})
 }
 
-/// Whether each row of `settings` tells a record in its limits.
+/// Whether each row of `settings` holds a record in its limits.
 pub fn check_settings<S: Alter>(conn: &mut Connection<S>, edition: Edition) -> Result<bool, Error>
     requires { HasCleanDisk (state S.Store conn.old) → BeginTo edition (state S.Store conn.old).now.schema.tables table.Settings }
     ensures told { HasCleanDisk (state S.Store conn.new) → IfOk result (AreRecords setting_row IsSettingRow (map setting_columns ((state S.Store conn.new).now.trees settings_tree))) }
@@ -117,7 +117,7 @@ pub fn check_settings<S: Alter>(conn: &mut Connection<S>, edition: Edition) -> R
     )
 }
 
-/// Whether each row of `intake` tells a record in its limits.
+/// Whether each row of `intake` holds a record in its limits.
 pub fn check_intake<S: Alter>(conn: &mut Connection<S>, edition: Edition) -> Result<bool, Error>
     requires { HasCleanDisk (state S.Store conn.old) → BeginTo edition (state S.Store conn.old).now.schema.tables table.Intake }
     ensures told { HasCleanDisk (state S.Store conn.new) → IfOk result (AreRecords note_row IsNote (map note_columns ((state S.Store conn.new).now.trees intake_tree))) }
@@ -132,7 +132,7 @@ pub fn check_intake<S: Alter>(conn: &mut Connection<S>, edition: Edition) -> Res
     )
 }
 
-/// Whether each row of `heads` tells a record in its limits.
+/// Whether each row of `heads` holds a record in its limits.
 pub fn check_heads<S: Alter>(conn: &mut Connection<S>, edition: Edition) -> Result<bool, Error>
     requires { HasCleanDisk (state S.Store conn.old) → BeginTo edition (state S.Store conn.old).now.schema.tables table.Heads }
     ensures told { HasCleanDisk (state S.Store conn.new) → IfOk result (AreRecords head_row IsHeadRow (map head_columns ((state S.Store conn.new).now.trees heads_tree))) }
@@ -147,7 +147,7 @@ pub fn check_heads<S: Alter>(conn: &mut Connection<S>, edition: Edition) -> Resu
     )
 }
 
-/// Whether each row of `tenures` tells a record in its limits. An edition without that table has none.
+/// Whether each row of `tenures` holds a record in its limits. An edition without that table has none.
 pub fn check_tenures<S: Alter>(conn: &mut Connection<S>, edition: Edition) -> Result<bool, Error>
     requires begin { HasCleanDisk (state S.Store conn.old) → BeginTo edition (state S.Store conn.old).now.schema.tables table.Tenures }
     requires open { HasCleanDisk (state S.Store conn.old) → IsTrue (state S.Store conn.old).is_open }

@@ -11,7 +11,7 @@ use vault_audit_model::schema::Edition;
 use vault_audit_tenures::second_look::check_tenures;
 use vault_base::refusal::Table;
 
-/// Tenures, where they are damaged. It is told of buckets and entries that other looks find in order.
+/// Tenures, where they are damaged. It is meant for buckets and entries that other looks find in order.
 pub fn look_at_tenures<S: Alter>(
     conn: &mut Connection<S>,
     edition: Edition,

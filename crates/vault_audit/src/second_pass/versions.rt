@@ -14,7 +14,7 @@ use vault_audit_entries::settings::second_look::check_history_of_settings;
 use vault_audit_model::schema::Edition;
 use vault_base::refusal::Table;
 
-/// The first of contents, settings and intake that is damaged. It is told of entries whose ids are
+/// The first of contents, settings and intake that is damaged. It is meant for entries whose ids are
 /// 1, 2, 3 and so on.
 pub fn look_at_versions<S: Alter>(
     conn: &mut Connection<S>,

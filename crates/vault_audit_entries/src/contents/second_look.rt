@@ -13,7 +13,7 @@ use crate::held::count_held;
 use sqlite::{Alter, Connection, Error};
 use vault_audit_model::schema::Edition;
 
-/// Whether `contents` has exactly a row for each held version, with its size and digest. It is told of
+/// Whether `contents` has exactly a row for each held version, with its size and digest. It is meant for
 /// entries whose ids are 1, 2, 3 and so on.
 pub fn check_held_contents<S: Alter>(
     conn: &mut Connection<S>,

@@ -51,7 +51,7 @@ fn head_in(row: &Row) -> Result<HeadRow, Misread>
     })
 }
 
-/// The head that a row tells, where the entry beside it is of its bucket and key, and held.
+/// The head that a row holds, where the entry beside it is of its bucket and key, and held.
 fn read_headed(row: &Row) -> Result<HeadRow, Misread>
     ensures row { IfOk result (λ h. row.now ≡ headed_row h) }
     ensures fits { IfOk result IsHeadRow }
@@ -122,7 +122,7 @@ impl Pass for HeadPass {
 }
 
 /// How many entries the rows of `heads` count together, up to 2^64 - 1; or none where not each tells a head in its
-/// limits whose newest is a held entry of its bucket and key, or two are of one key. It is told of entries whose ids
+/// limits whose newest is a held entry of its bucket and key, or two are of one key. It is meant for entries whose ids
 /// are 1, 2, 3 and so on.
 pub fn check_heads_by_key<S: Alter>(
     conn: &mut Connection<S>,

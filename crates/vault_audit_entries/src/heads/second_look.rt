@@ -16,7 +16,7 @@ use sqlite::{Alter, Connection, Error};
 use vault_audit_model::schema::Edition;
 
 /// Whether `heads` has exactly a row for each key that holds an entry, with its newest id and how many it
-/// holds. It is told of a vault with the entries of the rows, whose ids are 1, 2, 3 and so on.
+/// holds. It is meant for a vault with the entries of the rows, whose ids are 1, 2, 3 and so on.
 pub fn check_heads<S: Alter>(conn: &mut Connection<S>, edition: Edition) -> Result<bool, Error>
     requires { IsOfEdition S.Store conn.old edition }
     ensures told { HasCleanDisk (state S.Store conn.new) → IfOk result (λ found. (v : Vault) → AreEntries (state S.Store conn.new).now (entries_of v) → TellHeads (state S.Store conn.new).now v found) }

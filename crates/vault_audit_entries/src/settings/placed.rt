@@ -59,7 +59,7 @@ impl Pass for SettingPass {
     }
 }
 
-/// Whether the rows of `settings` tell settings in their limits, which stand at the places
+/// Whether the rows of `settings` hold settings in their limits, which stand at the places
 /// 1, 2, 3 .. of each id that has any.
 pub(crate) fn are_placed<S: Alter>(
     conn: &mut Connection<S>,

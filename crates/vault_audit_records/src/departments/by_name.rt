@@ -79,7 +79,7 @@ fn departments_walk(edition: Edition) -> &'static str
     }
 }
 
-/// Whether the rows of `departments` tell departments with values in their limits, of which no two have one name.
+/// Whether the rows of `departments` hold departments with values in their limits, of which no two have one name.
 pub fn check_departments_by_name<S: Alter>(
     conn: &mut Connection<S>,
     edition: Edition,

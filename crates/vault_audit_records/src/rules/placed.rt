@@ -113,7 +113,7 @@ fn rules_walk(edition: Edition) -> &'static str
     }
 }
 
-/// Whether the rows of `rules` tell rules in their limits, which stand at the places 1, 2, 3 ..
+/// Whether the rows of `rules` hold rules in their limits, which stand at the places 1, 2, 3 ..
 /// of each bucket that has any, and are a set that a bucket may have.
 pub(crate) fn are_runs<S: Alter>(
     alloc: Global,

@@ -50,7 +50,7 @@ impl Check for SumsCheck {
     }
 }
 
-/// Whether each row of `departments` tells a department in its limits that has these sums.
+/// Whether each row of `departments` holds a department in its limits that has these sums.
 pub fn check_totals<S: Alter>(
     conn: &mut Connection<S>,
     edition: Edition,

@@ -24,7 +24,7 @@ pub struct OwnedEntry {
     pub dept: Option<DeptName>,
 }
 
-/// The entry that a row tells.
+/// The entry that a row holds.
 #[tactic(auto, using(crate::proofs::SumRowLemmas::row_of_6))]
 pub fn read_owned(row: &Row) -> Result<OwnedEntry, Misread>
     ensures ok { IfOk result (λ e. row.now ≡ owned_row e) }

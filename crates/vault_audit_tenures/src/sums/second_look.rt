@@ -37,7 +37,7 @@ fn take_sums<S: Alter>(
 }
 
 /// Whether the rows of `departments` are departments with the seven sums over their tenures, ended ones
-/// included, each within what a department may admit and receive. It is told of buckets, entries and
+/// included, each within what a department may admit and receive. It is meant for buckets, entries and
 /// tenures that other looks found in order.
 pub fn check_sums<S: Alter>(
     alloc: Global,

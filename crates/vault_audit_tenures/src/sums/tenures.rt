@@ -51,7 +51,7 @@ pub struct TenurePass {
     pub pending: Option<Pending>,
 }
 
-/// The tenure that a row tells.
+/// The tenure that a row holds.
 #[tactic(auto, using(crate::proofs::SumRowLemmas::row_of_6))]
 pub fn read_told(row: &Row) -> Result<ToldTenure, Misread>
     ensures ok { IfOk result (λ t. row.now ≡ told_row t) }
@@ -182,7 +182,7 @@ impl Pass for TenurePass {
 }
 
 /// The sums over the tenures of each department, ended ones included; none where a row of the tenures beside their
-/// versions tells nothing. It keeps a row of sums for each department.
+/// versions reports nothing. It keeps a row of sums for each department.
 pub fn sum_tenures<S: Alter>(
     alloc: Global,
     conn: &mut Connection<S>,

@@ -74,7 +74,7 @@ impl Pass for SumPass {
 }
 
 /// The sums over the content versions of each department, removed ones included, where no bucket was moved; none where a
-/// row of the entries beside their buckets tells nothing. It keeps a row of sums for each department.
+/// row of the entries beside their buckets reports nothing. It keeps a row of sums for each department.
 pub fn sum_versions<S: Alter>(
     alloc: Global,
     conn: &mut Connection<S>,

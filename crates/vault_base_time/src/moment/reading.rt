@@ -89,7 +89,7 @@ fn day_of(text: &[u8]) -> Result<i32, MomentFault>
     day_number(100 * u16::from(century) + u16::from(year), month, day)
 }
 
-/// The seconds of the day, behind the date.
+/// The seconds of the day, after the date.
 #[tactic(auto, unfolding(crate::specs::Moment::seconds_of))]
 fn seconds_of(text: &[u8]) -> Result<u32, MomentFault>
     ensures value { result ≡ spec.seconds_of text.now }

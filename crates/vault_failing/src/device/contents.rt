@@ -24,7 +24,7 @@ pub(crate) struct Contents {
     syncs: u64,
 }
 
-/// What becomes of the changes behind the last sync.
+/// What becomes of the changes after the last sync.
 #[derive(Clone, Copy)]
 pub enum Crash {
     /// All are there, as where a process alone ends.
@@ -38,7 +38,7 @@ pub enum Crash {
     Tears(u64),
 }
 
-/// Of so many bytes that a crash cuts, as many as one of `STAYING` are not as they were written.
+/// Of n bytes that a crash cuts, as many as one of `STAYING` are not as they were written.
 const CUT: u32 = 4096;
 
 const STAYING: [u32; 5] = [0, 1, 2048, 4095, CUT];
@@ -130,7 +130,7 @@ fn copied(alloc: Global, bytes: &[u8]) -> Result<Vec<u8>, AllocError> {
     Ok(copy)
 }
 
-/// Makes room for so many bytes from there on.
+/// Makes room for n bytes from there on.
 fn grow(file: &mut Vec<u8>, at: usize, count: usize) -> Result<(), AllocError> {
     let end = at.checked_add(count).ok_or(AllocError)?;
     if end > file.len() {
@@ -171,7 +171,7 @@ fn cut_change(
     }
 }
 
-/// Cuts off some of what is behind so many bytes.
+/// Cuts off some of what is after n bytes.
 fn shorten(file: &mut Vec<u8>, least: usize, words: &mut Pcg32) {
     let word: u32 = words.next_word();
     let more = file.len().saturating_sub(least);

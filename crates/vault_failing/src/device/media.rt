@@ -59,7 +59,7 @@ pub enum Which {
 }
 
 impl Which {
-    /// This file fails behind so many calls, and the other doesn't.
+    /// This file fails after n calls, and the other doesn't.
     pub fn passing(self, calls: u64) -> Calls {
         match self {
             Which::Log => Calls {
@@ -149,7 +149,7 @@ impl Media {
         self.torn
     }
 
-    /// Opens them; each fails behind so many calls. The error is want of memory.
+    /// Opens them; each fails after n calls. The error is want of memory.
     pub fn opened<S: Start>(&self, calls: Calls) -> Result<Files<Fuse<InMemory<S>>>, AllocError> {
         let Files { log, db } = opened::<S>(&self.log, &self.database)?;
         Ok(Files {

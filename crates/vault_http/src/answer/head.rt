@@ -38,7 +38,7 @@ pub enum Allow {
 /// What an answer brings, and how many bytes that are.
 #[derive(Clone, Copy, PartialEq, Eq, Debug)]
 pub enum Kind {
-    /// Nothing, and no length is told.
+    /// Nothing, and no length is reported.
     Nothing,
     /// A body without a byte.
     Empty,

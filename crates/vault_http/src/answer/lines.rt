@@ -1,4 +1,4 @@
-//! Lines of an answer, each pushed behind what is there.
+//! Lines of an answer, each pushed after what is there.
 //!
 //! Each call fails where a growth was refused, and `out` is then good for nothing.
 ghost use Rattle.std.specs.Prelude.{◌≡◌, ◌++◌, OnOk};

@@ -41,7 +41,7 @@ fn refusal_status(refusal: Refusal) -> Status
     }
 }
 
-/// Whether a refusal tells of a delete marker: on top of its key, or named by its id.
+/// Whether a refusal is about a delete marker: on top of its key, or named by its id.
 fn tells_marker(refusal: Refusal, allow: Option<Allow>) -> bool
     ensures { result ≡ spec.tells_marker refusal allow }
 {

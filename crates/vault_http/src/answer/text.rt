@@ -8,7 +8,7 @@ use vault_base::refusal::Refusal;
 use vault_core_model::reply::{Answer, Reply};
 use vault_http_lines::reply_line::reply_line;
 
-/// What stands behind that many bytes, but for the last two.
+/// What stands after that many bytes, but for the last two.
 fn within(line: &[u8], front: usize) -> &[u8]
     requires { front + 2 ≤ length line.now }
     ensures { result.now ≡ take (length line.now - 2 - front) (drop front line.now) }

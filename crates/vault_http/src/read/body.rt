@@ -11,7 +11,7 @@ use vault_base::content::Content;
 /// How many bytes a reader is asked for at once.
 const PIECE: usize = 16_384;
 
-/// Moves the next bytes of a reader behind those of a body, no more than so many. False where it has ended.
+/// Moves the next bytes of a reader after those of a body, no more than n. False where it has ended.
 fn move_piece<R: Read>(
     reader: &mut R,
     body: &mut Vec<u8>,
@@ -36,7 +36,7 @@ fn move_piece<R: Read>(
     }
 }
 
-/// The next so many bytes, or none where the reader ends before.
+/// The next n bytes, or none where the reader ends before.
 ///
 /// `Read` comes where the reader fails, `Memory` where room for a piece was refused.
 pub fn read_body<R: Read>(

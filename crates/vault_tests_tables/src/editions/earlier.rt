@@ -21,7 +21,7 @@ const SECOND_RULES: &[&str] = &[
     "INSERT INTO meta VALUES (1, 2, 2592000, 5)",
 ];
 
-/// The tables behind it.
+/// The tables after it.
 const LATER_TABLES: &[&str] = &[
     "CREATE TABLE entries (id INTEGER PRIMARY KEY, bucket TEXT NOT NULL REFERENCES buckets (name), key TEXT NOT NULL, marker INTEGER NOT NULL, size INTEGER NOT NULL, digest BLOB, admitted INTEGER NOT NULL, by_rule INTEGER NOT NULL, admitted_by TEXT NOT NULL, removed INTEGER, cause INTEGER, cause_by TEXT, UNIQUE (bucket, key, id)) STRICT",
     "CREATE TABLE contents (id INTEGER PRIMARY KEY REFERENCES entries (id), bytes BLOB NOT NULL) STRICT",

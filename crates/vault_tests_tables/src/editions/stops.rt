@@ -95,7 +95,7 @@ fn look_at_left(alloc: Global, is_done: bool, log: &Left, database: &Left) -> Re
     Ok(())
 }
 
-/// Whether the copy into files one of which fails behind so many calls is done. Fails where what is left is neither
+/// Whether the copy into files one of which fails after n calls is done. Fails where what is left is neither
 /// nothing nor the whole vault.
 fn stop_behind<O: Alter>(
     alloc: Global,
@@ -114,7 +114,7 @@ fn stop_behind<O: Alter>(
     Ok(is_done)
 }
 
-/// Stops the copy behind each number of calls of a file, up to the first that isn't stopped.
+/// Stops the copy after each number of calls of a file, up to the first that isn't stopped.
 fn stop_behind_each<O: Alter>(
     alloc: Global,
     old: &mut Connection<O>,

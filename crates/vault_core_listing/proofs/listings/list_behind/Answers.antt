@@ -27,6 +27,6 @@ loop-preserved g c = record {
       let few = c.loop.invariant.few (c.list_keys_behind.ensures.leaves.honest honest) in omega (arith, few, fewer.1);
 }
 
--- so many pages there can't be
+-- n pages there can't be
 pub returns-clause-value : goal.returns-clause-value
 returns-clause-value g c = λ honest. absurd (omega (arith, c.loop.invariant.few honest))
