@@ -1,5 +1,6 @@
 //! Files in memory, and a list over them that is taken in.
 use std::alloc::Global;
+use std::io::Write;
 use std::test::Fail;
 use vault_base::content::Content;
 use vault_base::moment::Moment;
@@ -12,6 +13,9 @@ use vault_files::lines::intake_lines;
 use vault_files::list_folder::ListFolder;
 use vault_files::report::IntakeReport;
 use vault_transcript::trial::compare;
+use vaultctl_commands::fault::JobFault;
+use vaultctl_commands::intake::take_in_and_tell;
+use vaultctl_commands::outcome::Outcome;
 
 fn file(alloc: Global, name: &str, bytes: &str) -> Result<File, Fail> {
     let name = FileName::read(alloc, name)?.ok_or("a name of a file")?;
@@ -68,6 +72,28 @@ impl Batch {
             &self.batch,
             list,
             folder,
+        )
+    }
+
+    /// Takes a list in as the program does, which prints a line for each row.
+    pub fn take_and_tell<K: Keeper, F: Folder, W: Write>(
+        &self,
+        alloc: Global,
+        keeper: &mut K,
+        list: &[u8],
+        folder: &mut F,
+        out: &mut W,
+    ) -> (Result<Outcome, JobFault>, IntakeReport) {
+        take_in_and_tell(
+            alloc,
+            keeper,
+            self.at,
+            &self.who,
+            &self.bucket,
+            &self.batch,
+            list,
+            folder,
+            out,
         )
     }
 }

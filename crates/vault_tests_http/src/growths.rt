@@ -9,7 +9,7 @@ use vault_core_list::list_keeper::ListKeeper;
 use vault_http::ServeFault;
 
 /// How a request ended.
-#[derive(Clone, Copy)]
+#[derive(Clone, Copy, Debug)]
 enum Ending {
     /// With its answer.
     Answered,
@@ -43,7 +43,7 @@ fn push_case<K: Filled>(alloc: Global, cases: &mut Vec<Case<K>>, row: &Row) -> R
     Ok(())
 }
 
-/// All that the test itself needs, so that behind it only serving takes memory.
+/// All that the test itself needs, so that after it only serving takes memory.
 fn cases<K: Filled>(alloc: Global) -> Result<Vec<Case<K>>, Fail> {
     let mut cases = Vec::new(alloc);
     for row in rows() {
@@ -129,7 +129,23 @@ fn is_promised(ending: Ending, left: &str, before: &str, behind: &str) -> bool {
     }
 }
 
-fn judge<K: Filled>(alloc: Global, case: &mut Case<K>) -> Result<(), Fail> {
+/// Whether the vault has the change of a request, where it makes one.
+fn is_changed(deed: Deed, left: &str, before: &str) -> bool {
+    deed == Deed::Made && left != before
+}
+
+/// Says how a request ended, where it wasn't answered, and whether the vault has its change.
+fn tell(rt: &HostRuntime, ending: Ending, is_changed: bool) -> Result<(), Fail> {
+    match ending {
+        Ending::Answered => {}
+        _ if is_changed => println!(rt; "{ending:?}, and the change is made")?,
+        _ => println!(rt; "{ending:?}, and nothing is changed")?,
+    }
+    Ok(())
+}
+
+fn judge<K: Filled>(rt: &HostRuntime, case: &mut Case<K>) -> Result<(), Fail> {
+    let alloc = rt.alloc();
     let before = told_before::<K>(alloc)?;
     let behind = told_behind::<K>(alloc, &case.exchange)?;
     let request = case.exchange.request.as_str();
@@ -137,28 +153,32 @@ fn judge<K: Filled>(alloc: Global, case: &mut Case<K>) -> Result<(), Fail> {
         return Err(Fail::new(format_args!("{request} doesn't do what it should")));
     }
     let left = told(alloc, &mut case.keeper)?;
+    let is_changed = is_changed(case.exchange.deed, left.as_str(), before.as_str());
+    tell(rt, case.ending, is_changed)?;
     if is_promised(case.ending, left.as_str(), before.as_str(), behind.as_str()) {
         return Ok(());
     }
     Err(Fail::new(format_args!("{request} leaves another vault")))
 }
 
-fn judge_each<K: Filled>(alloc: Global, cases: &mut [Case<K>]) -> Result<(), Fail> {
+fn judge_each<K: Filled>(rt: &HostRuntime, cases: &mut [Case<K>]) -> Result<(), Fail> {
     for case in cases.iter_mut() {
-        judge(alloc, case)?;
+        judge(rt, case)?;
     }
     Ok(())
 }
 
-fn judge_rows<K: Filled>(alloc: Global) -> Result<(), Fail> {
-    let mut cases: Vec<Case<K>> = cases(alloc)?;
-    serve_cases(alloc, cases.as_mut_slice())?;
-    judge_each(alloc, cases.as_mut_slice())
+fn judge_rows<K: Filled>(rt: &HostRuntime) -> Result<(), Fail> {
+    let mut cases: Vec<Case<K>> = cases(rt.alloc())?;
+    println!(rt; "begun")?;
+    serve_cases(rt.alloc(), cases.as_mut_slice())?;
+    println!(rt; "served")?;
+    judge_each(rt, cases.as_mut_slice())
 }
 
 /// Holds with ample memory, and with any one growth refused while a request is served: what `serve_one` says
 /// in `ok` and `err`.
 #[test]
 fn a_refused_growth_is_no_other_answer(rt: HostRuntime) -> Result<(), Fail> {
-    judge_rows::<ListKeeper>(rt.alloc())
+    judge_rows::<ListKeeper>(&rt)
 }

@@ -32,7 +32,8 @@ pub fn serve<R: Read, W: Write, K: Keeper>(
     serve_one(alloc, reader, writer, keeper, reading)
 }
 
-/// The text that is answered to the next request of a reader.
+/// The text that is answered to the next request of a reader. Want of memory is an error here: no request of these tests
+/// is to get it as its answer.
 pub fn answer<R: Read, K: Keeper>(
     alloc: Global,
     reader: &mut R,
@@ -41,7 +42,11 @@ pub fn answer<R: Read, K: Keeper>(
 ) -> Result<String, Fail> {
     let mut written = Vec::new(alloc);
     serve(alloc, reader, &mut written, keeper, reading)?;
-    Ok(String::from_utf8(written)?)
+    let text = String::from_utf8(written)?;
+    if text.as_str().contains("\"Memory\"") {
+        return Err(Fail::from(AllocError));
+    }
+    Ok(text)
 }
 
 /// Whether an answer is the wanted one. Of that just the beginning and the end are told where ` .. ` stands between.

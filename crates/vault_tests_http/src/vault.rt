@@ -3,7 +3,7 @@ use std::alloc::Global;
 use std::test::Fail;
 use vault_core_list::list_keeper::ListKeeper;
 use vault_core_model::keeper::Keeper;
-use vault_transcript::transcript::{opened, play, replies};
+use vault_transcript::transcript::{answers, opened, play};
 use vault_transcript::trial::compare;
 
 /// A version under COMPLIANCE at `a`, a marker on top of a version at `b`, a version under GOVERNANCE and
@@ -55,7 +55,7 @@ fn played<K: Keeper + Drop>(alloc: Global, keeper: K, transcript: &str) -> Resul
 
 /// All that replies tell of the vault: the report, what is held, its locks, contents, the default, the rules.
 pub fn told<K: Keeper>(alloc: Global, keeper: &mut K) -> Result<String, Fail> {
-    replies(alloc, keeper, READS.as_bytes())
+    answers(alloc, keeper, READS.as_bytes())
 }
 
 /// Fails unless replies still tell of the vault what they told before.

@@ -3,6 +3,8 @@ use sqlite::{Connection, FileStore, Files, Options};
 use sqlite_disk::{Crash, Disk, Fuse, Memory};
 use std::alloc::Global;
 use std::test::Fail;
+use vault_audit_model::faults::refusal_of;
+use vault_base::refusal::Refusal;
 
 /// A vault's log and database file, each of which passes n calls on.
 pub type VaultFiles = Files<Fuse<Memory>>;
@@ -20,55 +22,62 @@ pub enum Which {
     Database,
 }
 
-/// Empty files, of which one fails after n calls.
-pub fn fused(alloc: Global, which: Which, calls: u64) -> VaultFiles {
+/// Files with these bytes, of which one fails after n calls.
+pub fn failing(
+    alloc: Global,
+    which: Which,
+    calls: u64,
+    log: &[u8],
+    database: &[u8],
+) -> Result<VaultFiles, Fail> {
     let (log_calls, database_calls) = match which {
         Which::Log => (calls, ALL_CALLS),
         Which::Database => (ALL_CALLS, calls),
     };
-    Files {
-        log: Fuse::new(Memory::new(alloc), log_calls),
-        db: Fuse::new(Memory::new(alloc), database_calls),
-    }
-}
-
-/// Files with these bytes, of which none fails.
-pub fn sound(alloc: Global, log: &[u8], database: &[u8]) -> Result<VaultFiles, Fail> {
     Ok(Files {
-        log: Fuse::new(written(alloc, log)?, ALL_CALLS),
-        db: Fuse::new(written(alloc, database)?, ALL_CALLS),
+        log: Fuse::new(written(alloc, log)?, log_calls),
+        db: Fuse::new(written(alloc, database)?, database_calls),
     })
 }
 
-/// Opens the files. They come back where that fails.
+/// The same, and none fails.
+pub fn sound(alloc: Global, log: &[u8], database: &[u8]) -> Result<VaultFiles, Fail> {
+    failing(alloc, Which::Log, ALL_CALLS, log, database)
+}
+
+/// Opens the files. They come back where that fails, with what the failure is reported as.
 pub fn connected(
     alloc: Global,
     files: VaultFiles,
     options: Options,
-) -> Result<Connection<InFiles>, VaultFiles> {
+) -> Result<Connection<InFiles>, (Refusal, VaultFiles)> {
     if !files.may_be_used() {
-        return Err(files);
+        return Err((Refusal::Device, files));
     }
     match Connection::open_files(alloc, files, options) {
         Ok(conn) => Ok(conn),
-        Err((_, left)) => Err(left.into_files()),
+        Err((error, left)) => Err((refusal_of(error), left.into_files())),
     }
 }
 
 /// A connection to files of which none fails.
-pub fn opened(alloc: Global, files: VaultFiles) -> Result<Connection<InFiles>, Fail> {
-    match connected(alloc, files, Options::new(1)) {
+pub fn opened(
+    alloc: Global,
+    files: VaultFiles,
+    options: Options,
+) -> Result<Connection<InFiles>, Fail> {
+    match connected(alloc, files, options) {
         Ok(conn) => Ok(conn),
-        Err(files) => {
+        Err((refusal, files)) => {
             drop(files);
-            Err(Fail::new("the files can't be opened"))
+            Err(Fail::new(refusal.name()))
         }
     }
 }
 
 /// The same to empty files.
 pub fn opened_empty(alloc: Global) -> Result<Connection<InFiles>, Fail> {
-    opened(alloc, sound(alloc, b"", b"")?)
+    opened(alloc, sound(alloc, b"", b"")?, Options::new(1))
 }
 
 /// Lets go of the files.
@@ -89,6 +98,23 @@ fn written(alloc: Global, bytes: &[u8]) -> Result<Memory, Fail> {
 pub struct Left {
     pub standing: Vec<u8>,
     pub synced: Vec<u8>,
+}
+
+impl Left {
+    /// Each of both, and one alone where they are the same.
+    pub fn outcomes(&self) -> [Option<&[u8]>; 2] {
+        let standing = self.standing.as_slice();
+        let synced = self.synced.as_slice();
+        if standing == synced {
+            return [Some(standing), None];
+        }
+        [Some(standing), Some(synced)]
+    }
+
+    /// Whether these bytes are left in any case.
+    pub fn is(&self, bytes: &[u8]) -> bool {
+        self.standing.as_slice() == bytes && self.synced.as_slice() == bytes
+    }
 }
 
 /// What may be left of a file.

@@ -1,5 +1,5 @@
 //! What replies tell of a vault.
-use crate::transcript::replies;
+use crate::transcript::answers;
 use crate::trial::compare;
 use std::alloc::Global;
 use std::test::Fail;
@@ -21,7 +21,7 @@ pub fn edge<K: Keeper>(keeper: &mut K) -> Result<(u64, u64), Fail> {
 
 /// All that replies tell of the vault.
 pub fn told<K: Keeper>(alloc: Global, keeper: &mut K) -> Result<String, Fail> {
-    replies(alloc, keeper, READS.as_bytes())
+    answers(alloc, keeper, READS.as_bytes())
 }
 
 /// Fails unless replies still tell of the vault what they told before.

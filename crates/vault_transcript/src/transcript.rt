@@ -1,7 +1,7 @@
 //! Transcripts: scripts over a vault, with the replies that they are to get.
 ghost use Rattle.std.specs.Prelude.{◌≡◌, ◌++◌, ◌∷◌, [], OnOk, string_bytes};
 
-use std::alloc::Global;
+use std::alloc::{AllocError, Global};
 use std::test::Fail;
 use vault_core_list::list_keeper::ListKeeper;
 use vault_core_model::keeper::Keeper;
@@ -25,6 +25,16 @@ pub fn replies<K: Keeper>(alloc: Global, keeper: &mut K, script: &[u8]) -> Resul
     let mut written = Vec::new(alloc);
     replay(alloc, &mut reader, &mut written, keeper)?;
     Ok(String::from_utf8(written)?)
+}
+
+/// What is written for lines that a test gives on its own account, as to look at a vault. Want of memory in a reply is an
+/// error here: the test wanted it, and not what it tries.
+pub fn answers<K: Keeper>(alloc: Global, keeper: &mut K, lines: &[u8]) -> Result<String, Fail> {
+    let written = replies(alloc, keeper, lines)?;
+    if written.as_str().contains("\"Memory\"") {
+        return Err(Fail::from(AllocError));
+    }
+    Ok(written)
 }
 
 /// Carries a transcript out over a vault. A line that begins with two spaces is the reply that the line

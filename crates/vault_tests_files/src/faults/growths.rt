@@ -3,19 +3,52 @@ use crate::batch::Batch;
 use crate::faults::intakes::tells_as_behind;
 use crate::faults::taking::{folder, list_of, resumed, stopped_behind, take};
 use std::alloc::Global;
+use std::io::Write;
 use std::test::Fail;
 use vault_base::refusal::Refusal;
 use vault_core_model::keeper::Keeper;
 use vault_files::lines::intake_lines;
+use vault_files::list_folder::ListFolder;
 use vault_files::report::IntakeReport;
 use vault_transcript::trial::{Trial, compare, try_on_new};
+use vaultctl_commands::fault::JobFault;
+use vaultctl_commands::outcome::Outcome;
 
-/// Takes the list in. All that the test itself needs is there before, so that only the intake takes memory.
-fn taken<K: Keeper>(alloc: Global, keeper: &mut K) -> Result<IntakeReport, Fail> {
-    let batch = Batch::new(alloc)?;
-    let list = list_of(alloc, 3)?;
-    let mut folder = folder(alloc, None)?;
-    Ok(batch.take(alloc, keeper, list.as_bytes(), &mut folder))
+/// A list of three rows, its files, and who takes it in. All that the test itself needs is there before, so that only the
+/// intake takes memory.
+#[derive(Drop)]
+struct Given {
+    batch: Batch,
+    list: String,
+    folder: ListFolder,
+}
+
+impl Given {
+    fn new(alloc: Global) -> Result<Given, Fail> {
+        Ok(Given {
+            batch: Batch::new(alloc)?,
+            list: list_of(alloc, 3)?,
+            folder: folder(alloc, None)?,
+        })
+    }
+
+    /// Takes the list in.
+    fn take<K: Keeper>(&mut self, alloc: Global, keeper: &mut K) -> IntakeReport {
+        let list = self.list.as_bytes();
+        self.batch.take(alloc, keeper, list, &mut self.folder)
+    }
+
+    /// The same, and prints its lines.
+    fn take_and_tell<K: Keeper, W: Write>(
+        &mut self,
+        alloc: Global,
+        keeper: &mut K,
+        out: &mut W,
+    ) -> (Result<Outcome, JobFault>, IntakeReport) {
+        let list = self.list.as_bytes();
+        self.batch
+            .take_and_tell(alloc, keeper, list, &mut self.folder, out)
+    }
 }
 
 /// Fails unless so many rows are told of the list, and what stopped the intake behind them.
@@ -34,7 +67,8 @@ struct Whole;
 
 impl Trial for Whole {
     fn carry_out<K: Keeper>(&self, alloc: Global, keeper: &mut K) -> Result<(), Fail> {
-        let report = taken(alloc, keeper)?;
+        let mut given = Given::new(alloc)?;
+        let report = given.take(alloc, keeper);
         let judged = tells_rows(alloc, &report, 3, "");
         drop(report);
         judged
@@ -63,15 +97,29 @@ fn judge_vault<K: Keeper>(alloc: Global, keeper: &mut K, count: usize) -> Result
     take(alloc, keeper, None, resumed(alloc, count)?.as_str())
 }
 
+/// Says after how many rows an intake ended, and whether it was stopped, and judges its report.
+fn look_at(rt: &HostRuntime, report: &IntakeReport) -> Result<(), Fail> {
+    let count = report.rows.len();
+    match report.stopped {
+        None => println!(rt; "{count} rows")?,
+        Some(_) => println!(rt; "{count} rows, and stopped")?,
+    }
+    judge_report(rt.alloc(), report)
+}
+
 /// The list is taken in up to a growth that is refused, or to its end.
 #[derive(Clone, Copy)]
-struct Troubled;
+struct Troubled<'a> {
+    rt: &'a HostRuntime,
+}
 
-impl Trial for Troubled {
+impl Trial for Troubled<'_> {
     fn carry_out<K: Keeper>(&self, alloc: Global, keeper: &mut K) -> Result<(), Fail> {
-        let report = taken(alloc, keeper)?;
+        let mut given = Given::new(alloc)?;
+        println!(self.rt; "begun")?;
+        let report = given.take(alloc, keeper);
         let count = report.rows.len();
-        let judged = judge_report(alloc, &report);
+        let judged = look_at(self.rt, &report);
         drop(report);
         judged?;
         judge_vault(alloc, keeper, count)
@@ -81,5 +129,55 @@ impl Trial for Troubled {
 /// Holds with ample memory, and with any one growth refused in the intake: what `take_in` says in `taken`.
 #[test]
 fn a_refused_growth_stops_an_intake(rt: HostRuntime) -> Result<(), Fail> {
-    try_on_new(rt.alloc(), &Troubled)
+    try_on_new(rt.alloc(), &Troubled { rt: &rt })
+}
+
+/// More bytes than the lines of the list have.
+const ROOM: usize = 256;
+
+/// The lines that are printed are those of the rows in the report. Where there was no memory for them, none is.
+fn judge_printed(
+    alloc: Global,
+    told: Result<Outcome, JobFault>,
+    report: &IntakeReport,
+    printed: &[u8],
+) -> Result<(), Fail> {
+    judge_report(alloc, report)?;
+    match told {
+        // The second row is always refused, or the intake is stopped.
+        Ok(Outcome::Refused) => compare(
+            "what is printed",
+            str::from_utf8(printed)?,
+            intake_lines(alloc, report)?.as_str(),
+        ),
+        Err(JobFault::Memory) if printed.is_empty() => Ok(()),
+        _ => Err(Fail::new("another outcome, or a part of the lines")),
+    }
+}
+
+/// The same as the program does it, which prints a line for each row.
+#[derive(Clone, Copy)]
+struct Printed<'a> {
+    rt: &'a HostRuntime,
+}
+
+impl Trial for Printed<'_> {
+    fn carry_out<K: Keeper>(&self, alloc: Global, keeper: &mut K) -> Result<(), Fail> {
+        let mut given = Given::new(alloc)?;
+        let mut printed = Vec::with_capacity(alloc, ROOM)?;
+        println!(self.rt; "begun")?;
+        let (told, report) = given.take_and_tell(alloc, keeper, &mut printed);
+        let count = report.rows.len();
+        println!(self.rt; "{count} rows, {told:?}")?;
+        let judged = judge_printed(alloc, told, &report, printed.as_slice());
+        drop(report);
+        judged?;
+        judge_vault(alloc, keeper, count)
+    }
+}
+
+/// Holds with ample memory, and with any one growth refused: what `take_in_and_tell` says in `told` and `err`.
+#[test]
+fn a_refused_growth_in_an_intake_that_is_printed(rt: HostRuntime) -> Result<(), Fail> {
+    try_on_new(rt.alloc(), &Printed { rt: &rt })
 }

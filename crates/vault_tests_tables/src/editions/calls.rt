@@ -1,7 +1,7 @@
 //! What the tests call. None of these has a clause, so that the proof of a test does not carry the state of each
 //! call.
-use sqlite::{Alter, Connection, Error};
-use std::alloc::Global;
+use sqlite::{Alter, Connection, Error, ErrorCode};
+use std::alloc::{AllocError, Global};
 use vault_audit_model::schema::Edition;
 use vault_base::refusal::Refusal;
 use vault_store::sql_keeper::SqlKeeper;
@@ -18,21 +18,26 @@ pub fn batches<S: Alter>(conn: &mut Connection<S>, changes: &[&str]) -> Result<(
     Ok(())
 }
 
-fn number<S: Alter>(conn: &mut Connection<S>, sql: &str) -> Result<i64, Error> {
-    conn.query_row(sql, &[])?.get(0)
+/// The number that a query tells; none where it tells no number. The error is want of memory.
+fn number<S: Alter>(conn: &mut Connection<S>, sql: &str) -> Result<Option<i64>, AllocError> {
+    match conn.query_row(sql, &[]) {
+        Ok(row) => Ok(row.get(0).ok()),
+        Err(Error::SqliteFailure(ErrorCode::OutOfMemory)) => Err(AllocError),
+        Err(_) => Ok(None),
+    }
 }
 
-/// The first query that doesn't tell its number.
+/// The first query that doesn't tell its number. The error is want of memory.
 pub fn differing<'a, S: Alter>(
     conn: &mut Connection<S>,
     numbers: &[(&'a str, i64)],
-) -> Option<&'a str> {
+) -> Result<Option<&'a str>, AllocError> {
     for (sql, wanted) in numbers {
-        if number(conn, sql).ok() != Some(*wanted) {
-            return Some(*sql);
+        if number(conn, sql)? != Some(*wanted) {
+            return Ok(Some(*sql));
         }
     }
-    None
+    Ok(None)
 }
 
 /// Copies the vault of a store, as one of that edition, into another: why not, where it is refused, and the connection

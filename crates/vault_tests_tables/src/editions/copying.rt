@@ -3,7 +3,7 @@ use crate::disks::{let_go, opened_empty};
 use crate::editions::calls::{batches, differing, migrate, open};
 use crate::editions::stores::{StoreTrial, Vault, make};
 use sqlite::{Alter, Connection};
-use std::alloc::Global;
+use std::alloc::{AllocError, Global};
 use std::test::Fail;
 use vault_audit_model::schema::Edition;
 use vault_base::refusal::Refusal;
@@ -67,7 +67,7 @@ fn copied<O: Alter, S: Alter>(
     if filled.is_err() {
         return (Err(Fail::new("the new store can't be filled")), new);
     }
-    (copying.judge(refusal, opened, in_old.or(in_new)), new)
+    (copying.judge(refusal, opened, in_old, in_new), new)
 }
 
 impl Copying<'_> {
@@ -77,7 +77,8 @@ impl Copying<'_> {
         &self,
         refusal: Option<Refusal>,
         opened: Option<Refusal>,
-        differing: Option<&str>,
+        in_old: Result<Option<&str>, AllocError>,
+        in_new: Result<Option<&str>, AllocError>,
     ) -> Result<(), Fail> {
         let change = self.changes.0;
         if refusal != self.refusal {
@@ -86,7 +87,7 @@ impl Copying<'_> {
         if opened.is_none() != refusal.is_none() {
             return Err(Fail::new(format_args!("another opening with {change}")));
         }
-        match differing {
+        match in_old?.or(in_new?) {
             Some(query) => Err(Fail::new(format_args!("another number with {change}: {query}"))),
             None => Ok(()),
         }
