@@ -252,21 +252,22 @@ def try_down(offices):
 
 
 def try_listed(offices):
-    """A new bucket of a vault that is served is in the map once it is named; one that another vault has never is."""
-    made = offices.desk("backup", "records.vault", ".")
-    check(made.status == 1 and "locked" in made.err, f"the answer to a backup while a vault is served is {made}")
+    """The buckets of a vault that is served are in the map, and a copy of it is made, while the server goes on."""
+    made = offices.desk("backup", "records.vault", "served")
+    check(made.status == 0, f"the answer to a backup while a vault is served is {made}")
     made = offices.desk("offices", "map", "records")
-    check((made.status, made.out) == (1, ""), f"of a vault that is served, without a copy, there is a map: {made}")
+    wanted = f"~^/({'|'.join(sorted(VAULTS['records'][1]))})"
+    check(made.status == 0 and wanted in made.out, f"the map of a vault that is served is {made}")
 
 
 def try_gathered(offices):
     """The registers and reports of all are those of each."""
     files = [f"{it}.vault" for it in VAULTS]
-    busy = offices.desk("offices", "registers", *files)
-    check(busy.status == 1 and busy.out == "", f"a register is read while its vault is served: {busy}")
+    served = offices.desk("offices", "registers", *files)
     for name in VAULTS:
         offices.stop(name)
     rows = list(csv.DictReader(io.StringIO(offices.desk("offices", "registers", *files).out)))
+    check(list(csv.DictReader(io.StringIO(served.out))) == rows, f"registers of vaults that are served are {served}")
     wanted = [
         {"vault": name, **row}
         for name in VAULTS

@@ -93,9 +93,9 @@ def zsh_completes(folder, typed, wanted):
 class Installed(Root):
     """A clean system in which the package gets installed, and its server runs."""
 
-    def serve(self, limit):
+    def serve(self, limit, door=""):
         """Serves the vault `records` as the vaults' user, under a limit of the shell."""
-        words = f"{limit} exec vaultctl serve records.vault {self.port}"
+        words = f"{limit} exec vaultctl serve records.vault {self.port} {door}"
         (self.folder / "tmp/stop").write_text(STOP)
         self.run(
             f'cd /var/lib/vaultctl; runuser -u vaultctl -- sh -c "{words}" > /tmp/served 2>&1 & echo $! > /tmp/server;'
@@ -221,13 +221,13 @@ def try_locked(root):
 
 
 def try_backup(root):
-    """A copy is its owner's alone, and none is made while the vault is served."""
+    """A copy is its owner's alone, and sound, also one that is made while the vault is served."""
+    backup = "cd /var/lib/vaultctl; vaultdesk backup records.vault /tmp/copies"
     root.serve("")
-    says = root.run("cd /var/lib/vaultctl; vaultdesk backup records.vault /tmp/copies", status=1)
-    is_copied = any((root.folder / "tmp/copies").iterdir())
-    check("locked" in says and not is_copied, f"of a backup while it is served is said {says}")
+    copy = root.run(backup).strip()
+    check(root.run(f"vaultctl verify {copy}") == "sound\n", f"{copy}, which is made while it is served, isn't sound")
     root.stop()
-    copy = root.run("cd /var/lib/vaultctl; vaultdesk backup records.vault /tmp/copies").strip()
+    copy = root.run(f"sleep 1; {backup}").strip()
     for it in root.run(f"stat -c '%U %a' /tmp/copies {copy}*").splitlines():
         check(it in ("vaultctl 600", "vaultctl 700"), f"a copy that root has made, or its folder, is {it}")
     for it in root.run("stat -c '%U' /var/lib/vaultctl/records.vault*").splitlines():
@@ -236,7 +236,7 @@ def try_backup(root):
 
 
 def try_night(root):
-    """The night's work on a vault with two departments, while it is served: one opening, by the caller of each."""
+    """The night's work on a vault with two departments: it stops a server that takes no lines, and no other."""
     night = "vaultdesk night records"
     root.as_owner("vaultctl dept records.vault court --as registrar")
     root.as_owner("vaultctl bucket records.vault cases court --as registrar")
@@ -247,6 +247,8 @@ def try_night(root):
     check("isn't synchronized" in says and "marked" not in says, f"a clock that nobody has set: {says}")
     asked = root.asked()
     check(asked == [f"stop {NIGHT}", f"reset-failed {NIGHT}", f"start {NIGHT}"], f"systemctl was asked {asked}")
+    root.run("install -d -o vaultctl -g vaultctl -m 750 /run/vaultctl/records")
+    root.serve("", "--lines /run/vaultctl/records/lines")
     root.program("timedatectl", SYNCHRONIZED)
     root.program("vaultctl", COUNTING)
     root.run("rm -f /tmp/calls; touch /tmp/calls; chmod 666 /tmp/calls")
@@ -254,7 +256,8 @@ def try_night(root):
     root.program("vaultctl", None)
     check(says.count(": 0 marked, 0 removed, 0 lone markers") == 2, f"the night says {says}")
     calls = (root.folder / "tmp/calls").read_text().split()
-    check(calls == ["replay", "verify"], f"the night calls the program to {calls}")
+    check(calls == ["verify"], f"the night calls the program to {calls}")
+    check(root.asked() == [], "the night stops a server that takes lines")
     (copy,) = re.findall(r"^/var/backups/vaultctl/records-.*$", says, re.M)
     check(says.count("\nsha256: ") == 1, f"the night says no seal: {says}")
     found = root.run(f"vaultctl verify {copy}; stat -c '%U %a' {copy}; stat -c %U /var/lib/vaultctl/records.night")
@@ -265,6 +268,7 @@ def try_night(root):
     check(is_partly_done, f"by a caller of one department: {says}")
     root.configure("records", BUCKETS="drafts *")
     check("BUCKETS has *" in root.run(f"sleep 1; {night}", status=1), "what isn't a bucket is passed on")
+    root.stop()
     root.asked()
 
 

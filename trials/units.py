@@ -6,12 +6,14 @@ a vault is made as docs/ENGINEER.md says, its units are enabled, and then:
 
   - a name without a vault fails as it is started
   - a start is done once the server answers as the user vaultctl, shut in; killed, it is started again
-  - starts by hand are never used up, and after a stop the newest change is in the file itself
+  - a start is done once the door for lines is there, for the group that is named and nobody else
+  - starts by hand are never used up, and after a stop by a line, or by a kill, the newest change is in the file itself
   - a command is run while the server is stopped, and a vault that root makes so is the server's
   - the check runs by its timer, and leaves a server alone that answers; one that answers 500 it has started anew; one
     that is enabled and doesn't run it reports
-  - the night does nothing by a clock that isn't synchronized; it stops the server, carries out the rules, copies the
-    vault, audits the copy, makes a seal, and starts the server
+  - the night does nothing by a clock that isn't synchronized; while the server goes on it carries out the rules, copies
+    the vault, audits the copy and makes a seal
+  - the gateway for clients of S3 answers in the server's place, and opens no vault
   - a vault that isn't sound is given up after five starts, which is reported; the copy is put back by root and served
   - a second boot serves it by itself; with the package the server goes, and comes again
 
@@ -117,11 +119,57 @@ is "$(status $url/drafts/d)" 200 "a get after seven starts by hand"
 tell "seven starts by hand"
 """
 
+LINES = """\
+door=/run/vaultctl/records
+[ -S $door/lines ] || fail "a start is done without the door for lines"
+is "$(stat -c '%U %G %a' $door)" "vaultctl vaultctl 750" "who may enter the folder of the door"
+is "$(vaultdesk get drafts d --vault records --as ann)" hello "what root reads while it is served"
+useradd ann; useradd --groups vaultctl bea
+! runuser -u ann -- vaultdesk get drafts d --vault records --as ann || fail "somebody of no group reads"
+runuser -u bea -- vaultdesk get drafts d --vault records --as ann | grep -q hello || fail "who is of the group reads nothing"
+! runuser -u bea -- vaultdesk find --vault records || fail "who is of the group reads the tables"
+groupadd registrars
+usermod --append --groups registrars ann
+echo LINES_GROUP=registrars >> /etc/vaultctl/records.conf
+systemctl restart "$server"
+is "$(stat -c '%U %G %a' $door)" "vaultctl registrars 750" "who may enter the folder of another group"
+runuser -u ann -- vaultdesk get drafts d --vault records --as ann | grep -q hello || fail "the other group reads nothing"
+! runuser -u bea -- vaultdesk get drafts d --vault records --as ann || fail "who is of the first group still reads"
+is "$(vaultdesk find d --vault records | wc -l)" 2 "what is found in the tables of a vault that is served"
+tell "lines, for who is of the group"
+"""
+
+GATEWAY = """\
+cp /usr/share/doc/vaultctl/examples/s3.toml /etc/vaultctl/records.s3.toml
+! systemctl start vault-s3@records.service || fail "a gateway without keys is started"
+systemctl reset-failed vault-s3@records.service
+install -o vaultctl -g vaultctl -m 600 /dev/null /etc/vaultctl/records.keys.toml
+vaultdesk s3 key add ann --settings /etc/vaultctl/records.s3.toml > /trial/key
+is "$(stat -c '%U %a' /etc/vaultctl/records.keys.toml)" "vaultctl 600" "the owner of the keys"
+systemctl start vault-s3@records.service
+gateway() { systemctl show -P MainPID vault-s3@records.service; }
+for it in $(seq 240); do log_of vault-s3@records | grep -q '^serving ' && break; sleep 0.5; done
+is "$(curl -s -o /trial/body -w '%{http_code}' http://127.0.0.1:9000/drafts/d)" 403 "an unsigned request"
+is "$(stat -c %U /proc/$(gateway))" vaultctl "the gateway's user"
+is "$(ls -l /proc/$(gateway)/fd | grep -c vault$ || true)" 0 "the vaults that the gateway has open"
+is "$(status $url/drafts/d)" 200 "a get beside the gateway"
+systemctl stop vault-s3@records.service
+tell "the gateway before the server"
+"""
+
 STOPPED = """\
 is "$(status -X PUT --data last $url/drafts/last)" 200 "the last put before a stop"
 systemctl stop "$server"
 alone() { sqlite3 "file:records.vault?immutable=1" "SELECT count(*) FROM entries WHERE key = 'last'"; }
 is "$(alone)" 1 "the last put in the file alone, after a stop"
+log_of "$server" | grep -q '^sound$' && fail "a stop by a line is followed by an audit"
+systemctl start "$server"
+is "$(status -X PUT --data last $url/drafts/last)" 200 "the last put before a kill"
+echo ADMIN=ann >> /etc/vaultctl/records.conf # who hasn't the right
+systemctl stop "$server"
+is "$(alone)" 2 "the last put in the file alone, after a kill"
+log_of "$server" | grep -q '^sound$' || fail "a kill is followed by no audit"
+sed -i /^ADMIN=/d /etc/vaultctl/records.conf
 systemctl start "$server"
 tell "after a stop all is in the file"
 """
@@ -188,7 +236,7 @@ echo TRUST_CLOCK=yes >> /etc/vaultctl/records.conf
 served=$(pid)
 sleep 1
 systemctl start vault-run@records.service || fail "the night's work: $(log_of vault-run@records)"
-until_not "$served"
+is "$(pid)" "$served" "the server after the night"
 grep -q '^before: ' records.seals || fail "the night makes no seal: $(log_of vault-run@records)"
 log_of vault-run@records | grep -q '^drafts: 0 marked, 0 removed' || fail "the night: $(log_of vault-run@records)"
 copy=$(echo /var/backups/vaultctl/records-*.vault)
@@ -226,7 +274,7 @@ is "$($as verify records-*.replaced/records.vault || true)" "damaged departments
 tell "the copy put back by root"
 """
 
-FIRST = MADE + NAMES + SHUT_IN + BY_HAND + STOPPED + OFFLINE + CHECKED + NIGHT + DAMAGED
+FIRST = MADE + NAMES + SHUT_IN + LINES + BY_HAND + STOPPED + GATEWAY + OFFLINE + CHECKED + NIGHT + DAMAGED
 
 SECOND = """\
 until_served

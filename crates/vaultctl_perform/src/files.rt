@@ -4,7 +4,7 @@ ghost use Rattle.vaultctl_machine.specs.Places.{with_one_given};
 ghost use Rattle.vaultctl_perform.specs.Status as spec;
 
 use crate::replay::fault_of;
-use crate::telling::tell_cause;
+use crate::telling::{say, tell_cause};
 use crate::work::Work;
 use sqlite::Start;
 use std::io::{Read, Stderr, Write};
@@ -21,6 +21,7 @@ use vaultctl_machine::vaults::{Machine, close_vault};
 use vaultctl_remedies::explaining::Explainer;
 use vaultctl_replay::{ReplayFault, replay_observed};
 use vaultctl_serve::{PortFault, serve};
+use vaultctl_serve_lines::{DoorFault, LinePlace, Places, serve_with_lines};
 
 /// Makes the vault in a file and closes it.
 fn make<S: Start>(machine: &mut Machine<'_>, file: &str, start: S) -> Result<(), Unopened>
@@ -122,7 +123,42 @@ fn served(ended: Result<(), PortFault>) -> Result<Outcome, JobFault>
     }
 }
 
-/// The answers to requests, at a port of 127.0.0.1.
+/// How many requests and lines are served where so many are asked for: a million, which is the default, is no limit.
+fn most_served(count: u32) -> u32 {
+    if count == 1_000_000 { u32::MAX } else { count }
+}
+
+/// Serves at two doors, that of lines being at this place. Where nobody can listen for lines, it says so in words.
+fn serve_both<K: Keeper, E: Write>(
+    rt: &HostRuntime,
+    keeper: &mut K,
+    job: &ServeJob,
+    place: &str,
+    err: &mut E,
+) -> Result<Outcome, JobFault> {
+    let Some(lines) = LinePlace::read(place) else {
+        say(err, "--lines: digits are a port from 1 to 65535, and any other text is a path");
+        return Err(JobFault::Device);
+    };
+    let places = Places {
+        file: job.file.as_str(),
+        port: job.port,
+        lines,
+    };
+    match serve_with_lines(rt, rt.alloc(), keeper, places, most_served(job.count), err) {
+        Ok(_) => Ok(Outcome::Done),
+        Err(DoorFault::Requests) => Err(JobFault::Device),
+        Err(DoorFault::Lines) => {
+            say(
+                err,
+                "--lines: nobody can listen there: of a path the folder isn't there or isn't for this user, or something else is at the path; of a port the same as below",
+            );
+            Err(JobFault::Device)
+        }
+    }
+}
+
+/// The answers to requests at a port of 127.0.0.1, and to lines at a second door where one is asked for.
 impl Work for ServeJob {
     ghost tells = { λ outcome before after. ⊤ };
 
@@ -139,14 +175,17 @@ impl Work for ServeJob {
         _out: &mut W,
         err: &mut E,
     ) -> Result<Outcome, JobFault> {
-        served(serve(
-            rt,
-            rt.alloc(),
-            keeper,
-            self.file.as_str(),
-            self.port,
-            self.count,
-            err,
-        ))
+        match &self.lines {
+            Some(place) => serve_both(rt, keeper, self, place.as_str(), err),
+            None => served(serve(
+                rt,
+                rt.alloc(),
+                keeper,
+                self.file.as_str(),
+                self.port,
+                self.count,
+                err,
+            )),
+        }
     }
 }

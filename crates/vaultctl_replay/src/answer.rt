@@ -67,7 +67,9 @@ fn reply_to<K: Keeper, O: Observer>(
 }
 
 /// Carries out what a line asks for, and then writes its reply.
-fn answer<K: Keeper, W: Write, O: Observer>(
+///
+/// `Write` comes where the reply can't be written, and `Memory` where room was refused.
+pub fn answer<K: Keeper, W: Write, O: Observer>(
     alloc: Global,
     keeper: &mut K,
     writer: &mut W,

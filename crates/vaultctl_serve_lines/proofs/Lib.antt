@@ -1,0 +1,3 @@
+pub mod HeardLemmas
+pub mod HearingLemmas
+pub mod TurnLemmas
