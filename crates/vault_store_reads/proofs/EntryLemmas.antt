@@ -1,5 +1,5 @@
 -- Rows of entries and contents, by an id, and rows of intake.
-use Rattle.std.proofs.Common.{◌≡◌, ℕ, ◌+◌, ◌==◌, ◌&&◌, List, [], ◌∷◌, ◌++◌, map, filter, find, flat_map, cond, Bool, true, false, Option, None, Some, option_to_list, slice_get, IsPermutation, Equal, nat_cmp, refl, sym, ap, subst, ◌∙◌, arith}
+use Rattle.std.proofs.Common.{◌≡◌, ℕ, ◌+◌, ◌≤◌, ◌==◌, ◌&&◌, length, IsTrue, List, [], ◌∷◌, ◌++◌, map, filter, find, flat_map, cond, Bool, true, false, Option, None, Some, option_to_list, slice_get, IsPermutation, Equal, nat_cmp, refl, sym, ap, subst, ◌∙◌, arith}
 use Rattle.std.specs.Prelude.{option_map, option_and_then}
 use Rattle.std.specs.Ordering.{on}
 use Rattle.std.specs.Str.{bytes_eq}
@@ -13,14 +13,19 @@ use Rattle.sqlite_value.specs.Order.{Row, column}
 use Rattle.sqlite_sql.specs.declared.ops.BinaryOp.TheVariants.{Compare}
 use Rattle.sqlite_sql.specs.declared.ops.CompareOp.TheVariants.{Eq}
 use Rattle.sqlite_sql.specs.Ops.{binary, is_true}
+use Rattle.vault_base.specs.Name.{is_version_id}
 use Rattle.vault_core_model.specs.declared.records.Entry.{Entry}
 use Rattle.vault_core_model.specs.declared.records.History.{History}
 use Rattle.vault_core_model.specs.declared.records.Note.{Note}
 use Rattle.vault_core_model.specs.Order.{IsAscending, note_cmp}
 use Rattle.vault_core_model.specs.Reads.{content_of, entry_of}
-use Rattle.vault_core_model.specs.Sound.{AreIdsFrom}
+use Rattle.vault_core_model.specs.declared.records.Removal.{Removal}
+use Rattle.vault_core_model.specs.declared.records.Setting.{Setting}
+use Rattle.vault_core_model.specs.Checks.{most_content}
+use Rattle.vault_core_model.specs.Sound.{AreIdsFrom, HasItsBytes, IsWholeAs, IsWhole}
 use Rattle.vault_core_model.specs.Vault.{Vault, history_of, note_of}
 use Rattle.vault_audit_model.specs.declared.rows.ContentRow.{ContentRow}
+use Rattle.vault_audit_model.specs.Limits.{IsContentRow, IsEntry, IsHistory, IsNote}
 use Rattle.vault_audit_model.specs.Rows.{entry_row, entry_columns, content_row, content_columns, note_row, note_columns}
 use Rattle.vault_audit_model.specs.Spells.{content_if_given, contents_in}
 use Rattle.vault_audit_model.specs.Tables.{entries_tree, contents_tree, intake_tree}
@@ -30,7 +35,8 @@ use Rattle.vault_audit_laws.proofs.Members.{ascending_numbered}
 use Rattle.vault_audit_laws.proofs.Uniqueness.{ids_numbered}
 use Rattle.vault_store_reads.specs.Queries.{FindsRows}
 use Rattle.vault_store_reads.proofs.FindLemmas.{records_found, at_most_one, first_found, none_found, read_found}
-use Rattle.vault_store_reads.proofs.ListLemmas.{filter_parts}
+use Rattle.vault_store_reads.proofs.ListLemmas.{filter_parts, found_has}
+use Rattle.vault_store_reads.proofs.ThereLemmas.{all_at}
 use Rattle.vault_store_reads.proofs.TextLemmas.{where_is, entry_text, entry_shown, entry_selects, content_text, content_shown, content_selects, note_text, note_shown, note_selects}
 use Rattle.vault_audit_model.proofs.ValueLemmas.{same_text, same_number}
 
@@ -71,10 +77,35 @@ module _ (v : Vault) (id : ℕ) (rows : List Row) (finds : FindsRows v entry_tex
       let same : e ≡ it.0.entry = same_entry e it.0.entry (sym reads ∙ it.2) in
       ap Some same ∙ sym (ap (option_map (λ (h : History). h.entry)) it.1)
 
+  pub entry_there : (row : Row) → slice_get rows 0 ≡ Some row → (e : Entry) × IsEntry e × (row ≡ entry_row e)
+  entry_there row first =
+      let it = first_found row_of (history_of v id) rows row history_found first in
+      let has = found_has (λ (h : History). h.entry.id == id) v.histories it.0 it.1 in
+      (it.0.entry, (all_at IsHistory v.histories it.0 finds.1.spells.kept.limits.histories has.0).entry, it.2)
+
   pub no_entry : ◌≡◌ {A = Option Row} None (slice_get rows 0) → None ≡ entry_of v id
   no_entry none = sym (ap (option_map (λ (h : History). h.entry)) (none_found row_of (history_of v id) rows history_found none))
 
 -- ---- contents
+
+-- the bytes of a version, which it has while it is held, are as many as its entry says
+sized : (marker : Bool) (e : Entry) (removal : Option Removal) (bytes : List ℕ) (settings : List Setting) → e.removal ≡ removal → IsWholeAs marker e (Some bytes) settings → length bytes ≤ most_content
+sized true e removal bytes settings is h = absurd (let none = h.2 in cc)
+sized false e None bytes settings is h =
+    let its = subst (λ r. HasItsBytes r (Some bytes) e) is h.1 in
+    let small = h.0 in omega (arith, small, its.0)
+sized false e (Some r) bytes settings is h = elim (subst (λ r. HasItsBytes r (Some bytes) e) is h.1) [ ]
+
+stored_fits : (own : ℕ) (content : Option (List ℕ)) (c : ContentRow) → IsTrue (is_version_id own) → ((bytes : List ℕ) → content ≡ Some bytes → length bytes ≤ most_content)
+    → option_map (λ bytes. record { id = own; content = bytes }) content ≡ Some c → IsContentRow c
+stored_fits own None c is small e = absurd (cc e)
+stored_fits own (Some bytes) c is small e =
+    let same : ◌≡◌ {A = ContentRow} (record { id = own; content = bytes }) c = cc e in
+    subst IsContentRow same (record { id = is; size = small bytes refl })
+
+content_of_history : (h : History) (c : ContentRow) → IsHistory h → IsWhole h → option_map (λ bytes. record { id = h.entry.id; content = bytes }) h.content ≡ Some c → IsContentRow c
+content_of_history h c is whole e =
+    stored_fits h.entry.id h.content c is.entry.id (λ bytes same. sized h.entry.marker h.entry h.entry.removal bytes h.settings refl (subst (λ b. IsWholeAs h.entry.marker h.entry b h.settings) same whole)) e
 
 content_if : (b : Bool) (own id : ℕ) (content : Option (List ℕ)) → (own == id) ≡ b → filter (λ (c : ContentRow). c.id == id) (content_if_given own content) ≡ cond b (content_if_given own content) []
 content_if true own id None e = refl
@@ -118,6 +149,17 @@ module _ (v : Vault) (id : ℕ) (rows : List Row) (finds : FindsRows v content_t
       let same : Some c ≡ stored (history_of v id) = read_found content_row same_content (stored (history_of v id)) rows row c content_stored first reads in
       ap (option_map (λ (x : ContentRow). x.content)) same ∙ bytes_of (history_of v id)
 
+  content_kept : (o : Option History) → history_of v id ≡ o → (c : ContentRow) → stored o ≡ Some c → IsContentRow c
+  content_kept None is c e = absurd (cc e)
+  content_kept (Some h) is c e =
+      let has = found_has (λ (h : History). h.entry.id == id) v.histories h is in
+      content_of_history h c (all_at IsHistory v.histories h finds.1.spells.kept.limits.histories has.0) (all_at IsWhole v.histories h finds.1.spells.kept.sound.whole has.0) e
+
+  pub content_there : (row : Row) → slice_get rows 0 ≡ Some row → (c : ContentRow) × IsContentRow c × (row ≡ content_row c)
+  content_there row first =
+      let it = first_found content_row (stored (history_of v id)) rows row content_stored first in
+      (it.0, content_kept (history_of v id) refl it.0 it.1, it.2)
+
   pub no_content : ◌≡◌ {A = Option Row} None (slice_get rows 0) → None ≡ content_of v id
   no_content none =
       sym (sym (bytes_of (history_of v id)) ∙ ap (option_map (λ (x : ContentRow). x.content)) (none_found content_row (stored (history_of v id)) rows content_stored none))
@@ -152,6 +194,12 @@ module _ (v : Vault) (bucket batch : List ℕ) (line : ℕ) (rows : List Row) (f
 
   pub note_read : (row : Row) (n : Note) → slice_get rows 0 ≡ Some row → row ≡ note_row n → Some n ≡ note_of v bucket batch line
   note_read row n first reads = read_found note_row same_note (note_of v bucket batch line) rows row n note_found first reads
+
+  pub note_there : (row : Row) → slice_get rows 0 ≡ Some row → (n : Note) × IsNote n × (row ≡ note_row n)
+  note_there row first =
+      let it = first_found note_row (note_of v bucket batch line) rows row note_found first in
+      let has = found_has is_note v.notes it.0 it.1 in
+      (it.0, all_at IsNote v.notes it.0 finds.1.spells.kept.limits.notes has.0, it.2)
 
   pub no_note : ◌≡◌ {A = Option Row} None (slice_get rows 0) → None ≡ note_of v bucket batch line
   no_note none = sym (none_found note_row (note_of v bucket batch line) rows note_found none)

@@ -26,6 +26,7 @@ use Rattle.vault_core_model.specs.Sound.{Sound}
 use Rattle.vault_core_model.specs.Vault.{Vault}
 use Rattle.vault_core_laws.proofs.Newest.{current-head, last_of}
 use Rattle.vault_audit_model.specs.declared.rows.HeadRow.{HeadRow}
+use Rattle.vault_audit_model.specs.Limits.{IsHistory, IsHeadRow}
 use Rattle.vault_audit_model.specs.Rows.{head_row, head_columns}
 use Rattle.vault_audit_model.specs.Spells.{head_in}
 use Rattle.vault_audit_model.specs.Tables.{heads_tree}
@@ -34,6 +35,7 @@ use Rattle.vault_store_reads.specs.Queries.{FindsRows}
 use Rattle.vault_store_reads.proofs.FindLemmas.{records_found}
 use Rattle.vault_store_reads.proofs.EntryLemmas.{id_of, ascending_ids, same_if}
 use Rattle.vault_store_reads.proofs.ListLemmas.{has_filtered, filtered_has, found_has, first_of, none_of}
+use Rattle.vault_store_reads.proofs.ThereLemmas.{all_at}
 use Rattle.vault_store_reads.proofs.TextLemmas.{where_is, head_text, head_shown, head_selects}
 use Rattle.vault_audit_model.proofs.ValueLemmas.{same_text}
 
@@ -172,6 +174,14 @@ module _ (v : Vault) (bucket key : List ℕ) (rows : List Row) (finds : FindsRow
       let e : head_row x ≡ head_row (head_in v it.0) = sym reads ∙ it.2 in
       let one : x.head ≡ (head_in v it.0).head = same_head x.head.newest x.head.count _ _ (number_same _ _ (ap (λ r. column r 2) e)) (number_same _ _ (ap (λ r. column r 3) e)) in
       ap Some one ∙ sym (current_head v bucket key finds.1.spells.kept.sound it.0 current.0 current.1 its.1)
+
+  pub head_there : (row : Row) → slice_get rows 0 ≡ Some row → (x : HeadRow) × IsHeadRow x × (row ≡ head_row x)
+  head_there row first =
+      let it = first_of row_of (filter is_its (filter (is_current v) v.histories)) rows row head_found first in
+      let its = has_filtered is_its (filter (is_current v) v.histories) it.0 it.1 in
+      let has = has_filtered (is_current v) v.histories it.0 its.0 in
+      let is : IsHistory it.0 = all_at IsHistory v.histories it.0 finds.1.spells.kept.limits.histories has.0 in
+      (head_in v it.0, record { bucket = is.entry.bucket; key = is.entry.key; newest = is.entry.id }, it.2)
 
   pub no_head : ◌≡◌ {A = Option Row} None (slice_get rows 0) → None ≡ head_of v bucket key
   no_head none = sym (no_current v bucket key finds.1.spells.kept.sound (none_of row_of (filter is_its (filter (is_current v) v.histories)) rows head_found none))

@@ -1,6 +1,9 @@
 pub mod QueryLemmas
 pub mod FindLemmas
 pub mod TextLemmas
+pub mod CauseLemmas
+pub mod FitLemmas
+pub mod ThereLemmas
 pub mod ListLemmas
 pub mod MetaLemmas
 pub mod NameLemmas

@@ -1,15 +1,16 @@
 -- The row of meta.
-use Rattle.std.proofs.Common.{◌≡◌, List, [], ◌∷◌, map, true, Some, slice_get, IsPermutation, refl}
+use Rattle.std.proofs.Common.{◌≡◌, List, [], ◌∷◌, map, true, Option, None, Some, slice_get, IsPermutation, refl, sym, ap, ◌∙◌}
 use Rattle.sqlite_value.specs.Order.{Row}
 use Rattle.vault_core_model.specs.Sound.{Sound}
 use Rattle.vault_core_model.specs.Vault.{Vault}
 use Rattle.vault_audit_model.specs.declared.rows.MetaRow.{MetaRow}
 use Rattle.vault_audit_model.specs.Rows.{meta_row, meta_columns}
+use Rattle.vault_audit_model.specs.Limits.{IsMetaRow}
 use Rattle.vault_audit_model.specs.Spells.{meta_of}
 use Rattle.vault_audit_model.specs.Tables.{meta_tree}
 use Rattle.vault_audit_model.proofs.SameRows.{same_meta}
 use Rattle.vault_store_reads.specs.Queries.{FindsRows}
-use Rattle.vault_store_reads.proofs.FindLemmas.{records_found, read_found}
+use Rattle.vault_store_reads.proofs.FindLemmas.{records_found, first_found, none_found, read_found}
 use Rattle.vault_store_reads.proofs.TextLemmas.{meta_text, meta_shown, meta_selects}
 
 module _ (v : Vault) (rows : List Row) (finds : FindsRows v meta_text [] rows) where
@@ -22,6 +23,15 @@ module _ (v : Vault) (rows : List Row) (finds : FindsRows v meta_text [] rows) w
   meta_read row m first reads =
       let same : Some m ≡ Some (meta_of v) = read_found meta_row same_meta (Some (meta_of v)) rows row m meta_found first reads in
       cc same
+
+  pub meta_there : (row : Row) → slice_get rows 0 ≡ Some row → (m : MetaRow) × IsMetaRow m × (row ≡ meta_row m)
+  meta_there row first =
+      let it = first_found meta_row (Some (meta_of v)) rows row meta_found first in
+      let same : meta_of v ≡ it.0 = cc it.1 in
+      (meta_of v, record { last = finds.1.spells.kept.limits.last; moves = finds.1.spells.kept.sound.enough_moves }, it.2 ∙ ap meta_row (sym same))
+
+  pub meta_stands : ◌≡◌ {A = Option Row} None (slice_get rows 0) → ⊥
+  meta_stands none = absurd (let gone = none_found meta_row (Some (meta_of v)) rows meta_found none in cc gone)
 
   pub kept_sound : Sound v
   kept_sound = finds.1.spells.kept.sound

@@ -23,6 +23,7 @@ use Rattle.vault_core_model.specs.Totals.{IsRowFor, items_of}
 use Rattle.vault_core_model.specs.Vault.{Vault, has_department, caller_of, bucket_in, config_of}
 use Rattle.vault_audit_model.specs.declared.rows.BucketRow.{BucketRow}
 use Rattle.vault_audit_model.specs.declared.rows.DepartmentRow.{DepartmentRow}
+use Rattle.vault_audit_model.specs.Limits.{IsPlainName, IsCaller, IsBucket, IsDepartmentRow, IsBucketRow}
 use Rattle.vault_audit_model.specs.Rows.{department_row, department_columns, caller_row, caller_columns, bucket_row, bucket_columns}
 use Rattle.vault_audit_model.specs.Spells.{department_in, bucket_of}
 use Rattle.vault_audit_model.specs.Tables.{departments_tree, callers_tree, buckets_tree}
@@ -30,7 +31,8 @@ use Rattle.vault_audit_model.proofs.SameRows.{number_same, same_caller, same_buc
 use Rattle.vault_store_model.proofs.DepartmentLemmas.{no_items}
 use Rattle.vault_store_reads.specs.Queries.{FindsRows}
 use Rattle.vault_store_reads.proofs.FindLemmas.{records_found, at_most_one, first_found, none_found, read_found}
-use Rattle.vault_store_reads.proofs.ListLemmas.{has_filtered, first_of, none_of}
+use Rattle.vault_store_reads.proofs.ListLemmas.{has_filtered, found_has, first_of, none_of}
+use Rattle.vault_store_reads.proofs.ThereLemmas.{all_at}
 use Rattle.vault_store_reads.proofs.TextLemmas.{where_is, department_text, department_shown, department_selects, caller_text, caller_shown, caller_selects, bucket_text, bucket_shown, bucket_selects}
 use Rattle.vault_audit_model.proofs.ValueLemmas.{same_text}
 
@@ -91,6 +93,12 @@ module _ (v : Vault) (name : List ℕ) (rows : List Row) (finds : FindsRows v de
       let is = has_filtered (λ d. bytes_eq d name) v.departments it.0 it.1 in
       subst (λ x. IsRowFor v x d.sums) (named it.0 name is.1) (sums_read d it.0 (sym reads ∙ it.2))
 
+  pub department_shown_there : (row : Row) → slice_get rows 0 ≡ Some row → (d : DepartmentRow) × IsDepartmentRow d × (row ≡ department_row d)
+  department_shown_there row first =
+      let it = first_of row_in (filter (λ d. bytes_eq d name) v.departments) rows row departments_found first in
+      let is = has_filtered (λ d. bytes_eq d name) v.departments it.0 it.1 in
+      (department_in v it.0, all_at IsPlainName v.departments it.0 finds.1.spells.kept.limits.departments is.0, it.2)
+
   pub totals_of_none : ◌≡◌ {A = Option Row} None (slice_get rows 0) → IsRowFor v name (record { admitted = 0; received = 0; held = 0; removed = 0; handed = 0; weighted = 0; closed = 0 })
   totals_of_none none =
       let gone = none_of row_in (filter (λ d. bytes_eq d name) v.departments) rows departments_found none in
@@ -110,6 +118,12 @@ module _ (v : Vault) (name : List ℕ) (rows : List Row) (finds : FindsRows v ca
 
   pub caller_read : (row : Row) (c : Caller) → slice_get rows 0 ≡ Some row → row ≡ caller_row c → Some c ≡ caller_of v name
   caller_read row c first reads = read_found caller_row same_caller (caller_of v name) rows row c caller_found first reads
+
+  pub caller_there : (row : Row) → slice_get rows 0 ≡ Some row → (c : Caller) × IsCaller c × (row ≡ caller_row c)
+  caller_there row first =
+      let it = first_found caller_row (caller_of v name) rows row caller_found first in
+      let is = found_has (λ (c : Caller). bytes_eq c.name name) v.callers it.0 it.1 in
+      (it.0, all_at IsCaller v.callers it.0 finds.1.spells.kept.limits.callers is.0, it.2)
 
   pub no_caller : ◌≡◌ {A = Option Row} None (slice_get rows 0) → None ≡ caller_of v name
   no_caller none = sym (none_found caller_row (caller_of v name) rows caller_found none)
@@ -132,6 +146,13 @@ module _ (v : Vault) (name : List ℕ) (rows : List Row) (finds : FindsRows v bu
       let it = first_found row_for (bucket_in v.buckets name) rows row bucket_found first in
       let same : r ≡ bucket_of it.0 = same_bucket r (bucket_of it.0) (sym reads ∙ it.2) in
       ap (λ (x : BucketRow). Some x.config) same ∙ sym (ap (option_map (λ (b : Bucket). b.config)) it.1)
+
+  pub bucket_there : (row : Row) → slice_get rows 0 ≡ Some row → (b : BucketRow) × IsBucketRow b × (row ≡ bucket_row b)
+  bucket_there row first =
+      let it = first_found row_for (bucket_in v.buckets name) rows row bucket_found first in
+      let has = found_has (λ (b : Bucket). bytes_eq b.name name) v.buckets it.0 it.1 in
+      let is : IsBucket it.0 = all_at IsBucket v.buckets it.0 finds.1.spells.kept.limits.buckets has.0 in
+      (bucket_of it.0, record { name = is.name; config = is.config }, it.2)
 
   pub no_config : ◌≡◌ {A = Option Row} None (slice_get rows 0) → None ≡ config_of v name
   no_config none = sym (ap (option_map (λ (b : Bucket). b.config)) (none_found row_for (bucket_in v.buckets name) rows bucket_found none))

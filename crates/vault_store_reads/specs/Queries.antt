@@ -1,11 +1,17 @@
 -- Queries over the tables of a vault.
-use Rattle.std.specs.Prelude.{◌≡◌, ℕ, false, List, [], pos, negsuc, None}
+use Rattle.std.specs.Prelude.{◌≡◌, ◌≤◌, ℕ, true, false, List, [], length, pos, negsuc, None, Result, Ok, Err}
 use Rattle.sqlite_value.specs.Order.{Row}
 use Rattle.sqlite_value.specs.declared.value.Value.TheVariants.{Int}
 use Rattle.sqlite_value.specs.declared.keys.Key.{Key}
 use Rattle.sqlite_sql.specs.Term.{Term, lit}
-use Rattle.sqlite_sql.specs.Query.{Query, inner, end}
+use Rattle.sqlite_sql.specs.Query.{Query, inner, end, has_no_fold}
+use Rattle.sqlite_schema.specs.declared.schema.Schema.{Schema}
+use Rattle.sqlite_schema.specs.declared.command.Command.{Command}
 use Rattle.sqlite_schema.specs.declared.command.Command.TheVariants.{Select}
+use Rattle.sqlite_schema.specs.Program.{lets_of}
+use Rattle.sqlite_typing.specs.Types.{accepts_program}
+use Rattle.sqlite_resolve.specs.declared.compiled.Compiled.{Compiled}
+use Rattle.sqlite_resolve.specs.declared.error.CompileError.{CompileError}
 use Rattle.sqlite.specs.Effect.{Database, Answers}
 use Rattle.sqlite.specs.Given.{IsPlain}
 use Rattle.sqlite.specs.Listing.{understood, reads_listing}
@@ -39,3 +45,17 @@ pub record Selects (sql : List ℕ) (q : Query) : Type 0 where
 abbrev pub FindsRows : Vault → List ℕ → Row → List Row → Type 0
 FindsRows v sql params rows =
     (db : Database) × AreSound db v × ((q : Query) → Selects sql q → Answers db (record { lets = []; body = q }) params rows)
+
+-- the command is a query of which these values are of the right types, and it sums nothing
+abbrev pub IsFitCommand : Schema → Row → Command → Type 0
+IsFitCommand schema params (Select p columns) = (lets_of p ≡ []) × (accepts_program schema [] p.body params ≡ true) × (p.body.group ≡ None) × (has_no_fold p.body.from ≡ true)
+IsFitCommand schema params _ = ⊥
+
+-- the text is one such query, with as many parameters
+abbrev pub IsFit : Schema → List ℕ → Row → Result Compiled CompileError → Type 0
+IsFit schema sql params (Ok c) = (length sql ≤ c.tail) × (length params ≡ length c.names) × IsFitCommand schema params c.command
+IsFit schema sql params (Err e) = ⊥
+
+-- so it is over the tables of a vault
+abbrev pub Fits : List ℕ → Row → Type 0
+Fits sql params = IsFit vault_schema sql params (understood vault_schema sql)

@@ -1,10 +1,12 @@
 -- What a read of the vault that a connection keeps leaves: that vault, also where a crash comes.
-use Rattle.std.specs.Prelude.{IsTrue, ◌≡◌, false, Result, OnOk}
+use Rattle.std.specs.Prelude.{IsTrue, ◌≡◌, false, Result, IfErr, OnOk}
 use Rattle.sqlite_trees.specs.Tree.{Trees}
 use Rattle.sqlite.specs.State.{State, HasCleanDisk, Survives}
+use Rattle.sqlite.specs.declared.error.Error.{Error}
 use Rattle.sqlite_trees.specs.declared.store.Store.{Ghosts}
 use Rattle.sqlite.specs.Held.{Held, state}
 use Rattle.vault_core_model.specs.Vault.{Vault}
+use Rattle.vault_audit_walk.specs.Health.{IsHealthy, IsMemory}
 use Rattle.vault_store_model.specs.Keeping.{Keeps}
 
 -- anything else only where the connection was shut, or stood for no vault
@@ -28,3 +30,7 @@ pub record ReadsQuietly {S : Type 0} (g : Ghosts S) (old new : Held S) : Type 0 
 -- where it is answered, the connection is open
 abbrev pub IsOpenIfOk : {S A E : Type 0} → Ghosts S → Held S → Result A E → Type 0
 IsOpenIfOk g new result = HasCleanDisk (state g new) → OnOk result (IsTrue (state g new).is_open)
+
+-- where the store works and a vault was kept, an error is want of memory
+abbrev pub FailsForMemory : {S A : Type 0} → Ghosts S → Held S → Held S → Result A Error → Type 0
+FailsForMemory g old new result = IsHealthy (state g new) → (v : Vault) → Keeps (state g old) v → IfErr result IsMemory

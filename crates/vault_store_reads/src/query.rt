@@ -10,8 +10,8 @@ ghost use Rattle.sqlite.specs.State.{HasCleanDisk, FailsToQuery};
 ghost use Rattle.sqlite.specs.Values.{bound};
 ghost use Rattle.vault_core_model.specs.Vault.{Vault};
 ghost use Rattle.vault_store_model.specs.Keeping.{Keeps};
-ghost use Rattle.vault_store_reads.specs.Queries.{Selects, FindsRows};
-ghost use Rattle.vault_store_reads.specs.Quiet.{OnlyReads, IsOpenIfOk};
+ghost use Rattle.vault_store_reads.specs.Queries.{Fits, Selects, FindsRows};
+ghost use Rattle.vault_store_reads.specs.Quiet.{FailsForMemory, OnlyReads, IsOpenIfOk};
 
 use sqlite::types::ValueRef;
 use sqlite::{Alter, Connection, Error, ErrorCode, Row};
@@ -29,6 +29,8 @@ pub fn query_rows<S: Alter>(
     ensures err { HasCleanDisk (state S.Store conn.new) → IfErr result (FailsToQuery sql.now (bound params.now) (state S.Store conn.old) (state S.Store conn.new)) }
     ensures read { OnlyReads S.Store conn.old conn.new }
     ensures open { IsOpenIfOk S.Store conn.new result }
+    // A store that works answers a query whose values are of the right types, or wants memory.
+    ensures memory { Fits sql.now (bound params.now) → FailsForMemory S.Store conn.old conn.new result }
 {
     conn.query_all(sql, params)
 }

@@ -1,6 +1,12 @@
 use Rattle.std.proofs.Common.{sym}
 use Rattle.vault_store_reads.proofs.HeadLemmas.{head_read, no_head}
 use Rattle.vault_store_reads.proofs.TextLemmas.{head_selects}
+use Rattle.vault_audit_walk.specs.Health.{IsMemory}
+use Rattle.vault_store_reads.proofs.FitLemmas.{head_fits}
+use Rattle.vault_store_reads.proofs.HeadLemmas.{head_there}
+use Rattle.vault_store_reads.proofs.ThereLemmas.{misread_memory}
+use Rattle.vault_audit_model.specs.Limits.{IsHeadRow}
+use Rattle.vault_audit_model.specs.Rows.{head_row}
 use Rattle.vault_store_reads.proofs.heads.read_head.Goals as goal
 
 pub query_rows-requires : goal.query_rows-requires
@@ -14,3 +20,11 @@ returns-in-Ok-clause-value g c clean v was =
 pub returns-clause-value : goal.returns-clause-value
 returns-clause-value g c clean v was =
     no_head v c.args.bucket.now c.args.key.now c.in_ok-rows.rows.items (rw (c.params-to_sql.ensures, c.params-to_sql-2.ensures, c.as_str.ensures.text, c.as_str-2.ensures.text) at (c.in_ok-rows.ensures.rows clean v was)) (rw c.deref.ensures.value at c.in-None.ensures.value)
+
+pub returns-in_err-rows-clause-memory : goal.returns-in_err-rows-clause-memory
+returns-in_err-rows-clause-memory g c well v was = let it : IsMemory c.in_err-rows.field-0.0 = (rw (c.params-to_sql.ensures, c.params-to_sql-2.ensures, c.as_str.ensures.text, c.as_str-2.ensures.text) at c.in_err-rows.ensures.memory) (head_fits c.args.bucket.now c.args.key.now) well v was in search rules
+
+pub returns-in-Err-clause-memory : goal.returns-in-Err-clause-memory
+returns-in-Err-clause-memory g c well v was =
+    misread_memory head_row IsHeadRow c.in-Some.row.now c.in-Err.misread c.unread.result c.unread.ensures.memory c.in-Err.ensures.wrong
+    (head_there v c.args.bucket.now c.args.key.now c.in_ok-rows.rows.items (rw (c.params-to_sql.ensures, c.params-to_sql-2.ensures, c.as_str.ensures.text, c.as_str-2.ensures.text) at (c.in_ok-rows.ensures.rows well.clean v was)) c.in-Some.row.now (sym (rw c.deref.ensures.value at c.in-Some.ensures.value)))

@@ -1,6 +1,12 @@
 use Rattle.std.proofs.Common.{sym}
 use Rattle.vault_store_reads.proofs.MetaLemmas.{meta_read, kept_sound}
 use Rattle.vault_store_reads.proofs.TextLemmas.{meta_selects}
+use Rattle.vault_audit_walk.specs.Health.{IsMemory}
+use Rattle.vault_store_reads.proofs.FitLemmas.{meta_fits}
+use Rattle.vault_store_reads.proofs.MetaLemmas.{meta_there, meta_stands}
+use Rattle.vault_store_reads.proofs.ThereLemmas.{misread_memory}
+use Rattle.vault_audit_model.specs.Limits.{IsMetaRow}
+use Rattle.vault_audit_model.specs.Rows.{meta_row}
 use Rattle.vault_store_reads.proofs.meta.read_meta.Goals as goal
 
 pub query_rows-requires : goal.query_rows-requires
@@ -12,3 +18,14 @@ returns-in-Ok-clause-value g c clean v was =
 
 pub returns-in-Ok-clause-sound : goal.returns-in-Ok-clause-sound
 returns-in-Ok-clause-sound g c clean v was = kept_sound v c.in_ok-rows.rows.items (c.in_ok-rows.ensures.rows clean v was)
+
+pub returns-in_err-rows-clause-memory : goal.returns-in_err-rows-clause-memory
+returns-in_err-rows-clause-memory g c well v was = let it : IsMemory c.in_err-rows.field-0.0 = c.in_err-rows.ensures.memory meta_fits well v was in search rules
+
+pub returns-in-Err-clause-memory : goal.returns-in-Err-clause-memory
+returns-in-Err-clause-memory g c well v was =
+    misread_memory meta_row IsMetaRow c.in-Some.row.now c.in-Err.misread c.unread.result c.unread.ensures.memory c.in-Err.ensures.wrong
+    (meta_there v c.in_ok-rows.rows.items ((c.in_ok-rows.ensures.rows well.clean v was)) c.in-Some.row.now (sym (rw c.deref.ensures.value at c.in-Some.ensures.value)))
+
+pub returns-clause-memory : goal.returns-clause-memory
+returns-clause-memory g c well v was = absurd (meta_stands v c.in_ok-rows.rows.items (c.in_ok-rows.ensures.rows well.clean v was) (rw c.deref.ensures.value at c.in-None.ensures.value))

@@ -2,6 +2,7 @@ use Rattle.std.proofs.Common.{arith}
 use Rattle.sqlite.specs.Held.{state}
 use Rattle.sqlite.specs.Values.{bound}
 use Rattle.vault_store_reads.proofs.QueryLemmas.{finds, keeps_after, survives_query, if_shown}
+use Rattle.vault_store_reads.proofs.CauseLemmas.{memory_alone}
 use Rattle.vault_store_reads.proofs.OpenLemmas.{open_after}
 use Rattle.vault_store_reads.proofs.query.query_rows.Goals as goal
 
@@ -21,3 +22,7 @@ returns-clause-read g c = record {
 
 pub returns-clause-open : goal.returns-clause-open
 returns-clause-open g c clean = open_after _ _ _ _ (λ rows. rows.items) c.query_all.result (c.query_all.ensures.ok clean)
+
+pub returns-clause-memory : goal.returns-clause-memory
+returns-clause-memory g c fit well v was =
+    memory_alone c.args.sql.now (bound c.args.params.now) (state g.S.Store c.args.conn.now) (state g.S.Store c.query_all.new.self) c.requires.0 c.requires.1 fit c.query_all.ensures.survives.limit c.query_all.result (c.query_all.ensures.err well.clean) well v was
