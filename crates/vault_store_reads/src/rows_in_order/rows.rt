@@ -14,8 +14,8 @@ ghost use Rattle.vault_audit_model.specs.declared.rows.TenureRow.{TenureRow};
 ghost use Rattle.vault_audit_model.specs.Rows.{rule_row, setting_row, tenure_row};
 ghost use Rattle.vault_store_model.specs.Keeping.{Keeps};
 ghost use Rattle.vault_store_model.specs.Sums.{last_tenure_of};
-ghost use Rattle.vault_store_reads.specs.Queries.{Selects, FindsRows};
-ghost use Rattle.vault_store_reads.specs.Quiet.{OnlyReads, ReadsQuietly, IsOpenIfOk};
+ghost use Rattle.vault_store_reads.specs.Queries.{Fits, Selects, FindsRows};
+ghost use Rattle.vault_store_reads.specs.Quiet.{FailsForMemory, OnlyReads, ReadsQuietly, IsOpenIfOk};
 ghost use Rattle.vault_store_reads.specs.Shown.{last_row, entry_shown, key_row, id_row, set_of, sized_row, sized_of, newest_but};
 
 use crate::query::query_rows;
@@ -33,6 +33,7 @@ pub fn open_rows<S: Alter>(
     ensures rows { HasCleanDisk (state S.Store conn.new) → IfOk result (λ rows. (v : Vault) → Keeps (state S.Store conn.old) v → FindsRows v sql.now (bound params.now) rows.items) }
     ensures read { ReadsQuietly S.Store conn.old conn.new }
     ensures open { IsOpenIfOk S.Store conn.new result }
+    ensures memory { Fits sql.now (bound params.now) → FailsForMemory S.Store conn.old conn.new result }
 {
     conn.query_all(sql, params)
 }
@@ -42,6 +43,7 @@ pub fn setting_rows<S: Alter>(conn: &mut Connection<S>, id: VersionId) -> Result
     ensures rows { HasCleanDisk (state S.Store conn.new) → IfOk result (λ rows. (v : Vault) → Keeps (state S.Store conn.old) v → rows.items ≡ map last_row (option_to_list (setting_of v id))) }
     ensures read { ReadsQuietly S.Store conn.old conn.new }
     ensures open { IsOpenIfOk S.Store conn.new result }
+    ensures memory { FailsForMemory S.Store conn.old conn.new result }
 {
     open_rows(
         conn,
@@ -58,6 +60,7 @@ pub fn last_tenure_rows<S: Alter>(
     ensures rows { HasCleanDisk (state S.Store conn.new) → IfOk result (λ rows. (v : Vault) → Keeps (state S.Store conn.old) v → (last : Option TenureRow) × (rows.items ≡ map tenure_row (option_to_list last)) × (option_map (λ x. x.tenure) last ≡ last_tenure_of v id)) }
     ensures read { ReadsQuietly S.Store conn.old conn.new }
     ensures open { IsOpenIfOk S.Store conn.new result }
+    ensures memory { FailsForMemory S.Store conn.old conn.new result }
 {
     open_rows(
         conn,
@@ -71,6 +74,7 @@ pub fn tenure_rows<S: Alter>(conn: &mut Connection<S>, id: VersionId) -> Result<
     ensures rows { HasCleanDisk (state S.Store conn.new) → IfOk result (λ rows. (v : Vault) → Keeps (state S.Store conn.old) v → (tenures : List TenureRow) × (rows.items ≡ map tenure_row tenures) × (map (λ x. x.tenure) tenures ≡ tenures_of v id)) }
     ensures read { OnlyReads S.Store conn.old conn.new }
     ensures open { IsOpenIfOk S.Store conn.new result }
+    ensures memory { FailsForMemory S.Store conn.old conn.new result }
 {
     query_rows(
         conn,
@@ -87,6 +91,7 @@ pub fn sized_rows<S: Alter>(
     ensures rows { HasCleanDisk (state S.Store conn.new) → IfOk result (λ rows. (v : Vault) → Keeps (state S.Store conn.old) v → (rows.items ≡ map sized_row (map sized_of (held_versions_in v bucket.now))) × Sound v) }
     ensures read { ReadsQuietly S.Store conn.old conn.new }
     ensures open { IsOpenIfOk S.Store conn.new result }
+    ensures memory { FailsForMemory S.Store conn.old conn.new result }
 {
     open_rows(
         conn,
@@ -100,6 +105,7 @@ pub fn rule_rows<S: Alter>(conn: &mut Connection<S>, bucket: &BucketName) -> Res
     ensures rows { HasCleanDisk (state S.Store conn.new) → IfOk result (λ rows. (v : Vault) → Keeps (state S.Store conn.old) v → (rules : List RuleRow) × (rows.items ≡ map rule_row rules) × (set_of rules ≡ rules_of v bucket.now)) }
     ensures read { OnlyReads S.Store conn.old conn.new }
     ensures open { IsOpenIfOk S.Store conn.new result }
+    ensures memory { FailsForMemory S.Store conn.old conn.new result }
 {
     query_rows(
         conn,
@@ -118,6 +124,7 @@ pub fn entry_rows<S: Alter>(
     ensures rows { HasCleanDisk (state S.Store conn.new) → IfOk result (λ rows. (v : Vault) → Keeps (state S.Store conn.old) v → (rows.items ≡ take most (reverse (map entry_shown (entries_of v bucket.now key.now)))) × Sound v) }
     ensures read { ReadsQuietly S.Store conn.old conn.new }
     ensures open { IsOpenIfOk S.Store conn.new result }
+    ensures memory { FailsForMemory S.Store conn.old conn.new result }
 {
     open_rows(
         conn,
@@ -136,6 +143,7 @@ pub fn key_rows<S: Alter>(
     ensures rows { HasCleanDisk (state S.Store conn.new) → IfOk result (λ rows. (v : Vault) → Keeps (state S.Store conn.old) v → rows.items ≡ map key_row (keys_after v bucket.now after.now most)) }
     ensures read { OnlyReads S.Store conn.old conn.new }
     ensures open { IsOpenIfOk S.Store conn.new result }
+    ensures memory { FailsForMemory S.Store conn.old conn.new result }
 {
     query_rows(
         conn,
@@ -154,6 +162,7 @@ pub fn newest_rows<S: Alter>(
     ensures rows { HasCleanDisk (state S.Store conn.new) → IfOk result (λ rows. (v : Vault) → Keeps (state S.Store conn.old) v → rows.items ≡ map id_row (option_to_list (newest_but v bucket.now key.now id))) }
     ensures read { OnlyReads S.Store conn.old conn.new }
     ensures open { IsOpenIfOk S.Store conn.new result }
+    ensures memory { FailsForMemory S.Store conn.old conn.new result }
 {
     query_rows(
         conn,
@@ -167,6 +176,7 @@ pub fn settings_rows<S: Alter>(conn: &mut Connection<S>, id: VersionId) -> Resul
     ensures rows { HasCleanDisk (state S.Store conn.new) → IfOk result (λ rows. (v : Vault) → Keeps (state S.Store conn.old) v → (settings : List SettingRow) × (rows.items ≡ map setting_row settings) × (map (λ x. x.setting) settings ≡ settings_of v id)) }
     ensures read { OnlyReads S.Store conn.old conn.new }
     ensures open { IsOpenIfOk S.Store conn.new result }
+    ensures memory { FailsForMemory S.Store conn.old conn.new result }
 {
     query_rows(
         conn,

@@ -1,6 +1,7 @@
 use Rattle.std.proofs.Common.{arith}
 use Rattle.sqlite.specs.Held.{state}
 use Rattle.vault_store_reads.proofs.QueryLemmas.{finds, keeps_after, if_shown}
+use Rattle.vault_store_reads.proofs.CauseLemmas.{memory_alone}
 use Rattle.vault_store_reads.proofs.OpenLemmas.{open_after, quiet}
 use Rattle.vault_store_reads.proofs.rows_in_order.rows.open_rows.Goals as goal
 
@@ -17,3 +18,6 @@ returns-clause-read g c = record {
 
 pub returns-clause-open : goal.returns-clause-open
 returns-clause-open g c clean = open_after _ _ _ _ (λ rows. rows.items) c.query_all.result (c.query_all.ensures.ok clean)
+
+pub returns-clause-memory : goal.returns-clause-memory
+returns-clause-memory g c fit well v was = memory_alone _ _ (state g.S.Store c.args.conn.now) _ c.requires.0 c.requires.1 fit c.query_all.ensures.survives.limit c.query_all.result (c.query_all.ensures.err well.clean) well v was

@@ -1,6 +1,7 @@
 use Rattle.vault_store_reads.proofs.QueryLemmas.{if_shown}
 use Rattle.vault_store_reads.proofs.RuleLemmas.{query, found_rules, told_rules}
 use Rattle.vault_store_reads.proofs.OrderedTextLemmas.{rules_is}
+use Rattle.vault_store_reads.proofs.FitLemmas.{rules_fit}
 use Rattle.vault_store_reads.proofs.rows_in_order.rows.rule_rows.Goals as goal
 
 pub query_rows-requires : goal.query_rows-requires
@@ -8,3 +9,6 @@ query_rows-requires g c = (query, rules_is)
 
 pub returns-clause-rows : goal.returns-clause-rows
 returns-clause-rows g c clean = if_shown c.query_rows.result (c.query_rows.ensures.rows clean) (λ rows finds v was. (_, found_rules v c.args.bucket.now rows.items (rw (c.params-to_sql.ensures, c.as_str.ensures.text) at (finds v was)), told_rules v c.args.bucket.now (finds v was).1.spells.kept.sound.rule_sets))
+
+pub returns-clause-memory : goal.returns-clause-memory
+returns-clause-memory g c = (rw (c.params-to_sql.ensures, c.as_str.ensures.text) at c.query_rows.ensures.memory) (rules_fit c.args.bucket.now)
