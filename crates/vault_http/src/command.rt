@@ -94,7 +94,7 @@ pub fn command_after<R: Read>(
     told: Result<(), ServeFault>,
 ) -> Result<Result<Command, Refusal>, ServeFault>
     ensures command { IfOk result (λ judged. IfSome (R.remaining reader.old) (λ rest. judged ≡ spec.command_after order locks size rest)) }
-    ensures told { OnOk result (told ≡ Ok tt) }
+    ensures reported { OnOk result (told ≡ Ok tt) }
     ensures fault { IfErr told (λ f. result ≡ Err f) }
     ensures err { result ≡ Err faults.Write → told ≡ Err faults.Write }
     ensures unread { result ≡ Err faults.Write → R.remaining reader.new ≡ R.remaining reader.old }

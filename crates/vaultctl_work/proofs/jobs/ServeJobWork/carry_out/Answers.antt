@@ -1,4 +1,4 @@
 use Rattle.vaultctl_work.proofs.jobs.ServeJobWork.carry_out.Goals as goal
 
-pub returns-clause-done : goal.returns-clause-done
-returns-clause-done g c = λ h. (c.serve.ensures.honest h, c.serve.ensures.stepped h)
+pub returns-in-None-clause-done : goal.returns-in-None-clause-done
+returns-in-None-clause-done g c = λ h. (c.serve.ensures.leaves.0 h, c.serve.ensures.stepped h)
