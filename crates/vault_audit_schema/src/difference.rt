@@ -65,7 +65,7 @@ fn index_difference(edition: Edition, indexes: &[Index]) -> Option<Table>
 
 /// The first table at which a schema differs from that of an edition, or none where it is that.
 ///
-/// A table that is none of the edition's is reported as `meta`, and so are an index of such a table and a view.
+/// A table that the edition doesn't have is reported as `meta`. So are its indexes, and views.
 pub fn first_difference(edition: Edition, schema: &Schema) -> Option<Table>
     ensures found { (result ≡ None) ↔ (schema.now ≡ schema_of edition) }
 

@@ -20,9 +20,7 @@ ghost use Rattle.vaultctl_machine.specs.Refusals.{IsUncopied, IsUncopiedFrom, Le
 
 use crate::editions::{edition_of, why_uncopied};
 use crate::looks::{is_one_file, looked_at};
-use crate::site::Site;
 use crate::starts::Starts;
-use crate::stores::Opened;
 use crate::unopened::Unopened;
 use crate::vaults::{
     FileVault, Machine, VaultStore, close_keeper, connect_new, connect_there, let_go, refused,
@@ -35,6 +33,8 @@ use vault_audit_model::schema::Edition;
 use vault_base::refusal::Refusal;
 use vault_store::sql_keeper::SqlKeeper;
 use vaultctl_machine_places::cause::Cause;
+use vaultctl_machine_stores::connect::Opened;
+use vaultctl_machine_stores::site::Site;
 
 /// A vault that was copied, and the files that it was copied from, which nobody else has before it is closed.
 pub struct Migrated<O: Alter, S: Alter> {

@@ -31,9 +31,6 @@ ghost use Rattle.vaultctl_machine.specs.Refusals.{IsRefusedOver, IsUnmade, IsUnm
 use crate::editions::why_unsound;
 use crate::given::Given;
 use crate::looks::{cause_of_kind, looked_at};
-use crate::site::Site;
-use crate::stores::before::Before;
-use crate::stores::{self, Opened};
 use crate::unopened::{Unopened, with_cause};
 use http_server::Log;
 use sqlite::{Alter, Connection, Error, ErrorCode, FileFrom, FileStore, Files, Start};
@@ -45,6 +42,9 @@ use vault_store::create::without_tables;
 use vault_store::sql_keeper::SqlKeeper;
 use vaultctl_machine_places::cause::Cause;
 use vaultctl_machine_places::places::place_at;
+use vaultctl_machine_stores::before::Before;
+use vaultctl_machine_stores::connect::{self, Opened};
+use vaultctl_machine_stores::site::Site;
 
 /// The store of a vault in files, which held what `S` says when they were opened.
 pub type VaultStore<S> = FileStore<FileFrom<S>>;
@@ -173,7 +173,7 @@ pub(crate) fn connect_there<S: Start>(
     ensures found { IfOk result (λ it. HasCleanDisk (file_state it.conn) → FindsIn (image_at S.Start) (file_state it.conn)) }
     ensures reported { IfErr result (Reports IsTold) }
 {
-    match stores::connect_there(site, start) {
+    match connect::connect_there(site, start) {
         Ok(opened) => Ok(opened),
         Err(error) => Err(cause(error, unopened(error))),
     }
@@ -193,7 +193,7 @@ pub(crate) fn connect_new<S: Start>(
     if let Err(error) = site.make_file() {
         return Err(unmakable(error));
     }
-    match stores::connect_new(site, start) {
+    match connect::connect_new(site, start) {
         Ok(opened) => Ok(opened),
         Err(error) => Err(cause(error, unmade(error))),
     }

@@ -1,6 +1,6 @@
 use Rattle.std.proofs.Common.{ap, ◌∙◌}
 use Rattle.sqlite_trees.proofs.Doubt.{clean_of}
-use Rattle.vaultctl_machine.proofs.stores.blank.blank_store.Goals as goal
+use Rattle.vaultctl_machine_stores.proofs.blank.blank_store.Goals as goal
 
 pub returns-in-Ok-create-clause-empty : goal.returns-in-Ok-create-clause-empty
 returns-in-Ok-create-clause-empty g c clean tree low =

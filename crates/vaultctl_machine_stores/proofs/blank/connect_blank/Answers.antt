@@ -1,5 +1,5 @@
 use Rattle.std.proofs.Common.{ap, ◌∙◌, arith}
-use Rattle.vaultctl_machine.proofs.stores.blank.connect_blank.Goals as goal
+use Rattle.vaultctl_machine_stores.proofs.blank.connect_blank.Goals as goal
 
 pub returns-in-Ok-clause-empty : goal.returns-in-Ok-clause-empty
 returns-in-Ok-clause-empty g c clean tree low =

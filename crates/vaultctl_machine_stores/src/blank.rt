@@ -81,7 +81,7 @@ fn blank_store<D: Disk>(
 /// A connection to a store with no table, in files that hold none, with pages of a size.
 ///
 /// `NotADatabase` where the files hold something, which stays as it is.
-pub(super) fn connect_blank<D: Disk + Drop>(
+pub(crate) fn connect_blank<D: Disk + Drop>(
     alloc: Global,
     files: Files<D>,
     size: PageSize,

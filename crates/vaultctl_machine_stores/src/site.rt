@@ -1,6 +1,6 @@
 //! The files at a path, which a refused command leaves as it found them.
 
-use crate::stores::before::Before;
+use crate::before::Before;
 use sqlite_disk::{Disk, Files};
 use std::fs::{self, OpenOptions};
 use std::io::{self, ErrorKind};

@@ -1,4 +1,4 @@
-//! New files at a path.
+//! Connections to the files at a path.
 ghost use Rattle.std.specs.Prelude.{true, false, IsTrue, IfOk};
 ghost use Rattle.sqlite.specs.Files.{file_state, IsOpened};
 ghost use Rattle.sqlite.specs.State.{HasCleanDisk};
@@ -6,12 +6,9 @@ ghost use Rattle.sqlite.specs.Start.{FindsIn};
 ghost use Rattle.sqlite_std_file.specs.File.{file_is_usable, IsFresh};
 ghost use Rattle.sqlite_wal.specs.Files.{image_at};
 
-pub mod before;
-mod blank;
-
+use crate::before::Before;
+use crate::blank::connect_blank;
 use crate::site::{Site, is_no_path};
-use crate::stores::before::Before;
-use crate::stores::blank::connect_blank;
 use sqlite::{
     Alter, Connection, Error, ErrorCode, FileFrom, FileStore, Files, Leftover, Options, Start,
 };
@@ -24,7 +21,7 @@ use std::hash::{BuildHasher, RandomState};
 use std::io::{self, ErrorKind};
 
 /// The bytes of a page in a file that is new.
-pub(crate) const PAGE_BYTES: usize = 1024;
+const PAGE_BYTES: usize = 1024;
 
 const NO_MEMORY: Error = Error::SqliteFailure(ErrorCode::OutOfMemory);
 
