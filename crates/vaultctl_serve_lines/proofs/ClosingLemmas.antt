@@ -1,5 +1,5 @@
 -- What is left of a line that was answered, or wasn't.
-use Rattle.std.proofs.Common.{◌≡◌, ◌∙◌, ℕ, Bool, true, false, List, [], ◌∷◌, Option, None, Some, Result, Ok, Err, OnOk, OnErr, refl, ap, sym, subst, inl, inr}
+use Rattle.std.proofs.Common.{◌≡◌, ◌∙◌, ℕ, Bool, true, false, List, [], ◌∷◌, Option, None, Some, Result, Ok, Err, OnOk, OnErr, refl, ap, sym, subst, inl}
 use Rattle.std.specs.Prelude.{if◌then◌else◌, IsOk}
 use Rattle.std.proofs.KnownBytes.{Appends-nil}
 use Rattle.vault_base.specs.declared.refusal.Refusal.{Refusal}
@@ -8,7 +8,6 @@ use Rattle.vault_core_model.specs.Halts.{AnswersAs, is_device, is_device_reply}
 use Rattle.vault_core_model.specs.Leaves.{Standing, count_after}
 use Rattle.vault_core_model.specs.Step.{Answers}
 use Rattle.vault_core_model.specs.Vault.{Vault}
-use Rattle.vault_core_model.specs.declared.command.Timed.{Timed}
 use Rattle.vault_core_model.specs.declared.halt.Halt.{Halt}
 use Rattle.vault_core_model.specs.declared.reply.Answer.{Answer}
 use Rattle.vault_core_model.specs.declared.reply.Reply.{Reply}

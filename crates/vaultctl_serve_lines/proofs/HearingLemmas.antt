@@ -1,17 +1,13 @@
--- The first line of bytes, and bytes that come by then.
-use Rattle.std.proofs.Common.{◌≡◌, ◌≢◌, ◌∙◌, ◌+◌, ◌-◌, ◌<◌, ◌≤◌, ℕ, Bool, true, false, List, [], ◌∷◌, ◌++◌, length, take, drop, get_or, All, Option, None, Some, append_assoc, refl, ap, sym, subst, arith}
+-- The first line of bytes, and what comes after it.
+use Rattle.std.proofs.Common.{◌≡◌, ◌≢◌, ◌∙◌, ◌+◌, ◌-◌, ◌<◌, ◌≤◌, ℕ, true, false, List, [], ◌∷◌, ◌++◌, length, take, drop, get_or, None, Some, append_assoc, ap, sym, subst, arith}
 use Rattle.std.proofs.lemmas.Bool.Decides.{nat_tests}
 use Rattle.std.proofs.lemmas.Grind.{common_steps}
 use Rattle.std.proofs.lemmas.List.{drop_more, get_or-take, get_or_default, length-drop, length-take-le, take_all, take-append-drop}
-use Rattle.std.proofs.lemmas.List.Elements.{All-weaker}
 use Rattle.std.proofs.lemmas.List.Quantifiers.{position-Some}
 use Rattle.std.proofs.lemmas.List.Sums.{fails_before_first}
 use Rattle.std.specs.List.{position, position_or_len}
 use Rattle.std.specs.Prelude.{◌==◌}
 use Rattle.vaultctl_replay.specs.Lines.{ended, HasNoLf}
-use Rattle.vaultctl_serve.specs.InTime.{Due, bytes_of}
-use Rattle.vaultctl_serve_lines.specs.Hearing.{Cuts, Gave}
-use Rattle.vaultctl_serve_lines.specs.declared.doors.Heard.{Heard}
 
 -- ---- the first LF
 
@@ -41,15 +37,6 @@ pub cuts-none : (bytes : List ℕ) → position (λ b. b == 10) bytes ≡ None �
 cuts-none bytes e k d m =
     let at : length bytes ≤ position_or_len (λ b. b == 10) bytes = grind (arith, common_steps) in
     not-lf (get_or bytes k d) (fails_before_first (λ b. b == 10) bytes k d (omega (arith, at, m)))
-
--- ---- bytes that come by then
-
-pub gave-later : (old new : Option (List Due)) (given : List ℕ) (by late : ℕ) → by ≤ late → Gave old new given by → Gave old new given late
-gave-later None None given by late within gave = tt
-gave-later None (Some later) given by late within gave = absurd gave
-gave-later (Some dues) None given by late within gave = absurd gave
-gave-later (Some dues) (Some later) given by late within gave =
-    (gave.0, gave.1, gave.2, All-weaker (λ (due : Due). due.at ≤ by) (λ (due : Due). due.at ≤ late) (λ due soon. omega (arith, soon, within)) gave.0 gave.3)
 
 -- what comes after a place is all that is left there
 pub all-after : (bytes : List ℕ) (i : ℕ) → take (length bytes - i) (drop i bytes) ≡ drop i bytes

@@ -1,4 +1,4 @@
-use Rattle.std.proofs.Common.{◌≡◌, ◌∙◌, ◌+◌, ℕ, Bool, List, ◌++◌, take, drop, Some, refl, sym, ap, subst}
+use Rattle.std.proofs.Common.{◌≡◌, ◌∙◌, ◌+◌, ℕ, Bool, List, ◌++◌, take, drop, refl, sym, ap, subst}
 use Rattle.std.specs.List.{position}
 use Rattle.std.specs.Prelude.{◌==◌}
 use Rattle.vaultctl_replay.specs.Lines.{ended, HasNoLf}
