@@ -159,7 +159,7 @@ fn check_single(
     requires few { length headers.now ≤ 64 }
     ensures { Gives (λ x. x) result (spec.single accepted minor (map (header_bytes buf.now) headers.now)) }
 {
-    if is_used_twice(takes, minor, buf, headers) {
+    if is_used_twice(accepted, minor, buf, headers) {
         return Err(LineFault::Refused(Refusal::InvalidArgument));
     }
     Ok(())
@@ -336,9 +336,9 @@ pub fn request_headers_of(
     ensures { Gives (λ x. x) result (spec.request_headers_of accepted minor (map (header_bytes buf.now) headers.now)) }
 {
     let length = length_of(accepted.limit, buf, headers)?;
-    check_single(takes, minor, buf, headers)?;
+    check_single(accepted, minor, buf, headers)?;
     let caller = caller_of(alloc, buf, headers)?;
-    let locks = locks_of(takes, buf, headers)?;
+    let locks = locks_of(accepted, buf, headers)?;
     let waits = waits(length, minor, buf, headers);
     Ok(RequestHeaders {
         length,
