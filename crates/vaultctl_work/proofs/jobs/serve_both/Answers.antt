@@ -4,7 +4,4 @@ use Rattle.vaultctl_work.proofs.jobs.serve_both.Goals as goal
 
 -- the text names no place, and nobody listened
 pub returns-in_default : goal.returns-in_default
-returns-in_default g c = λ h. (h, Stepped-none _ _ _ refl)
-
-pub returns : goal.returns
-returns g c = λ h. (c.serve_with_lines-ended.ensures.leaves.0 h, (rw c.most_with_lines.ensures at c.serve_with_lines-ended.ensures.stepped) h)
+returns-in_default g c = record { done = λ h. (h, Stepped-none _ _ _ refl) }
