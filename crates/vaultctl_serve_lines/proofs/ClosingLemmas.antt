@@ -1,25 +1,18 @@
 -- What is left of a line that was answered, or wasn't.
-use Rattle.std.proofs.Common.{◌≡◌, ◌∙◌, ℕ, Bool, true, false, List, [], ◌∷◌, Option, None, Some, Result, Ok, Err, OnOk, OnErr, refl, ap, sym, subst, inl}
+use Rattle.std.proofs.Common.{◌≡◌, ◌∙◌, ℕ, Bool, true, false, List, [], ◌∷◌, Option, None, Some, Result, Ok, Err, OnOk, OnErr, refl, sym, subst, inl}
 use Rattle.std.specs.Prelude.{if◌then◌else◌, IfOk, IsOk}
 use Rattle.std.proofs.KnownBytes.{Appends-nil}
-use Rattle.vault_base.specs.declared.refusal.Refusal.{Refusal}
 use Rattle.vault_base.specs.declared.refusal.Refusal.TheVariants.{Memory}
-use Rattle.vault_core_model.specs.Halts.{AnswersAs, is_device, is_device_reply}
-use Rattle.vault_core_model.specs.Leaves.{Standing, count_after}
-use Rattle.vault_core_model.specs.Step.{Answers}
+use Rattle.vault_core_model.specs.Leaves.{Standing}
 use Rattle.vault_core_model.specs.Vault.{Vault}
-use Rattle.vault_core_model.specs.declared.halt.Halt.{Halt}
-use Rattle.vault_core_model.specs.declared.reply.Answer.{Answer}
-use Rattle.vault_core_model.specs.declared.reply.Reply.{Reply}
 use Rattle.vault_core_model.specs.declared.reply.Reply.TheVariants as reply
 use Rattle.vault_http.specs.Left.{AtMostOne}
 use Rattle.vault_http.specs.Line.{Line}
 use Rattle.vault_http.specs.Line.TheVariants as line
 use Rattle.vault_http.specs.ReplyLine.{reply_text}
 use Rattle.vault_http.specs.Stamped.{closer_of}
-use Rattle.vault_io.specs.Begins.{Begins}
 use Rattle.vaultctl_replay.proofs.RunLemmas.{kept}
-use Rattle.vaultctl_serve_lines.specs.Closing.{Answered, AnswersOne, closing, ender_of, Ending, heard_of, is_malformed, Left, LeavesOne, LineAnswered, LineLeft, MayEnd}
+use Rattle.vaultctl_serve_lines.specs.Closing.{Answered, AnswersOne, closing, ender_of, heard_of, is_malformed, Left, LeavesOne, LineAnswered, LineLeft, MayEnd}
 use Rattle.vaultctl_serve_lines.specs.declared.doors.Heard.{Heard}
 use Rattle.vaultctl_serve_lines.specs.declared.line.Next.{Next}
 use Rattle.vaultctl_serve_lines.proofs.HeardLemmas.{began-once, finished-once, heard-at}

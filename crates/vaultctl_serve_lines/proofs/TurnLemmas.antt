@@ -1,5 +1,5 @@
 -- Turns, one after another, and how many of them took a request or a line.
-use Rattle.std.proofs.Common.{◌≡◌, ◌+◌, ◌≤◌, ℕ, List, [], ◌∷◌, ◌++◌, length, Option, None, Some, Result, Ok, Err, refl, subst, arith}
+use Rattle.std.proofs.Common.{◌≡◌, ◌+◌, ◌≤◌, ℕ, List, [], ◌∷◌, ◌++◌, length, Option, None, Some, Result, Ok, Err, subst, arith}
 use Rattle.vault_core_model.specs.Vault.{Vault}
 use Rattle.vault_http.specs.Left.{AtMostOne}
 use Rattle.vaultctl_serve.specs.Serving.{Missed, Next, ReadsAs, Stepped, SteppedAt, Taken, Tries, Try}
@@ -9,7 +9,6 @@ use Rattle.vaultctl_serve_lines.specs.Doors.{most_of, SteppedWithin, taken_in, t
 use Rattle.vaultctl_serve_lines.specs.declared.line.Next.{Next as AnyNext}
 use Rattle.vaultctl_serve_lines.specs.declared.line.Next.TheVariants as next
 use Rattle.vaultctl_serve_lines.specs.declared.turns.Turn.{Turn}
-use Rattle.vaultctl_serve_lines.specs.declared.turns.Turn.TheVariants as turn
 
 taken-append : (tries more : List Try) → taken_in (tries ++ more) ≡ taken_in tries + taken_in more
 taken-append [] more = omega arith
@@ -22,10 +21,6 @@ taken-bound (Taken moment ∷ tries) = omega (arith, taken-bound tries)
 taken-bound (Missed ∷ tries) = omega (arith, taken-bound tries)
 
 -- ---- known turns, one after another
-
-none-known : (known : Option (List Try)) → Tries known known []
-none-known None = tt
-none-known (Some all) = refl
 
 next-append : (all mid later tries more : List Try) → Next all mid tries → Next mid later more → Next all later (tries ++ more)
 next-append all mid later [] more x y = let P : List Try → Type 0 = λ known. Next known later more in subst P x y
@@ -45,19 +40,6 @@ pub takes-one : (answered : Result AnyNext ReplayFault) (made : Turn) → made �
 takes-one (Ok next.On) made is = rw is (omega arith)
 takes-one (Ok next.End) made is = rw is (omega arith)
 takes-one (Err fault) made is = rw is (omega arith)
-
-pub ended-by : (answered : Result AnyNext ReplayFault) (made : Turn) → made ≡ turn_after answered → made ≡ turn.End → answered ≡ Ok next.End
-ended-by (Ok next.On) made is e = cc
-ended-by (Ok next.End) made is e = refl
-ended-by (Err fault) made is e = cc
-
--- no turn was made
-pub Within-none : (n : ℕ) (known : Option (List Try)) (vault : Vault) → SteppedWithin n known known vault vault
-Within-none n known vault = ([], omega arith, none-known known, refl)
-
--- nothing came, and the vault is as it was
-pub Within-idle : (before after : Option (List Try)) (old new : Vault) → Tries before after (Missed ∷ []) → new ≡ old → SteppedWithin 0 before after old new
-Within-idle before after old new tries same = (Missed ∷ [], omega arith, tries, same)
 
 -- a request or a line was taken
 pub Within-taken : (before after : Option (List Try)) (shown moment : Option ℕ) (old new : Vault) → Tries before after (Taken shown ∷ []) → ReadsAs after shown moment → AtMostOne moment old new → SteppedWithin 1 before after old new

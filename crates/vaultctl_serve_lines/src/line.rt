@@ -124,8 +124,8 @@ fn write_reply<W: Write>(alloc: Global, writer: &mut W, reply: &Reply) -> Result
     }
 }
 
-/// Answers the line by which a caller asks for the end: the server ends where the caller may end it, also where the reply
-/// isn't taken. The faults are those of `write_reply`.
+/// Answers the line by which a caller asks for the end: the server ends where the caller may end it, also where the
+/// reply isn't taken. The faults are those of `write_reply`.
 fn answer_end<W: Write, K: Keeper>(
     alloc: Global,
     writer: &mut W,
@@ -199,8 +199,8 @@ fn serve_line_at<W: Write, K: Keeper>(
 
 /// Carries out what a line asks for, at the reading, and writes its reply: answers whether the server goes on.
 ///
-/// `Write` comes where the reply can't be written, and `Memory` where room was refused: then the line was carried out, or
-/// not. `Read` never comes.
+/// `Write` comes where the reply can't be written, and `Memory` where room was refused: then the line was carried out,
+/// or not. `Read` never comes.
 pub fn serve_line<W: Write, K: Keeper>(
     alloc: Global,
     heard: &Heard,
