@@ -139,7 +139,7 @@ def pieces_of(crate, module, name):
 def clauses_of(function, named):
     """The texts of a function's conditions, and of its clauses: those named, or all of them."""
     lines = source(TOP / function.path).lines
-    ends = (it for it in range(function.line, len(lines)) if re.match(r"\s*\{", lines[it]) or lines[it].endswith(";"))
+    ends = (it for it in range(function.line, len(lines)) if re.match(r"\s*\{|(?!\s*//).*;$", lines[it]))
     end = next(ends, len(lines) - 1) + 1
     starts = [it for it in range(function.line, end) if re.match(r"\s*(ensures|requires)\b", lines[it])]
     for start, stop in zip(starts, [*starts[1:], end]):
