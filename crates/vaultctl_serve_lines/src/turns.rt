@@ -152,7 +152,7 @@ pub fn serve_doors<C: Clock, D: Doors, K: Keeper, T: Reporter>(
     count: u32,
     reporter: &mut T,
 ) -> Next
-    // For each request and each line that was taken at most one command was carried out, at the clock's reading then,
+    // For each request and each line that was taken at most one command was carried out, at the clock's reading then;
     // and no more than `count` were taken.
     ensures timely { K.is_honest keeper.new → SteppedWithin count (D.tries doors.old) (D.tries doors.new) (K.vault keeper.old) (K.vault keeper.new) }
     ensures stepped { K.is_honest keeper.new → Stepped count (K.vault keeper.old) (K.vault keeper.new) }
