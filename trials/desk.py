@@ -1,7 +1,8 @@
 """Desk: its tests on wrong bodies. Each edit below has to make the test fail that is beside it.
 
-Those of the gateway for clients of S3 are in s3_edits.py. An edit is made in a copy of `desk`, which runs over the
-program. The gate looks only whether each edit can be made, and its test is there (`CanBeMade`).
+Those of the gateway for clients of S3 are in s3_edits.py, those of a vault that is served in door_edits.py. An edit is
+made in a copy of `desk`, which runs over the program. The gate looks only whether each edit can be made, and its test
+is there (`CanBeMade`).
 """
 
 import os
@@ -10,7 +11,7 @@ import shutil
 import sys
 from typing import NamedTuple
 
-from trials import s3_edits
+from trials import door_edits, s3_edits
 from trials.program import PROGRAM, TOP, Case, a_test_each, check, ran_words
 
 TAKES_LONG = True
@@ -50,7 +51,7 @@ EDITS = [
     # slips that would stand for ever
     Edit("engine", "if self.at and self.at > moments.tomorrow() and not self.is_copy:", "if False:",
          DOCUMENTS + "test_no_change_is_dated_ahead_of_the_clock"),
-    Edit("deliveries", "    engine.look_at_date()\n", "", DELIVERIES + "test_no_delivery_is_dated_ahead_of_the_clock"),
+    Edit("intake", "    engine.look_at_date()\n", "", DELIVERIES + "test_no_delivery_is_dated_ahead_of_the_clock"),
     Edit("moments", "return int(end[:4]) > int(at[:4]) + FAR + 1", "return False", DOCUMENTS + "test_a_far_end_is_asked_for"),
     Edit("locks", "if (words.mode == \"COMPLIANCE\" or far) and", "if far and", LOCKS + "test_compliance_is_asked_for"),
     Edit("documents", "os.O_TRUNC if force else os.O_EXCL", "os.O_TRUNC", DOCUMENTS + "test_nothing_is_overwritten_unasked"),
@@ -104,8 +105,8 @@ EDITS = [
     Edit("evidence", "return list(recheck.events.differing_seals(base, list(seals)))",
          "return list(recheck.events.differing_seals(base, list(seals)[:1]))",
          SEALS + "test_all_seals_come_out_again_and_a_forgery_is_found"),
-    Edit("evidence", "for path in words.files or [seals_beside(file)]",
-         "for path in (words.files or [seals_beside(file)])[:1]",
+    Edit("evidence", "for path in words.files or [seals_beside(engine.desk.file)]",
+         "for path in (words.files or [seals_beside(engine.desk.file)])[:1]",
          SEALS + "test_several_files_are_one_pass"),
     Edit("evidence", "recheck.compare.differences(old, new)", "recheck.compare.differences(new, old)",
          COMPARE + "test_what_came_since_is_no_difference"),
@@ -142,12 +143,12 @@ EDITS = [
     Edit("locks", "it.bucket, it.key, version, was))", "it.bucket, it.key, version, \"\"))",
          CASES + "test_a_case_is_noted_with_who_and_what_the_lock_was"),
     # deliveries
-    Edit("deliveries", "writer.writerow((\"\",) * 5 if it.wrong else (it.file, it.key, it.mode, it.until, it.hold))",
+    Edit("intake", "writer.writerow((\"\",) * 5 if it.wrong else (it.file, it.key, it.mode, it.until, it.hold))",
          "it.wrong or writer.writerow((it.file, it.key, it.mode, it.until, it.hold))",
          DELIVERIES + "test_what_was_left_out_may_be_mended_and_given_again"),
     Edit("deliveries", "if held.get(version) != it.digest]", "if False]",
          DELIVERIES + "test_content_that_changes_meanwhile_is_found"),
-    Edit("deliveries", "if refused or len(results) < wanted:", "if False:",
+    Edit("deliveries", "if refused or len(rows) < wanted:", "if False:",
          DELIVERIES + "test_each_refused_row_has_its_file_and_cause"),
     Edit("deliveries", "0 if known else sum(it.is_doubled for it in items)", "0",
          DELIVERIES + "test_the_same_content_in_another_batch_is_asked_for"),
@@ -166,6 +167,7 @@ EDITS = [
     Edit("spreadsheet", "\"wb\" if force else \"xb\"", "\"wb\"",
          YEARS_END + "test_a_spreadsheet_has_texts_alone"),
 ]  # fmt: skip
+EDITS += [Edit(f"desk/vaultdesk/{module}.py", *texts) for module, *texts in door_edits.EDITS]
 EDITS += [Edit(f"desk/vaultdesk/s3/{module}.py", *texts) for module, *texts in s3_edits.EDITS]
 
 

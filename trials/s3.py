@@ -2,8 +2,9 @@
 
 They are boto3, boto3 whose answers are lost, boto3 through nginx, aws, s3cmd and rclone. boto3 is the one of the Python
 that runs this, and aws is each that is on the path or in /usr/bin; `tools/setup-trials` installs Debian's. Each client
-has a vault and a gateway of its own; afterwards the vault is sound, and no refusal has left a version. The requests
-that these clients sent once, byte for byte, are in `desk/tests`, which need none of them and no network.
+has a vault and a gateway of its own; in `Served` a server has the vault meanwhile, and the gateway asks that server's
+door for lines. Afterwards the vault is sound, and no refusal has left a version. The requests that these clients sent
+once, byte for byte, are in `desk/tests`, which need none of them and no network.
 """
 
 import contextlib
@@ -17,6 +18,7 @@ import subprocess
 import threading
 import time
 import unittest
+import unittest.mock
 from concurrent.futures import ThreadPoolExecutor
 
 from trials.program import DESK, PROGRAM, TOP, Case, check, needs
@@ -40,7 +42,9 @@ TRIED = 300  # seconds for one run of a client, and for what the gateway is wait
 
 
 class Gateway:
-    """A vault with callers `ann`, who may all, and `bea`, and its gateway."""
+    """A vault with callers `ann`, who may all, and `bea`, and its gateway, before a server of the vault if `served`."""
+
+    served = False
 
     def __init__(self, program, folder, **settings):
         self.program, self.folder = program, folder
@@ -56,7 +60,7 @@ class Gateway:
         self.settings.write_text("".join(f"{it} = {json.dumps(value)}\n" for it, value in given.items()))
         self.keys = {it: json.loads(self.desk("key", "add", it, "--json")) for it in ("ann", "bea")}
         self.scheme = "https" if "certificate" in settings else "http"
-        self.child = None
+        self.child = self.server = None
 
     def desk(self, *words):
         ran = subprocess.run([DESK, "s3", *words, "--settings", self.settings], env=self.env, capture_output=True, text=True)
@@ -70,7 +74,30 @@ class Gateway:
         ran = subprocess.run([self.program, "replay", self.file], input=script, capture_output=True, text=True, check=True)
         return [json.loads(it) for it in ran.stdout.splitlines()]
 
+    def start_server(self):
+        """Has the vault served, with a door where a gateway looks for one."""
+        with socket.create_server(("127.0.0.1", 0)) as free:
+            port = free.getsockname()[1]
+        words = [self.program, "serve", self.file, str(port), "--lines", self.folder / "records.lines"]
+        said = self.folder / "server"
+        with open(said, "w") as log:
+            self.server = subprocess.Popen(words, stderr=log)
+        deadline = time.monotonic() + TRIED
+        while "lines at" not in said.read_text():
+            check(time.monotonic() < deadline and self.server.poll() is None, said.read_text())
+            time.sleep(0.1)
+
+    def end_server(self):
+        """Ends the server by its door, in good order."""
+        words = [DESK, "close", "--vault", self.file, "--as", "registrar"]
+        ran = subprocess.run(words, env=self.env, capture_output=True, text=True)
+        check(ran.returncode == 0, f"close: {ran.stderr}")
+        check(self.server.wait(TRIED) == 0, f"the server ended with {self.server.returncode}")
+        self.server = None
+
     def start(self):
+        if self.served and not self.server:
+            self.start_server()
         with open(self.folder / "log", "a") as log:
             self.child = subprocess.Popen([DESK, "s3", "serve", "--settings", self.settings], env=self.env, stderr=log)
         deadline = time.monotonic() + TRIED
@@ -83,6 +110,8 @@ class Gateway:
     def stop(self):
         self.child.terminate()
         check(self.child.wait(TRIED) == 0, f"the gateway ended with {self.child.returncode}")
+        if self.server:
+            self.end_server()
 
     def kill(self):
         self.child.kill()
@@ -105,6 +134,9 @@ class Gateway:
     def __exit__(self, kind, error, trace):
         if self.child.poll() is None:
             self.stop()
+        if self.server:
+            self.server.kill()
+            self.server.wait()
         if kind is None:
             ran = subprocess.run([self.program, "verify", self.file], capture_output=True, text=True)
             check(ran.stdout == "sound\n", ran.stdout + ran.stderr)
@@ -515,6 +547,13 @@ needs_boto3 = unittest.skipUnless(importlib.util.find_spec("boto3"), "there is n
 
 
 class S3(Case):
+    # Whether a server has each vault.
+    is_served = False
+
+    def setUp(self):
+        super().setUp()
+        self.enterContext(unittest.mock.patch.object(Gateway, "served", self.is_served))
+
     @needs_boto3
     @needs("openssl")
     def test_boto3(self):
@@ -540,3 +579,7 @@ class S3(Case):
     @needs("rclone")
     def test_rclone(self):
         try_rclone(PROGRAM, self.folder)
+
+
+class Served(S3):
+    is_served = True

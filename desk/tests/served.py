@@ -13,15 +13,16 @@ from tests.machine import MachineTest
 from tests.office import PROGRAM
 
 
-def _free_port() -> int:
+def free_port() -> int:
+    """A port of 127.0.0.1 at which nothing listens."""
     with socket.socket() as trial:
         trial.bind(("127.0.0.1", 0))
         return int(trial.getsockname()[1])
 
 
-def started(test: unittest.TestCase, file: Path, where: str) -> subprocess.Popen[str]:
+def started(test: unittest.TestCase, file: Path, where: str, port: int = 0) -> subprocess.Popen[str]:
     """A server of a vault that takes lines there, and does so by now; it ends with the test."""
-    words = [PROGRAM, "serve", str(file), str(_free_port()), "--lines", where]
+    words = [PROGRAM, "serve", str(file), str(port or free_port()), "--lines", where]
     server = subprocess.Popen(words, stderr=subprocess.PIPE, encoding="utf-8")
     assert server.stderr
     test.addCleanup(server.stderr.close)
@@ -53,7 +54,8 @@ class ServedTest(MachineTest):
         place = str(where or self.where)
         if not place.isdecimal():
             Path(place).parent.mkdir(mode=0o750, parents=True, exist_ok=True)
-        server = started(self, self.file, place)
+        self.port = free_port()
+        server = started(self, self.file, place, self.port)
         self.set_state("active")
         return server
 

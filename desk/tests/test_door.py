@@ -7,6 +7,7 @@ import os
 import shutil
 import socket
 import subprocess
+import tempfile
 import threading
 import time
 from collections.abc import Callable
@@ -18,6 +19,7 @@ from tests.served import ServedTest
 from vaultdesk import door, snapshot
 from vaultdesk.config import Desk
 from vaultdesk.engine import Engine
+from vaultdesk.owner import Owner
 
 
 class ByTheDoor(ServedTest):
@@ -49,10 +51,11 @@ class ByTheDoor(ServedTest):
         self.assertEqual(self.call("get", "docs", "Zürich/1").status, 1)
 
     def test_many_pages_of_a_list(self) -> None:
-        self.lines(*({"do": "put", "bucket": "docs", "key": f"{it:04}", "text": "x"} for it in range(1_002)))
+        self.lines(*({"do": "put", "bucket": "docs", "key": f"{it:04}", "text": "x"} for it in range(25)))
         self.serve()
-        listed = json.loads(self.done("ls", "docs", "--json", at=None))
-        self.assertEqual([it["key"] for it in listed], [f"{it:04}" for it in range(1_002)])
+        with mock.patch("vaultdesk.engine.PAGE", 10):
+            listed = json.loads(self.done("ls", "docs", "--json", at=None))
+        self.assertEqual([it["key"] for it in listed], [f"{it:04}" for it in range(25)])
 
     def test_the_largest_content(self) -> None:
         self.serve()
@@ -142,7 +145,9 @@ class Deliveries(ServedTest):
         return self.desk("deliver", str(self.scans), "--bucket", "docs", "--batch", "b1", *words, at=None)
 
     def results(self, *words: str) -> list[str]:
-        return [it["result"] for it in json.loads(self.deliver("--json", *words).out)["rows"]]
+        done = self.deliver("--json", *words)
+        self.assertEqual(done.status, 0, done.err)
+        return [it["result"] for it in json.loads(done.out)["rows"]]
 
     def test_what_is_taken_in_by_lines_is_known_to_the_program_and_the_other_way_round(self) -> None:
         classes = self.written("classes.csv", b"class,years,mode\ndeed,10,GOVERNANCE\n")
@@ -274,6 +279,12 @@ class Doors(ServedTest):
             done = self.answered(answer)
             self.assertEqual((done.status, done.out), (1, ""))
             self.assertIn("may have been done", done.err)
+
+        def otherwise(connection: socket.socket) -> None:
+            connection.recv(65_536)  # one that is closed before may break what is sent, and the answer is lost
+            connection.sendall(b"HTTP/1.1 400 no\n")
+
+        self.assertIn("no server of a vault", self.answered(otherwise).err)
         with mock.patch.object(door, "PATIENCE", 0.2):
             done = self.answered(lambda it: time.sleep(1))
         self.assertIn("no answer within", done.err)
@@ -283,15 +294,54 @@ class Doors(ServedTest):
 
         def put(number: int) -> None:
             with Engine(Desk(PROGRAM, self.file, "ann")) as engine:
-                for part in range(4):
+                for part in range(3):
                     engine.ask("put", bucket="docs", key=f"{number}/{part}", text=f"{number} {part}")
 
-        clients = [threading.Thread(target=put, args=(it,)) for it in range(30)]
+        clients = [threading.Thread(target=put, args=(it,)) for it in range(20)]
         for it in clients:
             it.start()
         for it in clients:
             it.join()
-        self.assertEqual(len(json.loads(self.done("ls", "docs", "--json", at=None))), 120)
+        self.assertEqual(len(json.loads(self.done("ls", "docs", "--json", at=None))), 60)
+
+
+class DoorAlone(ServedTest):
+    """Who may come to the door, and may not read the vault's file."""
+
+    def setUp(self) -> None:
+        super().setUp()
+        place = Path(self.enterContext(tempfile.TemporaryDirectory()))
+        place.chmod(0o755)
+        self.where = place / "lines"
+
+    def as_nobody(self, *words: str) -> Done:
+        """A call of the desk by a user who owns nothing, in the folder where that one is."""
+        with tempfile.TemporaryFile("w+") as told:
+
+            def call() -> int:
+                os.chdir("/")
+                done = self.desk(*words, "--door", str(self.where), at=None)
+                json.dump([done.status, done.out, done.err], told)
+                told.flush()
+                return 0
+
+            Owner(65_534, 65_534).carry_out(call)
+            told.seek(0)
+            return Done(*json.load(told))
+
+    def test_who_may_only_come_to_the_door_is_told_what_wants_the_file(self) -> None:
+        self.lines({"do": "put", "bucket": "docs", "key": "a", "text": "hello"})
+        self.serve(self.where)
+        self.where.chmod(0o666)
+        self.assertEqual(self.as_nobody("get", "docs", "a"), Done(0, "hello", ""))
+        self.assertEqual(self.as_nobody("hold", "docs", "a").status, 0)
+        for words, said in (
+            (("find", "a"), "ask as the vault's owner, or of a copy (--vault COPY)"),
+            (("release", "docs", "a"), "ask as who may read the file of cases"),
+        ):
+            done = self.as_nobody(*words)
+            self.assertEqual((done.status, done.out), (1, ""))
+            self.assertIn(said, done.err)
 
 
 class Close(ServedTest):
@@ -325,5 +375,5 @@ class Close(ServedTest):
         with waiting, mock.patch.object(door, "PATIENCE", 1.0):
             done = self.desk("close", "--as", "registrar", at=None)
         self.assertEqual(done.status, 1)
-        self.assertIn("hasn't ended within 1 seconds", done.err)
+        self.assertIn("hasn't ended in 1 seconds", done.err)
         self.assertEqual(server.wait(60), 0)

@@ -4,12 +4,14 @@ from __future__ import annotations
 
 import contextlib
 import io
+import itertools
 import json
-import time
 from pathlib import Path
+from unittest import mock
 
-from tests.s3_office import GatewayTest
+from tests.s3_office import NOW, GatewayTest
 from tests.served import started
+from vaultdesk import moments
 from vaultdesk.config import Desk
 from vaultdesk.engine import Engine
 from vaultdesk.s3 import settings, words
@@ -40,12 +42,13 @@ class Served(GatewayTest):
         self.refused("NoSuchKey", 404, self.ask("GET", "/docs/none"))
 
     def test_an_etag_is_noted_for_just_the_second_of_the_admission(self) -> None:
-        for number in range(6):
-            self.done("PUT", f"/docs/{number}", b"x")
-            time.sleep(0.2)
-        admitted = {it["version_id"]: it["admitted"] for it in self.entries()}
-        for version, (moment, _) in self.vault.etags.known.items():
-            self.assertEqual(moment, admitted[version])
+        seconds = (moments.of_seconds(it) for it in itertools.count(NOW))
+        with mock.patch("vaultdesk.moments.now", side_effect=seconds):
+            self.done("PUT", "/docs/a", b"x")
+        self.assertEqual(self.vault.etags.known, {})
+        with mock.patch("vaultdesk.moments.now", return_value="2026-11-28T01:12:00Z"):
+            reply = self.done("PUT", "/docs/b", b"x")
+        self.assertEqual(list(self.vault.etags.known), [int(reply.headers["x-amz-version-id"])])
 
     def test_others_work_on_the_vault_meanwhile(self) -> None:
         self.done("PUT", "/docs/a", b"hello")

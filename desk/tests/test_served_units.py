@@ -3,10 +3,12 @@
 from __future__ import annotations
 
 import grp
+import http.client
 import json
 import os
 import socket
 import subprocess
+import threading
 from unittest import mock
 
 from tests.machine import STOPPED_AND_STARTED, UNIT
@@ -41,6 +43,33 @@ class NightByTheDoor(ServedTest):
         self.assertIn("as sealed: 1 seal", self.done("check-seals", at=None))
         self.assertEqual([it.name for it in self.folder.iterdir() if it.name.startswith(".copy-")], [])
         self.assertEqual(self.done("get", "docs", "new", at=None), "new")
+
+    def test_nobody_is_refused_meanwhile(self) -> None:
+        self.serve()
+        stop, statuses = threading.Event(), list[int]()
+
+        def put(client: int) -> None:
+            while not stop.is_set():
+                connection = http.client.HTTPConnection("127.0.0.1", self.port, timeout=300)
+                headers = {"x-vault-caller": "ann"}
+                connection.request("PUT", f"/docs/{client}/{len(statuses)}", b"x" * 1_000, headers)
+                statuses.append(connection.getresponse().status)
+                connection.close()
+                stop.wait(0.1)
+
+        clients = [threading.Thread(target=put, args=(it,)) for it in range(4)]
+        for it in clients:
+            it.start()
+        try:
+            told = json.loads(self.done("night", "records", "--json", at=None))
+        finally:
+            stop.set()
+            for it in clients:
+                it.join()
+        self.assertGreater(len(statuses), 4)
+        self.assertEqual(set(statuses), {200})
+        found = subprocess.run([PROGRAM, "verify", told["copy"]], capture_output=True, text=True, check=True)
+        self.assertEqual((self.asked(), found.stdout), ([], "sound\n"))
 
     def test_a_dry_run_changes_nothing(self) -> None:
         self.serve()
@@ -96,8 +125,8 @@ class Started(ServedTest):
         self.enterContext(mock.patch("vaultdesk.glue._door_of", return_value=str(self.where)))
         self.where.parent.mkdir(parents=True, mode=0o700)
         self.requests = self.enterContext(socket.create_server(("127.0.0.1", 0)))
-        self.port = str(self.requests.getsockname()[1])
-        self.configure(PORT=self.port)
+        self.listens_at = str(self.requests.getsockname()[1])
+        self.configure(PORT=self.listens_at)
 
     def listen(self) -> None:
         """Takes lines, as this process."""
@@ -109,7 +138,7 @@ class Started(ServedTest):
     def test_who_is_of_the_group_may_come(self) -> None:
         self.listen()
         group = next(it for it in grp.getgrall() if it.gr_gid not in (0, os.getegid()))
-        self.configure(PORT=self.port, LINES_GROUP=group.gr_name)
+        self.configure(PORT=self.listens_at, LINES_GROUP=group.gr_name)
         self.done("unit", "started", "records", at=None)
         found = [(it.stat().st_mode & 0o777, it.stat().st_gid) for it in (self.where.parent, self.where)]
         self.assertEqual(found, [(0o750, group.gr_gid), (0o660, group.gr_gid)])
@@ -118,7 +147,7 @@ class Started(ServedTest):
 
     def test_a_group_that_isnt_there_is_named(self) -> None:
         self.listen()
-        self.configure(PORT=self.port, LINES_GROUP="nobody-of-that-name")
+        self.configure(PORT=self.listens_at, LINES_GROUP="nobody-of-that-name")
         done = self.desk("unit", "started", "records", at=None)
         self.assertEqual(done.status, 1)
         self.assertIn("LINES_GROUP=nobody-of-that-name", done.err)
@@ -133,7 +162,7 @@ class Started(ServedTest):
 
 class Locks(ServedTest):
     def test_who_works_on_a_vault_is_for_root_to_lock(self) -> None:
-        self.done("night", "records", at=None)
+        self.done("night", "records", "--clock-is-right", at=None)
         folder = conf.run_folder()
         modes = {it.name: it.stat().st_mode & 0o777 for it in folder.iterdir()}
         self.assertEqual((folder.stat().st_mode & 0o777, modes["records.lock"]), (0o755, 0o600))

@@ -54,8 +54,12 @@ class OfAVault(OfficeTest):
         log = snapshot.log_of(self.file).read_bytes()
         whole = snapshot.whole_changes(io.BytesIO(log))
         ends = {len(snapshot.whole_changes(io.BytesIO(log[:it]))) for it in range(0, len(whole) + 1, 997)}
-        self.assertGreater(len(ends), 3)
+        self.assertGreater(len(ends), 2)
+        page = int.from_bytes(log[8:12], "big")
         for number, end in enumerate(sorted({*ends, len(whole)})):
+            if end:
+                last = end - page - snapshot.FRAME
+                self.assertNotEqual(log[last + 4:last + 8], bytes(4), "no frame that ends a change")
             self.copy = self.folder / f"{number}.vault"
             self.copy.write_bytes(self.file.read_bytes())
             if end:

@@ -30,10 +30,11 @@ UNKNOWN = "what was asked may have been done: look before it is given again"
 
 
 class LinesDoor:
-    """A server's door for lines."""
+    """A server's door for lines, and for how many seconds a reply is waited for."""
 
-    def __init__(self, where: str) -> None:
+    def __init__(self, where: str, patience: float | None = None) -> None:
         self.where = where
+        self.patience = patience or PATIENCE
 
     def answer(self, line: Line, at: str | None) -> Answer:
         """What the server answers; its reading is certain where the clock shows one second before and after.
@@ -42,10 +43,10 @@ class LinesDoor:
         if at is not None:
             raise EngineError(f"{self.where}: a server reads the machine's clock, and takes no moment")
         before = moments.now()
-        with self._connected(PATIENCE) as connection:
+        with self._connected(self.patience) as connection:
             reply = self._exchange(connection, line)
         after = moments.now()
-        return Answer(json.loads(reply), after, before == after)
+        return Answer(reply, after, before == after)
 
     def close(self) -> None:
         """Nothing is open between two lines."""
@@ -56,10 +57,10 @@ class LinesDoor:
         At a port it isn't known which process that is, so there the reply is all that is waited for. `EngineError`
         where no reply comes, or the process goes on."""
         before = moments.now()
-        with self._connected(PATIENCE) as connection, _watched(connection) as process:
-            reply = json.loads(self._exchange(connection, {"as": caller, "do": "close"}))
-            if "ok" in reply and process is not None and not _has_ended(process):
-                raise EngineError(f"{self.where}: the server answered, and hasn't ended within {PATIENCE:.0f} seconds")
+        with self._connected(self.patience) as connection, _watched(connection) as process:
+            reply = self._exchange(connection, {"as": caller, "do": "close"})
+            if "ok" in reply and process is not None and not _has_ended(process, self.patience):
+                raise EngineError(f"{self.where}: the server answered, and hasn't ended in {self.patience:.0f} seconds")
         return Answer(reply, before, is_certain=False)
 
     def is_there(self) -> bool:
@@ -70,7 +71,7 @@ class LinesDoor:
         except _Nobody:
             return False
 
-    def _exchange(self, connection: socket.socket, line: Line) -> bytes:
+    def _exchange(self, connection: socket.socket, line: Line) -> Line:
         """The reply to a line, after which the connection is done."""
         found = bytearray()
         try:
@@ -82,10 +83,14 @@ class LinesDoor:
                     raise EngineError(f"{self.where}: the server gave no answer: {UNKNOWN}")
                 found += piece
         except TimeoutError as error:
-            raise EngineError(f"{self.where}: no answer within {PATIENCE:.0f} seconds: {UNKNOWN}") from error
+            raise EngineError(f"{self.where}: no answer within {self.patience:.0f} seconds: {UNKNOWN}") from error
         except OSError as error:
             raise EngineError(f"{self.where}: {error.strerror}: {UNKNOWN}") from error
-        return bytes(found)
+        try:
+            reply: Line = json.loads(found)
+        except ValueError as error:
+            raise EngineError(f"{self.where}: what answers there is no server of a vault") from error
+        return reply
 
     @contextmanager
     def _connected(self, patience: float) -> Iterator[socket.socket]:
@@ -141,11 +146,11 @@ def _watched(connection: socket.socket) -> Iterator[int | None]:
             os.close(process)
 
 
-def _has_ended(process: int) -> bool:
-    """Whether a process ends in time."""
+def _has_ended(process: int, patience: float) -> bool:
+    """Whether a process ends within some seconds."""
     waiting = select.poll()
     waiting.register(process, select.POLLIN)
-    return bool(waiting.poll(PATIENCE * 1000))
+    return bool(waiting.poll(patience * 1000))
 
 
 # ---- where it is

@@ -17,6 +17,7 @@ from vaultdesk.units import Busy, Served, systemctl
 
 PROCESSES = Path("/proc")
 PORTS, SOCKETS = Path("/proc/net/tcp"), Path("/proc/net/unix")
+LAST_WAIT = 120.0  # seconds for the reply of a server that ends, and as many for its end: less than TimeoutStopSec
 QUIET = 3_600  # seconds in which the same failure isn't reported again
 LISTENS, ACCEPTS = "0A", "00010000"  # how the kernel prints that a port, and a Unix socket, takes connections
 
@@ -83,6 +84,7 @@ def started(words: argparse.Namespace) -> int:
         if _door_of(process) == served.door().where:
             while not _takes_lines(process, served.door().where):
                 time.sleep(0.2)
+            conf.make_run_folder()
             _let_in(Path(served.door().where), served.conf.lines_group())
     except FileNotFoundError as error:
         raise DeskError("the server ended before it listened") from error
@@ -97,7 +99,7 @@ def stop(words: argparse.Namespace) -> int:
 
     Where it isn't done so, systemd kills the server, and nothing that was answered is lost."""
     served = Served(words.name)
-    door = served.door()
+    door = served.door(LAST_WAIT)
     if door.is_there():
         end(door, served.conf.admin())
     return 0

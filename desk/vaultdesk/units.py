@@ -62,9 +62,9 @@ class Served:
         """The state of the server's unit: active, activating, failed, inactive .."""
         return systemctl("is-active", self.unit)[1]
 
-    def door(self) -> LinesDoor:
+    def door(self, patience: float | None = None) -> LinesDoor:
         """The door at which the server takes lines, as its unit says."""
-        return LinesDoor(str(conf.lines_of(self.name)))
+        return LinesDoor(str(conf.lines_of(self.name)), patience)
 
     def is_enabled(self) -> bool:
         """Whether the server is to run."""
