@@ -122,9 +122,11 @@ def whole_script(server: Server) -> None:
 
     asking = threading.Thread(target=ask)
     asking.start()
-    replies = server.lines(b"".join(put(f"k{number}") for number in range(500)))
-    ended.set()
-    asking.join()
+    try:
+        replies = server.lines(b"".join(put(f"k{number}") for number in range(500)))
+    finally:
+        ended.set()
+        asking.join()
     equal(ok_puts(replies), list(range(1, 501)), "the replies to a script")
     check(len(took) >= 20, f"between 500 lines {len(took)} requests were answered")
 

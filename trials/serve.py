@@ -105,7 +105,7 @@ class Server:
         with self.connect() as peer:
             peer.settimeout(limit)
             peer.sendall(request)
-            answer = read_all(peer)
+            answer = read_all(peer, TimeoutError)
         took = time.monotonic() - began
         if took > limit:
             raise Late(f"{request[:20]!r}: {len(answer)} bytes within {took:.1f} s, and not within {limit:.1f} s")
@@ -115,7 +115,7 @@ class Server:
         """What comes to a client, up to the connection's end, which has to come at once."""
         began = time.monotonic()
         peer.settimeout(self.slack)
-        came = read_all(peer)
+        came = read_all(peer, TimeoutError)
         if time.monotonic() - began > self.slack:
             raise Late(f"{len(came)} bytes and no end within {self.slack:.1f} s")
         return came
@@ -153,7 +153,7 @@ class Dripping(threading.Thread):
                 if select.select([self.peer], [], [], 1)[0]:
                     break
                 self.peer.sendall(bytes([byte]))
-            self.came = read_all(self.peer)
+            self.came = read_all(self.peer, TimeoutError)
         self.took = time.monotonic() - began
 
 
@@ -172,7 +172,7 @@ class Flooding(threading.Thread):
                 self.peer.sendall(self.sent)
                 for _ in range(0, self.count, 65_536):
                     self.peer.sendall(bytes(65_536))
-                self.came = read_all(self.peer)
+                self.came = read_all(self.peer, TimeoutError)
             except OSError as error:
                 self.failed = error
         self.took = time.monotonic() - began
@@ -354,6 +354,8 @@ def carry_out_together(client, numbers):
             client(number)
         except Late as error:
             late.append(error)
+        except OSError as error:
+            wrong(f"client {number} of those at once: {error}")
 
     clients = [threading.Thread(target=carried_out, args=[it]) for it in numbers]
     for it in clients:

@@ -86,10 +86,10 @@ def serving(file: File, *words: str, folder: pathlib.Path | None = None) -> Iter
         ended(server)
 
 
-def read_all(peer: socket.socket) -> bytes:
-    """What comes up to the connection's end, which a reset is too; what came so far where the end stays away."""
+def read_all(peer: socket.socket, *ends: type[OSError]) -> bytes:
+    """What comes up to the connection's end, which a reset is too, and each of these errors."""
     parts = []
-    with contextlib.suppress(ConnectionResetError, TimeoutError):
+    with contextlib.suppress(ConnectionResetError, *ends):
         while part := peer.recv(65_536):
             parts.append(part)
     return b"".join(parts)
