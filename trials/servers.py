@@ -10,11 +10,12 @@ import subprocess
 import time
 from typing import Iterator
 
+from trials import program
 from trials.program import PROGRAM, check
 
 HOST = "127.0.0.1"
 # Seconds that one waits for a server to listen or to end, and for the next bytes of an answer.
-LIMIT = 60
+LIMIT = program.LIMIT / 5
 File = pathlib.Path | str
 
 
