@@ -50,6 +50,11 @@ EDITS = [
     # who may not read the file
     ("cases", "        except PermissionError as error:\n", "        except UnicodeEncodeError as error:\n",
      ALONE + "test_who_may_only_come_to_the_door_is_told_what_wants_the_file"),
+    ("deliveries", "        differing = _differing(engine, words.bucket, taken)\n    except EngineError as error:\n",
+     "        differing = _differing(engine, words.bucket, taken)\n    except UnicodeEncodeError as error:\n",
+     ALONE + "test_a_delivery_is_reported_also_where_it_cant_be_compared"),
+    ("deliveries", "    if why:\n", "    if False:\n",
+     ALONE + "test_a_delivery_is_reported_also_where_it_cant_be_compared"),
     # deliveries
     ("intake", "'again' if done['again'] else 'admitted'", "'admitted'", BATCH),
     ("intake", "\"line\": it.number", "\"line\": it.number + 1", BATCH),

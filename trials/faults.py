@@ -9,7 +9,8 @@ done is there all the same.
 
 A refused command leaves a file and its log as they were, by their SHA-256 sums, whatever is in the log; and standard
 error says in words why a file isn't opened or made. A new file and its log are their owner's alone, whatever the umask.
-Where there is `strace`, an `init` is killed before each call that changes a file, and the next one makes a sound vault.
+Where there is `strace`, an `init` is killed before each call that changes a file, and the next one makes a sound vault;
+so it does where the device failed from any sync on, and a kill came as the files were given back.
 """
 
 import contextlib
@@ -25,7 +26,7 @@ import sqlite3
 import stat
 import unittest
 
-from trials.calls import CHANGING, injected, kills, needs_strace
+from trials.calls import CHANGING, KILLED, injected, kills, needs_strace
 from trials.program import EXAMPLES, NOBODY, OPENED_AT, PROGRAM, Case, Ran, check, make_office, ran_words
 from trials.servers import serving
 
@@ -70,6 +71,8 @@ MEANT = {
     "Write\n": "the answer can't be written, as to a full disk or a closed pipe: what was asked may have been done, so"
     " look before you give it again\n",
 }
+# The write of the last byte of a first page, among those of an `init`.
+LAST_BYTE = 6
 # The shortest log that has a change: its header and a frame's.
 LEAST_LOG = 56
 
@@ -233,12 +236,56 @@ class WithoutVault(Meeting):
         """An `init` is killed before each call that changes a file: what it left is made a vault by the next one, or
         is one."""
         for when in kills(self.folder, "killed", self.clear, "init", f"{self.folder}/killed"):
-            again, sound = self.ran("init", "killed"), self.ran("verify", "killed")
-            is_whole = (again.status, again.err) == (1, f"init: NameTaken\n{WORDS['taken']}\n")
-            self.assertTrue(is_whole or again.status == 0, f"after {when}: {again}")
-            self.assertEqual(sound.out, "sound\n", f"after {when} and another init: {sound}")
-            size = (self.folder / "killed").read_bytes()[16:18]
-            self.assertEqual(size, (1024).to_bytes(2, "big"), f"the bytes of a page, after {when}")
+            self.is_made_after(when)
+
+    def is_made_after(self, when):
+        """What an `init` left is made a vault by the next one, or is one."""
+        again, sound = self.ran("init", "killed"), self.ran("verify", "killed")
+        is_whole = (again.status, again.err) == (1, f"init: NameTaken\n{WORDS['taken']}\n")
+        self.assertTrue(is_whole or again.status == 0, f"after {when}: {again}")
+        self.assertEqual(sound.out, "sound\n", f"after {when} and another init: {sound}")
+        size = (self.folder / "killed").read_bytes()[16:18]
+        self.assertEqual(size, (1024).to_bytes(2, "big"), f"the bytes of a page, after {when}")
+
+    def init_where(self, what):
+        """The status of an `init` where this happens to calls on its files."""
+        return injected(self.folder, ["killed"], what, "init", f"{self.folder}/killed")[0].status
+
+    def begin(self, is_part):
+        """No file, or the part of a first page that an `init` leaves which is killed before the last byte of it."""
+        self.clear()
+        if is_part:
+            status = self.init_where({"pwrite64": f"signal=KILL:when={LAST_BYTE}"})
+            self.assertIn(status, KILLED, "no kill comes before a first page is whole")
+            left = (self.folder / "killed").read_bytes()
+            self.assertEqual((len(left), left[0]), (1024, 0), "a kill before a first page is whole leaves something else")
+
+    def given_back(self, is_part, sync, call):
+        """The device of an `init` fails from that sync on, and a kill comes before each call of that name by which files
+        are given back: how often one came, and the status of the `init` to which none came."""
+        for number in itertools.count(1):
+            self.begin(is_part)
+            what = {"fdatasync": f"error=EIO:when={sync}+", call: f"signal=KILL:when={number}"}
+            status = self.init_where(what)
+            if status == 0:
+                return number - 1, 0
+            self.is_made_after(f"a kill before {call} {number}, where sync {sync} fails, {is_part=}")
+            if status not in KILLED:
+                self.assertEqual(status, 1, f"where sync {sync} fails")
+                return number - 1, 1
+
+    @needs_strace
+    def test_failing(self):
+        """The device of an `init` fails from each sync on, with a kill as files are given back, or without: the next
+        one makes the vault, also where an earlier kill left a part of a first page."""
+        for is_part in (False, True):
+            count = 0
+            for sync in itertools.count(1):
+                found = [self.given_back(is_part, sync, call) for call in ("ftruncate", "unlink")]
+                count += sum(it for it, _ in found)
+                if (0, 0) in found:
+                    break
+            self.assertGreater(count, 10, f"an init on a device that fails was killed at few calls, {is_part=}")
 
 
 class Vaulted(Meeting):

@@ -6,9 +6,9 @@ byte for byte what the earlier program said, but that reports have what was rece
 so is that of tables of some thousand rows. Then what is refused: damaged tables, each by its name, one file for both,
 files that are there or that another program has, a device with too little room, output that can't be written, a kill at
 any moment; and where there is `strace`, a kill before each call that changes a file of the copy, a failure of each read
-of the earlier file, and a kill between the removals of what was begun. The earlier file and its log keep each byte, no
-file is left of a copy that was refused, none that was there before is removed or changed, and the same words given
-again make it. The commands of `docs/UPGRADING.md` are tried too.
+of the earlier file, and a kill before each removal of what was begun on a device that fails. The earlier file and its
+log keep each byte, no file is left of a copy that was refused, none that was there before is removed or changed, and
+the same words given again make it. The commands of `docs/UPGRADING.md` are tried too.
 """
 
 import contextlib
@@ -392,23 +392,19 @@ class Copies:
 
     @needs_strace
     def test_removals(self):
-        """The device of the copy fails from each sync on, so that its log can't be emptied, and a kill comes as the
-        second of its files is removed: the log is gone by then, and the file that is left doesn't hinder the same
-        words."""
+        """The device of the copy fails from each sync on, and a kill comes before each removal of what was begun: the
+        same words take over what is left then."""
         count = 0
-        for number in itertools.count(1):
-            what = {"fdatasync": f"error=EIO:when={number}+", "unlink": "signal=KILL:when=2"}
-            done, _ = injected(self.folder, ["new"], what, "migrate", "old", f"{self.folder}/new")
+        for sync, number in itertools.product(itertools.count(1), (1, 2)):
+            what = {"fdatasync": f"error=EIO:when={sync}+", "unlink": f"signal=KILL:when={number}"}
+            done, _ = injected(self.folder, ["new"], what, "migrate", f"{self.folder}/old", f"{self.folder}/new")
             if done.status == 0:
-                self.remove()
                 break
-            where = f"where sync {number} fails"
+            where = f"a kill before removal {number}, where sync {sync} fails"
             self.assertIn(done.status, KILLED, f"{where}: {done}")
             count += 1
-            self.assertTrue(self.has("new") and not self.has("new-wal"), f"{where}, the file is removed before its log")
-            self.makes_copy()
-            self.keeps_old(where)
-        self.assertGreater(count, 10, "a copy was killed at few removals")
+            self.is_made_after(where)
+        self.assertGreater(count, 20, "a copy was killed at few removals")
 
     def test_page(self):
         """The commands of the page on upgrading, beside the earlier vault and what was said of it."""

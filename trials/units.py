@@ -13,7 +13,7 @@ a vault is made as docs/ENGINEER.md says, its units are enabled, and then:
     that is enabled and doesn't run it reports
   - the night does nothing by a clock that isn't synchronized; while the server goes on it carries out the rules, copies
     the vault, audits the copy and makes a seal
-  - the gateway for clients of S3 answers in the server's place, and opens no vault
+  - the gateway for clients of S3 answers before the server, and opens no vault
   - a vault that isn't sound is given up after five starts, which is reported; the copy is put back by root and served
   - a second boot serves it by itself; with the package the server goes, and comes again
 

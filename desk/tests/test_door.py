@@ -343,6 +343,18 @@ class DoorAlone(ServedTest):
             self.assertEqual((done.status, done.out), (1, ""))
             self.assertIn(said, done.err)
 
+    def test_a_delivery_is_reported_also_where_it_cant_be_compared(self) -> None:
+        scans = self.where.parent / "scans"
+        scans.mkdir()
+        scans.chmod(0o755)
+        (scans / "a.pdf").write_bytes(b"a scan")
+        self.serve(self.where)
+        self.where.chmod(0o666)
+        done = self.as_nobody("deliver", str(scans), "--bucket", "docs", "--batch", "b1")
+        self.assertEqual((done.status, done.out), (1, "1 of 1 rows are in the vault\n"))
+        self.assertIn("wasn't compared with the folder", done.err)
+        self.assertEqual(self.as_nobody("get", "docs", "a.pdf"), Done(0, "a scan", ""))
+
 
 class Close(ServedTest):
     def test_after_it_the_file_is_whole_without_its_log(self) -> None:

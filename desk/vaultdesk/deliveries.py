@@ -89,30 +89,38 @@ def _questions(items: Sequence[Item], known: bool) -> str:
 
 
 def _differing(engine: Engine, bucket: str, taken: Mapping[int, Item]) -> list[str]:
-    """The files whose content isn't what the vault holds, by the digests of both."""
+    """The files whose content isn't what the vault holds, by the digests of both. `EngineError` where the vault's
+    tables can't be read."""
     held = {it["version"]: it["sha256"] for it in _query_found(engine.tables, bucket)}
     return [it.file for version, it in taken.items() if held.get(version) != it.digest]
 
 
 def _tell(engine: Engine, words: argparse.Namespace, items: Sequence[Item], intake: Intake) -> None:
-    """Prints what became of the delivery. `DeskError` where not all that was right is in the vault as it is there."""
+    """Prints what became of the delivery. `DeskError` where not all that was right is in the vault as it is there, or
+    who came by a server's door may not read the tables to compare it."""
     rows = list(results(intake, items))
     refused = [it for it in rows if it["result"] == "refused"]
     taken = {int(it["value"]): items[it["row"] - 1] for it in rows if it["result"] != "refused"}
-    differing = _differing(engine, words.bucket, taken)
+    differing, why = None, None
+    try:
+        differing = _differing(engine, words.bucket, taken)
+    except EngineError as error:
+        why = f"what is in the vault wasn't compared with the folder: {error}"
     wanted = sum(not it.wrong for it in items)
     if words.json:
         told = {"taken_in": len(taken), "refused": refused, "differing": differing, "rows": rows}
         print_json({**told, "findings": _findings(items)})
     else:
         print_table(refused, ("row", "file", "key", "value", "cause"), as_json=False)
-        same = len(taken) - len(differing)
-        print(f"{len(taken)} of {len(items)} rows are in the vault, {same} of them with the digest of their file")
+        same = "" if differing is None else f", {len(taken) - len(differing)} of them with the digest of their file"
+        print(f"{len(taken)} of {len(items)} rows are in the vault{same}")
     if differing:
         raise DeskError(f"the vault holds other content than the folder has now: {', '.join(differing)}")
     if refused or len(rows) < wanted:
         last = intake.lines[-1] if intake.lines else "no line of the engine"
         raise DeskError(f"{len(refused)} rows were refused, {wanted - len(rows)} weren't come to: {last}")
+    if why:
+        raise DeskError(why)
 
 
 def deliver(engine: Engine, words: argparse.Namespace) -> None:

@@ -90,6 +90,15 @@ impl Before {
         }
     }
 
+    /// Whether the file held more than a byte. A byte may be the beginning of a first page by itself, more of it only by the
+    /// log beside it.
+    pub fn had_more_than_a_byte(&self) -> bool {
+        match &self.db {
+            Some(bytes) => bytes.len() > 1,
+            None => true,
+        }
+    }
+
     /// Has a log hold again what it held. The error is that it can't be written.
     pub fn put_back_log<D: Disk>(&self, log: &mut D) -> io::Result<()>
         ensures written { OnOk result (D.Disk.seen log.new ≡ self.now.log.items) }

@@ -70,23 +70,68 @@ fn unprobed(error: sqlite_wal::Error) -> Error {
     }
 }
 
-/// A connection to files, which get pages of `PAGE_BYTES` if they hold nothing yet.
+/// A connection to files that hold something. With an error they are as they were.
+fn connect_whole<D: Disk + Drop>(
+    site: &Site<'_>,
+    files: Files<D>,
+    options: Options,
+    before: &Before,
+) -> Result<Connection<FileStore<D>>, Error>
+    requires log { IsTrue (D.Disk.is_usable files.log) }
+    requires db { IsTrue (D.Disk.is_usable files.db) }
+    ensures opened { IfOk result (λ c. HasCleanDisk (file_state c) → IsOpened c) }
+{
+    match Connection::open_files_with(site.runtime().alloc(), files, options, false) {
+        Ok(conn) => Ok(conn),
+        Err((error, left)) => {
+            site.leave(left.into_files(), before);
+            Err(error)
+        }
+    }
+}
+
+/// A connection to files that hold nothing yet, and get pages of a size. With an error they are as they were.
+fn connect_unmade<D: Disk + Drop>(
+    site: &Site<'_>,
+    files: Files<D>,
+    size: PageSize,
+    options: Options,
+    before: &Before,
+) -> Result<Connection<FileStore<D>>, Error>
+    requires log { IsTrue (D.Disk.is_usable files.log) }
+    requires db { IsTrue (D.Disk.is_usable files.db) }
+    ensures opened { IfOk result (λ c. HasCleanDisk (file_state c) → IsOpened c) }
+{
+    match connect_blank(site.runtime().alloc(), files, size, options) {
+        Ok(conn) => Ok(conn),
+        Err((error, left)) => {
+            site.leave_unmade(left.into_files(), before);
+            Err(error)
+        }
+    }
+}
+
+/// A connection to files, which get pages of `PAGE_BYTES` if they hold nothing yet. With an error they are as they were.
 fn connect_files<D: Disk + Drop>(
-    alloc: Global,
+    site: &Site<'_>,
     mut files: Files<D>,
     options: Options,
-) -> Result<Connection<FileStore<D>>, (Error, Leftover<D>)>
+    before: &Before,
+) -> Result<Connection<FileStore<D>>, Error>
     requires log { IsTrue (D.Disk.is_usable files.log) }
     requires db { IsTrue (D.Disk.is_usable files.db) }
     ensures opened { IfOk result (λ c. HasCleanDisk (file_state c) → IsOpened c) }
 {
     let Some(size) = PageSize::new(PAGE_BYTES) else {
-        return Connection::open_files_with(alloc, files, options, false);
+        return connect_whole(site, files, options, before);
     };
-    match probe_blank(alloc, &mut files, size, false) {
-        Ok(true) => connect_blank(alloc, files, size, options),
-        Ok(false) => Connection::open_files_with(alloc, files, options, false),
-        Err(error) => Err((unprobed(error), Leftover::Files(files))),
+    match probe_blank(site.runtime().alloc(), &mut files, size, false) {
+        Ok(true) => connect_unmade(site, files, size, options, before),
+        Ok(false) => connect_whole(site, files, options, before),
+        Err(error) => {
+            site.leave(files, before);
+            Err(unprobed(error))
+        }
     }
 }
 
@@ -121,12 +166,9 @@ pub fn connect_new<S: Start>(
         Ok(before) => before,
         Err(error) => return Err(untouched(error)),
     };
-    match connect_files(rt.alloc(), files, options) {
+    match connect_files(site, files, options, &before) {
         Ok(conn) => Ok(Opened { conn, before }),
-        Err((error, left)) => {
-            site.leave(left.into_files(), &before);
-            Err(error)
-        }
+        Err(error) => Err(error),
     }
 }
 

@@ -5,6 +5,7 @@ use sqlite_disk::{Disk, Files};
 use std::fs::{self, OpenOptions};
 use std::io::{self, ErrorKind};
 use std::os::unix::fs::OpenOptionsExt;
+use std::path::PathBuf;
 use vaultctl_machine_places::places::Place;
 
 /// The mode of a file that is made: its owner alone may read and write it.
@@ -17,6 +18,13 @@ pub struct Site<'a> {
     path: &'a str,
     lacks_file: bool,
     lacks_log: bool,
+}
+
+/// What a file and its log are called, with no link in it.
+#[derive(Drop)]
+struct Names {
+    file: PathBuf,
+    log: String,
 }
 
 /// Whether a path stands for something else than a file, as `Connection::open_from` reads it.
@@ -68,26 +76,78 @@ impl<'a> Site<'a> {
         }
     }
 
-    /// Removes the files that were missing and are empty, while this program has both open.
-    fn remove_made(&self, before: &Before) -> io::Result<()> {
+    /// What the file and its log are called. The error is that the file isn't there, or want of memory.
+    fn names(&self) -> io::Result<Names> {
         let file = fs::canonicalize(self.rt, self.path)?;
-        // The log goes first: without it no table is in the file, and the next opening takes it for a new one.
-        if self.lacks_log && before.had_no_log() {
-            let log = log_of(self.rt, file.as_str())?;
-            fs::remove_file(self.rt, log.as_str())?;
-        }
-        if self.lacks_file && before.had_no_file() {
-            fs::remove_file(self.rt, file.as_str())?;
-        }
-        Ok(())
+        let log = log_of(self.rt, file.as_str())?;
+        Ok(Names { file, log })
     }
 
-    /// Lets go of files that hold again what they held before they were opened. One that was made for the opening is
+    /// Has a log hold again what it held before it was opened, or removes it if it was missing; whether that worked.
+    fn gives_log_back<D: Disk>(
+        &self,
+        log: &mut D,
+        before: &Before,
+        names: &io::Result<Names>,
+    ) -> bool {
+        let is_back = before.put_back_log(log).is_ok();
+        let is_gone = self.lacks_log && before.had_no_log() && self.removes_log(names);
+        is_back || is_gone
+    }
+
+    /// The same of a file.
+    fn gives_file_back<D: Disk>(
+        &self,
+        file: &mut D,
+        before: &Before,
+        names: &io::Result<Names>,
+    ) -> bool {
+        let is_back = before.put_back_file(file).is_ok();
+        let is_gone = self.lacks_file && before.had_no_file() && self.removes_file(names);
+        is_back || is_gone
+    }
+
+    /// Removes a log, while this program has it open; whether that worked.
+    fn removes_log(&self, names: &io::Result<Names>) -> bool {
+        match names {
+            Ok(names) => fs::remove_file(self.rt, names.log.as_str()).is_ok(),
+            Err(_) => false,
+        }
+    }
+
+    /// The same of a file.
+    fn removes_file(&self, names: &io::Result<Names>) -> bool {
+        match names {
+            Ok(names) => fs::remove_file(self.rt, names.file.as_str()).is_ok(),
+            Err(_) => false,
+        }
+    }
+
+    /// Lets go of files, which hold again what they held before they were opened. One that was made for the opening is
     /// removed. What can't be written or removed stays.
+    ///
+    /// The log goes first. As long as changes are in it the file keeps its first page: beside an empty file they would be
+    /// taken for those of a vault whose file is lost.
     pub fn leave<D: Disk + Drop>(&self, files: Files<D>, before: &Before) {
         let mut files = files;
-        let _ = before.put_back_log(&mut files.log);
-        let _ = before.put_back_file(&mut files.db);
-        let _ = self.remove_made(before);
+        let names = self.names();
+        if self.gives_log_back(&mut files.log, before, &names) {
+            self.gives_file_back(&mut files.db, before, &names);
+        }
+    }
+
+    /// The same of files in which the first page wasn't made.
+    ///
+    /// The file goes first: without the log beside it, a part of a first page would be taken for somebody's file. A part
+    /// that was there before comes back after its log.
+    pub fn leave_unmade<D: Disk + Drop>(&self, files: Files<D>, before: &Before) {
+        if before.had_more_than_a_byte() {
+            return self.leave(files, before);
+        }
+        let mut files = files;
+        let names = self.names();
+        if self.gives_file_back(&mut files.db, before, &names) {
+            self.gives_log_back(&mut files.log, before, &names);
+        }
     }
 }

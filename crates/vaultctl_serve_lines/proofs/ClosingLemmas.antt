@@ -1,27 +1,20 @@
 -- What is left of a line that was answered, or wasn't.
-use Rattle.std.proofs.Common.{◌≡◌, ◌∙◌, ℕ, Bool, true, false, List, [], ◌∷◌, Option, None, Some, Result, Ok, Err, OnOk, OnErr, refl, ap, sym, subst, inl, inr}
-use Rattle.std.specs.Prelude.{if◌then◌else◌, IsOk}
+use Rattle.std.proofs.Common.{◌≡◌, ◌∙◌, ℕ, Bool, true, false, List, [], ◌∷◌, Option, None, Some, Result, Ok, Err, OnOk, OnErr, refl, sym, subst, inl}
+use Rattle.std.specs.Prelude.{if◌then◌else◌, IfOk, IsOk}
 use Rattle.std.proofs.KnownBytes.{Appends-nil}
-use Rattle.vault_base.specs.declared.refusal.Refusal.{Refusal}
 use Rattle.vault_base.specs.declared.refusal.Refusal.TheVariants.{Memory}
-use Rattle.vault_core_model.specs.Halts.{AnswersAs, is_device, is_device_reply}
-use Rattle.vault_core_model.specs.Leaves.{Standing, count_after}
-use Rattle.vault_core_model.specs.Step.{Answers}
+use Rattle.vault_core_model.specs.Leaves.{Standing}
 use Rattle.vault_core_model.specs.Vault.{Vault}
-use Rattle.vault_core_model.specs.declared.command.Timed.{Timed}
-use Rattle.vault_core_model.specs.declared.halt.Halt.{Halt}
-use Rattle.vault_core_model.specs.declared.reply.Answer.{Answer}
-use Rattle.vault_core_model.specs.declared.reply.Reply.{Reply}
 use Rattle.vault_core_model.specs.declared.reply.Reply.TheVariants as reply
 use Rattle.vault_http.specs.Left.{AtMostOne}
 use Rattle.vault_http.specs.Line.{Line}
 use Rattle.vault_http.specs.Line.TheVariants as line
 use Rattle.vault_http.specs.ReplyLine.{reply_text}
 use Rattle.vault_http.specs.Stamped.{closer_of}
-use Rattle.vault_io.specs.Begins.{Begins}
 use Rattle.vaultctl_replay.proofs.RunLemmas.{kept}
-use Rattle.vaultctl_serve_lines.specs.Closing.{Answered, AnswersOne, closing, ender_of, Ending, heard_of, is_malformed, Left, LeavesOne, LineAnswered, LineLeft, MayEnd}
+use Rattle.vaultctl_serve_lines.specs.Closing.{Answered, AnswersOne, closing, ender_of, heard_of, is_malformed, Left, LeavesOne, LineAnswered, LineLeft, MayEnd}
 use Rattle.vaultctl_serve_lines.specs.declared.doors.Heard.{Heard}
+use Rattle.vaultctl_serve_lines.specs.declared.line.Next.{Next}
 use Rattle.vaultctl_serve_lines.proofs.HeardLemmas.{began-once, finished-once, heard-at}
 
 -- nothing was done
@@ -34,10 +27,10 @@ line-left-none heard moment s w = left-none _ s w moment _
 
 -- what was asked for, and by whom the end was
 module _ (heard : Heard) (moment : Option ℕ) (asked : Line) (found : Option (List ℕ)) (is : asked ≡ heard_of heard.is_ended moment heard.bytes.items) (by : found ≡ ender_of asked heard.bytes.items) where
-  pub line-answered : (old new : Standing) (w w' : Option (List ℕ)) → Answered found old new w w' moment asked → LineAnswered old new w w' moment heard
-  line-answered old new w w' answered =
-      let P : Line → Type 0 = λ a. Answered (ender_of a heard.bytes.items) old new w w' moment a in
-      let Q : Option (List ℕ) → Type 0 = λ f. Answered f old new w w' moment asked in
+  pub line-answered : (after : Next) (old new : Standing) (w w' : Option (List ℕ)) → Answered found after old new w w' moment asked → LineAnswered after old new w w' moment heard
+  line-answered after old new w w' answered =
+      let P : Line → Type 0 = λ a. Answered (ender_of a heard.bytes.items) after old new w w' moment a in
+      let Q : Option (List ℕ) → Type 0 = λ f. Answered f after old new w w' moment asked in
       subst P is (subst Q by answered)
 
   pub line-left : (old new : Standing) (w w' : Option (List ℕ)) → Left found old new w w' moment asked → LineLeft old new w w' moment heard
@@ -66,23 +59,7 @@ may-end asked moment bytes who old new by same ok =
     let P : Vault → Type 0 = λ v. IsOk (closing v moment who) in
     (who, ender-closes asked bytes who (sym by), subst P (sym same) ok)
 
-pub on_ok : {T E P : Type 0} (r : Result T E) → P → OnOk r P
-on_ok (Ok t) p = p
-on_ok (Err e) p = tt
-
--- ---- the line that asks for the end
-
-pub ending-made : (old new : Standing) (w w' : Option (List ℕ)) (moment : Option ℕ) (who : List ℕ) (given : Result Answer Halt) (r : Reply)
-    → new.vault ≡ old.vault
-    → (new.is_honest → AnswersAs given old.vault new.vault (closing old.vault moment who))
-    → ((v v' : Vault) (judged : Result (Answer × Vault) Refusal) → AnswersAs given v v' judged → Answers judged v r v')
-    → new.count ≡ count_after old.count (is_device given)
-    → is_device_reply r ≡ is_device given
-    → Begins w w' (reply_text r)
-    → Ending old new w w' moment who
-ending-made old new w w' moment who given r same meets answers counted device begins =
-    (same, (r, λ h. answers old.vault new.vault (closing old.vault moment who) (meets h), counted ∙ ap (λ b. count_after old.count b) (sym device), begins))
-
-pub ends-ok : (given : Result Answer Halt) (old new : Vault) (judged : Result (Answer × Vault) Refusal) → IsOk given → AnswersAs given old new judged → IsOk judged
-ends-ok (Ok a) old new judged ok e = rw e refl
-ends-ok (Err halt) old new judged ok e = absurd cc
+-- what holds after a line is said of each way to go on
+pub each-ok : {T E P : Type 0} (r : Result T E) (Q : T → Type 0) → ((t : T) → P → Q t) → OnOk r P → IfOk r Q
+each-ok (Ok t) Q f p = f t p
+each-ok (Err e) Q f p = tt

@@ -1,17 +1,13 @@
--- The first line of bytes, and bytes that come by then.
-use Rattle.std.proofs.Common.{◌≡◌, ◌≢◌, ◌∙◌, ◌+◌, ◌<◌, ◌≤◌, ℕ, Bool, true, false, List, [], ◌∷◌, ◌++◌, length, take, drop, get_or, All, Option, None, Some, append_assoc, refl, ap, sym, subst, arith}
+-- The first line of bytes, and what comes after it.
+use Rattle.std.proofs.Common.{◌≡◌, ◌≢◌, ◌∙◌, ◌+◌, ◌-◌, ◌<◌, ◌≤◌, ℕ, true, false, List, [], ◌∷◌, ◌++◌, length, take, drop, get_or, None, Some, append_assoc, ap, sym, subst, arith}
 use Rattle.std.proofs.lemmas.Bool.Decides.{nat_tests}
 use Rattle.std.proofs.lemmas.Grind.{common_steps}
-use Rattle.std.proofs.lemmas.List.{drop_more, get_or-take, length-take-le, take-append-drop}
-use Rattle.std.proofs.lemmas.List.Elements.{All-weaker}
+use Rattle.std.proofs.lemmas.List.{drop_more, get_or-take, get_or_default, length-drop, length-take-le, take_all, take-append-drop}
 use Rattle.std.proofs.lemmas.List.Quantifiers.{position-Some}
 use Rattle.std.proofs.lemmas.List.Sums.{fails_before_first}
 use Rattle.std.specs.List.{position, position_or_len}
 use Rattle.std.specs.Prelude.{◌==◌}
 use Rattle.vaultctl_replay.specs.Lines.{ended, HasNoLf}
-use Rattle.vaultctl_serve.specs.InTime.{Due, bytes_of}
-use Rattle.vaultctl_serve_lines.specs.Hearing.{Cuts, Gave}
-use Rattle.vaultctl_serve_lines.specs.declared.doors.Heard.{Heard}
 
 -- ---- the first LF
 
@@ -24,9 +20,10 @@ not-lf b e same = grind (arith, nat_tests)
 none-before : (bytes : List ℕ) (i : ℕ) → i ≤ length bytes → ((k : ℕ) → k < i → (get_or bytes k 0 == 10) ≡ false) → HasNoLf (take i bytes)
 none-before bytes i within fails k d m =
     let inside : k < i = omega (arith, m, length-take-le i bytes within) in
-    let same : get_or (take i bytes) k d ≡ get_or bytes k d = get_or-take bytes i k d inside in
+    let same : get_or (take i bytes) k d ≡ get_or bytes k d = get_or-take i bytes k d inside in
     let P : ℕ → Type 0 = λ b. b ≢ 10 in
-    subst P (sym same) (not-lf (get_or bytes k d) (grind (arith, fails, inside)))
+    let at : get_or bytes k 0 ≡ get_or bytes k d = get_or_default bytes k 0 d (omega (arith, inside, within)) in
+    subst P (at ∙ sym same) (not-lf (get_or bytes k 0) (fails k inside))
 
 pub cuts-some : (bytes : List ℕ) (i : ℕ) → position (λ b. b == 10) bytes ≡ Some i → HasNoLf (take i bytes) × (bytes ≡ ended (take i bytes) ++ drop (i + 1) bytes)
 cuts-some bytes i e =
@@ -41,11 +38,6 @@ cuts-none bytes e k d m =
     let at : length bytes ≤ position_or_len (λ b. b == 10) bytes = grind (arith, common_steps) in
     not-lf (get_or bytes k d) (fails_before_first (λ b. b == 10) bytes k d (omega (arith, at, m)))
 
--- ---- bytes that come by then
-
-pub gave-later : (old new : Option (List Due)) (given : List ℕ) (by late : ℕ) → by ≤ late → Gave old new given by → Gave old new given late
-gave-later None None given by late within gave = tt
-gave-later None (Some later) given by late within gave = absurd gave
-gave-later (Some dues) None given by late within gave = absurd gave
-gave-later (Some dues) (Some later) given by late within gave =
-    (gave.0, gave.1, gave.2, All-weaker (λ (due : Due). due.at ≤ by) (λ (due : Due). due.at ≤ late) (λ due soon. omega (arith, soon, within)) gave.0 gave.3)
+-- what comes after a place is all that is left there
+pub all-after : (bytes : List ℕ) (i : ℕ) → take (length bytes - i) (drop i bytes) ≡ drop i bytes
+all-after bytes i = take_all (length bytes - i) (drop i bytes) (omega (arith, length-drop i bytes))

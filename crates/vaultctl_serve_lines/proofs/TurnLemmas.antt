@@ -1,19 +1,17 @@
 -- Turns, one after another, and how many of them took a request or a line.
-use Rattle.std.proofs.Common.{◌≡◌, ◌+◌, ◌≤◌, ℕ, List, [], ◌∷◌, ◌++◌, length, Option, Result, Ok, Err, refl, arith}
-use Rattle.vault_core_model.specs.Step.{Reached}
+use Rattle.std.proofs.Common.{◌≡◌, ◌+◌, ◌≤◌, ℕ, List, [], ◌∷◌, ◌++◌, length, Option, None, Some, Result, Ok, Err, subst, arith}
 use Rattle.vault_core_model.specs.Vault.{Vault}
 use Rattle.vault_http.specs.Left.{AtMostOne}
-use Rattle.vaultctl_serve.specs.Serving.{Missed, ReadsAs, Stepped, SteppedAt, SteppedOnTime, Taken, Tries, Try}
-use Rattle.vaultctl_serve.proofs.ServingLemmas.{OnTime-taken, Stepped-append, Stepped-more, Stepped-none, Stepped-one, SteppedAt-append, Tries-append, Tries-none}
+use Rattle.vaultctl_serve.specs.Serving.{Missed, Next, ReadsAs, Stepped, SteppedAt, Taken, Tries, Try}
+use Rattle.vaultctl_serve.proofs.ServingLemmas.{OnTime-taken, Stepped-append, Stepped-more, Stepped-none, Stepped-one, SteppedAt-append}
 use Rattle.vaultctl_replay.specs.declared.fault.ReplayFault.{ReplayFault}
 use Rattle.vaultctl_serve_lines.specs.Doors.{most_of, SteppedWithin, taken_in, turn_after}
-use Rattle.vaultctl_serve_lines.specs.declared.line.Next.{Next}
+use Rattle.vaultctl_serve_lines.specs.declared.line.Next.{Next as AnyNext}
 use Rattle.vaultctl_serve_lines.specs.declared.line.Next.TheVariants as next
 use Rattle.vaultctl_serve_lines.specs.declared.turns.Turn.{Turn}
-use Rattle.vaultctl_serve_lines.specs.declared.turns.Turn.TheVariants as turn
 
 taken-append : (tries more : List Try) → taken_in (tries ++ more) ≡ taken_in tries + taken_in more
-taken-append [] more = refl
+taken-append [] more = omega arith
 taken-append (Taken moment ∷ tries) more = omega (arith, taken-append tries more)
 taken-append (Missed ∷ tries) more = taken-append tries more
 
@@ -22,24 +20,26 @@ taken-bound [] = omega arith
 taken-bound (Taken moment ∷ tries) = omega (arith, taken-bound tries)
 taken-bound (Missed ∷ tries) = omega (arith, taken-bound tries)
 
+-- ---- known turns, one after another
+
+next-append : (all mid later tries more : List Try) → Next all mid tries → Next mid later more → Next all later (tries ++ more)
+next-append all mid later [] more x y = let P : List Try → Type 0 = λ known. Next known later more in subst P x y
+next-append [] mid later (try ∷ tries) more x y = (x.0, next-append [] mid later tries more x.1 y)
+next-append (known ∷ all) mid later (try ∷ tries) more x y = (x.0, next-append all mid later tries more x.1 y)
+
+known-append : (u v w : Option (List Try)) (tries more : List Try) → Tries u v tries → Tries v w more → Tries u w (tries ++ more)
+known-append None v w tries more x y = tt
+known-append (Some all) None w tries more x y = absurd x
+known-append (Some all) (Some mid) None tries more x y = absurd y
+known-append (Some all) (Some mid) (Some later) tries more x y = next-append all mid later tries more x y
+
+-- ---- turns
+
 -- a turn whose line was answered
-pub takes-one : (answered : Result Next ReplayFault) (made : Turn) → made ≡ turn_after answered → 1 ≤ most_of made
+pub takes-one : (answered : Result AnyNext ReplayFault) (made : Turn) → made ≡ turn_after answered → 1 ≤ most_of made
 takes-one (Ok next.On) made is = rw is (omega arith)
 takes-one (Ok next.End) made is = rw is (omega arith)
 takes-one (Err fault) made is = rw is (omega arith)
-
-pub ended-by : (answered : Result Next ReplayFault) (made : Turn) → made ≡ turn_after answered → made ≡ turn.End → answered ≡ Ok next.End
-ended-by (Ok next.On) made is e = cc
-ended-by (Ok next.End) made is e = refl
-ended-by (Err fault) made is e = cc
-
--- no turn was made
-pub Within-none : (n : ℕ) (known : Option (List Try)) (vault : Vault) → SteppedWithin n known known vault vault
-Within-none n known vault = ([], omega arith, Tries-none known, refl)
-
--- nothing came, and the vault is as it was
-pub Within-idle : (before after : Option (List Try)) (old new : Vault) → Tries before after (Missed ∷ []) → new ≡ old → SteppedWithin 0 before after old new
-Within-idle before after old new tries same = (Missed ∷ [], omega arith, tries, same)
 
 -- a request or a line was taken
 pub Within-taken : (before after : Option (List Try)) (shown moment : Option ℕ) (old new : Vault) → Tries before after (Taken shown ∷ []) → ReadsAs after shown moment → AtMostOne moment old new → SteppedWithin 1 before after old new
@@ -51,7 +51,7 @@ pub Within-append : (n m : ℕ) (before mid after : Option (List Try)) (old betw
 Within-append n m before mid after old between new first second = (
   first.0 ++ second.0,
   omega (arith, taken-append first.0 second.0, first.1, second.1),
-  Tries-append before mid after first.0 second.0 first.2 second.2,
+  known-append before mid after first.0 second.0 first.2 second.2,
   SteppedAt-append first.0 second.0 old between new first.3 second.3,
 )
 

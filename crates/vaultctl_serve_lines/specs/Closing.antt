@@ -1,5 +1,6 @@
 -- What a line of the second door is answered by, and who ends a server.
-use Rattle.std.specs.Prelude.{ℕ, ◌≡◌, Bool, true, false, List, [], ◌∷◌, Option, Some, None, Result, Ok, Err, IsOk, if◌then◌else◌}
+use Rattle.std.specs.Prelude.{ℕ, ◌≡◌, Bool, true, false, List, [], ◌∷◌, Option, Some, None, Result, Ok, IsOk, if◌then◌else◌}
+use Rattle.std.specs.Io.KnownBytes.{Appends}
 use Rattle.vault_base.specs.declared.refusal.Refusal.{Refusal}
 use Rattle.vault_base.specs.declared.refusal.Refusal.TheVariants.{MalformedBody}
 use Rattle.vault_core_model.specs.Checks.{◌>>=◌, administrator}
@@ -18,6 +19,8 @@ use Rattle.vault_io.specs.Begins.{Begins}
 use Rattle.vaultctl_replay.specs.Lines.{is_cr}
 use Rattle.vaultctl_replay.specs.Runs.{Began, Finished}
 use Rattle.vaultctl_serve_lines.specs.declared.doors.Heard.{Heard}
+use Rattle.vaultctl_serve_lines.specs.declared.line.Next.{Next}
+use Rattle.vaultctl_serve_lines.specs.declared.line.Next.TheVariants as next
 
 -- What is asked by a line at what the clock shows. A CR without an LF after it is a byte of the line, so a CR alone is no empty line.
 abbrev pub heard_of : Bool → Option ℕ → List ℕ → Line
@@ -50,11 +53,16 @@ IsEnded v = (moment : Option ℕ) × (bytes : List ℕ) × MayEnd v moment bytes
 
 -- ---- what is left of a keeper, and what is written, beside what was before
 
--- Somebody asked for the end: the vault stays, and a beginning of the reply is written.
-abbrev pub Ending : Standing → Standing → Option (List ℕ) → Option (List ℕ) → Option ℕ → List ℕ → Type 0
-Ending old new w w' moment who =
+-- what of a reply is written where a server goes on, and where it ends
+abbrev pub Written : Next → Option (List ℕ) → Option (List ℕ) → List ℕ → Type 0
+Written next.On w w' text = Appends w w' text
+Written next.End w w' text = Begins w w' text
+
+-- Somebody asked for the end: the vault stays, and so much of the reply is written.
+abbrev pub Ending : (List ℕ → Type 0) → Standing → Standing → Option ℕ → List ℕ → Type 0
+Ending Sent old new moment who =
     (new.vault ≡ old.vault)
-    × ((reply : Reply) × (new.is_honest → Answers (closing old.vault moment who) old.vault reply new.vault) × (new.count ≡ count_after old.count (is_device_reply reply)) × Begins w w' (reply_text reply))
+    × ((reply : Reply) × (new.is_honest → Answers (closing old.vault moment who) old.vault reply new.vault) × (new.count ≡ count_after old.count (is_device_reply reply)) × Sent (reply_text reply))
 
 -- what is asked for was carried out, and its reply written
 abbrev pub AnswersOne : Standing → Standing → Option (List ℕ) → Option (List ℕ) → Line → Type 0
@@ -65,19 +73,19 @@ abbrev pub LeavesOne : Standing → Standing → Option (List ℕ) → Option (L
 LeavesOne old new w w' asked = Began new.is_honest old.vault old.count w (asked ∷ []) new.vault new.count w'
 
 -- a line was answered: it asks for a command, or that caller asks for the end
-abbrev pub Answered : Option (List ℕ) → Standing → Standing → Option (List ℕ) → Option (List ℕ) → Option ℕ → Line → Type 0
-Answered None old new w w' moment asked = AnswersOne old new w w' asked
-Answered (Some who) old new w w' moment asked = Ending old new w w' moment who
+abbrev pub Answered : Option (List ℕ) → Next → Standing → Standing → Option (List ℕ) → Option (List ℕ) → Option ℕ → Line → Type 0
+Answered None after old new w w' moment asked = AnswersOne old new w w' asked
+Answered (Some who) after old new w w' moment asked = Ending (Written after w w') old new moment who
 
 -- the same of a line that was answered or not
 abbrev pub Left : Option (List ℕ) → Standing → Standing → Option (List ℕ) → Option (List ℕ) → Option ℕ → Line → Type 0
 Left None old new w w' moment asked = LeavesOne old new w w' asked
-Left (Some who) old new w w' moment asked = Ending old new w w' moment who
+Left (Some who) old new w w' moment asked = Ending (Begins w w') old new moment who
 
 -- the same of a line as it was heard
-abbrev pub LineAnswered : Standing → Standing → Option (List ℕ) → Option (List ℕ) → Option ℕ → Heard → Type 0
-LineAnswered old new w w' moment heard =
-    let asked = heard_of heard.is_ended moment heard.bytes.items in Answered (ender_of asked heard.bytes.items) old new w w' moment asked
+abbrev pub LineAnswered : Next → Standing → Standing → Option (List ℕ) → Option (List ℕ) → Option ℕ → Heard → Type 0
+LineAnswered after old new w w' moment heard =
+    let asked = heard_of heard.is_ended moment heard.bytes.items in Answered (ender_of asked heard.bytes.items) after old new w w' moment asked
 
 abbrev pub LineLeft : Standing → Standing → Option (List ℕ) → Option (List ℕ) → Option ℕ → Heard → Type 0
 LineLeft old new w w' moment heard =

@@ -54,12 +54,12 @@ fn listen<R: Net<Stream = TcpStream, Listener = TcpListener> + Files>(
     Ok((requests, lines))
 }
 
-/// Serves `count` requests and lines, one after another, or up to the line that asks for the end: answers which of these it
-/// was.
+/// Serves `count` requests and lines, one after another, or up to the line that asks for the end: answers which of
+/// these it was.
 ///
 /// That it listens at both doors is reported first, and that the vault's device failed is reported once, when it first
-/// does. `Requests` and `Lines` come where nobody can listen at that door. No fault of a connection or of the device ends
-/// it.
+/// does. `Requests` and `Lines` come where nobody can listen at that door. No fault of a connection or of the device
+/// ends it.
 pub fn serve_with_lines<
     R: Net<Stream = TcpStream, Listener = TcpListener> + Files + Clock,
     K: Keeper,

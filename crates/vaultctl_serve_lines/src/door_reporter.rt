@@ -8,8 +8,8 @@ use vaultctl_serve::reporter::Reporter;
 
 /// Hears what becomes of a server with two doors. Whatever it does with it, the server goes on.
 pub trait DoorReporter: Reporter {
-    /// What it does where a server listens at both doors: the reporter before, the vault's file, the port of requests, the
-    /// reporter after.
+    /// What it does where a server listens at both doors: the reporter before, the vault's file, the port of requests,
+    /// the reporter after.
     ghost listens_at_both: { Self → List ℕ → ℕ → Self → Type 0 };
 
     /// The server listens for requests at this port of 127.0.0.1, and for lines at that place.

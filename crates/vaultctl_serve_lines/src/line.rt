@@ -1,5 +1,6 @@
 //! One line of the second door: what it asks for is carried out at the clock's reading, and its reply is written.
 ghost use Rattle.std.specs.Prelude.{◌≡◌, IfOk, IsOk, OnErr, OnOk, Result as AnyResult, Ok};
+ghost use Rattle.std.specs.Io.KnownBytes.{Appends};
 ghost use Rattle.vault_base.specs.Days.{moment_at};
 ghost use Rattle.vault_base.specs.declared.refusal.Refusal.{Refusal as AnyRefusal};
 ghost use Rattle.vault_core_model.specs.Halts.{AnswersAs, is_device, is_device_reply};
@@ -11,7 +12,8 @@ ghost use Rattle.vault_http.specs.Left.{AtMostOne, LeavesNoLess};
 ghost use Rattle.vault_http.specs.ReplyLine.{reply_text};
 ghost use Rattle.vault_io.specs.Begins.{Begins};
 ghost use Rattle.vaultctl_serve_lines.specs.Closing as spec;
-ghost use Rattle.vaultctl_serve_lines.specs.Closing.{AnswersOne, closing, ender_of, Ending, heard_of, LeavesOne, LineAnswered, LineLeft, MayEnd};
+ghost use Rattle.vaultctl_serve_lines.specs.Closing.{AnswersOne, closing, ender_of, Ending, heard_of, LeavesOne};
+ghost use Rattle.vaultctl_serve_lines.specs.Closing.{LineAnswered, LineLeft, MayEnd, Written};
 
 use crate::doors::Heard;
 use std::alloc::{AllocError, Global};
@@ -110,7 +112,8 @@ fn reply_to(given: Result<Answer, Halt>) -> Reply
 
 /// Writes the line of a reply. `Write` comes where the writer fails, and `Memory` where room was refused.
 fn write_reply<W: Write>(alloc: Global, writer: &mut W, reply: &Reply) -> Result<(), ReplayFault>
-    ensures { Begins (W.contents writer.old) (W.contents writer.new) (reply_text reply.now) }
+    ensures begun { Begins (W.contents writer.old) (W.contents writer.new) (reply_text reply.now) }
+    ensures whole { OnOk result (Appends (W.contents writer.old) (W.contents writer.new) (reply_text reply.now)) }
 {
     let Ok(line) = reply_line(alloc, reply) else {
         return Err(ReplayFault::Memory);
@@ -121,8 +124,8 @@ fn write_reply<W: Write>(alloc: Global, writer: &mut W, reply: &Reply) -> Result
     }
 }
 
-/// Answers the line by which a caller asks for the end: the server ends where the caller may end it, also where the reply
-/// isn't taken. The faults are those of `write_reply`.
+/// Answers the line by which a caller asks for the end: the server ends where the caller may end it, also where the
+/// reply isn't taken. The faults are those of `write_reply`.
 fn answer_end<W: Write, K: Keeper>(
     alloc: Global,
     writer: &mut W,
@@ -130,7 +133,9 @@ fn answer_end<W: Write, K: Keeper>(
     moment: &Option<Moment>,
     who: &CallerName,
 ) -> Result<Next, ReplayFault>
-    ensures replied { Ending (standing K.Kept keeper.old) (standing K.Kept keeper.new) (W.contents writer.old) (W.contents writer.new) moment.now who.now }
+    ensures ok { IfOk result (λ next. Ending (Written next (W.contents writer.old) (W.contents writer.new)) (standing K.Kept keeper.old) (standing K.Kept keeper.new) moment.now who.now) }
+    ensures err { OnErr result (Ending (Begins (W.contents writer.old) (W.contents writer.new)) (standing K.Kept keeper.old) (standing K.Kept keeper.new) moment.now who.now) }
+    ensures same { K.vault keeper.new ≡ K.vault keeper.old }
     ensures end { result ≡ Ok Next.End → K.is_honest keeper.new → IsOk (closing (K.vault keeper.old) moment.now who.now) }
     ensures leaves { LeavesNoLess K.Kept keeper.old keeper.new }
 {
@@ -174,7 +179,7 @@ fn serve_line_at<W: Write, K: Keeper>(
     keeper: &mut K,
     moment: &Option<Moment>,
 ) -> Result<Next, ReplayFault>
-    ensures ok { OnOk result (LineAnswered (standing K.Kept keeper.old) (standing K.Kept keeper.new) (W.contents writer.old) (W.contents writer.new) moment.now heard.now) }
+    ensures ok { IfOk result (λ next. LineAnswered next (standing K.Kept keeper.old) (standing K.Kept keeper.new) (W.contents writer.old) (W.contents writer.new) moment.now heard.now) }
     ensures err { OnErr result (LineLeft (standing K.Kept keeper.old) (standing K.Kept keeper.new) (W.contents writer.old) (W.contents writer.new) moment.now heard.now) }
     ensures end { result ≡ Ok Next.End → K.is_honest keeper.new → MayEnd (K.vault keeper.new) moment.now heard.now.bytes.items }
     ensures once { K.is_honest keeper.new → AtMostOne moment.now (K.vault keeper.old) (K.vault keeper.new) }
@@ -194,8 +199,8 @@ fn serve_line_at<W: Write, K: Keeper>(
 
 /// Carries out what a line asks for, at the reading, and writes its reply: answers whether the server goes on.
 ///
-/// `Write` comes where the reply can't be written, and `Memory` where room was refused: then the line was carried out, or
-/// not. `Read` never comes.
+/// `Write` comes where the reply can't be written, and `Memory` where room was refused: then the line was carried out,
+/// or not. `Read` never comes.
 pub fn serve_line<W: Write, K: Keeper>(
     alloc: Global,
     heard: &Heard,
@@ -203,8 +208,8 @@ pub fn serve_line<W: Write, K: Keeper>(
     keeper: &mut K,
     reading: i64,
 ) -> Result<Next, ReplayFault>
-    // What is written is the reply to what the line asks for at the reading.
-    ensures ok { OnOk result (LineAnswered (standing K.Kept keeper.old) (standing K.Kept keeper.new) (W.contents writer.old) (W.contents writer.new) (moment_at reading) heard.now) }
+    // What is written is the reply to what the line asks for at the reading; where the server ends, a beginning of it.
+    ensures ok { IfOk result (λ next. LineAnswered next (standing K.Kept keeper.old) (standing K.Kept keeper.new) (W.contents writer.old) (W.contents writer.new) (moment_at reading) heard.now) }
     // Of a line that was carried out, or wasn't, a beginning of its reply is written.
     ensures err { OnErr result (LineLeft (standing K.Kept keeper.old) (standing K.Kept keeper.new) (W.contents writer.old) (W.contents writer.new) (moment_at reading) heard.now) }
     // Only a line that asks for the end ends the server, and only by a caller who has the right to administer.

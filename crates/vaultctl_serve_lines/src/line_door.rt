@@ -77,8 +77,8 @@ fn clear<F: Files>(files: &F, path: &str) -> io::Result<()> {
 }
 
 impl LineListener {
-    /// Listens at that place, so that no accept waits. Of a path what an earlier server left is removed first; whoever calls this has the vault to
-    /// itself, so no other server of that vault listens there.
+    /// Listens at that place, so that no accept waits. Of a path what an earlier server left is removed first; whoever
+    /// calls this has the vault to itself, so no other server of that vault listens there.
     ///
     /// The error is the system's: the port isn't free or isn't for this user, or no socket can be made at the path.
     pub fn at<R: Net<Stream = TcpStream, Listener = TcpListener> + Files>(

@@ -10,8 +10,8 @@ pub enum LinePlace<'a> {
 }
 
 impl<'a> LinePlace<'a> {
-    /// The place that a text names: digits alone a port, any other text a path. None where it has no character, or where
-    /// the digits are no number from 1 to 65535.
+    /// The place that a text names: digits alone a port, any other text a path. None where it has no character, or
+    /// where the digits are no number from 1 to 65535.
     pub fn read(text: &'a str) -> Option<LinePlace<'a>> {
         if text.is_empty() {
             return None;

@@ -80,7 +80,8 @@ impl Talk {
 
     /// Reads what has come, and takes the next line, if that is whole.
     ///
-    /// An error says that no line comes any more: the connection is at its end, or its line is late, or room was refused.
+    /// An error says that no line comes any more: the connection is at its end, or its line is late, or room was
+    /// refused.
     pub fn read_on<C: Clock>(&mut self, clock: &C, alloc: Global) -> io::Result<Option<Heard>> {
         if !self.has_line {
             match self.hear(clock)? {

@@ -138,8 +138,8 @@ fn watch_turn<C: Clock, D: Doors, K: Keeper, T: Reporter>(
     turn
 }
 
-/// Takes `count` requests and lines that come in at two doors, and serves each at the clock's reading as it was taken, or
-/// goes on up to the line that asks for the end: answers which of these it was.
+/// Takes `count` requests and lines that come in at two doors, and serves each at the clock's reading as it was taken,
+/// or goes on up to the line that asks for the end: answers which of these it was.
 ///
 /// Each turn is one request or one line, so that a request waits for one line at most, and a line for one request. That
 /// the vault's device failed is reported once, when it first does. A request that isn't served to its end counts as any
@@ -152,8 +152,8 @@ pub fn serve_doors<C: Clock, D: Doors, K: Keeper, T: Reporter>(
     count: u32,
     reporter: &mut T,
 ) -> Next
-    // For each request and each line that was taken at most one command was carried out, at the clock's reading then; and no
-    // more than `count` were taken.
+    // For each request and each line that was taken at most one command was carried out, at the clock's reading then;
+    // and no more than `count` were taken.
     ensures timely { K.is_honest keeper.new → SteppedWithin count (D.tries doors.old) (D.tries doors.new) (K.vault keeper.old) (K.vault keeper.new) }
     ensures stepped { K.is_honest keeper.new → Stepped count (K.vault keeper.old) (K.vault keeper.new) }
     // A vault that runs lead to from a new one is left as such a vault.

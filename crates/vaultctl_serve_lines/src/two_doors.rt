@@ -117,8 +117,8 @@ impl<C: Clock> TwoDoors<'_, C> {
         Ok(ready)
     }
 
-    /// Opens the connection of lines that waits, where none is open. After one that can't be taken it waits a little, so that
-    /// a fault that lasts doesn't keep the machine busy.
+    /// Opens the connection of lines that waits, where none is open. After one that can't be taken it waits a little,
+    /// so that a fault that lasts doesn't keep the machine busy.
     fn open(&mut self) {
         let Ok(since) = Instant::now(self.clock) else {
             return;
@@ -160,8 +160,8 @@ impl<C: Clock> TwoDoors<'_, C> {
         }
     }
 
-    /// Reads on the open connection, and takes its next line, if that is whole. A connection that is at its end, or whose
-    /// line is late, is closed.
+    /// Reads on the open connection, and takes its next line, if that is whole. A connection that is at its end, or
+    /// whose line is late, is closed.
     fn take_line(&mut self) -> Option<(Heard, Talk)> {
         self.line_was_last = true;
         let mut open = self.talk.take()?;

@@ -48,7 +48,7 @@ abbrev pub IsAnswered : Scene → Scene → Type 0
 IsAnswered old new =
     (input : List ℕ) × (n : ℕ) × (n' : ℕ) × Consumes old.input new.input input × IsAtEnd new.input × AnswersAll (Unit {0}) old.vault n old.output input new.vault n' new.output
 
--- how many requests and lines are served where so many are asked for: a million, which is the default, is no limit
+-- how many requests and lines are served at most where this many are asked for: a million, which is the default, is no limit
 abbrev pub most_with_lines : ℕ → ℕ
 most_with_lines count = if count == 1000000 then 4294967295 else count
 

@@ -115,7 +115,9 @@ fn most_with_lines(count: u32) -> u32
     if count == 1_000_000 { u32::MAX } else { count }
 }
 
-fn served_at_both(ended: Result<Next, DoorFault>) -> Result<Outcome, JobFault> {
+fn served_at_both(ended: Result<Next, DoorFault>) -> Result<Outcome, JobFault>
+    ensures { result ≡ spec.served_at_both ended }
+{
     match ended {
         Ok(_) => Ok(Outcome::Done),
         Err(_) => Err(JobFault::Device),
@@ -142,7 +144,8 @@ fn serve_both<K: Keeper, E: Write>(
     place: &str,
     err: &mut E,
 ) -> Result<Outcome, JobFault>
-    ensures { K.is_honest keeper.new → K.is_honest keeper.old × Stepped (served_with_lines job.now.count) (K.vault keeper.old) (K.vault keeper.new) }
+    ensures done { K.is_honest keeper.new → K.is_honest keeper.old
+        × Stepped (served_with_lines job.now.count) (K.vault keeper.old) (K.vault keeper.new) }
 {
     let Some(lines) = LinePlace::read(place) else {
         say(

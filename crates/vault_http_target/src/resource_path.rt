@@ -1,6 +1,6 @@
 //! The bucket that a path names, and its key.
 ghost use Rattle.vault_values.specs.Fault.{Gives};
-ghost use Rattle.vault_http_target.specs.Place as spec;
+ghost use Rattle.vault_http_target.specs.ResourcePath as spec;
 
 use crate::path::{before, behind, behind_first, decoded};
 use crate::routes::is_routed;
@@ -12,7 +12,7 @@ use vault_values::named::{bucket_named, key_named};
 
 /// What a path names: a bucket, or a key in it.
 #[derive(Drop)]
-pub enum Place {
+pub enum ResourcePath {
     Bucket(BucketName),
     Key(BucketName, ObjectKey),
 }
@@ -26,7 +26,7 @@ fn check_route(alloc: Global, path: &[u8]) -> Result<(), LineFault>
     Ok(())
 }
 
-#[tactic(auto, unfolding(crate::specs::Place::bucket_in))]
+#[tactic(auto, unfolding(crate::specs::ResourcePath::bucket_in))]
 fn bucket_in(alloc: Global, part: &[u8]) -> Result<BucketName, LineFault>
     ensures { Gives (λ x. x) result (spec.bucket_in part.now) }
 {
@@ -34,7 +34,7 @@ fn bucket_in(alloc: Global, part: &[u8]) -> Result<BucketName, LineFault>
     bucket_named(alloc, text.as_str())
 }
 
-#[tactic(auto, unfolding(crate::specs::Place::key_in))]
+#[tactic(auto, unfolding(crate::specs::ResourcePath::key_in))]
 fn key_in(alloc: Global, part: &[u8]) -> Result<ObjectKey, LineFault>
     ensures { Gives (λ x. x) result (spec.key_in part.now) }
 {
@@ -42,26 +42,30 @@ fn key_in(alloc: Global, part: &[u8]) -> Result<ObjectKey, LineFault>
     key_named(alloc, text.as_str())
 }
 
-#[tactic(auto, unfolding(crate::specs::Place::place_within))]
-fn place_within(alloc: Global, bucket: BucketName, part: &[u8]) -> Result<Place, LineFault>
-    ensures { Gives (λ x. x) result (spec.place_within bucket part.now) }
+#[tactic(auto, unfolding(crate::specs::ResourcePath::resource_path_within))]
+fn resource_path_within(
+    alloc: Global,
+    bucket: BucketName,
+    part: &[u8],
+) -> Result<ResourcePath, LineFault>
+    ensures { Gives (λ x. x) result (spec.resource_path_within bucket part.now) }
 {
     if part.is_empty() {
-        return Ok(Place::Bucket(bucket));
+        return Ok(ResourcePath::Bucket(bucket));
     }
-    Ok(Place::Key(bucket, key_in(alloc, part)?))
+    Ok(ResourcePath::Key(bucket, key_in(alloc, part)?))
 }
 
-/// The place that a path names: it has a route, and the bucket is one, and then the key.
+/// The resource that a path names: it has a route, and the bucket is one, and then the key.
 ///
 /// `InvalidArgument` says that there is no route, or that the key isn't UTF-8 or no key;
 /// `KeyTooLongError` that it is too long; `InvalidBucketName` is the bucket's only refusal.
-#[tactic(auto, unfolding(crate::specs::Place::place_of))]
-pub fn place_of(alloc: Global, path: &[u8]) -> Result<Place, LineFault>
-    ensures { Gives (λ x. x) result (spec.place_of path.now) }
+#[tactic(auto, unfolding(crate::specs::ResourcePath::resource_path_of))]
+pub fn resource_path_of(alloc: Global, path: &[u8]) -> Result<ResourcePath, LineFault>
+    ensures { Gives (λ x. x) result (spec.resource_path_of path.now) }
 {
     check_route(alloc, path)?;
     let parts = behind_first(path);
     let bucket = bucket_in(alloc, before(parts, b'/'))?;
-    place_within(alloc, bucket, behind(parts, b'/'))
+    resource_path_within(alloc, bucket, behind(parts, b'/'))
 }

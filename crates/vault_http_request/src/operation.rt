@@ -1,6 +1,6 @@
 //! What a method does with a target.
 ghost use Rattle.std.specs.Prelude.{◌≡◌};
-ghost use Rattle.vault_http_request.specs.Order as spec;
+ghost use Rattle.vault_http_request.specs.Operation as spec;
 
 use vault_base::name::{BucketName, ObjectKey, VersionId};
 use vault_core_model::command::{
@@ -21,7 +21,7 @@ pub enum Resource {
 
 /// What is asked for, but for what the headers and the body say.
 #[derive(Drop)]
-pub enum Order {
+pub enum Operation {
     /// A command that they say nothing of.
     Ready(Command),
     Put(BucketName, ObjectKey),
@@ -32,51 +32,51 @@ pub enum Order {
     SetRules(BucketName),
 }
 
-fn remove(object: Object) -> Order
+fn remove(object: Object) -> Operation
     ensures { result ≡ spec.delete object }
 {
     let Object { bucket, key, id } = object;
     match id {
-        Some(id) => Order::DeleteVersion(bucket, key, id),
-        None => Order::Ready(Command::Delete(Delete { bucket, key })),
+        Some(id) => Operation::DeleteVersion(bucket, key, id),
+        None => Operation::Ready(Command::Delete(Delete { bucket, key })),
     }
 }
 
-fn put(object: Object) -> Order
+fn put(object: Object) -> Operation
     ensures { result ≡ spec.put object }
 {
-    Order::Put(object.bucket, object.key)
+    Operation::Put(object.bucket, object.key)
 }
 
-fn get(object: Object) -> Order
+fn get(object: Object) -> Operation
     ensures { result ≡ spec.get object }
 {
     let Object { bucket, key, id } = object;
-    Order::Ready(Command::Get(Get { bucket, key, id }))
+    Operation::Ready(Command::Get(Get { bucket, key, id }))
 }
 
-fn head(object: Object) -> Order
+fn head(object: Object) -> Operation
     ensures { result ≡ spec.head object }
 {
     let Object { bucket, key, id } = object;
-    Order::Ready(Command::Head(Head { bucket, key, id }))
+    Operation::Ready(Command::Head(Head { bucket, key, id }))
 }
 
-fn get_retention(object: Object) -> Order
+fn get_retention(object: Object) -> Operation
     ensures { result ≡ spec.get_retention object }
 {
     let Object { bucket, key, id } = object;
-    Order::Ready(Command::GetRetention(GetRetention { bucket, key, id }))
+    Operation::Ready(Command::GetRetention(GetRetention { bucket, key, id }))
 }
 
-fn get_hold(object: Object) -> Order
+fn get_hold(object: Object) -> Operation
     ensures { result ≡ spec.get_hold object }
 {
     let Object { bucket, key, id } = object;
-    Order::Ready(Command::GetHold(GetHold { bucket, key, id }))
+    Operation::Ready(Command::GetHold(GetHold { bucket, key, id }))
 }
 
-fn on_object(method: &[u8], object: Object) -> Result<Order, Resource>
+fn on_object(method: &[u8], object: Object) -> Result<Operation, Resource>
     ensures { result ≡ spec.on_object method.now object }
 {
     if method == b"PUT".as_slice() {
@@ -92,11 +92,11 @@ fn on_object(method: &[u8], object: Object) -> Result<Order, Resource>
     }
 }
 
-fn on_retention(method: &[u8], object: Object) -> Result<Order, Resource>
+fn on_retention(method: &[u8], object: Object) -> Result<Operation, Resource>
     ensures { result ≡ spec.on_retention method.now object }
 {
     if method == b"PUT".as_slice() {
-        Ok(Order::SetRetention(object))
+        Ok(Operation::SetRetention(object))
     } else if method == b"GET".as_slice() {
         Ok(get_retention(object))
     } else {
@@ -104,11 +104,11 @@ fn on_retention(method: &[u8], object: Object) -> Result<Order, Resource>
     }
 }
 
-fn on_hold(method: &[u8], object: Object) -> Result<Order, Resource>
+fn on_hold(method: &[u8], object: Object) -> Result<Operation, Resource>
     ensures { result ≡ spec.on_hold method.now object }
 {
     if method == b"PUT".as_slice() {
-        Ok(Order::SetHold(object))
+        Ok(Operation::SetHold(object))
     } else if method == b"GET".as_slice() {
         Ok(get_hold(object))
     } else {
@@ -116,27 +116,27 @@ fn on_hold(method: &[u8], object: Object) -> Result<Order, Resource>
     }
 }
 
-fn on_default(method: &[u8], bucket: BucketName) -> Result<Order, Resource>
+fn on_default(method: &[u8], bucket: BucketName) -> Result<Operation, Resource>
     ensures { result ≡ spec.on_default method.now bucket }
 {
     if method == b"PUT".as_slice() {
-        Ok(Order::SetDefault(bucket))
+        Ok(Operation::SetDefault(bucket))
     } else if method == b"GET".as_slice() {
-        Ok(Order::Ready(Command::GetDefault(GetDefault { bucket })))
+        Ok(Operation::Ready(Command::GetDefault(GetDefault { bucket })))
     } else {
         Err(Resource::Setting)
     }
 }
 
-fn on_rules(method: &[u8], bucket: BucketName) -> Result<Order, Resource>
+fn on_rules(method: &[u8], bucket: BucketName) -> Result<Operation, Resource>
     ensures { result ≡ spec.on_rules method.now bucket }
 {
     if method == b"PUT".as_slice() {
-        Ok(Order::SetRules(bucket))
+        Ok(Operation::SetRules(bucket))
     } else if method == b"GET".as_slice() {
-        Ok(Order::Ready(Command::GetRules(GetRules { bucket })))
+        Ok(Operation::Ready(Command::GetRules(GetRules { bucket })))
     } else if method == b"DELETE".as_slice() {
-        Ok(Order::Ready(Command::DropRules(DropRules { bucket })))
+        Ok(Operation::Ready(Command::DropRules(DropRules { bucket })))
     } else {
         Err(Resource::Lifecycle)
     }
@@ -144,8 +144,8 @@ fn on_rules(method: &[u8], bucket: BucketName) -> Result<Order, Resource>
 
 /// What a method does with a target; where the target hasn't that method, the error tells its kind.
 /// Methods are compared with their letter case (RFC 9110, section 9.1).
-pub fn order_of(method: &[u8], target: Target) -> Result<Order, Resource>
-    ensures { result ≡ spec.order_of method.now target }
+pub fn operation_of(method: &[u8], target: Target) -> Result<Operation, Resource>
+    ensures { result ≡ spec.operation_of method.now target }
 {
     match target {
         Target::Object(object) => on_object(method, object),
@@ -154,7 +154,7 @@ pub fn order_of(method: &[u8], target: Target) -> Result<Order, Resource>
         Target::Bucket(_) => Err(Resource::Bucket),
         Target::Versions(listing) => {
             if method == b"GET".as_slice() {
-                Ok(Order::Ready(Command::ListVersions(listing)))
+                Ok(Operation::Ready(Command::ListVersions(listing)))
             } else {
                 Err(Resource::Versions)
             }

@@ -1,11 +1,11 @@
-//! What the headers of a request say of its order: the body's length, who asks, and locks.
+//! What the headers of a request say of its operation: the body's length, who asks, and locks.
 ghost use Rattle.std.specs.Prelude.{◌≡◌, ◌≤◌, All, length, map};
 ghost use Rattle.std.specs.Option.{option_copied};
 ghost use Rattle.httparse.specs.Spans.{header_bytes, IsHeaderWithin};
 ghost use Rattle.vault_values.specs.Fault.{Gives};
-ghost use Rattle.vault_http_request.specs.Terms as spec;
+ghost use Rattle.vault_http_request.specs.RequestHeaders as spec;
 
-use crate::order::Order;
+use crate::operation::Operation;
 use httparse::spans::HeaderSpan;
 use std::alloc::Global;
 use vault_base::moment::Moment;
@@ -19,9 +19,9 @@ use vault_values::fault::LineFault;
 use vault_values::named::{asker_named, until_named};
 use vault_values::words::{hold_named, mode_named};
 
-/// Which headers an order takes.
+/// Which headers an operation accepts.
 #[derive(Clone, Copy, PartialEq, Eq, Debug)]
-pub struct Takes {
+pub struct AcceptedHeaders {
     /// Where it has a body, how many bytes that may have.
     pub limit: Option<u64>,
     /// Retention and legal hold of a new version.
@@ -40,7 +40,7 @@ pub struct Locks {
 
 /// What the headers say.
 #[derive(Drop)]
-pub struct Terms {
+pub struct RequestHeaders {
     /// How many bytes the body has, where there is one.
     pub length: Option<u64>,
     pub caller: CallerName,
@@ -49,36 +49,37 @@ pub struct Terms {
     pub waits: bool,
 }
 
-/// Which headers an order takes. A version has at most 1,048,576 bytes, a JSON body 4,194,304.
-pub fn takes_of(order: &Order) -> Takes
-    ensures { result ≡ spec.takes_of order.now }
+/// Which headers an operation accepts. A version has at most 1,048,576 bytes, a JSON body 4,194,304.
+pub fn accepted_headers_of(operation: &Operation) -> AcceptedHeaders
+    ensures { result ≡ spec.accepted_headers_of operation.now }
 {
-    match order {
-        Order::Ready(_) => Takes {
+    match operation {
+        Operation::Ready(_) => AcceptedHeaders {
             limit: None,
             locks: false,
             bypass: false,
         },
-        Order::DeleteVersion(_, _, _) => Takes {
+        Operation::DeleteVersion(_, _, _) => AcceptedHeaders {
             limit: None,
             locks: false,
             bypass: true,
         },
-        Order::Put(_, _) => Takes {
+        Operation::Put(_, _) => AcceptedHeaders {
             limit: Some(1_048_576),
             locks: true,
             bypass: false,
         },
-        Order::SetRetention(_) => Takes {
+        Operation::SetRetention(_) => AcceptedHeaders {
             limit: Some(4_194_304),
             locks: false,
             bypass: true,
         },
-        Order::SetHold(_) | Order::SetDefault(_) | Order::SetRules(_) => Takes {
-            limit: Some(4_194_304),
-            locks: false,
-            bypass: false,
-        },
+        Operation::SetHold(_) | Operation::SetDefault(_) | Operation::SetRules(_) =>
+            AcceptedHeaders {
+                limit: Some(4_194_304),
+                locks: false,
+                bypass: false,
+            },
     }
 }
 
@@ -137,28 +138,28 @@ fn is_body_twice(minor: u8, buf: &[u8], headers: &[HeaderSpan]) -> bool
     is_twice(buf, headers, b"content-length") || (minor == 1 && is_twice(buf, headers, b"expect"))
 }
 
-fn is_used_twice(takes: Takes, minor: u8, buf: &[u8], headers: &[HeaderSpan]) -> bool
+fn is_used_twice(accepted: AcceptedHeaders, minor: u8, buf: &[u8], headers: &[HeaderSpan]) -> bool
     requires within { All (IsHeaderWithin (length buf.now)) headers.now }
     requires few { length headers.now ≤ 64 }
-    ensures { result ≡ spec.is_used_twice takes minor (map (header_bytes buf.now) headers.now) }
+    ensures { result ≡ spec.is_used_twice accepted minor (map (header_bytes buf.now) headers.now) }
 {
     is_twice(buf, headers, b"x-vault-caller")
-        || (takes.limit.is_some() && is_body_twice(minor, buf, headers))
-        || (takes.locks && is_lock_twice(buf, headers))
-        || (takes.bypass && is_twice(buf, headers, b"x-amz-bypass-governance-retention"))
+        || (accepted.limit.is_some() && is_body_twice(minor, buf, headers))
+        || (accepted.locks && is_lock_twice(buf, headers))
+        || (accepted.bypass && is_twice(buf, headers, b"x-amz-bypass-governance-retention"))
 }
 
 fn check_single(
-    takes: Takes,
+    accepted: AcceptedHeaders,
     minor: u8,
     buf: &[u8],
     headers: &[HeaderSpan],
 ) -> Result<(), LineFault>
     requires within { All (IsHeaderWithin (length buf.now)) headers.now }
     requires few { length headers.now ≤ 64 }
-    ensures { Gives (λ x. x) result (spec.single takes minor (map (header_bytes buf.now) headers.now)) }
+    ensures { Gives (λ x. x) result (spec.single accepted minor (map (header_bytes buf.now) headers.now)) }
 {
-    if is_used_twice(takes, minor, buf, headers) {
+    if is_used_twice(accepted, minor, buf, headers) {
         return Err(LineFault::Refused(Refusal::InvalidArgument));
     }
     Ok(())
@@ -172,7 +173,7 @@ fn text_named<'b>(buf: &'b [u8], headers: &[HeaderSpan], name: &[u8]) -> Option<
     as_text(value_of(buf, headers, name)?)
 }
 
-#[tactic(auto, unfolding(crate::specs::Terms::caller_of))]
+#[tactic(auto, unfolding(crate::specs::RequestHeaders::caller_of))]
 fn caller_of(alloc: Global, buf: &[u8], headers: &[HeaderSpan]) -> Result<CallerName, LineFault>
     requires { All (IsHeaderWithin (length buf.now)) headers.now }
     ensures { Gives (λ x. x) result (spec.caller_of (map (header_bytes buf.now) headers.now)) }
@@ -201,7 +202,7 @@ fn until(value: &[u8]) -> Result<Moment, LineFault>
     until_named(text)
 }
 
-#[tactic(auto, unfolding(crate::specs::Terms::retention))]
+#[tactic(auto, unfolding(crate::specs::RequestHeaders::retention))]
 fn retention(
     mode_value: Option<&[u8]>,
     until_value: Option<&[u8]>,
@@ -246,7 +247,7 @@ fn bypass(value: Option<&[u8]>) -> Result<bool, LineFault>
     }
 }
 
-#[tactic(auto, unfolding(crate::specs::Terms::new_locks))]
+#[tactic(auto, unfolding(crate::specs::RequestHeaders::new_locks))]
 fn new_locks(buf: &[u8], headers: &[HeaderSpan]) -> Result<Locks, LineFault>
     requires { All (IsHeaderWithin (length buf.now)) headers.now }
     ensures { Gives (λ x. x) result (spec.new_locks (map (header_bytes buf.now) headers.now)) }
@@ -273,7 +274,7 @@ fn no_locks(bypass: bool) -> Locks
     }
 }
 
-#[tactic(auto, unfolding(crate::specs::Terms::bypass_locks))]
+#[tactic(auto, unfolding(crate::specs::RequestHeaders::bypass_locks))]
 fn bypass_locks(buf: &[u8], headers: &[HeaderSpan]) -> Result<Locks, LineFault>
     requires { All (IsHeaderWithin (length buf.now)) headers.now }
     ensures { Gives (λ x. x) result (spec.bypass_locks (map (header_bytes buf.now) headers.now)) }
@@ -282,13 +283,17 @@ fn bypass_locks(buf: &[u8], headers: &[HeaderSpan]) -> Result<Locks, LineFault>
     Ok(no_locks(bypass))
 }
 
-fn locks_of(takes: Takes, buf: &[u8], headers: &[HeaderSpan]) -> Result<Locks, LineFault>
+fn locks_of(
+    accepted: AcceptedHeaders,
+    buf: &[u8],
+    headers: &[HeaderSpan],
+) -> Result<Locks, LineFault>
     requires { All (IsHeaderWithin (length buf.now)) headers.now }
-    ensures { Gives (λ x. x) result (spec.locks_of takes (map (header_bytes buf.now) headers.now)) }
+    ensures { Gives (λ x. x) result (spec.locks_of accepted (map (header_bytes buf.now) headers.now)) }
 {
-    if takes.locks {
+    if accepted.locks {
         new_locks(buf, headers)
-    } else if takes.bypass {
+    } else if accepted.bypass {
         bypass_locks(buf, headers)
     } else {
         Ok(no_locks(false))
@@ -315,27 +320,27 @@ fn waits(size: Option<u64>, minor: u8, buf: &[u8], headers: &[HeaderSpan]) -> bo
     }
 }
 
-/// What the headers say of an order: first the body's length, where there is one; then that no header
+/// What the headers say of an operation: first the body's length, where there is one; then that no header
 /// that is used stands twice; then who asks, and the locks.
-#[tactic(auto, unfolding(crate::specs::Terms::terms_of))]
-pub fn terms_of(
+#[tactic(auto, unfolding(crate::specs::RequestHeaders::request_headers_of))]
+pub fn request_headers_of(
     alloc: Global,
-    takes: Takes,
+    accepted: AcceptedHeaders,
     minor: u8,
     buf: &[u8],
     headers: &[HeaderSpan],
-) -> Result<Terms, LineFault>
+) -> Result<RequestHeaders, LineFault>
     requires within { All (IsHeaderWithin (length buf.now)) headers.now }
     requires few { length headers.now ≤ 64 }
-    requires small { spec.IsLimit takes.limit }
-    ensures { Gives (λ x. x) result (spec.terms_of takes minor (map (header_bytes buf.now) headers.now)) }
+    requires small { spec.IsLimit accepted.limit }
+    ensures { Gives (λ x. x) result (spec.request_headers_of accepted minor (map (header_bytes buf.now) headers.now)) }
 {
-    let length = length_of(takes.limit, buf, headers)?;
-    check_single(takes, minor, buf, headers)?;
+    let length = length_of(accepted.limit, buf, headers)?;
+    check_single(accepted, minor, buf, headers)?;
     let caller = caller_of(alloc, buf, headers)?;
-    let locks = locks_of(takes, buf, headers)?;
+    let locks = locks_of(accepted, buf, headers)?;
     let waits = waits(length, minor, buf, headers);
-    Ok(Terms {
+    Ok(RequestHeaders {
         length,
         caller,
         locks,

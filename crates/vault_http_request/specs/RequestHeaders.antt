@@ -1,4 +1,4 @@
--- What the headers of a request say of its order: the body's length, who asks, and locks.
+-- What the headers of a request say of its operation: the body's length, who asks, and locks.
 use Rattle.std.specs.Prelude.{ℕ, ◌≤◌, ◌==◌, ◌&&◌, ◌||◌, not, nat_lt, List, codes, Bool, true, false, Option, Some, None, is_some, option_and_then, Result, Ok, Err, if◌then◌else◌, ⊤}
 use Rattle.vault_base.specs.declared.refusal.Reason.TheVariants.{UnknownCaller}
 use Rattle.vault_base.specs.declared.refusal.Refusal.{Refusal}
@@ -13,28 +13,28 @@ use Rattle.vault_http_target.specs.Number.{number_upto}
 use Rattle.vault_http_target.specs.Path.{as_text, or_refusal}
 use Rattle.vault_http_target.specs.declared.number.NumberFault.{NumberFault}
 use Rattle.vault_http_target.specs.declared.number.NumberFault.TheVariants.{Form, TooLarge}
-use Rattle.vault_http_request.specs.declared.order.Order.{Order}
-use Rattle.vault_http_request.specs.declared.order.Order.TheVariants as order
-use Rattle.vault_http_request.specs.declared.terms.Locks.{Locks}
-use Rattle.vault_http_request.specs.declared.terms.Takes.{Takes}
-use Rattle.vault_http_request.specs.declared.terms.Terms.{Terms}
+use Rattle.vault_http_request.specs.declared.operation.Operation.{Operation}
+use Rattle.vault_http_request.specs.declared.operation.Operation.TheVariants as operation
+use Rattle.vault_http_request.specs.declared.request_headers.Locks.{Locks}
+use Rattle.vault_http_request.specs.declared.request_headers.AcceptedHeaders.{AcceptedHeaders}
+use Rattle.vault_http_request.specs.declared.request_headers.RequestHeaders.{RequestHeaders}
 
--- ---- which headers an order takes
+-- ---- which headers an operation accepts
 
-abbrev pub no_headers : Takes
+abbrev pub no_headers : AcceptedHeaders
 no_headers = record { limit = None; locks = false; bypass = false }
 
-abbrev pub json_body : Takes
+abbrev pub json_body : AcceptedHeaders
 json_body = record { limit = Some 4194304; locks = false; bypass = false }
 
-abbrev pub takes_of : Order → Takes
-takes_of (order.Ready c) = no_headers
-takes_of (order.Put bucket key) = record { limit = Some 1048576; locks = true; bypass = false }
-takes_of (order.DeleteVersion bucket key id) = record { limit = None; locks = false; bypass = true }
-takes_of (order.SetRetention o) = record { limit = Some 4194304; locks = false; bypass = true }
-takes_of (order.SetHold o) = json_body
-takes_of (order.SetDefault bucket) = json_body
-takes_of (order.SetRules bucket) = json_body
+abbrev pub accepted_headers_of : Operation → AcceptedHeaders
+accepted_headers_of (operation.Ready c) = no_headers
+accepted_headers_of (operation.Put bucket key) = record { limit = Some 1048576; locks = true; bypass = false }
+accepted_headers_of (operation.DeleteVersion bucket key id) = record { limit = None; locks = false; bypass = true }
+accepted_headers_of (operation.SetRetention o) = record { limit = Some 4194304; locks = false; bypass = true }
+accepted_headers_of (operation.SetHold o) = json_body
+accepted_headers_of (operation.SetDefault bucket) = json_body
+accepted_headers_of (operation.SetRules bucket) = json_body
 
 abbrev pub IsLimit : Option ℕ → Type 0
 IsLimit None = Unit {0}
@@ -74,15 +74,15 @@ is_body_twice minor fields =
     is_twice (codes "content-length") fields || (minor == 1 && is_twice (codes "expect") fields)
 
 -- a header that isn't used may stand as often as it likes
-abbrev pub is_used_twice : Takes → ℕ → Fields → Bool
-is_used_twice takes minor fields =
+abbrev pub is_used_twice : AcceptedHeaders → ℕ → Fields → Bool
+is_used_twice accepted minor fields =
     is_twice (codes "x-vault-caller") fields
-    || ((is_some takes.limit && is_body_twice minor fields)
-    || ((takes.locks && is_lock_twice fields)
-    || (takes.bypass && is_twice (codes "x-amz-bypass-governance-retention") fields)))
+    || ((is_some accepted.limit && is_body_twice minor fields)
+    || ((accepted.locks && is_lock_twice fields)
+    || (accepted.bypass && is_twice (codes "x-amz-bypass-governance-retention") fields)))
 
-abbrev pub single : Takes → ℕ → Fields → Result ⊤ Refusal
-single takes minor fields = if is_used_twice takes minor fields then Err InvalidArgument else Ok tt
+abbrev pub single : AcceptedHeaders → ℕ → Fields → Result ⊤ Refusal
+single accepted minor fields = if is_used_twice accepted minor fields then Err InvalidArgument else Ok tt
 
 -- ---- who asks
 
@@ -144,9 +144,9 @@ bypass_locks fields = do
   Ok (no_locks b)
 
 -- a header that isn't taken isn't looked at
-abbrev pub locks_of : Takes → Fields → Result Locks Refusal
-locks_of takes fields =
-    if takes.locks then new_locks fields else (if takes.bypass then bypass_locks fields else Ok (no_locks false))
+abbrev pub locks_of : AcceptedHeaders → Fields → Result Locks Refusal
+locks_of accepted fields =
+    if accepted.locks then new_locks fields else (if accepted.bypass then bypass_locks fields else Ok (no_locks false))
 
 -- ---- whether the client waits
 
@@ -159,10 +159,10 @@ abbrev pub waits : Option ℕ → ℕ → Fields → Bool
 waits None minor fields = false
 waits (Some n) minor fields = not (n == 0) && (minor == 1 && says_wait (value_of (codes "expect") fields))
 
-unfoldable pub terms_of : Takes → ℕ → Fields → Result Terms Refusal
-terms_of takes minor fields = do
-  n ← length_of takes.limit fields
-  _ ← single takes minor fields
+unfoldable pub request_headers_of : AcceptedHeaders → ℕ → Fields → Result RequestHeaders Refusal
+request_headers_of accepted minor fields = do
+  n ← length_of accepted.limit fields
+  _ ← single accepted minor fields
   caller ← caller_of fields
-  locks ← locks_of takes fields
+  locks ← locks_of accepted fields
   Ok (record { length = n; caller = caller; locks = locks; waits = waits n minor fields })
