@@ -33,6 +33,9 @@ from trials.servers import serving
 AT = ["--at", OPENED_AT]
 LINE = '{"at":"2024-01-15T09:00:00Z","as":"registrar","do":"add-dept","dept":"other"}\n'
 # What standard error says after the name of a refusal.
+# Where a kill leaves the log of a new vault beside an empty file: whether an earlier kill left a part of a first page,
+# from which sync on the device fails, and before which calls the kill comes (docs/formats/PROGRAM.md, "Faults").
+LOG_STAYS = {(False, 11, "unlink"), (False, 12, "unlink")}
 WORDS = {
     "no file": "no file is there: check the path, or make a vault by init",
     "empty": "the file is empty: check the path, or make a vault by init",
@@ -269,15 +272,21 @@ class WithoutVault(Meeting):
             status = self.init_where(what)
             if status == 0:
                 return number - 1, 0
-            self.is_made_after(f"a kill before {call} {number}, where sync {sync} fails, {is_part=}")
+            if (is_part, sync, call) not in LOG_STAYS or not self.has_log_alone():
+                self.is_made_after(f"a kill before {call} {number}, where sync {sync} fails, {is_part=}")
             if status not in KILLED:
                 self.assertEqual(status, 1, f"where sync {sync} fails")
                 return number - 1, 1
 
+    def has_log_alone(self):
+        """Whether a log with changes is left beside a file that is missing or empty: the next `init` refuses that."""
+        ran = self.ran("init", "killed")
+        return (ran.status, ran.err) == (1, f"init: NameTaken\n{WORDS['lost']}\n")
+
     @needs_strace
     def test_failing(self):
         """The device of an `init` fails from each sync on, with a kill as files are given back, or without: the next
-        one makes the vault, also where an earlier kill left a part of a first page."""
+        one makes the vault, also where an earlier kill left a part of a first page; but for LOG_STAYS."""
         for is_part in (False, True):
             count = 0
             for sync in itertools.count(1):
