@@ -32,10 +32,10 @@ from trials.servers import serving
 
 AT = ["--at", OPENED_AT]
 LINE = '{"at":"2024-01-15T09:00:00Z","as":"registrar","do":"add-dept","dept":"other"}\n'
-# What standard error says after the name of a refusal.
 # Where a kill leaves the log of a new vault beside an empty file: whether an earlier kill left a part of a first page,
 # from which sync on the device fails, and before which calls the kill comes (docs/formats/PROGRAM.md, "Faults").
 LOG_STAYS = {(False, 11, "unlink"), (False, 12, "unlink")}
+# What standard error says after the name of a refusal.
 WORDS = {
     "no file": "no file is there: check the path, or make a vault by init",
     "empty": "the file is empty: check the path, or make a vault by init",
