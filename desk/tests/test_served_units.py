@@ -55,7 +55,7 @@ class NightByTheDoor(ServedTest):
                 connection.request("PUT", f"/docs/{client}/{len(statuses)}", b"x" * 1_000, headers)
                 statuses.append(connection.getresponse().status)
                 connection.close()
-                stop.wait(0.1)
+                stop.wait(0.01)
 
         clients = [threading.Thread(target=put, args=(it,)) for it in range(4)]
         for it in clients:

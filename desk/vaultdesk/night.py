@@ -136,6 +136,8 @@ class Night:
         """Appends the seal of all that was before the last moment to those of earlier nights."""
         with self.tables(self.copy or self.served.file) as tables:
             self.seal = evidence.seal_of(tables, None)
+        if self.copy:  # SQLite leaves its index of the log beside a file that was read
+            self.copy.with_name(f"{self.copy.name}-shm").unlink(missing_ok=True)
         evidence.append(evidence.seals_beside(self.served.file), self.seal)
 
     def remove_old(self) -> None:

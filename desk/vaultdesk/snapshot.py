@@ -7,12 +7,13 @@ and after, the file and the whole changes of the log are the vault of one moment
 
 from __future__ import annotations
 
+import fcntl
 import os
-import sqlite3
+import struct
 import tempfile
 import time
 from collections.abc import Iterator
-from contextlib import closing, contextmanager
+from contextlib import contextmanager
 from pathlib import Path
 from typing import BinaryIO
 
@@ -22,17 +23,23 @@ HEAD = 32  # bytes of the log's head, which has the salt
 FRAME = 24  # bytes of a frame's head, before its page
 MAGIC = (0x377F0682, 0x377F0683)
 PIECE = 1_048_576  # bytes that are read at once
+LOCK = "hhqqi4x"  # a `struct flock`
+READERS = (0x40000002, 510)  # the first byte that SQLite's readers lock, and how many they are
 TRIES, PAUSE = 20, 0.5  # how often, and after how many seconds, a copy is tried again
 
 
 def is_taken(file: Path) -> bool:
-    """Whether a program has the vault open, so that no other may read it through SQLite."""
+    """Whether a program has the vault open, so that no other may read it through SQLite.
+
+    The system is asked who has locked the bytes that a reader locks. SQLite would make files beside the vault for that.
+    """
+    asked = struct.pack(LOCK, fcntl.F_RDLCK, os.SEEK_SET, *READERS, 0)
     try:
-        with closing(sqlite3.connect(f"{file.resolve().as_uri()}?mode=ro", uri=True, timeout=0)) as opened:
-            opened.execute("SELECT count(*) FROM sqlite_master").fetchone()
-    except sqlite3.Error as error:
-        return "locked" in str(error)
-    return False
+        with file.open("rb") as opened:
+            found = fcntl.fcntl(opened, fcntl.F_OFD_GETLK, asked)
+    except OSError:
+        return False
+    return bool(struct.unpack(LOCK, found)[0] != fcntl.F_UNLCK)
 
 
 def log_of(file: Path) -> Path:
