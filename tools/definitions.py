@@ -21,6 +21,8 @@ DECLARED = re.compile(rf"^ {{0,2}}(?:{KINDS}) (?:pub )?([^\s:(){{}}=]+) |^([^\s:
 TYPE = re.compile(r"^pub (?:struct|enum|trait) (\w+)")
 GHOST = re.compile(r"\s*(?:pub )?ghost (?!use)")
 COMMENTS = ("-- ", "///", "//!", "#[")
+# The first line of a function's body, or the last one of a function without a body; a comment is neither.
+ENDED = re.compile(r"\s*\{|(?!\s*//).*;$")
 
 
 class Source:
@@ -139,7 +141,7 @@ def pieces_of(crate, module, name):
 def clauses_of(function, named):
     """The texts of a function's conditions, and of its clauses: those named, or all of them."""
     lines = source(TOP / function.path).lines
-    ends = (it for it in range(function.line, len(lines)) if re.match(r"\s*\{", lines[it]) or lines[it].endswith(";"))
+    ends = (it for it in range(function.line, len(lines)) if ENDED.match(lines[it]))
     end = next(ends, len(lines) - 1) + 1
     starts = [it for it in range(function.line, end) if re.match(r"\s*(ensures|requires)\b", lines[it])]
     for start, stop in zip(starts, [*starts[1:], end]):

@@ -151,7 +151,8 @@ class GatewayTest(OfficeTest):
         )
         self.keys = Path(self.written("keys.toml", text.encode()))
         self.keys.chmod(0o600)
-        self.now, self.at = float(NOW), AT
+        self.now = float(NOW)
+        self.at: str | None = AT
         self.etags: Path | None = self.folder / "etags"
         self.start()
         self.addCleanup(self.stop)

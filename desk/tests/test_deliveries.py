@@ -11,7 +11,7 @@ from typing import Any
 from unittest import mock
 
 from tests.office import OfficeTest
-from vaultdesk import deliveries, inventory
+from vaultdesk import intake, inventory
 from vaultdesk.errors import DeskError
 
 
@@ -121,13 +121,13 @@ class Deliveries(OfficeTest):
         self.assertEqual([(it["row"], it["value"]) for it in told["refused"]], [(2, "IntakeConflict")])
 
     def test_content_that_changes_meanwhile_is_found(self) -> None:
-        taken_in = deliveries._taken_in
+        taken_in = intake.taken_in
 
         def changed(*given: Any) -> Any:
             (self.scans / "scan 2.pdf").write_bytes(b"another")
             return taken_in(*given)
 
-        with mock.patch("vaultdesk.deliveries._taken_in", changed):
+        with mock.patch("vaultdesk.deliveries.taken_in", changed):
             done = self.desk(*self.deliver())
         self.assertEqual(done.status, 1)
         self.assertIn("other content than the folder has now: scan 2.pdf", done.err)

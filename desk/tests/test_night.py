@@ -180,13 +180,13 @@ class Backup(MachineTest):
         self.assertRegex(copy.name, r"^records-\d{8}T\d{6}Z\.vault$")
         self.assertEqual((copy.stat().st_mode & 0o777, self.copies.stat().st_mode & 0o777), (0o600, 0o700))
 
-    def test_none_is_made_while_a_program_has_the_vault(self) -> None:
+    def test_one_is_made_while_a_program_has_the_vault(self) -> None:
         with closing(sqlite3.connect(self.file, isolation_level=None)) as base:
             base.execute("PRAGMA locking_mode=EXCLUSIVE")
             base.execute("BEGIN EXCLUSIVE")
-            done = self.desk("backup", str(self.file), str(self.copies), at=None)
-        self.assertEqual((done.status, done.out, self.made()), (1, "", []))
-        self.assertIn("vaultdesk offline", done.err)
+            copy = self.done("backup", str(self.file), str(self.copies), at=None).strip()
+        found = subprocess.run([PROGRAM, "verify", copy], capture_output=True, text=True, check=True)
+        self.assertEqual(found.stdout, "sound\n")
 
     def test_one_that_is_not_sound_keeps_its_name(self) -> None:
         with closing(sqlite3.connect(self.file)) as base:

@@ -2,6 +2,7 @@
 
 from __future__ import annotations
 
+import contextlib
 import csv
 import io
 import json
@@ -9,10 +10,13 @@ import re
 import sqlite3
 import subprocess
 from contextlib import closing
+from pathlib import Path
+from unittest import mock
 
 from tests.machine import MachineTest
 from tests.office import PROGRAM
 from vaultdesk import reading
+from vaultdesk.errors import EngineError
 
 LATER = "2024-02-01T00:00:00Z"
 
@@ -57,17 +61,22 @@ class Offices(MachineTest):
         self.assertIn("the port 8080 is given twice", self.desk("offices", "map", at=None).err)
         self.assertIn("isn't VAULT:BUCKET", self.desk("offices", "map", "--bucket", "docs", at=None).err)
 
-    def test_of_a_vault_that_is_served_the_newest_copy_is_read(self) -> None:
+    def test_of_a_vault_that_is_served_the_buckets_are_those_of_now(self) -> None:
         with closing(sqlite3.connect(self.file, isolation_level=None)) as base:
             base.execute("PRAGMA locking_mode=EXCLUSIVE")
             base.execute("BEGIN EXCLUSIVE")
-            done = self.desk("offices", "map", at=None)
-            self.assertEqual(done.status, 1)
-            base.execute("ROLLBACK")
+            self.assertIn("~^/(docs)", self.done("offices", "map", at=None))
+
+    def test_where_a_file_cant_be_read_its_newest_copy_is(self) -> None:
+        def readable(file: Path, *_: object) -> contextlib.AbstractContextManager[Path]:
+            if file == self.file:
+                raise EngineError("it can't be read")
+            return contextlib.nullcontext(file)
+
+        with mock.patch("vaultdesk.snapshot.readable", readable):
+            self.assertEqual(self.desk("offices", "map", at=None).status, 1)
         self.done("backup", "records", at=None)
-        with closing(sqlite3.connect(self.file, isolation_level=None)) as base:
-            base.execute("PRAGMA locking_mode=EXCLUSIVE")
-            base.execute("BEGIN EXCLUSIVE")
+        with mock.patch("vaultdesk.snapshot.readable", readable):
             done = self.desk("offices", "map", at=None)
         self.assertEqual(done.status, 0)
         self.assertIn("~^/(docs)", done.out)

@@ -18,7 +18,7 @@ from unittest import mock
 
 from tests.office import PROGRAM
 from tests.s3_office import ANN, BEA, GatewayTest, read_replies, request
-from vaultdesk import engine, reading
+from vaultdesk import reading, ways
 from vaultdesk.s3 import server
 
 LOCK = {"x-amz-object-lock-mode": "COMPLIANCE", "x-amz-object-lock-retain-until-date": "2034-01-01T00:00:00Z"}
@@ -26,6 +26,12 @@ ONCE = {"amz-sdk-invocation-id": "d969f1fc-afca-45f4-93cf-bb107518bc68"}
 
 
 class Again(GatewayTest):
+    def replay(self) -> ways.Replay:
+        """The gateway's own engine."""
+        way = self.door.engine._way
+        assert isinstance(way, ways.Replay)
+        return way
+
     def test_a_put_that_is_sent_again_is_one_version(self) -> None:
         first = self.done("PUT", "/docs/a", b"hello", {**LOCK, **ONCE})
         again = self.done("PUT", "/docs/a", b"hello", {**LOCK, **ONCE, "amz-sdk-request": "attempt=2"})
@@ -78,7 +84,7 @@ class Again(GatewayTest):
 
     def test_an_engine_that_ends_is_started_anew(self) -> None:
         self.done("PUT", "/docs/a", b"hello", ONCE)
-        child = self.door.engine._child
+        child = self.replay()._child
         assert child
         child.kill()
         child.wait()
@@ -94,7 +100,7 @@ class Again(GatewayTest):
             self.stop()
             connection.sendall(request("PUT", "/docs/a", b"hello"))
             self.assertIn(b" 503 ", connection.recv(65_536))
-            self.assertIsNone(self.door.engine._child)
+            self.assertIsNone(self.replay()._child)
         self.start()
         self.assertEqual(self.entries(), [])
 
@@ -106,12 +112,13 @@ class Again(GatewayTest):
         self.assertEqual(self.ask("GET", "/docs").status, 200)
 
     def test_what_the_engine_says_of_refusals_doesnt_fill_the_disk(self) -> None:
-        kept, engine.MOST_SAID = engine.MOST_SAID, 1_000
-        self.addCleanup(setattr, engine, "MOST_SAID", kept)
+        kept, ways.MOST_SAID = ways.MOST_SAID, 1_000
+        self.addCleanup(setattr, ways, "MOST_SAID", kept)
         for number in range(60):
             self.assertEqual(self.ask("GET", f"/docs/none{number}").code, "NoSuchKey")
-        assert self.door.engine._said
-        self.assertLess(os.fstat(self.door.engine._said.fileno()).st_size, 1_500)
+        said = self.replay()._said
+        assert said
+        self.assertLess(os.fstat(said.fileno()).st_size, 1_500)
 
 
 class AtOnce(GatewayTest):

@@ -125,13 +125,13 @@ def _guard_sentences(found: Sequence[Event], guards: Guards) -> Iterator[str]:
 # ---- what was checked
 
 
-def _checked(file: Path, given: str | None) -> Checked:
-    """What vault-recheck says of the file, and of the seals that are given or beside it."""
-    beside = evidence.seals_beside(file)
+def _checked(engine: Engine, given: str | None) -> Checked:
+    """What vault-recheck says of the vault, and of the seals that are given or beside its file."""
+    beside = evidence.seals_beside(engine.desk.file)
     path = Path(given) if given else beside if beside.is_file() else None
     seals = evidence.read_seals(path) if path else []
     say_while_long(f"{recheck.WHO}, audits the file first")
-    with recheck.audited(file) as base:
+    with recheck.audited(engine.tables) as base:
         last = recheck.vault.moment_text(recheck.vault.meta_of(base).last)
         breach = recheck.lawful.first_breach(base)
         contradictions = list(recheck.coherent.contradictions(base))
@@ -199,10 +199,10 @@ def _people(file: Path, found: Sequence[Event]) -> list[reading.Row]:
     return [it for it in reading.query(file, "callers") if it["caller"] in names]
 
 
-def parts_of(file: Path, found: Sequence[Event], at: str, checked: Checked) -> list[Part]:
+def parts_of(engine: Engine, found: Sequence[Event], at: str, checked: Checked) -> list[Part]:
     """The parts of the page of a version, for the moment that is asked about."""
     document = {name: value for name, value in document_of(found).items() if value != ""}
-    document["vault"] = f"{file}, whose last change is of {checked.last}"
+    document["vault"] = f"{engine.desk.file}, whose last change is of {checked.last}"
     document["page"] = f"made by vaultdesk {__version__}, which only reads the file"
     guards = list(_guard_sentences(found, events.guards_at(found, at)))
     if at > checked.last:
@@ -212,7 +212,7 @@ def parts_of(file: Path, found: Sequence[Event], at: str, checked: Checked) -> l
         Part("document", "The document", (), WHAT, [dict(zip(WHAT, it, strict=True)) for it in document.items()]),
         Part("life", "What happened to it", (), ("moment", "who", "what"), life_of(found)),
         Part("guarded", f"What guarded it at {at}", guards),
-        Part("people", "Who they are, as the file has it", (), people, _people(file, found)),
+        Part("people", "Who they are, as the file has it", (), people, _people(engine.tables, found)),
         Part("checked", "What was checked", list(_checked_sentences(checked, found))),
         Part("shows", "What this shows", list(_shown_sentences(checked))),
         Part("shows_not", "What this doesn't show", list(_unshown_sentences(checked))),
@@ -270,10 +270,10 @@ def as_json(parts: Sequence[Part]) -> dict[str, Any]:
 
 def answer(engine: Engine, words: argparse.Namespace) -> None:
     """Prints the page of a version, or writes it as HTML."""
-    file, at = engine.desk.file, engine.at or moments.now()
-    found = events.in_tables(file, words.number)
-    checked = _checked(file, words.seals)
-    parts = parts_of(file, found, at, checked)
+    at = engine.at or moments.now()
+    found = events.in_tables(engine.tables, words.number)
+    checked = _checked(engine, words.seals)
+    parts = parts_of(engine, found, at, checked)
     title = f"What the vault has of version {words.number}"
     if words.html:
         write_content(Path(words.html), as_html(title, parts).encode(), words.force)

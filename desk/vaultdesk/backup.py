@@ -12,15 +12,15 @@ import time
 from contextlib import closing
 from pathlib import Path
 
-from vaultdesk import conf, config, units
+from vaultdesk import conf, config, snapshot
 from vaultdesk.errors import DeskError, UsageError
 from vaultdesk.output import print_json
 from vaultdesk.owner import owner_of
 
-ABOUT = """Makes a copy of a vault by SQLite's online backup, audits the copy, and prints its path,
-FOLDER/NAME-MOMENT.vault. The copy belongs to the vault's owner, who alone can read it. While a server has the vault,
-no copy is made. A copy that isn't sound keeps .damaged after its name, and the status is 1; then no older copy is
-removed."""
+ABOUT = """Makes a copy of a vault, audits the copy, and prints its path, FOLDER/NAME-MOMENT.vault. The copy belongs to
+the vault's owner, who alone can read it. It is made by SQLite's online backup, or while a server has the vault, of
+both files as they are at one moment: the server goes on meanwhile. A copy that isn't sound keeps .damaged after its
+name, and the status is 1; then no older copy is removed."""
 
 
 def stamp() -> str:
@@ -29,7 +29,12 @@ def stamp() -> str:
 
 
 def read_copy(source: Path, target: Path) -> None:
-    """Copies a vault by SQLite's online backup. `DeskError` where a program has it, or it can't be read or written."""
+    """Copies a vault by SQLite's online backup, or where a program has it, as it is at one moment.
+
+    `DeskError` where it can't be read or written."""
+    if snapshot.is_taken(source):
+        snapshot.copy(source, target)
+        return
     try:
         with closing(sqlite3.connect(f"{source.resolve().as_uri()}?mode=ro", uri=True, timeout=0)) as opened:
             opened.isolation_level = None
@@ -40,9 +45,7 @@ def read_copy(source: Path, target: Path) -> None:
                 opened.backup(made)
     except sqlite3.Error as error:
         target.unlink(missing_ok=True)
-        is_served = "locked" in str(error)
-        remedy = ": while it is served, vaultdesk offline stops its server for a command" if is_served else ""
-        raise DeskError(f"{source}: {error}{remedy}") from error
+        raise DeskError(f"{source}: {error}") from error
 
 
 def _synced(path: Path) -> None:
@@ -115,14 +118,14 @@ def _asked(words: argparse.Namespace) -> tuple[Path, Path, int | None]:
     """The vault's file, the folder of its copies, and how many stay."""
     if words.keep is not None and words.keep < 1:
         raise UsageError("--keep 0 would keep nothing: give a number from 1 on")
-    is_configured = "/" not in words.vault and conf.path_of(words.vault).exists()
+    is_configured = conf.is_configured(words.vault)
+    named = conf.vaults_folder() / f"{words.vault}.vault" if is_configured else config.settings().file_of(words.vault)
     if words.folder:
-        named = units.folder() / f"{words.vault}.vault" if is_configured else config.settings().file_of(words.vault)
         return named, Path(words.folder), words.keep
     if not is_configured:
         raise UsageError(f"{words.vault} has no configuration in {conf.folder()} that names a folder: give FOLDER")
     found = conf.read(words.vault)
-    return units.folder() / f"{words.vault}.vault", found.backup(), words.keep or found.keep()
+    return named, found.backup(), words.keep or found.keep()
 
 
 def backup(words: argparse.Namespace) -> int:

@@ -67,13 +67,17 @@ class Cases:
         self.notes: list[Note] = []
         self._on: dict[Place, dict[str, Note]] = {}
         self._file: IO[str] | None = None
-        for it in self._read() if path.exists() else ():
+        for it in self._read():
             self._keep(it)
 
     def _read(self) -> Iterator[Note]:
         try:
             with self.path.open(encoding="utf-8", newline="") as file:
                 rows = list(csv.reader(file, strict=True))
+        except FileNotFoundError:
+            return
+        except PermissionError as error:
+            raise DeskError(f"{self.path}: {error.strerror}: ask as who may read the file of cases") from error
         except (OSError, UnicodeDecodeError, csv.Error) as error:
             raise DeskError(f"{self.path}: {error}: mend the file of cases, or put its last copy back") from error
         if rows and rows[0] != HEAD:
@@ -130,7 +134,7 @@ class Cases:
 
 def _states(engine: Engine) -> dict[int, str]:
     """Of each version whether it is held under a legal hold now: ON or OFF."""
-    held = reading.query(engine.desk.file, "held", at=engine.at or moments.now())
+    held = reading.query(engine.tables, "held", at=engine.at or moments.now())
     return {it["version"]: it["hold"] for it in held}
 
 

@@ -10,7 +10,7 @@ from vaultdesk import (
     __version__, answer, cases, deliveries, documents, evidence, find, history, locks, moments, office, policies,
     years_end,
 )
-from vaultdesk import backup, glue, night, offices, page, server, users
+from vaultdesk import backup, closing, glue, night, offices, page, server, users
 from vaultdesk.s3 import words as s3
 from vaultdesk.config import desk
 from vaultdesk.engine import Engine
@@ -18,7 +18,7 @@ from vaultdesk.errors import DeskError
 from vaultdesk.output import say
 
 # Those that ask about a vault, and those that look after files, servers and users.
-FAMILIES = (documents, find, history, locks, cases, policies, deliveries, years_end, evidence, answer, office)
+FAMILIES = (documents, find, history, locks, cases, policies, deliveries, years_end, evidence, answer, office, closing)
 MACHINE = (page, backup, night, server, offices, users, s3, glue)
 ABOUT = """The office's desk: documents, deliveries, locks, rules, evidence, the year's end and the office itself, in
 words and without JSON. vaultdesk COMMAND --help has the words of each. Status: 0 done; 1 refused or a fault; 2 the
@@ -31,6 +31,8 @@ def common_words() -> argparse.ArgumentParser:
     it.add_argument("--vault", metavar="V", help="the vault's file, or its name in the settings (or $VAULT)")
     it.add_argument("--as", dest="caller", metavar="CALLER", help="who asks (or $VAULT_CALLER)")
     it.add_argument("--at", metavar="DATE", help="the moment of the command (default: this machine's clock)")
+    door = "where a server takes lines: a socket's path, or a port of 127.0.0.1 (or $VAULT_DOOR; default: found)"
+    it.add_argument("--door", metavar="WHERE", help=door)
     it.add_argument("--json", action="store_true", help="print JSON")
     return it
 
@@ -55,7 +57,7 @@ def carried_out(asked: argparse.Namespace) -> int:
     if "do" in asked:
         return int(asked.do(asked))
     at = moments.read(asked.at) if asked.at else None
-    with Engine(desk(asked.vault, asked.caller), at) as engine:
+    with Engine(desk(asked.vault, asked.caller, asked.door), at) as engine:
         asked.run(engine, asked)
     return 0
 

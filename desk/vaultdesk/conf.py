@@ -16,7 +16,7 @@ from pathlib import Path
 from vaultdesk.errors import DeskError
 from vaultdesk.output import say
 
-KNOWN = ("PORT", "BUCKETS", "NIGHT", "BACKUP", "KEEP", "ALARM", "TRUST_CLOCK", "MAX_JUMP")
+KNOWN = ("PORT", "LINES_GROUP", "ADMIN", "BUCKETS", "NIGHT", "BACKUP", "KEEP", "ALARM", "TRUST_CLOCK", "MAX_JUMP")
 NAME = re.compile(r"[A-Za-z0-9_][A-Za-z0-9_.-]*")  # of a vault: a file's name, and a unit's
 CALLER = re.compile(r"[a-z0-9._-]{1,64}")
 BUCKET = re.compile(r"[a-z0-9-]{3,63}")
@@ -25,6 +25,30 @@ BUCKET = re.compile(r"[a-z0-9-]{3,63}")
 def folder() -> Path:
     """Where the configurations are: $VAULT_CONF, or else /etc/vaultctl."""
     return Path(os.environ.get("VAULT_CONF", "/etc/vaultctl"))
+
+
+def vaults_folder() -> Path:
+    """Where the vaults with a configuration are: $VAULT_FOLDER, or else /var/lib/vaultctl."""
+    return Path(os.environ.get("VAULT_FOLDER", "/var/lib/vaultctl"))
+
+
+def run_folder() -> Path:
+    """Where doors, locks and marks of alarms are, until the machine is started anew."""
+    return Path(os.environ.get("VAULT_LOCKS", "/run/vaultctl"))
+
+
+def make_run_folder() -> Path:
+    """The same, made where it isn't there. Everybody may enter it: what is in it says by itself who may come."""
+    place = run_folder()
+    place.mkdir(parents=True, exist_ok=True)
+    if place.stat().st_mode & 0o777 != 0o755:
+        place.chmod(0o755)
+    return place
+
+
+def lines_of(name: str) -> Path:
+    """The socket at which the server of a vault takes lines, as its unit says."""
+    return run_folder() / name / "lines"
 
 
 def path_of(name: str) -> Path:
@@ -76,6 +100,14 @@ class Configuration:
             found.append((bucket, caller))
         return found
 
+    def admin(self) -> str:
+        """The caller who ends the server as it is stopped."""
+        return self.values.get("ADMIN") or "registrar"
+
+    def lines_group(self) -> str:
+        """The group whose members may come to the server's door for lines; empty where it stays the owner's."""
+        return self.values.get("LINES_GROUP", "")
+
     def backup(self) -> Path:
         """The folder of the night's copies."""
         return Path(self.values.get("BACKUP") or "/var/backups/vaultctl")
@@ -119,6 +151,11 @@ def read(name: str) -> Configuration:
         if member not in KNOWN:
             say(f"{path}: line {number}: {member} isn't asked for by anything: is it misspelt?")
     return Configuration(name, path, values)
+
+
+def is_configured(vault: str) -> bool:
+    """Whether that is the name of a vault with a configuration, and no path."""
+    return bool(NAME.fullmatch(vault)) and path_of(vault).exists()
 
 
 def names() -> list[str]:

@@ -8,6 +8,11 @@ An option is asked first, then the environment, then a file of settings (TOML)::
 
     [vaults]
     records = "/var/lib/vaultctl/records.vault"
+
+    [doors]
+    records = "/run/vaultctl/records/lines"    # where its server takes lines, if that is another place than usual
+
+A name that isn't there is that of a vault with units, if there is one: /var/lib/vaultctl/NAME.vault.
 """
 
 from __future__ import annotations
@@ -19,6 +24,7 @@ from dataclasses import dataclass
 from pathlib import Path
 from typing import Any
 
+from vaultdesk import conf
 from vaultdesk.errors import UsageError
 
 PLACES = (Path("~/.config/vaultdesk.toml"), Path("/etc/vaultctl/desk.toml"))
@@ -32,19 +38,24 @@ class Settings:
     caller: str | None = None
     program: str | None = None
     vaults: Mapping[str, str] | None = None
+    doors: Mapping[str, str] | None = None
 
     def file_of(self, vault: str) -> Path:
         """The file of the vault that is named so, or else that path itself."""
+        if vault not in (self.vaults or {}) and conf.is_configured(vault) and not Path(vault).exists():
+            return conf.vaults_folder() / f"{vault}.vault"
         return Path((self.vaults or {}).get(vault, vault)).expanduser()
 
 
 @dataclass(frozen=True)
 class Desk:
-    """The engine's program, and which vault is meant and who asks, where these were named."""
+    """The engine's program, and where these were named, which vault is meant, who asks, and where a server takes lines.
+    """
 
     program: str
     vault: Path | None = None
     asker: str | None = None
+    door: str | None = None
 
     @property
     def file(self) -> Path:
@@ -68,16 +79,22 @@ def _text(found: Mapping[str, Any], name: str) -> str | None:
     return value
 
 
+def _are_texts(found: Any) -> bool:
+    return isinstance(found, dict) and all(isinstance(it, str) for it in found.values())
+
+
 def read_settings(path: Path) -> Settings:
     """The settings of a file. `UsageError` where it is no TOML, or a value is of another kind."""
     try:
         found = tomllib.loads(path.read_text(encoding="utf-8"))
     except (OSError, UnicodeDecodeError, tomllib.TOMLDecodeError) as error:
         raise UsageError(f"settings {path}: {error}") from error
-    vaults = found.get("vaults", {})
-    if not isinstance(vaults, dict) or not all(isinstance(it, str) for it in vaults.values()):
+    vaults, doors = found.get("vaults", {}), found.get("doors", {})
+    if not _are_texts(vaults):
         raise UsageError(f"settings {path}: [vaults] has names, each with the path of a file")
-    return Settings(_text(found, "vault"), _text(found, "caller"), _text(found, "program"), vaults)
+    if not _are_texts(doors):
+        raise UsageError(f"settings {path}: [doors] has names, each with the path of a socket, or a port in quotes")
+    return Settings(_text(found, "vault"), _text(found, "caller"), _text(found, "program"), vaults, doors)
 
 
 def settings() -> Settings:
@@ -106,9 +123,10 @@ def named_vault() -> str | None:
     return os.environ.get("VAULT") or settings().vault
 
 
-def desk(vault: str | None, caller: str | None) -> Desk:
+def desk(vault: str | None, caller: str | None, door: str | None = None) -> Desk:
     """The desk of these options; what a subcommand lacks is found where it asks for it."""
     given = settings()
     vault = vault or named_vault()
     caller = caller or os.environ.get("VAULT_CALLER") or given.caller
-    return Desk(program(), given.file_of(vault) if vault else None, caller)
+    door = door or os.environ.get("VAULT_DOOR") or (given.doors or {}).get(vault or "")
+    return Desk(program(), given.file_of(vault) if vault else None, caller, door)

@@ -3,13 +3,8 @@
 from __future__ import annotations
 
 import argparse
-import csv
 import datetime as dt
-import re
-import subprocess
-import tempfile
-from collections.abc import Iterator, Mapping, Sequence
-from dataclasses import dataclass
+from collections.abc import Mapping, Sequence
 from pathlib import Path
 from typing import Any
 
@@ -17,11 +12,10 @@ from vaultdesk import inventory, moments, reading
 from vaultdesk.asking import add_yes, confirm
 from vaultdesk.engine import Engine
 from vaultdesk.errors import DeskError, EngineError
+from vaultdesk.intake import Intake, results, taken_in
 from vaultdesk.items import Item, item_of, look_at_doubles, look_at_file, look_at_words, names_of, read_classes
-from vaultdesk.output import print_json, print_table, say, say_while_long
+from vaultdesk.output import print_json, print_table, say
 
-ROW = re.compile(r"(\d+) (admitted|again|refused) (\S+)")
-CAUSE = re.compile(r"row (\d+): (.*)")
 Row = dict[str, Any]
 
 
@@ -30,8 +24,9 @@ Row = dict[str, Any]
 
 def _look_at_vault(engine: Engine, words: argparse.Namespace, items: Sequence[Item]) -> bool:
     """What the vault has already, and whether it knows the batch. `DeskError` where the caller can put nothing."""
-    file, caller = engine.desk.file, engine.desk.caller
+    caller = engine.desk.caller
     try:
+        file = engine.tables
         held = {it["sha256"] for it in _query_found(file, None)}
         batches = reading.query(file, "batches")
         callers = {it["caller"]: it for it in reading.query(file, "callers")}
@@ -90,98 +85,42 @@ def _questions(items: Sequence[Item], known: bool) -> str:
     return "; ".join(f"{count} {what}" for what, count in counts.items() if count)
 
 
-# ---- the intake
-
-
-@dataclass(frozen=True)
-class Intake:
-    """What the engine's intake said: its lines, and in words why rows were refused, by their numbers."""
-
-    lines: Sequence[str]
-    causes: Mapping[int, str]
-
-
-def _write_list(path: Path, items: Sequence[Item]) -> None:
-    """The engine's list. A row that is left out is there without a file, so that the others keep their numbers:
-    mended and given again, it is taken in, and those that are in the vault aren't taken in twice."""
-    with path.open("w", encoding="utf-8", newline="") as file:
-        writer = csv.writer(file, lineterminator="\n")
-        writer.writerow(("file", "key", "mode", "until", "hold"))
-        for it in items:
-            writer.writerow(("",) * 5 if it.wrong else (it.file, it.key, it.mode, it.until, it.hold))
-
-
-def _cause(items: Sequence[Item], number: int, words: str) -> str:
-    """The cause of a refused row, without the file's name, which is beside it."""
-    return words.removeprefix(f"{items[number - 1].file}: ")
-
-
-def _taken_in(engine: Engine, words: argparse.Namespace, items: Sequence[Item]) -> Intake:
-    """Has the engine take in these items."""
-    engine.look_at_date()
-    engine.close()
-    say_while_long(f"vaultctl takes in {len(items):,} rows: some seconds for each 100 MB that come or are there")
-    with tempfile.TemporaryDirectory() as scratch:
-        listed = Path(scratch) / "list.csv"
-        _write_list(listed, items)
-        command = [engine.desk.program, "intake", str(engine.desk.file), words.bucket, words.batch, str(listed)]
-        command += [words.folder, "--as", engine.desk.caller]
-        command += ["--at", engine.at] if engine.at else []
-        try:
-            done = subprocess.run(command, capture_output=True, encoding="utf-8", errors="replace", check=False)
-        except OSError as error:
-            raise EngineError(f"{engine.desk.program}: {error.strerror}") from error
-    causes = {}
-    for line in done.stderr.split("\n"):
-        found = CAUSE.fullmatch(line)
-        if found:
-            causes[int(found[1])] = _cause(items, int(found[1]), found[2])
-        elif line:
-            say(line)
-    if done.returncode not in (0, 1):
-        raise EngineError(f"the intake wasn't begun: status {done.returncode}")
-    return Intake(done.stdout.split("\n")[:-1], causes)
-
-
-def _results(intake: Intake, items: Sequence[Item]) -> Iterator[Row]:
-    """What became of each item that wasn't left out, as far as the engine came."""
-    for line in intake.lines:
-        found = ROW.fullmatch(line)
-        if found and not items[int(found[1]) - 1].wrong:
-            it = items[int(found[1]) - 1]
-            cause = intake.causes.get(it.number, "") if found[2] == "refused" else ""
-            row: Row = {"row": it.number, "file": it.file, "key": it.key}
-            yield {**row, "result": found[2], "value": found[3], "cause": cause}
-
-
 # ---- afterwards
 
 
 def _differing(engine: Engine, bucket: str, taken: Mapping[int, Item]) -> list[str]:
-    """The files whose content isn't what the vault holds, by the digests of both."""
-    held = {it["version"]: it["sha256"] for it in _query_found(engine.desk.file, bucket)}
+    """The files whose content isn't what the vault holds, by the digests of both. `EngineError` where the vault's
+    tables can't be read."""
+    held = {it["version"]: it["sha256"] for it in _query_found(engine.tables, bucket)}
     return [it.file for version, it in taken.items() if held.get(version) != it.digest]
 
 
 def _tell(engine: Engine, words: argparse.Namespace, items: Sequence[Item], intake: Intake) -> None:
-    """Prints what became of the delivery. `DeskError` where not all that was right is in the vault as it is there."""
-    results = list(_results(intake, items))
-    refused = [it for it in results if it["result"] == "refused"]
-    taken = {int(it["value"]): items[it["row"] - 1] for it in results if it["result"] != "refused"}
-    differing = _differing(engine, words.bucket, taken)
+    """Prints what became of the delivery. `DeskError` where not all that was right is in the vault as it is there, or
+    who came by a server's door may not read the tables to compare it."""
+    rows = list(results(intake, items))
+    refused = [it for it in rows if it["result"] == "refused"]
+    taken = {int(it["value"]): items[it["row"] - 1] for it in rows if it["result"] != "refused"}
+    differing, why = None, None
+    try:
+        differing = _differing(engine, words.bucket, taken)
+    except EngineError as error:
+        why = f"what is in the vault wasn't compared with the folder: {error}"
     wanted = sum(not it.wrong for it in items)
     if words.json:
-        told = {"taken_in": len(taken), "refused": refused, "differing": differing, "rows": results}
+        told = {"taken_in": len(taken), "refused": refused, "differing": differing, "rows": rows}
         print_json({**told, "findings": _findings(items)})
     else:
         print_table(refused, ("row", "file", "key", "value", "cause"), as_json=False)
-        same = len(taken) - len(differing)
-        print(f"{len(taken)} of {len(items)} rows are in the vault, {same} of them with the digest of their file")
+        same = "" if differing is None else f", {len(taken) - len(differing)} of them with the digest of their file"
+        print(f"{len(taken)} of {len(items)} rows are in the vault{same}")
     if differing:
         raise DeskError(f"the vault holds other content than the folder has now: {', '.join(differing)}")
-    if refused or len(results) < wanted:
+    if refused or len(rows) < wanted:
         last = intake.lines[-1] if intake.lines else "no line of the engine"
-        raise DeskError(f"{len(refused)} rows were refused, {wanted - len(results)} weren't come to: {last}")
+        raise DeskError(f"{len(refused)} rows were refused, {wanted - len(rows)} weren't come to: {last}")
+    if why:
+        raise DeskError(why)
 
 
 def deliver(engine: Engine, words: argparse.Namespace) -> None:
@@ -202,7 +141,7 @@ def deliver(engine: Engine, words: argparse.Namespace) -> None:
     questions = _questions(right, known)
     if questions:
         confirm(words, questions)
-    _tell(engine, words, items, _taken_in(engine, words, items))
+    _tell(engine, words, items, taken_in(engine, words, items))
 
 
 def add(commands: argparse._SubParsersAction[argparse.ArgumentParser], common: argparse.ArgumentParser) -> None:

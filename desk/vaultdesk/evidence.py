@@ -81,14 +81,13 @@ def append(path: Path, seal: Seal) -> bool:
 
 def seal(engine: Engine, words: argparse.Namespace) -> None:
     """Prints the seal of a moment, and appends it to a file where that is asked."""
-    file = engine.desk.file
-    found = seal_of(file, moments.read(words.before) if words.before else None)
+    found = seal_of(engine.tables, moments.read(words.before) if words.before else None)
     if words.json:
         print_json({**seal_json(found), "by": recheck.WHO})
     else:
         print(found.text(), end="")
     if words.append is not None:
-        path = Path(words.append) if words.append else seals_beside(file)
+        path = Path(words.append) if words.append else seals_beside(engine.desk.file)
         done = "is appended to" if append(path, found) else "stood already in"
         say(f"the seal {done} {path}: keep a copy of that file where the office can't write")
     if not words.json:
@@ -110,9 +109,8 @@ def span_text(seals: Iterable[Seal]) -> str:
 
 def check_seals(engine: Engine, words: argparse.Namespace) -> None:
     """Says whether each seal of the files comes out of the vault again."""
-    file = engine.desk.file
-    seals = [it for path in words.files or [seals_beside(file)] for it in read_seals(Path(path))]
-    found = differing(file, seals)
+    seals = [it for path in words.files or [seals_beside(engine.desk.file)] for it in read_seals(Path(path))]
+    found = differing(engine.tables, seals)
     if words.json:
         print_json({"seals": len(seals), "differing": found, "by": recheck.WHO})
     else:

@@ -49,7 +49,7 @@ def _wanted_digest(words: argparse.Namespace) -> str | None:
 def found_by(engine: Engine, words: argparse.Namespace) -> list[reading.Row]:
     """The rows of the query `find` for these words."""
     rows = reading.query(
-        engine.desk.file,
+        engine.tables,
         "find",
         bucket=words.bucket,
         prefix=words.prefix,
@@ -91,7 +91,7 @@ def held(engine: Engine, words: argparse.Namespace) -> None:
     at = engine.at or moments.now()
     rows = [
         it
-        for it in reading.query(engine.desk.file, "held", at=at)
+        for it in reading.query(engine.tables, "held", at=at)
         if (words.bucket in (None, it["bucket"]))
         and (words.department in (None, it["department"]))
         and (not words.on_hold or it["hold"] == "ON")

@@ -2,16 +2,15 @@
 
 from __future__ import annotations
 
-import shutil
 import tempfile
 from collections.abc import Iterator, Sequence
 from dataclasses import replace
 from pathlib import Path
 from typing import Any
 
-from vaultdesk import moments
+from vaultdesk import moments, snapshot
 from vaultdesk.engine import Engine
-from vaultdesk.errors import DeskError, Refused
+from vaultdesk.errors import Refused
 
 Rule = dict[str, Any]
 Row = dict[str, Any]
@@ -69,26 +68,14 @@ class _Bucket:
         self.held, self.marked = held, marked
 
 
-def _copied(file: Path, folder: str) -> Path:
-    """A copy of a vault's two files, to try on."""
-    copy = Path(folder) / file.name
-    try:
-        shutil.copyfile(file, copy)
-        log = Path(f"{file}-wal")
-        if log.exists():
-            shutil.copyfile(log, f"{copy}-wal")
-    except OSError as error:
-        raise DeskError(f"{error.filename}: {error.strerror}") from error
-    return copy
-
-
 def foreseen(engine: Engine, buckets: Sequence[str], last: str, more: Sequence[Rule] = ()) -> list[Row]:
     """What the rules of these buckets do from now on up to that moment, with more rules where some are given."""
     first = engine.at or moments.now()
     engine.close()
     with tempfile.TemporaryDirectory() as folder:
-        desk = replace(engine.desk, vault=_copied(engine.desk.file, folder))
-        with Engine(desk, first, is_copy=True) as trial:
+        copy = Path(folder) / engine.desk.file.name
+        snapshot.copy(engine.desk.file, copy)
+        with Engine(replace(engine.desk, vault=copy, door=None), first, is_copy=True) as trial:
             for bucket in buckets if more else ():
                 set_rules(trial, bucket, [*rules_of(trial, bucket), *more])
             looked_at = [_Bucket(trial, it) for it in buckets]

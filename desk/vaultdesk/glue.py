@@ -3,20 +3,23 @@
 from __future__ import annotations
 
 import argparse
+import grp
 import os
 import re
 import subprocess
 import time
 from pathlib import Path
 
-from vaultdesk import conf, units
+from vaultdesk import conf
+from vaultdesk.closing import end
 from vaultdesk.errors import DeskError
 from vaultdesk.units import Busy, Served, systemctl
 
 PROCESSES = Path("/proc")
-SOCKETS = Path("/proc/net/tcp")
+PORTS, SOCKETS = Path("/proc/net/tcp"), Path("/proc/net/unix")
+LAST_WAIT = 120.0  # seconds for the reply of a server that ends, and as many for its end: less than TimeoutStopSec
 QUIET = 3_600  # seconds in which the same failure isn't reported again
-LISTENS = "0A"  # the state of a socket, as the kernel prints it
+LISTENS, ACCEPTS = "0A", "00010000"  # how the kernel prints that a port, and a Unix socket, takes connections
 
 
 def _sockets(process: Path) -> set[str]:
@@ -34,13 +37,42 @@ def _sockets(process: Path) -> set[str]:
 
 def _listens(process: Path, port: int) -> bool:
     """Whether a socket of that process listens at a port of 127.0.0.1."""
-    rows = [it.split() for it in SOCKETS.read_text(encoding="ascii").splitlines()[1:]]
+    rows = [it.split() for it in PORTS.read_text(encoding="ascii").splitlines()[1:]]
     there = {row[9] for row in rows if row[1] == f"0100007F:{port:04X}" and row[3] == LISTENS}
     return bool(there & _sockets(process))
 
 
+def _takes_lines(process: Path, place: str) -> bool:
+    """Whether a socket of that process listens at a path."""
+    lines = SOCKETS.read_text(encoding="utf-8", errors="replace").splitlines()[1:]
+    rows = [it.split(maxsplit=7) for it in lines]
+    there = {row[6] for row in rows if row[7:] == [place] and row[3] == ACCEPTS}
+    return bool(there & _sockets(process))
+
+
+def _door_of(process: Path) -> str:
+    """Where that server was told to take lines; empty where it wasn't."""
+    words = os.fsdecode((process / "cmdline").read_bytes()).split("\0")
+    return words[words.index("--lines") + 1] if "--lines" in words[:-1] else ""
+
+
+def _let_in(place: Path, group: str) -> None:
+    """Has the door of a server open for the members of a group, where one is named: else for those of its folder's.
+
+    `DeskError` where there is no such group."""
+    try:
+        number = grp.getgrnam(group).gr_gid if group else -1
+    except KeyError as error:
+        raise DeskError(f"LINES_GROUP={group}: this machine has no such group") from error
+    for it, mode in ((place.parent, 0o750), (place, 0o660)):
+        os.chown(it, -1, number)
+        it.chmod(mode)
+
+
 def started(words: argparse.Namespace) -> int:
-    """Waits until the server that systemd has just started listens. Its audit of the file may take a while.
+    """Waits until the server that systemd has just started listens; where it takes lines, lets in who may come.
+
+    Its audit of the file may take a while before that.
 
     systemd allows some starts within some minutes. Only those are to count that it made itself after a failure: so
     where a start by hand has come to its end, the count begins anew."""
@@ -49,6 +81,11 @@ def started(words: argparse.Namespace) -> int:
     try:
         while not _listens(process, served.conf.port()):
             time.sleep(0.2)
+        if _door_of(process) == served.door().where:
+            while not _takes_lines(process, served.door().where):
+                time.sleep(0.2)
+            conf.make_run_folder()
+            _let_in(Path(served.door().where), served.conf.lines_group())
     except FileNotFoundError as error:
         raise DeskError("the server ended before it listened") from error
     if systemctl("show", "-P", "NRestarts", served.unit)[1] == "0":
@@ -57,10 +94,21 @@ def started(words: argparse.Namespace) -> int:
     return 0
 
 
-def stopped(words: argparse.Namespace) -> int:
-    """Copies the log of a vault into its file after its server was stopped.
+def stop(words: argparse.Namespace) -> int:
+    """Has a server end by its door for lines, if it has one: what is under way is answered, and the log is copied in.
 
-    The stop kills the server, and its newest changes are in the log alone then. An audit that finds the vault sound
+    Where it isn't done so, systemd kills the server, and nothing that was answered is lost."""
+    served = Served(words.name)
+    door = served.door(LAST_WAIT)
+    if door.is_there():
+        end(door, served.conf.admin())
+    return 0
+
+
+def stopped(words: argparse.Namespace) -> int:
+    """Copies the log of a vault into its file after its server was killed.
+
+    Where a stop kills the server, its newest changes are in the log alone. An audit that finds the vault sound
     copies them into the file as it closes it. Where another job has stopped the server, that job opens the vault
     itself; and where the server ended by itself, the next start does."""
     if (os.environ.get("SERVICE_RESULT"), os.environ.get("EXIT_CODE")) != ("success", "killed"):
@@ -92,28 +140,29 @@ def failed(words: argparse.Namespace) -> int:
     if not conf.path_of(name).exists():
         return 0
     alarm = conf.read(name).alarm()
-    mark = units.locks() / f"alarm.{words.name}"
+    mark = conf.run_folder() / f"alarm.{words.name}"
     if not alarm or (mark.exists() and time.time() - mark.stat().st_mtime < QUIET):
         return 0
     environment = {**os.environ, "UNIT": words.name, "VAULT": name}
     done = subprocess.run(["sh", "-c", alarm], input=_told(words.name), env=environment, check=False)
     if done.returncode != 0:
         raise DeskError(f"the command ALARM ended with status {done.returncode}")
-    mark.parent.mkdir(mode=0o700, parents=True, exist_ok=True)
+    conf.make_run_folder()
     mark.touch()
     return 0
 
 
 KINDS = {
     "started": (started, "wait until the server that was started listens"),
-    "stopped": (stopped, "copy the log of a vault whose server was stopped into its file"),
+    "stop": (stop, "have a server end by its door for lines, and wait for it"),
+    "stopped": (stopped, "copy the log of a vault whose server was killed into its file"),
     "failed": (failed, "report that a unit failed, by the command ALARM of its vault"),
 }
 
 
 def add(commands: argparse._SubParsersAction[argparse.ArgumentParser], common: argparse.ArgumentParser) -> None:
     """Adds the subcommands to the desk's words."""
-    what = "what the units of a vault ask for: started, stopped, failed"
+    what = "what the units of a vault ask for: started, stop, stopped, failed"
     about = "Done by the units of a vault as its server starts, stops or fails, and by nobody else."
     made = commands.add_parser("unit", help=what, description=about)
     kinds = made.add_subparsers(dest="kind", required=True, metavar="KIND")

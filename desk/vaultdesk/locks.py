@@ -4,6 +4,7 @@ from __future__ import annotations
 
 import argparse
 import contextlib
+import functools
 from collections.abc import Callable, Mapping, Sequence
 from typing import Any
 
@@ -70,7 +71,11 @@ class _Holds:
         self.engine = engine
         self.case = check_name(words.case) if words.case is not None else None
         self.dry_run = bool(words.dry_run)
-        self.cases = Cases(file_beside(engine.desk.file))
+
+    @functools.cached_property
+    def cases(self) -> Cases:
+        """The office's file of cases."""
+        return Cases(file_beside(self.engine.desk.file))
 
     def _note(self, done: str, it: Target, version: int, was: str) -> None:
         if self.case is not None:

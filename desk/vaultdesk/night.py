@@ -3,17 +3,18 @@
 from __future__ import annotations
 
 import argparse
+import contextlib
 import os
-import shutil
 import subprocess
 import tempfile
 import time
 from collections.abc import Callable
+from contextlib import AbstractContextManager
 from dataclasses import dataclass, field
 from pathlib import Path
 from typing import Any
 
-from vaultdesk import backup, config, evidence, moments, reading
+from vaultdesk import backup, config, evidence, moments, reading, snapshot
 from vaultdesk.config import Desk
 from vaultdesk.engine import Engine
 from vaultdesk.errors import DeskError
@@ -21,13 +22,13 @@ from vaultdesk.output import print_json, print_rows, say
 from vaultdesk.units import Served
 
 DAY = 86_400
-ABOUT = """Stops the server of a vault, as one program at a time has it, carries out the lifecycle rules of its
-buckets, makes a copy, audits the copy, puts a seal after those of earlier nights, and starts the server again.
-/etc/vaultctl/NAME.conf says which buckets (BUCKETS), by which callers (BUCKET:CALLER, or NIGHT), where the copies
-go (BACKUP) and how many are kept (KEEP). No rule is carried out while the machine's clock isn't synchronized,
-unless TRUST_CLOCK is yes; nor where it is more than MAX_JUMP days past the vault's last change and the last
-night: what a clock that is ahead removes can't be put back. The copy is made all the same. The status is 1 where
-one of these wasn't done to its end."""
+ABOUT = """Carries out the lifecycle rules of a vault's buckets, makes a copy, audits the copy, and puts a seal after
+those of earlier nights. A server that takes lines goes on meanwhile; one that doesn't is stopped first, and started
+again afterwards. /etc/vaultctl/NAME.conf says which buckets (BUCKETS), by which callers (BUCKET:CALLER, or NIGHT),
+where the copies go (BACKUP) and how many are kept (KEEP). No rule is carried out while the machine's clock isn't
+synchronized, unless TRUST_CLOCK is yes; nor where it is more than MAX_JUMP days past the vault's last change and the
+last night: what a clock that is ahead removes can't be put back. The copy is made all the same. The status is 1
+where one of these wasn't done to its end."""
 COLUMNS = ("bucket", "marked", "removed", "lone")
 FORETOLD = ("what", "bucket", "version", "key")
 MEMORY = Path("/proc/meminfo")
@@ -53,11 +54,12 @@ def is_synchronized() -> bool:
 
 @dataclass
 class Night:
-    """A night: the vault, the moment of its rules, and what came of it."""
+    """A night: the vault, the clock as it was looked at, and what came of it."""
 
     served: Served
     is_sure: bool
-    now: int = field(default_factory=lambda: int(time.time()))
+    goes_on: bool  # whether the server does meanwhile
+    now: int = 0
     rows: list[dict[str, Any]] = field(default_factory=list)
     copy: Path | None = None
     seal: evidence.Seal | None = None
@@ -67,6 +69,10 @@ class Night:
     def mark(self) -> Path:
         """The file whose age says when the last night was whose clock was right."""
         return self.served.folder / f"{self.served.name}.night"
+
+    def tables(self, file: Path) -> AbstractContextManager[Path]:
+        """A file whose tables can be read: that one, or while a server has it, a copy beside it for a while."""
+        return snapshot.readable(file, self.served.folder)
 
     def done(self, part: Callable[[], None]) -> bool:
         """Whether a part of the work was done; where it wasn't, a line says why, and the other parts are tried."""
@@ -78,9 +84,12 @@ class Night:
             self.is_whole = False
             return False
 
-    def look_at_clock(self) -> None:
-        """`DeskError` where the clock can't be relied on: what one that is ahead removes can't be put back."""
-        [(last,)] = reading.rows(self.served.file, "SELECT last FROM meta")
+    def look_at_clock(self, tables: Path) -> None:
+        """By the vault's tables: `DeskError` where the clock can't be relied on.
+
+        What one that is ahead removes can't be put back."""
+        [(last,)] = reading.rows(tables, "SELECT last FROM meta")
+        self.now = int(time.time())  # after that was read: a server goes on meanwhile
         clock = moments.of_seconds(self.now)
         if self.now < last:
             raise DeskError(f"the clock ({clock}) is before the vault's last change ({moments.of_seconds(last)})")
@@ -96,10 +105,10 @@ class Night:
             remedy = f"If it is right: vaultdesk night --clock-is-right {self.served.name}"
             raise DeskError(f"the clock ({clock}) is more than {days} days past {known_text}. {remedy}")
 
-    def carry_out(self, file: Path) -> None:
-        """Carries out the rules of all buckets, over one opening of the file."""
+    def carry_out(self, desk: Desk, at: str | None) -> None:
+        """Carries out the rules of all buckets at a moment, or by the clock, over one opening of the file."""
         buckets = self.served.conf.buckets()
-        with Engine(Desk(config.program(), file, ""), moments.of_seconds(self.now)) as engine:
+        with Engine(desk, at) as engine:
             for bucket, caller in buckets:
                 try:
                     self.rows.append({"bucket": bucket, **engine.ask("run", caller, bucket=bucket)})
@@ -107,14 +116,14 @@ class Night:
                     say(f"vaultdesk night: the rules of {bucket} weren't carried out to their end: {error}")
                     self.is_whole = False
 
-    def warn_of_memory(self) -> None:
+    def warn_of_memory(self, tables: Path) -> None:
         """A vault is in memory as a whole as it is opened, and the kernel kills what takes too much."""
         try:
             found = [it.split() for it in MEMORY.read_text(encoding="ascii").splitlines()]
         except OSError:
             return
         free = next((int(it[1]) * 1024 for it in found if it[0] == "MemAvailable:"), None)
-        [(held,)] = reading.rows(self.served.file, "SELECT coalesce(sum(size), 0) FROM entries WHERE removed IS NULL")
+        [(held,)] = reading.rows(tables, "SELECT coalesce(sum(size), 0) FROM entries WHERE removed IS NULL")
         if free is not None and held > free // 2:
             cause = f"warning: the vault holds {held} bytes, and {free} bytes of memory are free"
             say(f"vaultdesk night: {cause}. Where it can't be opened for want of memory, the kernel kills the server")
@@ -125,7 +134,10 @@ class Night:
 
     def make_seal(self) -> None:
         """Appends the seal of all that was before the last moment to those of earlier nights."""
-        self.seal = evidence.seal_of(self.served.file, None)
+        with self.tables(self.copy or self.served.file) as tables:
+            self.seal = evidence.seal_of(tables, None)
+        if self.copy:  # SQLite leaves its index of the log beside a file that was read
+            self.copy.with_name(f"{self.copy.name}-shm").unlink(missing_ok=True)
         evidence.append(evidence.seals_beside(self.served.file), self.seal)
 
     def remove_old(self) -> None:
@@ -136,13 +148,15 @@ class Night:
 
     def work(self) -> int:
         """All of it, and the status. It is done as the vaults' owner."""
-        is_right = self.done(self.look_at_clock)
+        with self.tables(self.served.file) as tables:
+            is_right = self.done(lambda: self.look_at_clock(tables))
+            self.done(lambda: self.warn_of_memory(tables))
         if is_right:
-            self.done(lambda: self.carry_out(self.served.file))
+            door = self.served.door().where if self.goes_on else None
+            self.done(lambda: self.carry_out(Desk(config.program(), self.served.file, "", door), None))
             self.mark().touch()
         else:
             say(f"vaultdesk night: no rule of the vault {self.served.name} was carried out")
-        self.done(self.warn_of_memory)
         if self.done(self.make_copy) and is_right:
             self.done(self.remove_old)
         self.done(self.make_seal)
@@ -163,28 +177,23 @@ class Night:
             print(self.seal.text(), end="")
 
 
-def _copied(file: Path, folder: Path) -> Path:
-    """Copies of a vault's two files."""
-    for it in (file, Path(f"{file}-wal")):
-        if it.exists():
-            shutil.copyfile(it, folder / it.name)
-    return folder / file.name
-
-
 def foretold(night: Night) -> list[dict[str, Any]]:
     """What the rules would do at this moment: they are carried out on a copy, which is laid beside the vault."""
     with tempfile.TemporaryDirectory() as name:
         before, after = Path(name) / "before", Path(name) / "after"
+        old, new = (it / night.served.file.name for it in (before, after))
         for it in (before, after):
             it.mkdir()
-        old, new = _copied(night.served.file, before), _copied(night.served.file, after)
-        night.carry_out(new)
+        snapshot.copy(night.served.file, old)
+        snapshot.copy(old, new)
+        night.carry_out(Desk(config.program(), new, ""), moments.now())
         return [dict(zip(FORETOLD, it, strict=True)) for it in reading.of_two(new, old, GONE)]
 
 
 def _try(night: Night, as_json: bool) -> int:
     """Prints what the night would do, and does nothing of it."""
-    night.done(night.look_at_clock)
+    with night.tables(night.served.file) as tables:
+        night.done(lambda: night.look_at_clock(tables))
     rows = foretold(night)
     old = backup.outdated(night.served.conf.backup(), night.served.name, night.served.conf.keep(), coming=1)
     if as_json:
@@ -204,15 +213,22 @@ def _worked(night: Night, words: argparse.Namespace) -> int:
 
 
 def night(words: argparse.Namespace) -> int:
-    """Stops the server, carries out the rules, makes a copy and a seal, and starts the server again."""
+    """Carries out the rules, makes a copy and a seal: while the server goes on, if it takes lines."""
     served = Served(words.name)
-    with served.alone(), served.standing_still():
-        it = Night(served, words.clock_is_right)
+    with served.alone():
+        goes_on = served.door().is_there()
         if words.dry_run:
-            return served.owner().carry_out(lambda: _try(it, words.json))
-        status = served.owner().carry_out(lambda: _worked(it, words))
-        if status == 0:
-            served.forget_alarm("vault-run")
+            return served.owner().carry_out(lambda: _try(Night(served, words.clock_is_right, goes_on), words.json))
+        with contextlib.nullcontext() if goes_on else served.standing_still():
+            return _night(Night(served, words.clock_is_right, goes_on), words)
+
+
+def _night(it: Night, words: argparse.Namespace) -> int:
+    """The status of the night's work, which the vaults' owner does."""
+    served = it.served
+    status = served.owner().carry_out(lambda: _worked(it, words))
+    if status == 0:
+        served.forget_alarm("vault-run")
     return status
 
 

@@ -42,7 +42,7 @@ def departments(engine: Engine, words: argparse.Namespace) -> None:
         engine.ask("add-dept", dept=words.add)
         return
     statement = "SELECT name, admitted + received, held, removed FROM departments ORDER BY name"
-    found = reading.rows(engine.desk.file, statement)
+    found = reading.rows(engine.tables, statement)
     columns = ("department", "came in", "held", "removed")
     print_table([dict(zip(columns, it, strict=True)) for it in found], columns, words.json)
 
@@ -71,7 +71,7 @@ def buckets(engine: Engine, words: argparse.Namespace) -> None:
         engine.ask("add-bucket", bucket=words.add, dept=words.department)
         return
     columns = ("bucket", "department", "documents", "bytes", "markers", "rules")
-    found = reading.rows(engine.desk.file, BUCKETS)
+    found = reading.rows(engine.tables, BUCKETS)
     print_table([dict(zip(columns, it, strict=True)) for it in found], columns, words.json)
 
 
@@ -88,7 +88,7 @@ def callers(engine: Engine, words: argparse.Namespace) -> None:
     if words.add:
         _add_caller(engine, words)
         return
-    found = reading.rows(engine.desk.file, "SELECT name, dept, rights, closed FROM callers ORDER BY name")
+    found = reading.rows(engine.tables, "SELECT name, dept, rights, closed FROM callers ORDER BY name")
     rows: list[dict[str, Any]] = [
         {"caller": name, "department": dept or "", "rights": rights_text(rights), "closed": "closed" if closed else ""}
         for name, dept, rights, closed in found
@@ -99,8 +99,8 @@ def callers(engine: Engine, words: argparse.Namespace) -> None:
 def _close(engine: Engine, words: argparse.Namespace) -> None:
     """Closes a caller for good, unless nobody could add callers after that."""
     statement = "SELECT name FROM callers WHERE NOT closed AND rights & 1 AND name <> ?"
-    found = reading.rows(engine.desk.file, "SELECT 1 FROM callers WHERE name = ? AND rights & 1", (words.close,))
-    if found and not reading.rows(engine.desk.file, statement, (words.close,)):
+    found = reading.rows(engine.tables, "SELECT 1 FROM callers WHERE name = ? AND rights & 1", (words.close,))
+    if found and not reading.rows(engine.tables, statement, (words.close,)):
         raise DeskError(f"{words.close} is the last caller with the right admin: nobody could add another")
     if words.dry_run:
         print(f"{words.close} would be closed")

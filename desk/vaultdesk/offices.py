@@ -12,7 +12,7 @@ from collections.abc import Sequence
 from pathlib import Path
 from typing import Any
 
-from vaultdesk import backup, conf, config, moments, reading
+from vaultdesk import backup, conf, config, moments, reading, snapshot
 from vaultdesk.config import Desk
 from vaultdesk.engine import Engine
 from vaultdesk.errors import DeskError, EngineError
@@ -21,8 +21,7 @@ from vaultdesk.units import Served
 
 Row = dict[str, Any]
 ABOUT = """Several vaults on one machine: nginx gives each request at one port to the vault that has its bucket, and
-what each has is brought together. While a server has a vault its file can't be read: give the night's copies, or
-stop it."""
+what each has is brought together, also while a server has a vault."""
 SUMS = ("admitted", "received", "held", "removed", "handed", "byte_days")
 LISTED = ("vault", "port", "state", "file", "copy")
 MAP = """\
@@ -55,7 +54,8 @@ def name_of(file: Path) -> str:
 
 def register_of(file: Path) -> list[Row]:
     """The rows of a vault's register, each with the vault's name in front."""
-    done = subprocess.run([config.program(), "register", file], capture_output=True, check=False)
+    with snapshot.readable(file) as tables:
+        done = subprocess.run([config.program(), "register", tables], capture_output=True, check=False)
     if done.returncode != 0:
         raise EngineError(f"{file}: no register: {done.stderr.decode('utf-8', 'replace').strip()}")
     rows = csv.DictReader(io.StringIO(done.stdout.decode("utf-8"), newline=""))
@@ -64,8 +64,9 @@ def register_of(file: Path) -> list[Row]:
 
 def reports_of(file: Path, caller: str, at: str) -> list[Row]:
     """The reports of all departments of a vault."""
-    names = [str(it) for (it,) in reading.rows(file, "SELECT name FROM departments ORDER BY name")]
     with Engine(Desk(config.program(), file, caller), at) as engine:
+        found = reading.rows(engine.tables, "SELECT name FROM departments ORDER BY name")
+        names = [str(it) for (it,) in found]
         reports = [engine.ask("report", dept=it) for it in names]
     return [
         {"vault": name_of(file), "department": it["dept"], "at": it["at"], **{sum_: it[sum_] for sum_ in SUMS}}
@@ -156,12 +157,14 @@ def _buckets(served: Served) -> list[str]:
     """The buckets of a vault: as its file has them, or where it is served, as the newest copy has them."""
     statement = "SELECT name FROM buckets ORDER BY name"
     try:
-        found = reading.rows(served.file, statement)
+        with snapshot.readable(served.file) as tables:
+            found = reading.rows(tables, statement)
     except DeskError as error:
         copy = newest_copy(served)
         if copy is None:
             raise DeskError(f"{error} There is no copy of it to read in its place") from error
-        say(f"{served.file} is in use: its buckets are read from {copy}, which lacks newer ones: name them by --bucket")
+        remedy = "name them by --bucket"
+        say(f"{served.file} can't be read: its buckets are those of {copy}, which lacks newer ones: {remedy}")
         found = reading.rows(copy, statement)
     return [str(it) for (it,) in found]
 

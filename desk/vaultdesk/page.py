@@ -8,7 +8,7 @@ import sys
 from collections.abc import Sequence
 from pathlib import Path
 
-from vaultdesk import config, moments
+from vaultdesk import config, moments, snapshot
 from vaultdesk.documents import write_content
 from vaultdesk.errors import UsageError
 from vaultdesk.facts import (
@@ -167,7 +167,8 @@ def page(words: argparse.Namespace) -> int:
     if not vault:
         raise UsageError("no vault is named: give FILE, or set $VAULT")
     at = moments.seconds_of(moments.read(words.at) if words.at else moments.now())
-    found = facts_of(config.settings().file_of(vault), at)
+    with snapshot.readable(config.settings().file_of(vault)) as tables:
+        found = facts_of(tables, at)
     if words.json:
         print_json(as_json(found))
         return 0

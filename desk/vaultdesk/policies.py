@@ -115,7 +115,7 @@ def try_rules(engine: Engine, words: argparse.Namespace) -> None:
 def expire(engine: Engine, words: argparse.Namespace) -> None:
     """Says what the rules of a department's buckets will do, asks, and carries them out."""
     statement = "SELECT DISTINCT bucket FROM rules JOIN buckets ON bucket = name WHERE dept = ? ORDER BY bucket"
-    buckets = [str(it) for (it,) in reading.rows(engine.desk.file, statement, (words.department,))]
+    buckets = [str(it) for (it,) in reading.rows(engine.tables, statement, (words.department,))]
     if not buckets:
         raise DeskError(f"no bucket of {words.department!r} has rules")
     until = moments.read(words.until) if words.until else engine.at or moments.now()

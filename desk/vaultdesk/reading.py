@@ -47,7 +47,11 @@ def _immutable(file: Path) -> str:
 @contextmanager
 def _opened(file: Path) -> Iterator[sqlite3.Connection]:
     """The file for reading alone. `EngineError` where it can't be read, or a program has it."""
-    if not file.is_file():
+    try:
+        is_there = file.is_file()
+    except PermissionError as error:
+        raise EngineError(f"{file}: {error.strerror}: ask as the vault's owner, or of a copy (--vault COPY)") from error
+    if not is_there:
         raise EngineError(f"{file}: there is no such file: --vault or $VAULT names the vault")
     place = f"file:{urllib.parse.quote(str(file.resolve()))}?mode=ro{_immutable(file)}"
     try:

@@ -48,6 +48,11 @@ def words_of(error: Mapping[str, Any]) -> str:
     return DENIALS.get(reason) or WORDS.get(code) or "see the manual"
 
 
+def meaning(refusal: Refused) -> str:
+    """What a refusal means, without its name."""
+    return str(refusal).partition(": ")[2]
+
+
 def refused(error: Mapping[str, Any]) -> Refused:
     """The refusal of a reply as an exception, which says its name and what it means."""
     code, reason = str(error.get("code")), str(error.get("reason", ""))

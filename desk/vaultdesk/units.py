@@ -13,6 +13,7 @@ from dataclasses import dataclass
 from pathlib import Path
 
 from vaultdesk import conf, config
+from vaultdesk.door import LinesDoor
 from vaultdesk.errors import DeskError
 from vaultdesk.output import say
 from vaultdesk.owner import Owner, owner_of, signals_raise, signals_wait
@@ -33,16 +34,6 @@ class Busy(DeskError):
     """Another job works on the vault."""
 
 
-def folder() -> Path:
-    """Where the vaults are: $VAULT_FOLDER, or else /var/lib/vaultctl."""
-    return Path(os.environ.get("VAULT_FOLDER", "/var/lib/vaultctl"))
-
-
-def locks() -> Path:
-    """Where locks and marks of alarms are, until the machine is started anew."""
-    return Path(os.environ.get("VAULT_LOCKS", "/run/vaultctl"))
-
-
 def systemctl(*words: str) -> tuple[int, str]:
     """The status of systemctl, and what it prints on standard output."""
     sys.stdout.flush()
@@ -59,7 +50,7 @@ class Served:
     def __init__(self, name: str) -> None:
         self.conf = conf.read(name)
         self.name = name
-        self.folder = folder()
+        self.folder = conf.vaults_folder()
         self.file = self.folder / f"{name}.vault"
         self.unit = f"vault-serve@{name}.service"
 
@@ -71,6 +62,10 @@ class Served:
         """The state of the server's unit: active, activating, failed, inactive .."""
         return systemctl("is-active", self.unit)[1]
 
+    def door(self, patience: float | None = None) -> LinesDoor:
+        """The door at which the server takes lines, as its unit says."""
+        return LinesDoor(str(conf.lines_of(self.name)), patience)
+
     def is_enabled(self) -> bool:
         """Whether the server is to run."""
         return systemctl("is-enabled", self.unit)[1].startswith("enabled")
@@ -78,8 +73,8 @@ class Served:
     @contextmanager
     def locked(self, patience: float) -> Iterator[None]:
         """Has the lock of the vault's jobs. `Busy` where another job has it for longer than that."""
-        locks().mkdir(mode=0o700, parents=True, exist_ok=True)
-        with open(locks() / f"{self.name}.lock", "wb") as file:
+        lock = conf.make_run_folder() / f"{self.name}.lock"
+        with open(os.open(lock, os.O_WRONLY | os.O_CREAT, 0o600), "wb") as file:
             until = time.monotonic() + patience
             while True:
                 try:
@@ -132,7 +127,7 @@ class Served:
 
     def forget_alarm(self, unit: str) -> None:
         """Forgets that a failure of this unit was reported: the next one is reported at once."""
-        (locks() / f"alarm.{unit}@{self.name}").unlink(missing_ok=True)
+        (conf.run_folder() / f"alarm.{unit}@{self.name}").unlink(missing_ok=True)
 
     def verdict(self, file: Path) -> str:
         """What the engine's audit, by the vault's owner, says of a file: `sound`, or what is wrong."""

@@ -13,7 +13,7 @@ import subprocess
 import sys
 from pathlib import Path
 
-from vaultdesk import conf, config, reading
+from vaultdesk import conf, config, reading, snapshot
 from vaultdesk.asking import add_yes, confirm
 from vaultdesk.errors import DeskError, UsageError
 from vaultdesk.output import print_json, print_table
@@ -95,7 +95,8 @@ def _callers(vault: str | None) -> dict[str, str]:
     """The callers of a vault, `open` or `closed`."""
     if not vault:
         return {}
-    found = reading.rows(config.settings().file_of(vault), "SELECT name, closed FROM callers")
+    with snapshot.readable(config.settings().file_of(vault)) as tables:
+        found = reading.rows(tables, "SELECT name, closed FROM callers")
     return {str(name): "closed" if closed else "open" for name, closed in found}
 
 

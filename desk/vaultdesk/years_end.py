@@ -51,10 +51,10 @@ def _within(rows: Sequence[Row], since: str | None, before: str | None) -> list[
 def _callers(engine: Engine) -> dict[str, str]:
     """For each bucket an open caller of its department who has the right to a certificate."""
     may: dict[str, str] = {}
-    for it in reading.query(engine.desk.file, "callers"):
+    for it in reading.query(engine.tables, "callers"):
         if it["state"] == "open" and "report" in it["rights"].split():
             may.setdefault(it["department"], it["caller"])
-    buckets = reading.query(engine.desk.file, "buckets")
+    buckets = reading.query(engine.tables, "buckets")
     return {it["bucket"]: may[it["department"]] for it in buckets if it["department"] in may}
 
 
@@ -77,7 +77,7 @@ def _free(paths: Iterable[Path], force: bool) -> None:
 def certificates(engine: Engine, words: argparse.Namespace) -> None:
     """Writes the certificate of each removed document to a file of its own, and all of them to one page."""
     since, before = _span(words)
-    rows = reading.query(engine.desk.file, "removed", since=since, before=before)
+    rows = reading.query(engine.tables, "removed", since=since, before=before)
     callers = _callers(engine) if words.any_caller else {}
     folder = Path(words.folder)
     page = folder / "certificates.html"
@@ -119,8 +119,7 @@ def print_register(engine: Engine, words: argparse.Namespace) -> None:
 
 def _past_sums(engine: Engine, at: str) -> list[dict[str, Any]]:
     """The sums of all departments at a moment before the vault's last change, of which the engine makes no report."""
-    engine.close()
-    return [{**it, "dept": it["department"]} for it in reading.query(engine.desk.file, "report", at=at)]
+    return [{**it, "dept": it["department"]} for it in reading.query(engine.tables, "report", at=at)]
 
 
 def report(engine: Engine, words: argparse.Namespace) -> None:
@@ -128,7 +127,7 @@ def report(engine: Engine, words: argparse.Namespace) -> None:
     if words.all == bool(words.department):
         raise UsageError("give a department, or --all")
     if words.all:
-        names = [it["department"] for it in reading.query(engine.desk.file, "report", at=None)]
+        names = [it["department"] for it in reading.query(engine.tables, "report", at=None)]
     else:
         names = [words.department]
     try:
@@ -153,9 +152,9 @@ def charges(engine: Engine, words: argparse.Namespace) -> None:
     if not since < before <= now:
         raise UsageError(f"--since {since} has to be before --before {before}, and that not after {now}")
     query = reading.query
-    first = {it["department"]: it for it in query(engine.desk.file, "report", at=since)}
+    first = {it["department"]: it for it in query(engine.tables, "report", at=since)}
     rows = []
-    for last in query(engine.desk.file, "report", at=before):
+    for last in query(engine.tables, "report", at=before):
         begun = first[last["department"]]
         grown = {it: last[it] - begun[it] for it in ("byte_days", "admitted", "received", "removed", "handed")}
         rows.append({"dept": last["department"], "since": since, "before": before, **grown, "held": last["held"]})

@@ -30,7 +30,7 @@ pub(crate) fn look_at_entries<S: Alter>(
     edition: Edition,
 ) -> Result<Option<Table>, Error>
     requires { IsOfEdition S.Store conn.old edition }
-    ensures told { HasCleanDisk (state S.Store conn.new) → IfOk result (Told edition (state S.Store conn.new).now (VersionsAndHeads (state S.Store conn.new).now)) }
+    ensures reported { HasCleanDisk (state S.Store conn.new) → IfOk result (Told edition (state S.Store conn.new).now (VersionsAndHeads (state S.Store conn.new).now)) }
     ensures look { OnlyLooks S.Store conn.old conn.new result }
     ensures err { IsHealthy (state S.Store conn.new) → IfErr result IsMemory }
 {
@@ -55,7 +55,7 @@ pub(crate) fn look_again<S: Alter>(
     meta: MetaRow,
 ) -> Result<Option<Table>, Error>
     requires { IsOfEdition S.Store conn.old edition }
-    ensures told { HasCleanDisk (state S.Store conn.new) → IfOk result (ToldOf edition (state S.Store conn.new).now meta (AllFound edition (state S.Store conn.new).now meta)) }
+    ensures reported { HasCleanDisk (state S.Store conn.new) → IfOk result (ToldOf edition (state S.Store conn.new).now meta (AllFound edition (state S.Store conn.new).now meta)) }
     ensures look { OnlyLooks S.Store conn.old conn.new result }
     ensures err { IsHealthy (state S.Store conn.new) → IfErr result IsMemory }
 {

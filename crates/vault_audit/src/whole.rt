@@ -26,7 +26,7 @@ fn find_damage<S: Alter>(
     conn: &mut Connection<S>,
     edition: Edition,
 ) -> Result<Option<Table>, Error>
-    ensures told { HasCleanDisk (state S.Store conn.new) → IfOk result (IsAudited edition (state S.Store conn.new).now) }
+    ensures reported { HasCleanDisk (state S.Store conn.new) → IfOk result (IsAudited edition (state S.Store conn.new).now) }
     ensures order { HasCleanDisk (state S.Store conn.new) → IfOk result (λ found. IfSome found (IsToldInOrder edition (state S.Store conn.new).now)) }
     ensures same { HasCleanDisk (state S.Store conn.new) → IfOk result (λ found. found ≡ None → IsUnchanged (state S.Store conn.old) (state S.Store conn.new)) }
     ensures kept { HasCleanDisk (state S.Store conn.new) → OnOk result ((state S.Store conn.new).now ≡ (state S.Store conn.old).now) }

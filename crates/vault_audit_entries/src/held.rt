@@ -94,7 +94,7 @@ impl Pass for HeldCount {
 /// How many of `entries` are held, and how many of these are versions.
 pub fn count_held<S: Alter>(conn: &mut Connection<S>, edition: Edition) -> Result<HeldCount, Error>
     requires { IsOfEdition S.Store conn.old edition }
-    ensures told { HasCleanDisk (state S.Store conn.new) → IfOk result (λ count. (es : List Entry) → AreEntries (state S.Store conn.new).now es → (count.entries ≡ held_entry_count es) × (count.versions ≡ held_count es)) }
+    ensures reported { HasCleanDisk (state S.Store conn.new) → IfOk result (λ count. (es : List Entry) → AreEntries (state S.Store conn.new).now es → (count.entries ≡ held_entry_count es) × (count.versions ≡ held_count es)) }
     ensures look { OnlyLooks S.Store conn.old conn.new result }
     ensures err { IsHealthy (state S.Store conn.new) → IfErr result IsMemory }
 {

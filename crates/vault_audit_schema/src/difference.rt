@@ -65,12 +65,12 @@ fn index_difference(edition: Edition, indexes: &[Index]) -> Option<Table>
 
 /// The first table at which a schema differs from that of an edition, or none where it is that.
 ///
-/// A table that is none of the edition's is reported as `meta`, and so are an index of such a table and a view.
+/// A table that the edition doesn't have is reported as `meta`. So are its indexes, and views.
 pub fn first_difference(edition: Edition, schema: &Schema) -> Option<Table>
     ensures found { (result ≡ None) ↔ (schema.now ≡ schema_of edition) }
 
     // All before the table that is told are in their places, and it isn't, or all are.
-    ensures told { IfSome result (IsToldIn edition schema.now) }
+    ensures reported { IfSome result (IsToldIn edition schema.now) }
 
     // The tables before this one are in their places, and this one isn't.
     ensures first { (t : Table) → ((u : Table) → place_of u < place_of t → IsInPlace edition schema.now.tables u) → ¬ IsInPlace edition schema.now.tables t → result ≡ Some t }
@@ -91,7 +91,7 @@ pub fn first_difference(edition: Edition, schema: &Schema) -> Option<Table>
 /// The first table at which the schema of a connection's file differs from the vault's, as `first_difference` tells it.
 pub fn check_schema<S: Alter>(conn: &Connection<S>, edition: Edition) -> Option<Table>
     ensures found { (result ≡ None) ↔ ((state S.Store conn.now).now.schema ≡ schema_of edition) }
-    ensures told { IfSome result (IsToldIn edition (state S.Store conn.now).now.schema) }
+    ensures reported { IfSome result (IsToldIn edition (state S.Store conn.now).now.schema) }
 {
     first_difference(edition, conn.schema())
 }

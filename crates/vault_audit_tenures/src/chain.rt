@@ -127,7 +127,7 @@ pub(crate) fn are_chains<S: Alter>(
     last: Moment,
 ) -> Result<bool, Error>
     requires { IsOfEdition S.Store conn.old Third }
-    ensures told { HasCleanDisk (state S.Store conn.new) → IfOk result (TellChains moves last (state S.Store conn.new).now) }
+    ensures reported { HasCleanDisk (state S.Store conn.new) → IfOk result (TellChains moves last (state S.Store conn.new).now) }
     ensures look { OnlyLooks S.Store conn.old conn.new result }
     ensures err { IsHealthy (state S.Store conn.new) → IfErr result IsMemory }
 {

@@ -13,7 +13,7 @@ use vault_audit_walk::check::check_rows;
 /// Whether each version has a tenure, and no marker has one.
 pub(crate) fn have_tenures<S: Alter>(conn: &mut Connection<S>) -> Result<bool, Error>
     requires { IsOfEdition S.Store conn.old Third }
-    ensures told { HasCleanDisk (state S.Store conn.new) → IfOk result (TellPresence (state S.Store conn.new).now) }
+    ensures reported { HasCleanDisk (state S.Store conn.new) → IfOk result (TellPresence (state S.Store conn.new).now) }
     ensures look { OnlyLooks S.Store conn.old conn.new result }
     ensures err { IsHealthy (state S.Store conn.new) → IfErr result IsMemory }
 {

@@ -27,7 +27,7 @@ fn check_rows_of_tenures<S: Alter>(
     last: Moment,
 ) -> Result<bool, Error>
     requires { IsOfEdition S.Store conn.old Third }
-    ensures told { HasCleanDisk (state S.Store conn.new) → IfOk result (λ found. (v : Vault) → v.last ≡ last → v.moves ≡ moves →
+    ensures reported { HasCleanDisk (state S.Store conn.new) → IfOk result (λ found. (v : Vault) → v.last ≡ last → v.moves ≡ moves →
         AreBuckets Third (state S.Store conn.new).now v.buckets → AreEntries (state S.Store conn.new).now (entries_in v.histories) → TellTenures Third (state S.Store conn.new).now v found) }
     ensures look { OnlyLooks S.Store conn.old conn.new result }
     ensures err { IsHealthy (state S.Store conn.new) → IfErr result IsMemory }
@@ -48,7 +48,7 @@ pub fn check_tenures<S: Alter>(
 ) -> Result<bool, Error>
     requires schema { IsOfEdition S.Store conn.old edition }
     requires open { HasCleanDisk (state S.Store conn.old) → IsTrue (state S.Store conn.old).is_open }
-    ensures told { HasCleanDisk (state S.Store conn.new) → IfOk result (λ found. IsMetaOf edition (state S.Store conn.new).now (Some meta) →
+    ensures reported { HasCleanDisk (state S.Store conn.new) → IfOk result (λ found. IsMetaOf edition (state S.Store conn.new).now (Some meta) →
         (v : Vault) → v.last ≡ meta.last → v.moves ≡ meta.moves →
         AreBuckets edition (state S.Store conn.new).now v.buckets → AreEntries (state S.Store conn.new).now (entries_in v.histories) →
         AllByRecursion (IsPast v.last) (entries_in v.histories) → AllByRecursion (IsPlaced v) v.histories → TellTenures edition (state S.Store conn.new).now v found) }

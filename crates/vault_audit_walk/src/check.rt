@@ -21,7 +21,7 @@ pub trait Check {
 
     /// Whether the row passes.
     fn is_passed_by(&self, row: &Row) -> Result<bool, Error>
-        ensures told { IfOk result (λ passes. MatchBool passes (takes self.now row.now) (¬ takes self.now row.now)) }
+        ensures reported { IfOk result (λ passes. MatchBool passes (takes self.now row.now) (¬ takes self.now row.now)) }
         ensures err { IfErr result IsMemory };
 }
 

@@ -22,7 +22,7 @@ pub trait Pass {
     ghost stops: { Self → Values → Type 0 };
 
     fn take(&mut self, row: &Row) -> Result<bool, Error>
-        ensures told { IfOk result (λ goes_on. MatchBool goes_on (goes self.old row.now self.new) (stops self.old row.now)) }
+        ensures reported { IfOk result (λ goes_on. MatchBool goes_on (goes self.old row.now self.new) (stops self.old row.now)) }
         ensures err { IfErr result IsMemory };
 }
 

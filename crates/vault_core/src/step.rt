@@ -99,7 +99,7 @@ fn carry_out<K: Keeper>(
 
 /// The reply that says what a command gave.
 fn reply_to(given: Result<Answer, Halt>) -> Reply
-    ensures told { (v v' : Vault) (judged : Result (Answer × Vault) Refusal) → AnswersAs given v v' judged → Answers judged v result v' }
+    ensures reported { (v v' : Vault) (judged : Result (Answer × Vault) Refusal) → AnswersAs given v v' judged → Answers judged v result v' }
     ensures device { is_device_reply result ≡ is_device given }
 {
     match given {

@@ -83,7 +83,7 @@ fn not_begun(halt: Halt) -> Reply
 
 /// What stops a run that has begun; the only check within it is that of the ids.
 fn stop_of(halt: Halt) -> Stop
-    ensures told { result ≡ stop_of halt }
+    ensures reported { result ≡ stop_of halt }
     ensures device { is_device_stop result ≡ is_device_halt halt }
 {
     match halt {

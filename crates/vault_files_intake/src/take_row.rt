@@ -107,7 +107,7 @@ fn command<F: Folder>(
 fn settled(reply: Reply) -> Result<Reply, Fault>
     ensures ok { IfOk result (λ r. (r ≡ reply) × (spec.is_fault_reply r ≡ false)) }
     ensures err { IfErr result (λ f. reply ≡ spec.fault_reply f) }
-    ensures told { spec.tells_device result ≡ is_device_reply reply }
+    ensures reported { spec.tells_device result ≡ is_device_reply reply }
 {
     match reply {
         Reply::Done(answer) => Ok(Reply::Done(answer)),

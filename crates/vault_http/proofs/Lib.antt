@@ -5,3 +5,4 @@ pub mod TextLemmas
 pub mod Counted
 pub mod Serves
 pub mod Taken
+pub mod StampedAt

@@ -16,15 +16,15 @@ use Rattle.vault_http.specs.Reply.{AnswersRefusal, AnswersReply}
 use Rattle.vault_http.specs.declared.answer.head.Allow.{Allow}
 use Rattle.vault_http.specs.declared.answer.head.Allow.TheVariants as allow
 use Rattle.vault_http.specs.Head.{IsHead, HasNoHead}
-use Rattle.vault_http_request.specs.Order.{is_head}
+use Rattle.vault_http_request.specs.Operation.{is_head}
 use Rattle.vault_http_request.specs.Plan.{asked_of}
-use Rattle.vault_http_request.specs.declared.order.Order.{Order}
-use Rattle.vault_http_request.specs.declared.order.Resource.{Resource}
-use Rattle.vault_http_request.specs.declared.order.Resource.TheVariants as resource
+use Rattle.vault_http_request.specs.declared.operation.Operation.{Operation}
+use Rattle.vault_http_request.specs.declared.operation.Resource.{Resource}
+use Rattle.vault_http_request.specs.declared.operation.Resource.TheVariants as resource
 use Rattle.vault_http_request.specs.declared.plan.Asked.{Asked}
 use Rattle.vault_http_request.specs.declared.plan.Asked.TheVariants as asked
 use Rattle.vault_http_request.specs.declared.plan.Plan.{Plan}
-use Rattle.vault_http_request.specs.declared.terms.Locks.{Locks}
+use Rattle.vault_http_request.specs.declared.request_headers.Locks.{Locks}
 use Rattle.vault_http.specs.Command.{command_after}
 
 -- ---- commands and refusals
@@ -59,18 +59,18 @@ abbrev pub told : Bool → List ℕ
 told waits = if waits then go_on else []
 
 -- a plan by its parts
-abbrev pub plan_of : ℕ → Order → Option ℕ → List ℕ → Locks → Bool → Plan
-plan_of at order size caller locks waits =
-    record { at = at; order = order; terms = record { length = size; caller = caller; locks = locks; waits = waits } }
+abbrev pub plan_of : ℕ → Operation → Option ℕ → List ℕ → Locks → Bool → Plan
+plan_of at operation size caller locks waits =
+    record { at = at; operation = operation; headers = record { length = size; caller = caller; locks = locks; waits = waits } }
 
 -- the command of a plan and of what comes after its head
 abbrev pub planned_command : Plan → List ℕ → Result Command Refusal
-planned_command plan rest = command_after plan.order plan.terms.locks plan.terms.length rest
+planned_command plan rest = command_after plan.operation plan.headers.locks plan.headers.length rest
 
 -- what is written for a plan and what comes after its head
 abbrev pub PlanServed : Type 0 → Bool → Plan → List ℕ → Vault → List ℕ → Vault → Type 0
 PlanServed Failed shown plan rest old out new =
-    (answer : List ℕ) × (out ≡ told plan.terms.waits ++ answer) × Judged Failed plan.at shown plan.terms.caller (planned_command plan rest) old answer new
+    (answer : List ℕ) × (out ≡ told plan.headers.waits ++ answer) × Judged Failed plan.at shown plan.headers.caller (planned_command plan rest) old answer new
 
 -- which methods a target has
 abbrev pub allow_of : Resource → Allow

@@ -7,6 +7,7 @@ use Rattle.vault_base.specs.declared.refusal.Refusal.TheVariants as refusal
 use Rattle.vault_core_model.specs.Step.{IsStep}
 use Rattle.vault_core_model.specs.Vault.{Vault}
 use Rattle.vault_core_model.specs.declared.command.Command.{Command}
+use Rattle.vault_core_model.specs.declared.kept.Kept.{Ghosts}
 use Rattle.vault_core_model.specs.declared.reply.Reply.{Reply}
 use Rattle.vault_http.specs.Reply.{AnswersRefusal}
 use Rattle.vault_http.specs.declared.answer.head.Allow.{Allow}
@@ -25,6 +26,10 @@ use Rattle.vault_http.specs.declared.fault.ServeFault.TheVariants as faults
 abbrev pub FromRead : ReadFault → ServeFault → Type 0
 FromRead reads.Read e = e ≡ faults.Read
 FromRead reads.Memory e = e ≡ faults.Memory
+
+-- after a call, or several, a keeper is honest only if it was before, and its count of failures is no less
+abbrev pub LeavesNoLess : {K : Type 0} → Ghosts K → K → K → Type 0
+LeavesNoLess g old new = (g.is_honest new → g.is_honest old) × (g.count old ≤ g.count new)
 
 -- at most one step was made, at the reading
 abbrev pub AtMostOne : Option ℕ → Vault → Vault → Type 0
@@ -52,13 +57,13 @@ DenyLeft faults.Write moment r a shown before after = (out : List ℕ) × Answer
 
 -- After Read and Memory no byte of an answer is written, only that a client that waits is to go on; or, where the head found no room, nothing, and no step was made. After Read none was made, after Memory at most that one. After Write 100 Continue failed, nothing of the body was read and no step was made, or the answer failed after a 100 Continue that was written whole, where the client waits, and the vault is as the answer says; what is written is a beginning of that.
 abbrev pub PlanLeft : Type 0 → ServeFault → Bool → Plan → List ℕ → Option (List ℕ) → Vault → Vault → Option (List ℕ) → Option (List ℕ) → Type 0
-PlanLeft Failed faults.Read shown plan rest unread old new before after = (new ≡ old) × Appends before after (told plan.terms.waits)
+PlanLeft Failed faults.Read shown plan rest unread old new before after = (new ≡ old) × Appends before after (told plan.headers.waits)
 PlanLeft Failed faults.Memory shown plan rest unread old new before after =
     ((new ≡ old) × (after ≡ before))
-    ⊎ (((new ≡ old) ⊎ Stepped plan.at plan.terms.caller (planned_command plan rest) old new) × Appends before after (told plan.terms.waits))
+    ⊎ (((new ≡ old) ⊎ Stepped plan.at plan.headers.caller (planned_command plan rest) old new) × Appends before after (told plan.headers.waits))
 PlanLeft Failed faults.Write shown plan rest unread old new before after =
-    ((plan.terms.waits ≡ true) × (unread ≡ Some rest) × (new ≡ old) × Begins before after go_on)
-    ⊎ ((answer : List ℕ) × (mid : Option (List ℕ)) × Judged Failed plan.at shown plan.terms.caller (planned_command plan rest) old answer new × Appends before mid (told plan.terms.waits) × Begins mid after answer)
+    ((plan.headers.waits ≡ true) × (unread ≡ Some rest) × (new ≡ old) × Begins before after go_on)
+    ⊎ ((answer : List ℕ) × (mid : Option (List ℕ)) × Judged Failed plan.at shown plan.headers.caller (planned_command plan rest) old answer new × Appends before mid (told plan.headers.waits) × Begins mid after answer)
 
 abbrev pub DeniedLeft : ServeFault → Option ℕ → Bool → Refusal → Option Allow → Vault → Vault → Option (List ℕ) → Option (List ℕ) → Type 0
 DeniedLeft faults.Read moment shown r a old new before after = (new ≡ old) × (after ≡ before)
@@ -91,7 +96,7 @@ Left Failed e moment input unread old new before after =
 
 -- after a head: nothing where no body belongs to it, else no more than the length of the body
 abbrev pub IsAskedTaken : Asked → List ℕ → Type 0
-IsAskedTaken (asked.Plan plan) taken = IsWithinLength plan.terms.length taken
+IsAskedTaken (asked.Plan plan) taken = IsWithinLength plan.headers.length taken
 IsAskedTaken (asked.NotAllowed r) taken = taken ≡ []
 
 abbrev pub IsBodyTaken : Result Asked Refusal → List ℕ → Type 0

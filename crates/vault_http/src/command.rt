@@ -14,8 +14,8 @@ use vault_base::content::Content;
 use vault_base::refusal::Refusal;
 use vault_core_model::command::Command;
 use vault_http_request::command::command_of;
-use vault_http_request::order::Order;
-use vault_http_request::terms::Locks;
+use vault_http_request::operation::Operation;
+use vault_http_request::request_headers::Locks;
 use vault_values::fault::LineFault;
 
 /// The body of that length, which is empty where there is none; or nothing where it is cut.
@@ -37,74 +37,74 @@ fn body_of<R: Read>(
 /// The command of a body that is there. The error is want of memory.
 fn command_with(
     alloc: Global,
-    order: Order,
+    operation: Operation,
     locks: Locks,
     body: Content,
 ) -> Result<Result<Command, Refusal>, ServeFault>
-    ensures command { IfOk result (λ judged. judged ≡ spec.command_with order locks body) }
+    ensures command { IfOk result (λ judged. judged ≡ spec.command_with operation locks body) }
     ensures kind { IfErr result (λ fault. fault ≡ faults.Memory) }
 {
-    match command_of(alloc, order, locks, body) {
+    match command_of(alloc, operation, locks, body) {
         Ok(command) => Ok(Ok(command)),
         Err(LineFault::Refused(refusal)) => Ok(Err(refusal)),
         Err(LineFault::Memory) => Err(ServeFault::Memory),
     }
 }
 
-/// The body is cut. The order is dropped.
-fn cut(order: Order) -> Result<Command, Refusal>
+/// The body is cut. The operation is dropped.
+fn cut(operation: Operation) -> Result<Command, Refusal>
     ensures { result ≡ Err MalformedBody }
 {
-    drop(order);
+    drop(operation);
     Err(Refusal::MalformedBody)
 }
 
-/// A fault came first. The order is dropped.
-fn faulted(order: Order, fault: ServeFault) -> Result<Result<Command, Refusal>, ServeFault>
+/// A fault came first. The operation is dropped.
+fn faulted(operation: Operation, fault: ServeFault) -> Result<Result<Command, Refusal>, ServeFault>
     ensures { result ≡ Err fault }
 {
-    drop(order);
+    drop(operation);
     Err(fault)
 }
 
-/// The command that an order makes with the body that came, or why it makes none.
+/// The command that an operation makes with the body that came, or why it makes none.
 fn command_of_body(
     alloc: Global,
-    order: Order,
+    operation: Operation,
     locks: Locks,
     body: Option<Content>,
 ) -> Result<Result<Command, Refusal>, ServeFault>
-    ensures command { IfOk result (λ judged. judged ≡ spec.command_of_body order locks body) }
+    ensures command { IfOk result (λ judged. judged ≡ spec.command_of_body operation locks body) }
     ensures kind { ¬ (result ≡ Err faults.Write) }
 {
     match body {
-        Some(body) => command_with(alloc, order, locks, body),
-        None => Ok(cut(order)),
+        Some(body) => command_with(alloc, operation, locks, body),
+        None => Ok(cut(operation)),
     }
 }
 
-/// The command that an order makes with the body that comes, or why it makes none, where the client was
+/// The command that an operation makes with the body that comes, or why it makes none, where the client was
 /// told to go on or didn't wait. No more bytes are taken than the body may have.
 pub fn command_after<R: Read>(
     alloc: Global,
     reader: &mut R,
-    order: Order,
+    operation: Operation,
     locks: Locks,
     size: Option<u64>,
     told: Result<(), ServeFault>,
 ) -> Result<Result<Command, Refusal>, ServeFault>
-    ensures command { IfOk result (λ judged. IfSome (R.remaining reader.old) (λ rest. judged ≡ spec.command_after order locks size rest)) }
-    ensures told { OnOk result (told ≡ Ok tt) }
+    ensures command { IfOk result (λ judged. IfSome (R.remaining reader.old) (λ rest. judged ≡ spec.command_after operation locks size rest)) }
+    ensures reported { OnOk result (told ≡ Ok tt) }
     ensures fault { IfErr told (λ f. result ≡ Err f) }
     ensures err { result ≡ Err faults.Write → told ≡ Err faults.Write }
     ensures unread { result ≡ Err faults.Write → R.remaining reader.new ≡ R.remaining reader.old }
     ensures taken { OnOk result ((taken : List ℕ) × Consumes (R.remaining reader.old) (R.remaining reader.new) taken × spec.IsWithinLength size taken) }
 {
     if let Err(fault) = told {
-        return faulted(order, fault);
+        return faulted(operation, fault);
     }
     match body_of(alloc, reader, size) {
-        Ok(body) => command_of_body(alloc, order, locks, body),
-        Err(fault) => faulted(order, ServeFault::from(fault)),
+        Ok(body) => command_of_body(alloc, operation, locks, body),
+        Err(fault) => faulted(operation, ServeFault::from(fault)),
     }
 }

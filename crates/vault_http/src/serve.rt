@@ -25,9 +25,9 @@ use vault_base::moment::Moment;
 use vault_base::name::CallerName;
 use vault_base::refusal::Refusal;
 use vault_core_model::keeper::Keeper;
-use vault_http_request::order::{Order, Resource};
+use vault_http_request::operation::{Operation, Resource};
 use vault_http_request::plan::{Asked, Plan, asked_of};
-use vault_http_request::terms::{Locks, Terms};
+use vault_http_request::request_headers::{Locks, RequestHeaders};
 use vault_values::fault::LineFault;
 
 /// Serves the parts of a plan, with what comes after its head.
@@ -37,15 +37,15 @@ fn serve_parts<R: Read, W: Write, K: Keeper>(
     writer: &mut W,
     keeper: &mut K,
     at: Moment,
-    order: Order,
+    operation: Operation,
     size: Option<u64>,
     caller: CallerName,
     locks: Locks,
     waits: bool,
     shown: bool,
 ) -> Result<(), ServeFault>
-    ensures ok { K.is_honest keeper.new → OnOk result (IfSome (R.remaining reader.old) (λ rest. (out : List ℕ) × spec.PlanServed (RoseOrIsFull (K.count keeper.old) (K.count keeper.new)) shown (spec.plan_of at order size caller locks waits) rest (K.vault keeper.old) out (K.vault keeper.new) × Appends (W.contents writer.old) (W.contents writer.new) out)) }
-    ensures err { K.is_honest keeper.new → IfErr result (λ e. IfSome (R.remaining reader.old) (λ rest. left.PlanLeft (RoseOrIsFull (K.count keeper.old) (K.count keeper.new)) e shown (spec.plan_of at order size caller locks waits) rest (R.remaining reader.new) (K.vault keeper.old) (K.vault keeper.new) (W.contents writer.old) (W.contents writer.new))) }
+    ensures ok { K.is_honest keeper.new → OnOk result (IfSome (R.remaining reader.old) (λ rest. (out : List ℕ) × spec.PlanServed (RoseOrIsFull (K.count keeper.old) (K.count keeper.new)) shown (spec.plan_of at operation size caller locks waits) rest (K.vault keeper.old) out (K.vault keeper.new) × Appends (W.contents writer.old) (W.contents writer.new) out)) }
+    ensures err { K.is_honest keeper.new → IfErr result (λ e. IfSome (R.remaining reader.old) (λ rest. left.PlanLeft (RoseOrIsFull (K.count keeper.old) (K.count keeper.new)) e shown (spec.plan_of at operation size caller locks waits) rest (R.remaining reader.new) (K.vault keeper.old) (K.vault keeper.new) (W.contents writer.old) (W.contents writer.new))) }
     ensures once { K.is_honest keeper.new → left.AtMostOne (Some at) (K.vault keeper.old) (K.vault keeper.new) }
     ensures unread { result ≡ Err faults.Read → K.vault keeper.new ≡ K.vault keeper.old }
     ensures taken { OnOk result ((taken : List ℕ) × Consumes (R.remaining reader.old) (R.remaining reader.new) taken × IsWithinLength size taken) }
@@ -54,7 +54,7 @@ fn serve_parts<R: Read, W: Write, K: Keeper>(
     ensures steady { Steady (K.is_honest keeper.new) result (Some at) (K.vault keeper.old) (K.vault keeper.new) (K.count keeper.old) (K.count keeper.new) (W.contents writer.old) (W.contents writer.new) }
 {
     let told = tell(writer, waits);
-    let judged = command_after(alloc, reader, order, locks, size, told)?;
+    let judged = command_after(alloc, reader, operation, locks, size, told)?;
     conclude(alloc, writer, keeper, at, caller, judged, shown)
 }
 
@@ -71,20 +71,24 @@ fn serve_plan<R: Read, W: Write, K: Keeper>(
     ensures err { K.is_honest keeper.new → IfErr result (λ e. IfSome (R.remaining reader.old) (λ rest. left.PlanLeft (RoseOrIsFull (K.count keeper.old) (K.count keeper.new)) e shown plan rest (R.remaining reader.new) (K.vault keeper.old) (K.vault keeper.new) (W.contents writer.old) (W.contents writer.new))) }
     ensures once { K.is_honest keeper.new → left.AtMostOne (Some plan.at) (K.vault keeper.old) (K.vault keeper.new) }
     ensures unread { result ≡ Err faults.Read → K.vault keeper.new ≡ K.vault keeper.old }
-    ensures taken { OnOk result ((taken : List ℕ) × Consumes (R.remaining reader.old) (R.remaining reader.new) taken × IsWithinLength plan.terms.length taken) }
+    ensures taken { OnOk result ((taken : List ℕ) × Consumes (R.remaining reader.old) (R.remaining reader.new) taken × IsWithinLength plan.headers.length taken) }
     ensures honest { K.is_honest keeper.new → K.is_honest keeper.old }
     ensures counted { K.count keeper.old ≤ K.count keeper.new }
     ensures steady { Steady (K.is_honest keeper.new) result (Some plan.at) (K.vault keeper.old) (K.vault keeper.new) (K.count keeper.old) (K.count keeper.new) (W.contents writer.old) (W.contents writer.new) }
 {
-    let Plan { at, order, terms } = plan;
-    let Terms {
+    let Plan {
+        at,
+        operation,
+        headers,
+    } = plan;
+    let RequestHeaders {
         length,
         caller,
         locks,
         waits,
-    } = terms;
+    } = headers;
     serve_parts(
-        alloc, reader, writer, keeper, at, order, length, caller, locks, waits, shown,
+        alloc, reader, writer, keeper, at, operation, length, caller, locks, waits, shown,
     )
 }
 

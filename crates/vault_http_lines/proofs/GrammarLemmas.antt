@@ -39,7 +39,7 @@ found-passes : (test : Verb → Bool) (vs : List Verb) (w : Verb) → find test 
 found-passes test [] w e = absurd cc
 found-passes test (v ∷ vs) w e = passes-here test vs v w (test v) refl (found-passes test vs w) e
 
-is-name : (name : List ℕ) (verb : Verb) → verb_named name ≡ Some verb → name ≡ verb_name verb
+pub is-name : (name : List ℕ) (verb : Verb) → verb_named name ≡ Some verb → name ≡ verb_name verb
 is-name name verb e = (bytes_eq-Decides name (verb_name verb)).0 (found-passes (λ v. bytes_eq name (verb_name v)) verbs verb e)
 
 -- the verb of a value that has its shape, or of none
@@ -66,7 +66,7 @@ told-verb d = verb-found d (get (codes "do") d) refl
 
 -- ---- lines
 
-told-then : {A B : Type 0} (b : Bool) (P : A → Type 0) (Q : B → Type 0) (x : Result A Refusal) (f : A → Result B Refusal) → Told b P x → ((a : A) → P a → Reads Q (f a)) → Told b Q (x >>= f)
+pub told-then : {A B : Type 0} (b : Bool) (P : A → Type 0) (Q : B → Type 0) (x : Result A Refusal) (f : A → Result B Refusal) → Told b P x → ((a : A) → P a → Reads Q (f a)) → Told b Q (x >>= f)
 told-then true P Q x f told next = reads-then P Q x f told next
 told-then false P Q x f told next = rw told refl
 

@@ -4,3 +4,4 @@ pub mod CommandLemmas
 pub mod GrammarLemmas
 pub mod LineLemmas
 pub mod SpelledLemmas
+pub mod StampedLemmas

@@ -26,7 +26,7 @@ is-read-as : (bytes : List ℕ) → line_of bytes ≡ read_as (nat_lt 4194304 (l
 unfolding line_of command_of
 is-read-as bytes = refl
 
-told-ok : (r : Result Timed Refusal) (t : Timed) → told r ≡ line.Command t → r ≡ Ok t
+pub told-ok : (r : Result Timed Refusal) (t : Timed) → told r ≡ line.Command t → r ≡ Ok t
 told-ok (Ok u) t e = cc
 told-ok (Err x) t e = cc
 
@@ -44,13 +44,13 @@ asks false true found t e = cc
 asks false false None t e = cc
 asks false false (Some d) t e = record { short = refl; filled = refl; value = d; is_value = refl; reading = told-ok (timed_of d) t e }
 
-not-long : (n : ℕ) → nat_lt 4194304 n ≡ false → n ≤ 4194304
+pub not-long : (n : ℕ) → nat_lt 4194304 n ≡ false → n ≤ 4194304
 not-long n e = grind (arith, common_steps)
 
-is-short : (n : ℕ) → n ≤ 4194304 → nat_lt 4194304 n ≡ false
+pub is-short : (n : ℕ) → n ≤ 4194304 → nat_lt 4194304 n ≡ false
 is-short n e = grind (arith, common_steps)
 
-spelled : (b : Bool) (P : Timed → Type 0) (r : Result Timed Refusal) (t : Timed) → Told b P r → r ≡ Ok t → IsTrue b × P t
+pub spelled : (b : Bool) (P : Timed → Type 0) (r : Result Timed Refusal) (t : Timed) → Told b P r → r ≡ Ok t → IsTrue b × P t
 spelled true P (Ok u) t h e =
     let same : u ≡ t = cc in
     (refl, subst P same h)
@@ -73,7 +73,7 @@ none-either false = refl
 no-value : json_of [] ≡ None
 no-value = none-either (is_utf8 [])
 
-no-items : (xs : List ℕ) → (length xs == 0) ≡ true → xs ≡ []
+pub no-items : (xs : List ℕ) → (length xs == 0) ≡ true → xs ≡ []
 no-items [] e = refl
 no-items (x ∷ xs) e = grind (arith, common_steps)
 
@@ -81,7 +81,7 @@ keeps-all-but-one : (b : Bool) (bytes : List ℕ) → length bytes ≤ length (l
 keeps-all-but-one true bytes = grind (arith, common_steps)
 keeps-all-but-one false bytes = omega arith
 
-short-if-empty : (bytes : List ℕ) → without_cr bytes ≡ [] → nat_lt 4194304 (length bytes) ≡ false
+pub short-if-empty : (bytes : List ℕ) → without_cr bytes ≡ [] → nat_lt 4194304 (length bytes) ≡ false
 short-if-empty bytes e =
     let kept = keeps-all-but-one (slice_index bytes (length bytes - 1) == 13) bytes in
     let none : length (without_cr bytes) ≡ 0 = rw e refl in
@@ -91,12 +91,12 @@ short-if-empty bytes e =
 pub skip-empty : (bytes : List ℕ) → without_cr bytes ≡ [] → line_of bytes ≡ line.Skip
 skip-empty bytes e = is-read-as bytes ∙ rw (short-if-empty bytes e, e) refl
 
-not-malformed : (b : Bool) (P : Timed → Type 0) (r : Result Timed Refusal) → Told b P r → IsTrue b → told r ≡ line.Refused MalformedBody → ⊥
+pub not-malformed : (b : Bool) (P : Timed → Type 0) (r : Result Timed Refusal) → Told b P r → IsTrue b → told r ≡ line.Refused MalformedBody → ⊥
 not-malformed true P (Ok u) h s e = cc
 not-malformed true P (Err x) h s e = h cc
 not-malformed false P r h s e = cc
 
-is-filled : (found : Option Data) (bytes : List ℕ) (d : Data) → json_of bytes ≡ Some d → (length bytes == 0) ≡ false
+pub is-filled : (found : Option Data) (bytes : List ℕ) (d : Data) → json_of bytes ≡ Some d → (length bytes == 0) ≡ false
 is-filled found [] d e = let none = no-value in cc
 is-filled found (b ∷ bytes) d e = grind (arith, common_steps)
 
@@ -106,7 +106,7 @@ reads bytes d short found = is-read-as bytes ∙ rw (is-short (length bytes) sho
 pub shape-is-kept : (bytes : List ℕ) → line_of bytes ≡ line.Refused MalformedBody → HasShape bytes → ⊥
 shape-is-kept bytes e h = not-malformed (has_shape h.1.0) (Spells h.1.0) (timed_of h.1.0) (told-timed h.1.0) h.1.2 (sym (reads bytes h.1.0 h.0 h.1.1) ∙ e)
 
-told-malformed : (b : Bool) (P : Timed → Type 0) (r : Result Timed Refusal) → Told b P r → (b ≡ true → ⊥) → told r ≡ line.Refused MalformedBody
+pub told-malformed : (b : Bool) (P : Timed → Type 0) (r : Result Timed Refusal) → Told b P r → (b ≡ true → ⊥) → told r ≡ line.Refused MalformedBody
 told-malformed true P r h other = absurd (other refl)
 told-malformed false P r h other = rw h refl
 

@@ -164,7 +164,7 @@ reads-intake d c s = rw (bucket-ok d c.put.bucket s.3.0, batch-ok d c.batch s.1,
 -- ---- the verb
 
 -- each verb is found by its name
-named : (verb : Verb) → verb_named (verb_name verb) ≡ Some verb
+pub named : (verb : Verb) → verb_named (verb_name verb) ≡ Some verb
 named verb.AddDept = refl
 named verb.AddCaller = refl
 named verb.CloseCaller = refl
@@ -190,7 +190,7 @@ named verb.Report = refl
 named verb.Certificate = refl
 named verb.Intake = refl
 
-do-ok : (d : Data) (verb : Verb) → IsDo d verb → text_of (codes "do") d ≡ Ok (verb_name verb)
+pub do-ok : (d : Data) (verb : Verb) → IsDo d verb → text_of (codes "do") d ≡ Ok (verb_name verb)
 unfolding text_of
 do-ok d verb e = rw e refl
 
@@ -201,7 +201,7 @@ is-shaped : (d : Data) (verb : Verb) → IsDo d verb → has_shape d ≡ true �
 is-shaped d verb e shape =
     ap (λ found. option_map_or (λ v. is_shaped v d) found false) (sym (named verb)) ∙ ap (λ found. shape_of found d) (sym e) ∙ shape
 
-chosen : (verb : Verb) (b : Bool) → b ≡ true → (let r : Result Verb Refusal = if b then Ok verb else Err MalformedBody in r) ≡ Ok verb
+pub chosen : (verb : Verb) (b : Bool) → b ≡ true → (let r : Result Verb Refusal = if b then Ok verb else Err MalformedBody in r) ≡ Ok verb
 chosen verb true e = refl
 chosen verb false e = absurd cc
 
@@ -215,28 +215,32 @@ unfolding timed_of
 reads-as-verb verb d at who c do_is shape at_is who_is values =
     rw (verb-ok d verb do_is (is-shaped d verb do_is shape), reading-ok d at at_is, asker-ok d who who_is, values) refl
 
+-- members that spell a command are those of its verb
+pub values-spelled : (d : Data) (c : Command) → SpellsCommand d c → (verb : Verb) × IsDo d verb × (values_of verb d ≡ Ok c)
+values-spelled d (command.AddDept c) s = (verb.AddDept, s.0, reads-add-dept d c s)
+values-spelled d (command.AddCaller c) s = (verb.AddCaller, s.0, reads-add-caller d c s)
+values-spelled d (command.CloseCaller c) s = (verb.CloseCaller, s.0, reads-close-caller d c s)
+values-spelled d (command.AddBucket c) s = (verb.AddBucket, s.0, reads-add-bucket d c s)
+values-spelled d (command.MoveBucket c) s = (verb.MoveBucket, s.0, reads-move-bucket d c s)
+values-spelled d (command.SetDefault c) s = (verb.SetDefault, s.0, reads-set-default d c s)
+values-spelled d (command.GetDefault c) s = (verb.GetDefault, s.0, reads-get-default d c s)
+values-spelled d (command.SetRules c) s = (verb.SetRules, s.0, reads-set-rules d c s)
+values-spelled d (command.GetRules c) s = (verb.GetRules, s.0, reads-get-rules d c s)
+values-spelled d (command.DropRules c) s = (verb.DropRules, s.0, reads-drop-rules d c s)
+values-spelled d (command.Put c) s = (verb.Put, s.0, reads-put d c s)
+values-spelled d (command.Get c) s = (verb.Get, s.0, reads-get d c s)
+values-spelled d (command.Head c) s = (verb.Head, s.0, reads-head d c s)
+values-spelled d (command.ListVersions c) s = (verb.ListVersions, s.0, reads-list-versions d c s)
+values-spelled d (command.Delete c) s = (verb.Delete, s.0, reads-delete d c s)
+values-spelled d (command.DeleteVersion c) s = (verb.DeleteVersion, s.0, reads-delete-version d c s)
+values-spelled d (command.SetRetention c) s = (verb.SetRetention, s.0, reads-set-retention d c s)
+values-spelled d (command.GetRetention c) s = (verb.GetRetention, s.0, reads-get-retention d c s)
+values-spelled d (command.SetHold c) s = (verb.SetHold, s.0, reads-set-hold d c s)
+values-spelled d (command.GetHold c) s = (verb.GetHold, s.0, reads-get-hold d c s)
+values-spelled d (command.Run c) s = (verb.Run, s.0, reads-run d c s)
+values-spelled d (command.Report c) s = (verb.Report, s.0, reads-report d c s)
+values-spelled d (command.Certificate c) s = (verb.Certificate, s.0, reads-certificate d c s)
+values-spelled d (command.Intake c) s = (verb.Intake, s.0, reads-intake d c s)
+
 pub reads-timed : (d : Data) (at : ℕ) (who : List ℕ) (c : Command) → IsTrue (has_shape d) → IsMoment d (codes "at") at → IsName d (codes "as") who → SpellsCommand d c → timed_of d ≡ Ok (record { at = at; who = who; command = c })
-reads-timed d at who (command.AddDept c) shape m n s = reads-as-verb verb.AddDept d at who _ s.0 shape m n (reads-add-dept d c s)
-reads-timed d at who (command.AddCaller c) shape m n s = reads-as-verb verb.AddCaller d at who _ s.0 shape m n (reads-add-caller d c s)
-reads-timed d at who (command.CloseCaller c) shape m n s = reads-as-verb verb.CloseCaller d at who _ s.0 shape m n (reads-close-caller d c s)
-reads-timed d at who (command.AddBucket c) shape m n s = reads-as-verb verb.AddBucket d at who _ s.0 shape m n (reads-add-bucket d c s)
-reads-timed d at who (command.MoveBucket c) shape m n s = reads-as-verb verb.MoveBucket d at who _ s.0 shape m n (reads-move-bucket d c s)
-reads-timed d at who (command.SetDefault c) shape m n s = reads-as-verb verb.SetDefault d at who _ s.0 shape m n (reads-set-default d c s)
-reads-timed d at who (command.GetDefault c) shape m n s = reads-as-verb verb.GetDefault d at who _ s.0 shape m n (reads-get-default d c s)
-reads-timed d at who (command.SetRules c) shape m n s = reads-as-verb verb.SetRules d at who _ s.0 shape m n (reads-set-rules d c s)
-reads-timed d at who (command.GetRules c) shape m n s = reads-as-verb verb.GetRules d at who _ s.0 shape m n (reads-get-rules d c s)
-reads-timed d at who (command.DropRules c) shape m n s = reads-as-verb verb.DropRules d at who _ s.0 shape m n (reads-drop-rules d c s)
-reads-timed d at who (command.Put c) shape m n s = reads-as-verb verb.Put d at who _ s.0 shape m n (reads-put d c s)
-reads-timed d at who (command.Get c) shape m n s = reads-as-verb verb.Get d at who _ s.0 shape m n (reads-get d c s)
-reads-timed d at who (command.Head c) shape m n s = reads-as-verb verb.Head d at who _ s.0 shape m n (reads-head d c s)
-reads-timed d at who (command.ListVersions c) shape m n s = reads-as-verb verb.ListVersions d at who _ s.0 shape m n (reads-list-versions d c s)
-reads-timed d at who (command.Delete c) shape m n s = reads-as-verb verb.Delete d at who _ s.0 shape m n (reads-delete d c s)
-reads-timed d at who (command.DeleteVersion c) shape m n s = reads-as-verb verb.DeleteVersion d at who _ s.0 shape m n (reads-delete-version d c s)
-reads-timed d at who (command.SetRetention c) shape m n s = reads-as-verb verb.SetRetention d at who _ s.0 shape m n (reads-set-retention d c s)
-reads-timed d at who (command.GetRetention c) shape m n s = reads-as-verb verb.GetRetention d at who _ s.0 shape m n (reads-get-retention d c s)
-reads-timed d at who (command.SetHold c) shape m n s = reads-as-verb verb.SetHold d at who _ s.0 shape m n (reads-set-hold d c s)
-reads-timed d at who (command.GetHold c) shape m n s = reads-as-verb verb.GetHold d at who _ s.0 shape m n (reads-get-hold d c s)
-reads-timed d at who (command.Run c) shape m n s = reads-as-verb verb.Run d at who _ s.0 shape m n (reads-run d c s)
-reads-timed d at who (command.Report c) shape m n s = reads-as-verb verb.Report d at who _ s.0 shape m n (reads-report d c s)
-reads-timed d at who (command.Intake c) shape m n s = reads-as-verb verb.Intake d at who _ s.0 shape m n (reads-intake d c s)
-reads-timed d at who (command.Certificate c) shape m n s = reads-as-verb verb.Certificate d at who _ s.0 shape m n (reads-certificate d c s)
+reads-timed d at who c shape m n s = let spelled = values-spelled d c s in reads-as-verb spelled.0 d at who c spelled.1 shape m n spelled.2

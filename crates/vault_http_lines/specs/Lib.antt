@@ -9,3 +9,4 @@ pub mod ListLine
 pub mod ReplyLine
 pub mod Putting
 pub mod Object
+pub mod Stamped

@@ -13,4 +13,5 @@ pub mod read_line;
 mod record_lines;
 pub mod reply_line;
 mod rule_value;
+pub mod stamped;
 pub mod verb;

@@ -44,7 +44,7 @@ fn verb(value: &Value) -> Result<Verb, LineFault>
 }
 
 /// What a line of that verb asks for.
-fn values(alloc: Global, verb: Verb, value: &Value) -> Result<Command, LineFault>
+pub(crate) fn values(alloc: Global, verb: Verb, value: &Value) -> Result<Command, LineFault>
     ensures { Gives (λ x. x) result (values_of verb (view value.now)) }
 {
     match verb {
@@ -94,7 +94,8 @@ fn command(alloc: Global, bytes: &[u8]) -> Result<Timed, LineFault>
     timed(alloc, &value)
 }
 
-fn trimmed(line: &[u8]) -> &[u8]
+/// The line without a CR at its end.
+pub(crate) fn trimmed(line: &[u8]) -> &[u8]
     ensures { result.now ≡ without_cr line.now }
 {
     match line {

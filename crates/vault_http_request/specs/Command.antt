@@ -1,4 +1,4 @@
--- The command that an order makes with its locks and its body.
+-- The command that an operation makes with its locks and its body.
 use Rattle.std.specs.Prelude.{ℕ, List, [], ◌∷◌, codes, Bool, Result, Ok, Err, if◌then◌else◌}
 use Rattle.serde_json.specs.Data.{Data}
 use Rattle.vault_base.specs.declared.refusal.Refusal.{Refusal}
@@ -13,9 +13,9 @@ use Rattle.vault_http_values.specs.Shape.{has_members}
 use Rattle.vault_http_values.specs.declared.shape.Kind.{Kind}
 use Rattle.vault_http_values.specs.declared.shape.Kind.TheVariants.{Text, OptionalText, OptionalNumber, Rules}
 use Rattle.vault_http_target.specs.declared.target.Object.{Object}
-use Rattle.vault_http_request.specs.declared.order.Order.{Order}
-use Rattle.vault_http_request.specs.declared.order.Order.TheVariants as order
-use Rattle.vault_http_request.specs.declared.terms.Locks.{Locks}
+use Rattle.vault_http_request.specs.declared.operation.Operation.{Operation}
+use Rattle.vault_http_request.specs.declared.operation.Operation.TheVariants as operation
+use Rattle.vault_http_request.specs.declared.request_headers.Locks.{Locks}
 
 abbrev pub if_formed : List (List ℕ × Kind) → Data → Result Data Refusal
 if_formed members d = if has_members members d then Ok d else Err MalformedBody
@@ -55,12 +55,12 @@ put bucket key locks content =
     command.Put (record { bucket = bucket; key = key; content = content; retention = locks.retention; hold = locks.hold })
 
 -- the body of a new version is its content; of a setting it is a JSON object; the others have none
-abbrev pub command_of : Order → Locks → List ℕ → Result Command Refusal
-command_of (order.Ready c) locks body = Ok c
-command_of (order.Put bucket key) locks body = Ok (put bucket key locks body)
-command_of (order.DeleteVersion bucket key id) locks body =
+abbrev pub command_of : Operation → Locks → List ℕ → Result Command Refusal
+command_of (operation.Ready c) locks body = Ok c
+command_of (operation.Put bucket key) locks body = Ok (put bucket key locks body)
+command_of (operation.DeleteVersion bucket key id) locks body =
     Ok (command.DeleteVersion (record { bucket = bucket; key = key; id = id; bypass = locks.bypass }))
-command_of (order.SetRetention o) locks body = set_retention o locks.bypass body
-command_of (order.SetHold o) locks body = set_hold o body
-command_of (order.SetDefault bucket) locks body = set_default bucket body
-command_of (order.SetRules bucket) locks body = set_rules bucket body
+command_of (operation.SetRetention o) locks body = set_retention o locks.bypass body
+command_of (operation.SetHold o) locks body = set_hold o body
+command_of (operation.SetDefault bucket) locks body = set_default bucket body
+command_of (operation.SetRules bucket) locks body = set_rules bucket body

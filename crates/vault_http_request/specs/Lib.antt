@@ -1,5 +1,5 @@
-pub mod Plan
-pub mod Order
-pub mod Terms
-pub mod Supported
 pub mod Command
+pub mod Operation
+pub mod Plan
+pub mod RequestHeaders
+pub mod Supported

@@ -5,11 +5,11 @@ use Rattle.vault_base.specs.declared.refusal.Refusal.TheVariants.{ClockOutOfRang
 use Rattle.vault_values.specs.Fault.{◌>>=◌}
 use Rattle.vault_http_target.specs.Fields.{Fields}
 use Rattle.vault_http_target.specs.Target.{target_of}
-use Rattle.vault_http_request.specs.Order.{order_of}
+use Rattle.vault_http_request.specs.Operation.{operation_of}
 use Rattle.vault_http_request.specs.Supported.{supported}
-use Rattle.vault_http_request.specs.Terms.{takes_of, terms_of}
-use Rattle.vault_http_request.specs.declared.order.Order.{Order}
-use Rattle.vault_http_request.specs.declared.order.Resource.{Resource}
+use Rattle.vault_http_request.specs.RequestHeaders.{accepted_headers_of, request_headers_of}
+use Rattle.vault_http_request.specs.declared.operation.Operation.{Operation}
+use Rattle.vault_http_request.specs.declared.operation.Resource.{Resource}
 use Rattle.vault_http_request.specs.declared.plan.Asked.{Asked}
 use Rattle.vault_http_request.specs.declared.plan.Asked.TheVariants as asked
 
@@ -18,15 +18,15 @@ clock None = Err ClockOutOfRange
 clock (Some at) = Ok at
 
 -- the length of the body, headers twice, the caller, and the locks
-unfoldable pub planned : ℕ → Order → ℕ → Fields → Result Asked Refusal
-planned at order minor fields = do
-  terms ← terms_of (takes_of order) minor fields
-  Ok (asked.Plan (record { at = at; order = order; terms = terms }))
+unfoldable pub planned : ℕ → Operation → ℕ → Fields → Result Asked Refusal
+planned at operation minor fields = do
+  headers ← request_headers_of (accepted_headers_of operation) minor fields
+  Ok (asked.Plan (record { at = at; operation = operation; headers = headers }))
 
 -- the method
-abbrev pub allowed : ℕ → Result Order Resource → ℕ → Fields → Result Asked Refusal
+abbrev pub allowed : ℕ → Result Operation Resource → ℕ → Fields → Result Asked Refusal
 allowed at (Err resource) minor fields = Ok (asked.NotAllowed resource)
-allowed at (Ok order) minor fields = planned at order minor fields
+allowed at (Ok operation) minor fields = planned at operation minor fields
 
 -- the reading, what isn't done here, the path and the query, and then the method
 unfoldable pub asked_of : Option ℕ → List ℕ → List ℕ → ℕ → Fields → Result Asked Refusal
@@ -34,7 +34,7 @@ asked_of moment method target minor fields = do
   at ← clock moment
   _ ← supported fields
   target ← target_of method target
-  allowed at (order_of method target) minor fields
+  allowed at (operation_of method target) minor fields
 
 -- a plan is for the reading
 abbrev pub IsAt : Option ℕ → Asked → Type 0

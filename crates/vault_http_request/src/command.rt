@@ -1,11 +1,11 @@
-//! The command that an order makes with its locks and its body.
+//! The command that an operation makes with its locks and its body.
 ghost use Rattle.std.specs.Prelude.{◌≡◌, map};
 ghost use Rattle.serde_json.specs.View.{view};
 ghost use Rattle.vault_values.specs.Fault.{Gives};
 ghost use Rattle.vault_http_request.specs.Command as spec;
 
-use crate::order::Order;
-use crate::terms::Locks;
+use crate::operation::Operation;
+use crate::request_headers::Locks;
 use serde_json::Value;
 use std::alloc::Global;
 use vault_base::content::Content;
@@ -106,31 +106,31 @@ fn put(bucket: BucketName, key: ObjectKey, locks: Locks, content: Content) -> Co
     })
 }
 
-/// The command that an order makes with its locks and its body, which is empty where it has none.
+/// The command that an operation makes with its locks and its body, which is empty where it has none.
 ///
 /// A body that isn't JSON of its form is `MalformedBody`; a bad value in it is refused as in a script line.
 pub fn command_of(
     alloc: Global,
-    order: Order,
+    operation: Operation,
     locks: Locks,
     body: Content,
 ) -> Result<Command, LineFault>
-    ensures { Gives (λ x. x) result (spec.command_of order locks body) }
+    ensures { Gives (λ x. x) result (spec.command_of operation locks body) }
 {
-    match order {
-        Order::Ready(command) => Ok(command),
-        Order::Put(bucket, key) => Ok(put(bucket, key, locks, body)),
-        Order::DeleteVersion(bucket, key, id) => Ok(Command::DeleteVersion(DeleteVersion {
+    match operation {
+        Operation::Ready(command) => Ok(command),
+        Operation::Put(bucket, key) => Ok(put(bucket, key, locks, body)),
+        Operation::DeleteVersion(bucket, key, id) => Ok(Command::DeleteVersion(DeleteVersion {
             bucket,
             key,
             id,
             bypass: locks.bypass,
         })),
-        Order::SetRetention(object) => {
+        Operation::SetRetention(object) => {
             set_retention(alloc, object, locks.bypass, body.as_slice())
         }
-        Order::SetHold(object) => set_hold(alloc, object, body.as_slice()),
-        Order::SetDefault(bucket) => set_default(alloc, bucket, body.as_slice()),
-        Order::SetRules(bucket) => set_rules(alloc, bucket, body.as_slice()),
+        Operation::SetHold(object) => set_hold(alloc, object, body.as_slice()),
+        Operation::SetDefault(bucket) => set_default(alloc, bucket, body.as_slice()),
+        Operation::SetRules(bucket) => set_rules(alloc, bucket, body.as_slice()),
     }
 }

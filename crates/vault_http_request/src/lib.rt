@@ -2,7 +2,7 @@
 #![tactic(auto)]
 
 pub mod command;
-pub mod order;
+pub mod operation;
 pub mod plan;
+pub mod request_headers;
 pub mod supported;
-pub mod terms;

@@ -4,9 +4,9 @@ ghost use Rattle.httparse.specs.Spans.{header_bytes, IsHeaderWithin};
 ghost use Rattle.vault_values.specs.Fault.{Gives};
 ghost use Rattle.vault_http_request.specs.Plan as spec;
 
-use crate::order::{Order, Resource, order_of};
+use crate::operation::{Operation, Resource, operation_of};
+use crate::request_headers::{RequestHeaders, accepted_headers_of, request_headers_of};
 use crate::supported::check_supported;
-use crate::terms::{Terms, takes_of, terms_of};
 use httparse::spans::HeaderSpan;
 use std::alloc::Global;
 use vault_base::moment::Moment;
@@ -18,8 +18,8 @@ use vault_values::fault::LineFault;
 #[derive(Drop)]
 pub struct Plan {
     pub at: Moment,
-    pub order: Order,
-    pub terms: Terms,
+    pub operation: Operation,
+    pub headers: RequestHeaders,
 }
 
 /// What a head asks for.
@@ -44,20 +44,24 @@ fn clock(moment: Option<Moment>) -> Result<Moment, LineFault>
 fn planned(
     alloc: Global,
     at: Moment,
-    order: Order,
+    operation: Operation,
     minor: u8,
     buf: &[u8],
     headers: &[HeaderSpan],
 ) -> Result<Asked, LineFault>
     requires within { All (IsHeaderWithin (length buf.now)) headers.now }
     requires few { length headers.now ≤ 64 }
-    ensures value { Gives (λ x. x) result (spec.planned at order minor (map (header_bytes buf.now) headers.now)) }
+    ensures value { Gives (λ x. x) result (spec.planned at operation minor (map (header_bytes buf.now) headers.now)) }
     ensures at { IfOk result (spec.IsAt (Some at)) }
 {
-    match terms_of(alloc, takes_of(&order), minor, buf, headers) {
-        Ok(terms) => Ok(Asked::Plan(Plan { at, order, terms })),
+    match request_headers_of(alloc, accepted_headers_of(&operation), minor, buf, headers) {
+        Ok(read) => Ok(Asked::Plan(Plan {
+            at,
+            operation,
+            headers: read,
+        })),
         Err(fault) => {
-            drop(order);
+            drop(operation);
             Err(fault)
         }
     }
@@ -66,18 +70,18 @@ fn planned(
 fn allowed(
     alloc: Global,
     at: Moment,
-    order: Result<Order, Resource>,
+    operation: Result<Operation, Resource>,
     minor: u8,
     buf: &[u8],
     headers: &[HeaderSpan],
 ) -> Result<Asked, LineFault>
     requires within { All (IsHeaderWithin (length buf.now)) headers.now }
     requires few { length headers.now ≤ 64 }
-    ensures value { Gives (λ x. x) result (spec.allowed at order minor (map (header_bytes buf.now) headers.now)) }
+    ensures value { Gives (λ x. x) result (spec.allowed at operation minor (map (header_bytes buf.now) headers.now)) }
     ensures at { IfOk result (spec.IsAt (Some at)) }
 {
-    match order {
-        Ok(order) => planned(alloc, at, order, minor, buf, headers),
+    match operation {
+        Ok(operation) => planned(alloc, at, operation, minor, buf, headers),
         Err(resource) => Ok(Asked::NotAllowed(resource)),
     }
 }
@@ -104,5 +108,5 @@ pub fn asked_of(
     let at = clock(moment)?;
     check_supported(buf, headers)?;
     let target = target_of(alloc, method, target)?;
-    allowed(alloc, at, order_of(method, target), minor, buf, headers)
+    allowed(alloc, at, operation_of(method, target), minor, buf, headers)
 }

@@ -1,7 +1,7 @@
-pub mod Target
-pub mod Routes
-pub mod Place
+pub mod Fields
+pub mod Number
 pub mod Path
 pub mod Query
-pub mod Number
-pub mod Fields
+pub mod ResourcePath
+pub mod Routes
+pub mod Target

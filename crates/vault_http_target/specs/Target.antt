@@ -10,10 +10,10 @@ use Rattle.vault_values.specs.Named.{prefix_if}
 use Rattle.vault_http_target.specs.Fields.{Fields}
 use Rattle.vault_http_target.specs.Number.{number_upto}
 use Rattle.vault_http_target.specs.Path.{before, behind}
-use Rattle.vault_http_target.specs.Place.{place_of}
+use Rattle.vault_http_target.specs.ResourcePath.{resource_path_of}
 use Rattle.vault_http_target.specs.Query.{pairs_of, value_named, has_named, are_among, count_among}
-use Rattle.vault_http_target.specs.declared.place.Place.{Place}
-use Rattle.vault_http_target.specs.declared.place.Place.TheVariants as place
+use Rattle.vault_http_target.specs.declared.resource_path.ResourcePath.{ResourcePath}
+use Rattle.vault_http_target.specs.declared.resource_path.ResourcePath.TheVariants as path
 use Rattle.vault_http_target.specs.declared.target.Object.{Object}
 use Rattle.vault_http_target.specs.declared.target.Target.{Target}
 use Rattle.vault_http_target.specs.declared.target.Target.TheVariants as target
@@ -133,12 +133,12 @@ target_of_bucket bucket pairs = do
 
 -- ---- targets
 
-abbrev pub target_at : Place → Fields → List ℕ → Result Target Refusal
-target_at (place.Bucket bucket) pairs method = target_of_bucket bucket pairs
-target_at (place.Key bucket key) pairs method = target_of_key bucket key pairs method
+abbrev pub target_at : ResourcePath → Fields → List ℕ → Result Target Refusal
+target_at (path.Bucket bucket) pairs method = target_of_bucket bucket pairs
+target_at (path.Key bucket key) pairs method = target_of_key bucket key pairs method
 
 -- the query stands after the first question mark
 unfoldable pub target_of : List ℕ → List ℕ → Result Target Refusal
 target_of method target = do
-  place ← place_of (before 63 target)
-  target_at place (pairs_of (behind 63 target)) method
+  path ← resource_path_of (before 63 target)
+  target_at path (pairs_of (behind 63 target)) method

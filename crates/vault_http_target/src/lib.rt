@@ -7,8 +7,8 @@
 pub mod fields;
 pub mod number;
 pub mod path;
-pub mod place;
 pub mod query;
+pub mod resource_path;
 pub mod routes;
 pub mod target;
 pub mod text;

@@ -7,8 +7,8 @@ ghost use Rattle.vault_http_target.specs.Target as spec;
 
 use crate::number::number_upto;
 use crate::path::{before, behind};
-use crate::place::{Place, place_of};
 use crate::query::{Pair, are_among, count_among, has_named, pairs_of, value_named};
+use crate::resource_path::{ResourcePath, resource_path_of};
 use std::alloc::Global;
 use vault_base::name::{BucketName, KeyPrefix, ObjectKey, VersionId};
 use vault_base::refusal::Refusal;
@@ -237,15 +237,15 @@ fn target_of_bucket(alloc: Global, bucket: BucketName, pairs: &[Pair]) -> Result
 
 fn target_at(
     alloc: Global,
-    place: Place,
+    path: ResourcePath,
     pairs: &[Pair],
     method: &[u8],
 ) -> Result<Target, LineFault>
-    ensures { Gives (λ x. x) result (spec.target_at place (map shown pairs.now) method.now) }
+    ensures { Gives (λ x. x) result (spec.target_at path (map shown pairs.now) method.now) }
 {
-    match place {
-        Place::Bucket(bucket) => target_of_bucket(alloc, bucket, pairs),
-        Place::Key(bucket, key) => target_of_key(bucket, key, pairs, method),
+    match path {
+        ResourcePath::Bucket(bucket) => target_of_bucket(alloc, bucket, pairs),
+        ResourcePath::Key(bucket, key) => target_of_key(bucket, key, pairs, method),
     }
 }
 
@@ -258,7 +258,7 @@ fn target_at(
 pub fn target_of(alloc: Global, method: &[u8], target: &[u8]) -> Result<Target, LineFault>
     ensures { Gives (λ x. x) result (spec.target_of method.now target.now) }
 {
-    let place = place_of(alloc, before(target, b'?'))?;
+    let path = resource_path_of(alloc, before(target, b'?'))?;
     let pairs = pairs_of(alloc, behind(target, b'?'))?;
-    target_at(alloc, place, pairs.as_slice(), method)
+    target_at(alloc, path, pairs.as_slice(), method)
 }

@@ -37,7 +37,7 @@ pub fn run_in_tables<S: Alter>(
         ∥ ((w : Vault) × IsRun v commands.now done.0.items w × StandsFor (state S.Store done.1) w × (refused : List (ℕ × Change)) × LeavesOneOf (state S.Store done.1) w refused) ∥₁) }
     // Commands are carried out over sound tables alone.
     ensures sound { IfOk result (λ done. HasCleanDisk (state S.Store done.1) → (v : Vault) × AreSound (state S.Store conn).now v) }
-    ensures told { IfErr result (λ e. IsTold e.0) }
+    ensures reported { IfErr result (λ e. IsTold e.0) }
     // A store that works, outside a transaction, is never told as one that failed.
     ensures healthy { conn.in_transaction ≡ false → IfErr result (λ e. IsHealthy (state S.Store e.1) → e.0 ≢ Refusal.Device) }
     // What is told as damaged spells no vault.

@@ -51,7 +51,7 @@ fn take_copy<O: Alter, S: Alter>(
     ensures spelled { HasCleanDisk (state O.Store old.new) → OnOk result ((v : Vault) × AreSoundAs edition (state O.Store old.old).now v) }
     ensures copied { HasCleanDisk (state O.Store old.new) → HasCleanDisk (state S.Store new.new)
         → OnOk result ((v : Vault) → AreSoundAs edition (state O.Store old.old).now v → AreSound (state S.Store new.new).now v × IsDatabase (state S.Store new.new).now) }
-    ensures told { IfErr result (λ r. r ≢ Refusal.NameTaken → IsTold r) }
+    ensures reported { IfErr result (λ r. r ≢ Refusal.NameTaken → IsTold r) }
     ensures damaged { IfErr result (λ r. HasCleanDisk (state O.Store old.new) → (t : Table) → r ≡ Refusal.Damaged t → (v : Vault) → ¬ AreSoundAs edition (state O.Store old.old).now v) }
     ensures free { OnOk result ((state S.Store new.old).now.schema ≡ no_schema) }
     ensures taken { IfErr result (λ r. r ≡ Refusal.NameTaken → (state S.Store new.old).now.schema ≢ no_schema) }
@@ -161,7 +161,7 @@ fn copy_vault<O: Alter, S: Alter>(
     ensures sound { HasCleanDisk (state S.Store new.new) → OnOk result (IsSettled (state S.Store new.new)) }
     ensures settled { OnOk result (new.new.in_transaction ≡ false) }
     ensures alone { HasCleanDisk (state S.Store new.new) → OnOk result ((v : Vault) → AreSound (state S.Store new.new).now v → LeavesAlone (state S.Store new.new) v) }
-    ensures told { IfErr result (λ r. r ≢ Refusal.NameTaken → IsTold r) }
+    ensures reported { IfErr result (λ r. r ≢ Refusal.NameTaken → IsTold r) }
     ensures damaged { IfErr result (λ r. HasCleanDisk (state O.Store old.new) → (t : Table) → r ≡ Refusal.Damaged t → (v : Vault) → ¬ AreSoundAs edition (state O.Store old.old).now v) }
     ensures free { OnOk result ((state S.Store new.old).now.schema ≡ no_schema) }
     ensures taken { IfErr result (λ r. r ≡ Refusal.NameTaken → (state S.Store new.old).now.schema ≢ no_schema) }
@@ -221,7 +221,7 @@ impl<S: Alter> SqlKeeper<S> {
         // A crash leaves that vault after that, and nothing else.
         ensures alone { IfOk result (λ k. HasCleanDisk (state S.Store k.conn) → LeavesAlone (state S.Store k.conn) (vault_of S.Store k)) }
         ensures counted { IfOk result (λ k. k.blamed.faults ≡ 0) }
-        ensures told { IfErr result (λ e. e.0 ≢ Refusal.NameTaken → IsTold e.0) }
+        ensures reported { IfErr result (λ e. e.0 ≢ Refusal.NameTaken → IsTold e.0) }
         ensures damaged { IfErr result (λ e. HasCleanDisk (state O.Store old.new) → (t : Table) → e.0 ≡ Refusal.Damaged t → (v : Vault) → ¬ AreSoundAs edition (state O.Store old.old).now v) }
         ensures free { OnOk result ((state S.Store new).now.schema ≡ no_schema) }
         ensures taken { IfErr result (λ e. e.0 ≡ Refusal.NameTaken → (state S.Store new).now.schema ≢ no_schema) }

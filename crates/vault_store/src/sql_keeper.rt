@@ -135,7 +135,7 @@ impl<S: Alter> SqlKeeper<S> {
         // A crash leaves that vault after that, and nothing else.
         ensures alone { IfOk result (λ k. HasCleanDisk (state S.Store k.conn) → LeavesAlone (state S.Store k.conn) (vault_of S.Store k)) }
         ensures counted { IfOk result (λ k. k.blamed.faults ≡ 0) }
-        ensures told { IfErr result (λ e. IsTold e.0) }
+        ensures reported { IfErr result (λ e. IsTold e.0) }
         // A store that works, outside a transaction, is never told as one that failed.
         ensures healthy { conn.in_transaction ≡ false → IfErr result (λ e. IsHealthy (state S.Store e.1) → e.0 ≢ Refusal.Device) }
         ensures damaged { IfErr result (λ e. HasCleanDisk (state S.Store e.1) → (t : Table) → e.0 ≡ Refusal.Damaged t → (v : Vault) → ¬ AreSound (state S.Store conn).now v) }

@@ -6,6 +6,8 @@
 #[cfg(test)]
 mod broken;
 #[cfg(test)]
+mod doors;
+#[cfg(test)]
 mod in_time;
 pub mod known;
 #[cfg(test)]

@@ -76,7 +76,7 @@ pub fn tell_refusal<W: Write>(
     out: &mut W,
 ) -> Result<Outcome, JobFault>
     ensures ok { IfOk result (λ outcome. (outcome ≡ Outcome.Refused) × Appends (W.contents out.old) (W.contents out.new) (spec.printed (Refused refusal))) }
-    ensures told { IfOk result (λ outcome. spec.TellsReply outcome (W.contents out.old) (W.contents out.new)) }
+    ensures printed { IfOk result (λ outcome. spec.TellsReply outcome (W.contents out.old) (W.contents out.new)) }
     ensures reader { result ≢ Err JobFault.Read }
     ensures device { result ≢ Err JobFault.Device }
 {
@@ -104,7 +104,7 @@ pub fn carry_out<K: Keeper, W: Write, E: Write>(
         × (IsTrue (is_device_reply reply) → RoseOrIsFull (K.count keeper.old) (K.count keeper.new))) }
     ensures err { K.is_honest keeper.new → OnErr result ((reply : AnyReply) × IsStep (K.vault keeper.old) at asked.now.who asked.now.command reply (K.vault keeper.new)) }
     // Whatever the device does, what is answered is what the printed reply says.
-    ensures told { IfOk result (λ outcome. spec.TellsReply outcome (W.contents out.old) (W.contents out.new)) }
+    ensures printed { IfOk result (λ outcome. spec.TellsReply outcome (W.contents out.old) (W.contents out.new)) }
     // And there is one reply, printed where anything is, which tells that the device failed just where the count of
     // failures rose, or can rise no further; where it doesn't tell it, the count is as it was.
     ensures steady { (reply : AnyReply) × (K.is_honest keeper.new → IsStep (K.vault keeper.old) at asked.now.who asked.now.command reply (K.vault keeper.new))

@@ -95,7 +95,7 @@ pub fn tell_seal<K: Keeper, W: Write, E: Write>(
     // What is printed is the seal of the moment that is asked for, or of the last one; refused is one after that alone.
     ensures ok { K.is_honest keeper.new → IfOk result (λ told. spec.IsSealed asked.now.before (K.vault keeper.old) told (W.contents out.old) (W.contents out.new)) }
     // Whatever the device does, what is answered is what was printed.
-    ensures told { IfOk result (λ told. spec.TellsSeal told (W.contents out.old) (W.contents out.new)) }
+    ensures printed { IfOk result (λ told. spec.TellsSeal told (W.contents out.old) (W.contents out.new)) }
     ensures leaves { LeavesSame K.Kept keeper.old keeper.new (reports_device result) }
     ensures reader { result ≢ Err JobFault.Read }
 {
@@ -186,7 +186,7 @@ pub fn tell_lawful<K: Keeper, W: Write, E: Write>(
 ) -> Result<Outcome, JobFault>
     ensures ok { K.is_honest keeper.new → IfOk result (λ told. spec.IsJudged (first_breach (K.vault keeper.old)) told (W.contents out.old) (W.contents out.new)) }
     // Whatever the device does, what is answered is what was printed.
-    ensures told { IfOk result (λ told. spec.TellsLawful told (W.contents out.old) (W.contents out.new)) }
+    ensures printed { IfOk result (λ told. spec.TellsLawful told (W.contents out.old) (W.contents out.new)) }
     ensures leaves { LeavesSame K.Kept keeper.old keeper.new (reports_device result) }
     ensures reader { result ≢ Err JobFault.Read }
 {

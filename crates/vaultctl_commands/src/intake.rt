@@ -62,7 +62,7 @@ pub fn take_in_and_tell<K: Keeper, F: Folder, W: Write>(
 ) -> (Result<Outcome, JobFault>, IntakeReport)
     ensures ok { K.is_honest keeper.new → IfOk result.0 (λ outcome. spec.ToldIntake (F.files folder.old) at who.now bucket.now batch.now list.now (K.vault keeper.old) (K.vault keeper.new) outcome (W.contents out.old) (W.contents out.new)) }
     // Whatever the device does, what is answered is what the printed lines say.
-    ensures told { IfOk result.0 (λ outcome. spec.TellsIntake outcome (W.contents out.old) (W.contents out.new)) }
+    ensures printed { IfOk result.0 (λ outcome. spec.TellsIntake outcome (W.contents out.old) (W.contents out.new)) }
     // The intake was made whole before its lines were tried.
     ensures err { K.is_honest keeper.new → OnErr result.0 (spec.IsTakenIn (F.files folder.old) at who.now bucket.now batch.now list.now (K.vault keeper.old) (K.vault keeper.new)) }
     ensures reached { K.is_honest keeper.new → Reached (K.vault keeper.old) → Reached (K.vault keeper.new) }

@@ -28,6 +28,10 @@ option name = record (new_rule name) { long = Some name; value_names = 1 }
 abbrev pub count : Rule
 count = record (option (codes "count")) { defaults = codes "1000000" ∷ []; parser = Some (parser.Signed (pos 1) (pos 1000000)) }
 
+-- --lines WHERE
+abbrev pub lines : Rule
+lines = option (codes "lines")
+
 -- --as CALLER
 abbrev pub asker : Rule
 asker = record (option (codes "as")) { required = true }

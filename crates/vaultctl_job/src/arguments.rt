@@ -27,6 +27,8 @@ pub(crate) enum Argument {
     Port,
     /// How many requests are served.
     Count,
+    /// Where lines come in.
+    Lines,
     /// The caller who asks.
     Asker,
     /// The moment at which it is asked.
@@ -91,6 +93,18 @@ fn count<'a>(alloc: Global) -> Arg<'a>
         .help("Ends after so many requests, 1 to 1000000")
 }
 
+fn lines<'a>(alloc: Global) -> Arg<'a>
+    ensures rule { rule_of result ≡ spec.lines }
+    ensures local { result.global ≡ false }
+{
+    Arg::new(alloc, "lines")
+        .long("lines")
+        .value_name("WHERE")
+        .help(
+            "Takes script lines too, without \"at\": at the path of a\nUnix socket, or at a port of 127.0.0.1 if WHERE is digits",
+        )
+}
+
 fn asker<'a>(alloc: Global) -> Arg<'a>
     ensures rule { rule_of result ≡ spec.asker }
     ensures local { result.global ≡ false }
@@ -152,6 +166,7 @@ fn made<'a>(alloc: Global, argument: Argument) -> Arg<'a>
         Argument::Rights => rights(alloc),
         Argument::Port => port(alloc),
         Argument::Count => count(alloc),
+        Argument::Lines => lines(alloc),
         Argument::Asker => asker(alloc),
         Argument::Moment => moment(alloc),
         Argument::Before { help } => before(alloc, help),

@@ -128,13 +128,15 @@ pub struct ReplayJob {
     pub file: Option<Word>,
 }
 
-/// `serve FILE PORT [--count N]`
+/// `serve FILE PORT [--count N] [--lines WHERE]`
 #[derive(Drop)]
 pub struct ServeJob {
     pub file: Word,
     pub port: u16,
-    /// How many requests are served.
+    /// How many requests are served, and lines too where they come in.
     pub count: u32,
+    /// Where lines come in; without it they don't.
+    pub lines: Option<Word>,
 }
 
 /// `migrate OLD NEW`

@@ -300,6 +300,7 @@ fn serve(alloc: Global, matches: &ArgMatches<'_>) -> Result<ServeJob, AllocError
         file: word(alloc, matches, "FILE")?,
         port: port(matches),
         count: count(matches),
+        lines: optional_word(alloc, matches, "lines")?,
     })
 }
 

@@ -1,4 +1,4 @@
-//! What the program uses of the machine: its terminal, and vaults in files.
+//! Vaults in the files of a machine.
 #![tactic(auto)]
 
 pub mod crashes;
@@ -6,9 +6,6 @@ mod editions;
 pub mod given;
 mod looks;
 pub mod migration;
-mod site;
 pub mod starts;
-mod stores;
-pub mod terminal;
 pub mod unopened;
 pub mod vaults;

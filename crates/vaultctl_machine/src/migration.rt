@@ -20,9 +20,7 @@ ghost use Rattle.vaultctl_machine.specs.Refusals.{IsUncopied, IsUncopiedFrom, Le
 
 use crate::editions::{edition_of, why_uncopied};
 use crate::looks::{is_one_file, looked_at};
-use crate::site::Site;
 use crate::starts::Starts;
-use crate::stores::Opened;
 use crate::unopened::Unopened;
 use crate::vaults::{
     FileVault, Machine, VaultStore, close_keeper, connect_new, connect_there, let_go, refused,
@@ -35,6 +33,8 @@ use vault_audit_model::schema::Edition;
 use vault_base::refusal::Refusal;
 use vault_store::sql_keeper::SqlKeeper;
 use vaultctl_machine_places::cause::Cause;
+use vaultctl_machine_stores::connect::Opened;
+use vaultctl_machine_stores::site::Site;
 
 /// A vault that was copied, and the files that it was copied from, which nobody else has before it is closed.
 pub struct Migrated<O: Alter, S: Alter> {
@@ -58,7 +58,7 @@ fn copy<O: Alter, S: Alter>(
     new: Connection<S>,
 ) -> Copied<O, S>
     ensures clean { HasCleanDisk (state O.Store result.source) → HasCleanDisk (state O.Store source) }
-    ensures told { IfErr result.outcome (λ e. IsUncopied e.0) }
+    ensures reported { IfErr result.outcome (λ e. IsUncopied e.0) }
     // The tables that were found spell the vault that the keeper stands for, and so do the new ones.
     ensures found { IfOk result.outcome (λ k. HasCleanDisk (state O.Store result.source) → HasCleanDisk (state S.Store k.conn)
         → AreSoundAs edition (state O.Store source).now (vault_of S.Store k)) }
@@ -77,7 +77,7 @@ fn copy_earlier<O: Alter, S: Alter>(
     new: Connection<S>,
 ) -> Copied<O, S>
     ensures clean { HasCleanDisk (state O.Store result.source) → HasCleanDisk (state O.Store source) }
-    ensures told { IfErr result.outcome (λ e. IsUncopied e.0) }
+    ensures reported { IfErr result.outcome (λ e. IsUncopied e.0) }
     ensures found { IfOk result.outcome (λ k. HasCleanDisk (state O.Store result.source) → HasCleanDisk (state S.Store k.conn)
         → AreSoundEarlier (state O.Store source).now (vault_of S.Store k)) }
     ensures sound { IfOk result.outcome (λ k. HasCleanDisk (state S.Store k.conn) → AreSound (state S.Store k.conn).now (vault_of S.Store k)) }
@@ -97,7 +97,7 @@ fn copy_to_file<O: Alter, B: Start>(
     new: Connection<VaultStore<B>>,
 ) -> Copied<O, VaultStore<B>>
     ensures clean { HasCleanDisk (state O.Store result.source) → HasCleanDisk (state O.Store source) }
-    ensures told { IfErr result.outcome (λ e. IsUncopied e.0) }
+    ensures reported { IfErr result.outcome (λ e. IsUncopied e.0) }
     ensures found { IfOk result.outcome (λ k. HasCleanDisk (state O.Store result.source) → HasCleanDisk (file_state k.conn)
         → AreSoundEarlier (state O.Store source).now (vault_of over_files k)) }
     ensures sound { IfOk result.outcome (λ k. HasCleanDisk (file_state k.conn) → AreSound (file_state k.conn).now (vault_of over_files k)) }
@@ -114,7 +114,7 @@ fn copy_file<A: Start, B: Start>(
     new: Connection<VaultStore<B>>,
 ) -> Copied<VaultStore<A>, VaultStore<B>>
     ensures clean { HasCleanDisk (file_state result.source) → HasCleanDisk (file_state source) }
-    ensures told { IfErr result.outcome (λ e. IsUncopied e.0) }
+    ensures reported { IfErr result.outcome (λ e. IsUncopied e.0) }
     ensures found { IfOk result.outcome (λ k. HasCleanDisk (file_state result.source) → HasCleanDisk (file_state k.conn)
         → AreSoundEarlier (file_state source).now (vault_of over_files k)) }
     ensures sound { IfOk result.outcome (λ k. HasCleanDisk (file_state k.conn) → AreSound (file_state k.conn).now (vault_of over_files k)) }
@@ -143,7 +143,7 @@ fn copy_into<A: Start, B: Start>(
         → IsFoundEarlier (image_at A.Start) (vault_of over_files m.vault)) }
     ensures held { (n : Edition) (v : Vault) → IsHeldAs n (image_at A.Start) v → IfOk result (λ m. HasCleanDisk (file_state m.source) → HasCleanDisk (file_state m.vault.conn)
         → vault_of over_files m.vault ≡ v) }
-    ensures told { IfErr result (Reports IsUncopied) }
+    ensures reported { IfErr result (Reports IsUncopied) }
     ensures lost { IfErr result (λ e. Closes lost.old.items lost.new.items (λ conn. IsUncopiedFrom (image_at A.Start) (file_state conn) (refusal_of e))) }
     ensures kept { OnOk result ((lost.new ≡ lost.old) × (uncopied.new ≡ uncopied.old)) }
 {
@@ -195,7 +195,7 @@ fn copy_at<A: Start, B: Start>(
         → IsFoundEarlier (image_at A.Start) (vault_of over_files m.vault)) }
     ensures held { (n : Edition) (v : Vault) → IsHeldAs n (image_at A.Start) v → IfOk result (λ m. HasCleanDisk (file_state m.source) → HasCleanDisk (file_state m.vault.conn)
         → vault_of over_files m.vault ≡ v) }
-    ensures told { IfErr result (Reports IsUncopied) }
+    ensures reported { IfErr result (Reports IsUncopied) }
     ensures lost { IfErr result (λ e. LetsGo lost.old.items lost.new.items (λ conn. IsUncopiedFrom (image_at A.Start) (file_state conn) (refusal_of e))) }
     ensures kept { OnOk result ((lost.new ≡ lost.old) × (uncopied.new ≡ uncopied.old)) }
 {
@@ -250,7 +250,7 @@ impl<'a, A: Start, B: Start> Machine<'a, VaultStore<A>, VaultStore<B>> {
         ensures held { (n : Edition) (v : Vault) → IsHeldAs n (image_at A.Start) v → IfOk result (λ m. HasCleanDisk (file_state m.source) → HasCleanDisk (file_state m.vault.conn)
             → vault_of over_files m.vault ≡ v) }
         // A failure of the disk that is seen is reported as one.
-        ensures told { IfErr result (Reports IsUncopied) }
+        ensures reported { IfErr result (Reports IsUncopied) }
         // Files that hold a sound vault of an earlier edition aren't reported as damaged.
         ensures refused { IfErr result (λ e. LetsGo self.old.refused.items self.new.refused.items (λ conn. IsUncopiedFrom (image_at A.Start) (file_state conn) (refusal_of e))) }
     {

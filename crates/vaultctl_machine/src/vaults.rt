@@ -31,9 +31,6 @@ ghost use Rattle.vaultctl_machine.specs.Refusals.{IsRefusedOver, IsUnmade, IsUnm
 use crate::editions::why_unsound;
 use crate::given::Given;
 use crate::looks::{cause_of_kind, looked_at};
-use crate::site::Site;
-use crate::stores::before::Before;
-use crate::stores::{self, Opened};
 use crate::unopened::{Unopened, with_cause};
 use http_server::Log;
 use sqlite::{Alter, Connection, Error, ErrorCode, FileFrom, FileStore, Files, Start};
@@ -45,6 +42,9 @@ use vault_store::create::without_tables;
 use vault_store::sql_keeper::SqlKeeper;
 use vaultctl_machine_places::cause::Cause;
 use vaultctl_machine_places::places::place_at;
+use vaultctl_machine_stores::before::Before;
+use vaultctl_machine_stores::connect::{self, Opened};
+use vaultctl_machine_stores::site::Site;
 
 /// The store of a vault in files, which held what `S` says when they were opened.
 pub type VaultStore<S> = FileStore<FileFrom<S>>;
@@ -79,7 +79,7 @@ pub type FileMachine<'a, A, B> = Machine<'a, VaultStore<A>, VaultStore<B>>;
 /// What a failure to open a file is reported as, where a vault should be in it.
 fn unopened(error: Error) -> Refusal
     ensures exact { result ≡ spec.unopened_of error }
-    ensures told { IsTold result }
+    ensures reported { IsTold result }
 {
     match error {
         Error::SqliteFailure(ErrorCode::OutOfMemory) => Refusal::Memory,
@@ -93,7 +93,7 @@ fn unopened(error: Error) -> Refusal
 /// What a failure to open a file is reported as, where a new vault is to be made in it.
 pub(crate) fn unmade(error: Error) -> Refusal
     ensures exact { result ≡ spec.unmade_of error }
-    ensures told { IsUnmade result }
+    ensures reported { IsUnmade result }
 {
     match unopened(error) {
         Refusal::Damaged(_) => Refusal::NameTaken,
@@ -171,9 +171,9 @@ pub(crate) fn connect_there<S: Start>(
 ) -> Result<Opened<VaultStore<S>>, Unopened>
     ensures opened { IfOk result (λ it. HasCleanDisk (file_state it.conn) → IsOpened it.conn) }
     ensures found { IfOk result (λ it. HasCleanDisk (file_state it.conn) → FindsIn (image_at S.Start) (file_state it.conn)) }
-    ensures told { IfErr result (Reports IsTold) }
+    ensures reported { IfErr result (Reports IsTold) }
 {
-    match stores::connect_there(site, start) {
+    match connect::connect_there(site, start) {
         Ok(opened) => Ok(opened),
         Err(error) => Err(cause(error, unopened(error))),
     }
@@ -188,12 +188,12 @@ pub(crate) fn connect_new<S: Start>(
     start: S,
 ) -> Result<Opened<VaultStore<S>>, Unopened>
     ensures opened { IfOk result (λ it. HasCleanDisk (file_state it.conn) → IsOpened it.conn) }
-    ensures told { IfErr result (Reports IsUnmade) }
+    ensures reported { IfErr result (Reports IsUnmade) }
 {
     if let Err(error) = site.make_file() {
         return Err(unmakable(error));
     }
-    match stores::connect_new(site, start) {
+    match connect::connect_new(site, start) {
         Ok(opened) => Ok(opened),
         Err(error) => Err(cause(error, unmade(error))),
     }
@@ -277,7 +277,7 @@ fn open_in<S: Alter>(
     ensures same { IfOk result (λ k. HasCleanDisk (state S.Store k.conn) → IsUnchanged (state S.Store conn) (state S.Store k.conn)) }
     ensures crash { IfOk result (λ k. Survives (state S.Store conn) (state S.Store k.conn) (λ _. ⊥)) }
     ensures alone { IfOk result (λ k. HasCleanDisk (state S.Store k.conn) → LeavesAlone (state S.Store k.conn) (vault_of S.Store k)) }
-    ensures told { IfErr result (λ e. IsTold e.0) }
+    ensures reported { IfErr result (λ e. IsTold e.0) }
     ensures healthy { conn.in_transaction ≡ false → IfErr result (λ e. IsHealthy (state S.Store e.1) → e.0 ≢ Refusal.Device) }
     ensures damaged { IfErr result (λ e. HasCleanDisk (state S.Store e.1) → (t : AnyTable) → e.0 ≡ Refusal.Damaged t → (v : Vault) → ¬ AreSound (state S.Store conn).now v) }
     ensures harmless { IfErr result (λ e. Survives (state S.Store conn) (state S.Store e.1) (λ _. ⊥)) }
@@ -298,7 +298,7 @@ fn found_in<S: Start>(
     ensures held { (v : Vault) → IsHeldIn (image_at S.Start) v → IfOk result (λ vault. HasCleanDisk (file_state vault.conn) → vault_of over_files vault ≡ v) }
     ensures opened { IfOk result (λ vault. HasCleanDisk (file_state vault.conn) → IsOpenedFrom (image_at S.Start) (file_state vault.conn)) }
     ensures alone { IfOk result (λ vault. HasCleanDisk (file_state vault.conn) → LeavesAlone (file_state vault.conn) (vault_of over_files vault)) }
-    ensures told { IfErr result (Reports IsTold) }
+    ensures reported { IfErr result (Reports IsTold) }
     ensures lost { IfErr result (λ e. Closes lost.old.items lost.new.items (λ conn. IsRefusedOver (image_at S.Start) (file_state conn) (refusal_of e))) }
     ensures kept { OnOk result (lost.new ≡ lost.old) }
 {
@@ -339,7 +339,7 @@ fn made_in<S: Start>(
     ensures opening { IfOk result (λ vault. HasCleanDisk (file_state vault.conn) → vault_of over_files vault ≡ opening) }
     ensures sound { IfOk result (λ vault. HasCleanDisk (file_state vault.conn) → AreSound (file_state vault.conn).now opening) }
     ensures alone { IfOk result (λ vault. HasCleanDisk (file_state vault.conn) → LeavesAlone (file_state vault.conn) opening) }
-    ensures told { IfErr result (Reports IsUnmade) }
+    ensures reported { IfErr result (Reports IsUnmade) }
     ensures lost { IfErr result (λ e. Closes lost.old.items lost.new.items (λ conn. IsUnmadeOver (file_state conn) (refusal_of e))) }
     ensures kept { OnOk result (lost.new ≡ lost.old) }
 {
@@ -367,7 +367,7 @@ fn opened_at<S: Start>(
     ensures held { (v : Vault) → IsHeldIn (image_at S.Start) v → IfOk result (λ vault. HasCleanDisk (file_state vault.conn) → vault_of over_files vault ≡ v) }
     ensures opened { IfOk result (λ vault. HasCleanDisk (file_state vault.conn) → IsOpenedFrom (image_at S.Start) (file_state vault.conn)) }
     ensures alone { IfOk result (λ vault. HasCleanDisk (file_state vault.conn) → LeavesAlone (file_state vault.conn) (vault_of over_files vault)) }
-    ensures told { IfErr result (Reports IsTold) }
+    ensures reported { IfErr result (Reports IsTold) }
     ensures lost { IfErr result (λ e. LetsGo lost.old.items lost.new.items (λ conn. IsRefusedOver (image_at S.Start) (file_state conn) (refusal_of e))) }
     ensures kept { OnOk result (lost.new ≡ lost.old) }
 {
@@ -393,7 +393,7 @@ fn made_at<S: Start>(
     ensures opening { IfOk result (λ vault. HasCleanDisk (file_state vault.conn) → vault_of over_files vault ≡ opening) }
     ensures sound { IfOk result (λ vault. HasCleanDisk (file_state vault.conn) → AreSound (file_state vault.conn).now opening) }
     ensures alone { IfOk result (λ vault. HasCleanDisk (file_state vault.conn) → LeavesAlone (file_state vault.conn) opening) }
-    ensures told { IfErr result (Reports IsUnmade) }
+    ensures reported { IfErr result (Reports IsUnmade) }
     ensures lost { IfErr result (λ e. LetsGo lost.old.items lost.new.items (λ conn. IsUnmadeOver (file_state conn) (refusal_of e))) }
     ensures kept { OnOk result (lost.new ≡ lost.old) }
 {
@@ -455,7 +455,7 @@ impl<'a, A: Start, B: Start> Machine<'a, VaultStore<A>, VaultStore<B>> {
         // A crash leaves that vault after that, and nothing else.
         ensures alone { IfOk result (λ vault. HasCleanDisk (file_state vault.conn) → LeavesAlone (file_state vault.conn) (vault_of over_files vault)) }
         // A failure of the disk that is seen is reported as one.
-        ensures told { IfErr result (Reports IsTold) }
+        ensures reported { IfErr result (Reports IsTold) }
         // A store that was opened and works isn't reported as a failed device, nor one that holds a sound vault as damaged.
         ensures refused { IfErr result (λ e. LetsGo self.old.refused.items self.new.refused.items (λ conn. IsRefusedOver (image_at A.Start) (file_state conn) (refusal_of e))) }
     {
@@ -484,7 +484,7 @@ impl<'a, A: Start, B: Start> Machine<'a, VaultStore<A>, VaultStore<B>> {
         // A crash leaves a new vault after that, and nothing else.
         ensures alone { IfOk result (λ vault. HasCleanDisk (file_state vault.conn) → LeavesAlone (file_state vault.conn) opening) }
         // A failure of the disk that is seen is reported as one.
-        ensures told { IfErr result (Reports IsUnmade) }
+        ensures reported { IfErr result (Reports IsUnmade) }
         // A store that was opened and is reported as taken has something in it.
         ensures refused { IfErr result (λ e. LetsGo self.old.refused.items self.new.refused.items (λ conn. IsUnmadeOver (file_state conn) (refusal_of e))) }
     {

@@ -45,7 +45,7 @@ pub fn ask_read<A: Start, B: Start, T: Work, W: Write, E: Write>(
     err: &mut E,
 ) -> u8
     ensures values { (said : Result T AnyRefusal) (r : AnyRefusal) → Gives (λ x. x) asked.now said → said ≡ Err r → (machine.new ≡ machine.old) × (result ≡ 1) }
-    ensures told { result ≡ 0 → T.tells (Ok Outcome.Done) (W.contents out.old) (W.contents out.new) }
+    ensures printed { result ≡ 0 → T.tells (Ok Outcome.Done) (W.contents out.old) (W.contents out.new) }
     ensures given { result ≡ 0 → machine.new.given ≡ with_opened machine.old.given }
     ensures done { result ≡ 0 → IsOkAnd asked.now (λ work. Carries (image_at A.Start) machine.old.closed.items machine.new.closed.items
         (λ v w. (from : Option (List ℕ)) × (to : Option (List ℕ)) × T.does work (scene v from (W.contents out.old)) (scene w to (W.contents out.new)) (Ok Outcome.Done))) }
@@ -82,7 +82,7 @@ pub fn ask<A: Start, B: Start, W: Write, E: Write>(
 ) -> u8
     ensures values { (said : Result AskedOf AnyRefusal) (r : AnyRefusal) → Gives (λ x. x) asked said → said ≡ Err r → (machine.new ≡ machine.old) × (result ≡ 1) }
     // Status 0 says that it was done, and that the reply which says so was printed.
-    ensures told { result ≡ 0 → TellsReply Outcome.Done (W.contents out.old) (W.contents out.new) }
+    ensures printed { result ≡ 0 → TellsReply Outcome.Done (W.contents out.old) (W.contents out.new) }
     ensures given { result ≡ 0 → machine.new.given ≡ with_opened machine.old.given }
     ensures done { (said : Result AskedOf AnyRefusal) → Gives (λ x. x) asked said → result ≡ 0
         → IsOkAnd said (λ it. Carries (image_at A.Start) machine.old.closed.items machine.new.closed.items (λ v w. IsStepDone it Outcome.Done v w (W.contents out.old) (W.contents out.new))) }
@@ -103,7 +103,7 @@ pub fn take_in<A: Start, B: Start, W: Write, E: Write>(
 ) -> u8
     ensures values { (said : Result IntakeOf AnyRefusal) (r : AnyRefusal) → Gives (λ i. i.asked) asked.entry said → said ≡ Err r → (machine.new ≡ machine.old) × (result ≡ 1) }
     // Status 0 says that each row was taken in, and that the lines which say so were printed.
-    ensures told { result ≡ 0 → TellsIntake Outcome.Done (W.contents out.old) (W.contents out.new) }
+    ensures printed { result ≡ 0 → TellsIntake Outcome.Done (W.contents out.old) (W.contents out.new) }
     ensures given { result ≡ 0 → machine.new.given ≡ with_opened machine.old.given }
     ensures done { (said : Result IntakeOf AnyRefusal) → Gives (λ i. i.asked) asked.entry said → result ≡ 0
         → IsOkAnd said (λ it. Carries (image_at A.Start) machine.old.closed.items machine.new.closed.items (λ v w. IsIntakeDone it Outcome.Done v w (W.contents out.old) (W.contents out.new))) }

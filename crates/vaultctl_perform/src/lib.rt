@@ -96,7 +96,7 @@ pub fn perform<A: Start, B: Start, R: Read, W: Write, E: Write>(
     // A value that isn't allowed is never reported as done, and no file is looked for.
     ensures values { (r : Refusal) → IsValueFault job.now r → (machine.new ≡ machine.old) × (result ≡ 1) }
     // Status 0 says that what the job prints when it is done was printed.
-    ensures told { result ≡ 0 → IsTold job.now (W.contents out.old) (W.contents out.new) }
+    ensures printed { result ≡ 0 → IsTold job.now (W.contents out.old) (W.contents out.new) }
     // It says that one vault was opened, made or copied, as the job asks, and no other.
     ensures given { result ≡ 0 → machine.new.given ≡ given_by job.now machine.old.given }
     // It says that what the job asks was done with the vault that was found in the file, and that the connection which was
@@ -316,7 +316,7 @@ fn answer_job<A: Start, B: Start, R: Read, W: Write, E: Write>(
     // Words that ask for nothing, and values that aren't such, are never reported as done.
     ensures words { job_for (map string_bytes words.now) ≡ None → result ≢ 0 }
     ensures values { (job : AnyJob) (r : Refusal) → job_for (map string_bytes words.now) ≡ Some job → IsValueFault job r → result ≢ 0 }
-    ensures told { (job : AnyJob) → job_for (map string_bytes words.now) ≡ Some job → result ≡ 0 → IsTold job (W.contents out.old) (W.contents out.new) }
+    ensures printed { (job : AnyJob) → job_for (map string_bytes words.now) ≡ Some job → result ≡ 0 → IsTold job (W.contents out.old) (W.contents out.new) }
     ensures given { (job : AnyJob) → job_for (map string_bytes words.now) ≡ Some job → result ≡ 0 → machine.new.given ≡ given_by job machine.old.given }
     ensures done { (job : AnyJob) → job_for (map string_bytes words.now) ≡ Some job → result ≡ 0
         → IsDoneInFiles (image_at A.Start) job machine.old.closed.items machine.new.closed.items machine.old.copies.items machine.new.copies.items
@@ -348,7 +348,7 @@ pub fn answer_words<A: Start, B: Start, R: Read, W: Write, E: Write>(
     // are no job.
     ensures words { job_for (map string_bytes words.now) ≡ None → asks_version (map string_bytes words.now) ≡ false → result ≢ 0 }
     ensures values { (job : AnyJob) (r : Refusal) → job_for (map string_bytes words.now) ≡ Some job → IsValueFault job r → result ≢ 0 }
-    ensures told { (job : AnyJob) → job_for (map string_bytes words.now) ≡ Some job → result ≡ 0 → IsTold job (W.contents out.old) (W.contents out.new) }
+    ensures printed { (job : AnyJob) → job_for (map string_bytes words.now) ≡ Some job → result ≡ 0 → IsTold job (W.contents out.old) (W.contents out.new) }
     ensures given { (job : AnyJob) → job_for (map string_bytes words.now) ≡ Some job → result ≡ 0 → machine.new.given ≡ given_by job machine.old.given }
     ensures done { (job : AnyJob) → job_for (map string_bytes words.now) ≡ Some job → result ≡ 0
         → IsDoneInFiles (image_at A.Start) job machine.old.closed.items machine.new.closed.items machine.old.copies.items machine.new.copies.items

@@ -66,7 +66,7 @@ pub fn migrate<A: Start, B: Start, W: Write, E: Write>(
     // printed.
     ensures given { result ≡ 0 → machine.new.given ≡ with_copied machine.old.given }
     ensures done { result ≡ 0 → Copies (image_at A.Start) machine.old.closed.items machine.new.closed.items machine.old.copies.items machine.new.copies.items }
-    ensures told { result ≡ 0 → Appends (W.contents out.old) (W.contents out.new) spec.migrated_line }
+    ensures printed { result ≡ 0 → Appends (W.contents out.old) (W.contents out.new) spec.migrated_line }
     ensures status { result ≢ 2 }
 {
     let copied = copy(machine, old, new, starts);

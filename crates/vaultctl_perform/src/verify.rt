@@ -128,7 +128,7 @@ pub fn verify<A: Start, B: Start, W: Write, E: Write>(
     // `sound` printed.
     ensures given { result ≡ 0 → machine.new.given ≡ with_opened machine.old.given }
     ensures done { result ≡ 0 → Carries (image_at A.Start) machine.old.closed.items machine.new.closed.items (λ v w. w ≡ v) }
-    ensures told { result ≡ 0 → Appends (W.contents out.old) (W.contents out.new) spec.sound_line }
+    ensures printed { result ≡ 0 → Appends (W.contents out.old) (W.contents out.new) spec.sound_line }
     ensures status { result ≢ 2 }
 {
     let opened = look(machine, file, start);

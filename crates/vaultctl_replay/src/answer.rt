@@ -1,5 +1,6 @@
 //! One line: what it asks for is carried out, and its reply written.
 ghost use Rattle.std.specs.Prelude.{◌≡◌, ◌≤◌, [], ◌∷◌, IfOk, OnOk, OnErr, string_bytes};
+ghost use Rattle.vault_http.specs.Left.{LeavesNoLess};
 ghost use Rattle.vault_http.specs.ReadLine.{line_of};
 ghost use Rattle.vault_http.specs.ReplyLine.{reply_text};
 ghost use Rattle.vault_http.specs.Line.TheVariants.{Command};
@@ -38,8 +39,7 @@ fn carried_out<K: Keeper, O: Observer>(
 ) -> Result<String, AllocError>
     ensures ok { IfOk result (λ text. Replied (K.is_honest keeper.new) (K.vault keeper.old) (K.count keeper.old) (Command timed) (string_bytes text) (K.vault keeper.new) (K.count keeper.new)) }
     ensures err { OnErr result (Unwritten (K.is_honest keeper.new) (K.vault keeper.old) (K.count keeper.old) (Command timed) (K.vault keeper.new) (K.count keeper.new)) }
-    ensures honest { K.is_honest keeper.new → K.is_honest keeper.old }
-    ensures counted { K.count keeper.old ≤ K.count keeper.new }
+    ensures leaves { LeavesNoLess K.Kept keeper.old keeper.new }
 {
     let reply = step(alloc, keeper, timed.at, &timed.who, &timed.command);
     observer.reply(&timed.command, &reply);
@@ -56,8 +56,7 @@ fn reply_to<K: Keeper, O: Observer>(
 ) -> Result<String, AllocError>
     ensures ok { IfOk result (λ reply. Replied (K.is_honest keeper.new) (K.vault keeper.old) (K.count keeper.old) asked (string_bytes reply) (K.vault keeper.new) (K.count keeper.new)) }
     ensures err { OnErr result (Unwritten (K.is_honest keeper.new) (K.vault keeper.old) (K.count keeper.old) asked (K.vault keeper.new) (K.count keeper.new)) }
-    ensures honest { K.is_honest keeper.new → K.is_honest keeper.old }
-    ensures counted { K.count keeper.old ≤ K.count keeper.new }
+    ensures leaves { LeavesNoLess K.Kept keeper.old keeper.new }
 {
     match asked {
         Line::Skip => Ok(String::new(alloc)),
@@ -67,7 +66,9 @@ fn reply_to<K: Keeper, O: Observer>(
 }
 
 /// Carries out what a line asks for, and then writes its reply.
-fn answer<K: Keeper, W: Write, O: Observer>(
+///
+/// `Write` comes where the reply can't be written, and `Memory` where room was refused.
+pub fn answer<K: Keeper, W: Write, O: Observer>(
     alloc: Global,
     keeper: &mut K,
     writer: &mut W,
@@ -77,8 +78,7 @@ fn answer<K: Keeper, W: Write, O: Observer>(
     ensures ok { OnOk result (Finished (K.is_honest keeper.new) (K.vault keeper.old) (K.count keeper.old) (W.contents writer.old) (asked ∷ []) (K.vault keeper.new) (K.count keeper.new) (W.contents writer.new)) }
     ensures err { OnErr result (Began (K.is_honest keeper.new) (K.vault keeper.old) (K.count keeper.old) (W.contents writer.old) (asked ∷ []) (K.vault keeper.new) (K.count keeper.new) (W.contents writer.new)) }
     ensures kind { ¬ (result ≡ Err ReplayFault.Read) }
-    ensures honest { K.is_honest keeper.new → K.is_honest keeper.old }
-    ensures counted { K.count keeper.old ≤ K.count keeper.new }
+    ensures leaves { LeavesNoLess K.Kept keeper.old keeper.new }
 {
     let Ok(reply) = reply_to(alloc, keeper, observer, asked) else {
         return Err(ReplayFault::Memory);

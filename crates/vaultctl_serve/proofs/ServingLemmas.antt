@@ -36,7 +36,7 @@ Stepped-reached most old new stepped before =
 
 -- ---- steps of tries
 
-SteppedAt-append : (tries more : List Try) (old mid new : Vault) → SteppedAt tries old mid → SteppedAt more mid new → SteppedAt (tries ++ more) old new
+pub SteppedAt-append : (tries more : List Try) (old mid new : Vault) → SteppedAt tries old mid → SteppedAt more mid new → SteppedAt (tries ++ more) old new
 SteppedAt-append [] more old mid new same second = let P : Vault → Type 0 = λ v. SteppedAt more v new in subst P same second
 SteppedAt-append (Taken moment ∷ tries) more old mid new first second = (first.0, first.1, SteppedAt-append tries more first.0 mid new first.2 second)
 SteppedAt-append (Missed ∷ tries) more old mid new first second = SteppedAt-append tries more old mid new first second

@@ -10,42 +10,42 @@ use Rattle.vault_http.specs.Left.{DeniedLeft, Early, HeadLeft, Left, PlanLeft, S
 use Rattle.vault_http.specs.declared.answer.head.Allow.{Allow}
 use Rattle.vault_http.specs.declared.fault.ServeFault.{ServeFault}
 use Rattle.vault_http.specs.declared.fault.ServeFault.TheVariants as faults
-use Rattle.vault_http_request.specs.declared.order.Order.{Order}
+use Rattle.vault_http_request.specs.declared.operation.Operation.{Operation}
 use Rattle.vault_http_request.specs.declared.plan.Asked.{Asked}
 use Rattle.vault_http_request.specs.declared.plan.Asked.TheVariants as asked
 use Rattle.vault_http_request.specs.declared.plan.Plan.{Plan}
-use Rattle.vault_http_request.specs.declared.terms.Locks.{Locks}
+use Rattle.vault_http_request.specs.declared.request_headers.Locks.{Locks}
 use Rattle.vaultctl_serve.specs.Whole.{IsBodyWhole, WaitsForAll}
 
-module _ (Failed : Type 0) (at : ℕ) (shown : Bool) (who : List ℕ) (order : Order) (locks : Locks) (old new : Vault) where
+module _ (Failed : Type 0) (at : ℕ) (shown : Bool) (who : List ℕ) (operation : Operation) (locks : Locks) (old new : Vault) where
   -- a body that is cut makes no command
-  judged-whole : (body : Option (List ℕ)) (out : List ℕ) → Judged Failed at shown who (command_of_body order locks body) old out new → (new ≡ old) ⊎ IsSome body
+  judged-whole : (body : Option (List ℕ)) (out : List ℕ) → Judged Failed at shown who (command_of_body operation locks body) old out new → (new ≡ old) ⊎ IsSome body
   judged-whole None out judged = inl judged.0
   judged-whole (Some bytes) out judged = inr refl
 
-  stepped-whole : (body : Option (List ℕ)) → Stepped at who (command_of_body order locks body) old new → IsSome body
+  stepped-whole : (body : Option (List ℕ)) → Stepped at who (command_of_body operation locks body) old new → IsSome body
   stepped-whole None stepped = absurd stepped
   stepped-whole (Some bytes) stepped = refl
 
 module _ (Failed : Type 0) (moment : Option ℕ) (shown : Bool) (rest : List ℕ) (old new : Vault) where
   head-whole : (said : Result Asked Refusal) (out : List ℕ) → HeadJudged Failed moment shown said rest old out new → (new ≡ old) ⊎ IsBodyWhole said rest
   head-whole (Ok (asked.Plan plan)) out served =
-      judged-whole Failed plan.at shown plan.terms.caller plan.order plan.terms.locks old new (body_of plan.terms.length rest) served.0 served.2
+      judged-whole Failed plan.at shown plan.headers.caller plan.operation plan.headers.locks old new (body_of plan.headers.length rest) served.0 served.2
   head-whole (Ok (asked.NotAllowed r)) out served = inl served.0
   head-whole (Err r) out served = inl served.0
 
-  plan-left-whole : (e : ServeFault) (plan : Plan) (unread before after : Option (List ℕ)) → PlanLeft Failed e shown plan rest unread old new before after → (new ≡ old) ⊎ IsSome (body_of plan.terms.length rest)
+  plan-left-whole : (e : ServeFault) (plan : Plan) (unread before after : Option (List ℕ)) → PlanLeft Failed e shown plan rest unread old new before after → (new ≡ old) ⊎ IsSome (body_of plan.headers.length rest)
   plan-left-whole faults.Read plan unread before after left = inl left.0
   plan-left-whole faults.Memory plan unread before after left = elim left [
     | inl early ↦ inl early.0
     | inr late ↦ elim (late.0) [
       | inl same ↦ inl same
-      | inr stepped ↦ inr (stepped-whole Failed plan.at shown plan.terms.caller plan.order plan.terms.locks old new (body_of plan.terms.length rest) stepped)
+      | inr stepped ↦ inr (stepped-whole Failed plan.at shown plan.headers.caller plan.operation plan.headers.locks old new (body_of plan.headers.length rest) stepped)
     ]
   ]
   plan-left-whole faults.Write plan unread before after left = elim left [
     | inl early ↦ inl early.2
-    | inr late ↦ judged-whole Failed plan.at shown plan.terms.caller plan.order plan.terms.locks old new (body_of plan.terms.length rest) late.0 late.2
+    | inr late ↦ judged-whole Failed plan.at shown plan.headers.caller plan.operation plan.headers.locks old new (body_of plan.headers.length rest) late.0 late.2
   ]
 
   denied-left-same : (e : ServeFault) (r : Refusal) (allow : Option Allow) (before after : Option (List ℕ)) → DeniedLeft e moment shown r allow old new before after → new ≡ old

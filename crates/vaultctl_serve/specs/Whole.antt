@@ -11,7 +11,7 @@ use Rattle.vault_http_request.specs.declared.plan.Asked.TheVariants as asked
 
 -- all of the body came that belongs to what is asked
 abbrev pub IsAskedWhole : Asked → List ℕ → Type 0
-IsAskedWhole (asked.Plan plan) rest = IsSome (body_of plan.terms.length rest)
+IsAskedWhole (asked.Plan plan) rest = IsSome (body_of plan.headers.length rest)
 IsAskedWhole (asked.NotAllowed r) rest = Unit {0}
 
 -- the same of a head that may be refused: then it is whole without a body

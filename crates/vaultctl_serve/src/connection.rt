@@ -1,10 +1,10 @@
 //! One connection, and its one request.
-ghost use Rattle.std.specs.Prelude.{ℕ, ◌≡◌, ◌≤◌, List, Option, IfErr, IfSome, OnOk, Err};
+ghost use Rattle.std.specs.Prelude.{ℕ, ◌≡◌, List, Option, IfErr, IfSome, OnOk, Err};
 ghost use Rattle.std.specs.Io.KnownBytes.{Appends};
 ghost use Rattle.vault_base.specs.Days.{moment_at};
 ghost use Rattle.vault_core_model.specs.Leaves.{RoseOrIsFull};
 ghost use Rattle.vault_http.specs.Exchange.{Served};
-ghost use Rattle.vault_http.specs.Left.{AtMostOne, Left};
+ghost use Rattle.vault_http.specs.Left.{AtMostOne, Left, LeavesNoLess};
 ghost use Rattle.vault_http.specs.Steady.{Steady};
 ghost use Rattle.vault_http.specs.declared.fault.ServeFault.TheVariants as faults;
 ghost use Rattle.vaultctl_serve.specs.InTime.{known_in_time};
@@ -38,8 +38,7 @@ pub fn serve_in_time<I: Inbound + Drop, W: Write, K: Keeper>(
     ensures late { K.is_honest keeper.new → IfSome (known_in_time Leading (I.coming inbound)) (λ input. WaitsForAll (moment_at reading) input (K.vault keeper.old) (K.vault keeper.new)) }
     ensures once { K.is_honest keeper.new → AtMostOne (moment_at reading) (K.vault keeper.old) (K.vault keeper.new) }
     ensures unread { result ≡ Err faults.Read → K.vault keeper.new ≡ K.vault keeper.old }
-    ensures honest { K.is_honest keeper.new → K.is_honest keeper.old }
-    ensures counted { K.count keeper.old ≤ K.count keeper.new }
+    ensures leaves { LeavesNoLess K.Kept keeper.old keeper.new }
     ensures steady { Steady (K.is_honest keeper.new) result (moment_at reading) (K.vault keeper.old) (K.vault keeper.new) (K.count keeper.old) (K.count keeper.new) (W.contents writer.old) (W.contents writer.new) }
 {
     let Ok(mut reader) = BufReader::new(alloc, TimedRequest::new(inbound)) else {
@@ -58,8 +57,7 @@ fn exchange<C: Clock, P: Peer, K: Keeper>(
 ) -> Result<(), ServeFault>
     ensures once { K.is_honest keeper.new → AtMostOne (moment_at reading) (K.vault keeper.old) (K.vault keeper.new) }
     ensures unread { result ≡ Err faults.Read → K.vault keeper.new ≡ K.vault keeper.old }
-    ensures honest { K.is_honest keeper.new → K.is_honest keeper.old }
-    ensures counted { K.count keeper.old ≤ K.count keeper.new }
+    ensures leaves { LeavesNoLess K.Kept keeper.old keeper.new }
 {
     let Ok(since) = Instant::now(clock) else {
         return Err(ServeFault::Read);
@@ -82,8 +80,7 @@ pub fn serve_connection<C: Clock, P: Peer, K: Keeper>(
 ) -> Result<(), ServeFault>
     ensures once { K.is_honest keeper.new → AtMostOne (moment_at reading) (K.vault keeper.old) (K.vault keeper.new) }
     ensures unread { result ≡ Err faults.Read → K.vault keeper.new ≡ K.vault keeper.old }
-    ensures honest { K.is_honest keeper.new → K.is_honest keeper.old }
-    ensures counted { K.count keeper.old ≤ K.count keeper.new }
+    ensures leaves { LeavesNoLess K.Kept keeper.old keeper.new }
 {
     let served = exchange(clock, alloc, peer, keeper, reading);
     if served.is_ok() {

@@ -5,7 +5,7 @@
 pub mod arrivals;
 pub mod clock;
 mod connection;
-mod deadline;
+pub mod deadline;
 mod fault;
 pub mod inbound;
 pub mod lingering;
@@ -15,6 +15,6 @@ mod scan;
 mod server;
 pub mod timed;
 
-pub use connection::serve_in_time;
+pub use connection::{serve_connection, serve_in_time};
 pub use fault::PortFault;
 pub use server::{serve, serve_arrivals, serve_connections};

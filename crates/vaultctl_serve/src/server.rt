@@ -1,7 +1,8 @@
 //! Connections to a port of this machine, one after another.
-ghost use Rattle.std.specs.Prelude.{◌≡◌, ◌≢◌, ◌≤◌, OnOk, OnErr};
+ghost use Rattle.std.specs.Prelude.{◌≡◌, ◌≢◌, OnOk, OnErr};
 ghost use Rattle.std.specs.Io.KnownBytes.{Keeps};
 ghost use Rattle.vault_core_model.specs.Step.{Reached};
+ghost use Rattle.vault_http.specs.Left.{LeavesNoLess};
 ghost use Rattle.vaultctl_serve.specs.Serving.{ReportsOnce, Stepped, SteppedOnTime};
 
 use crate::arrivals::{Arrivals, Listened};
@@ -22,8 +23,7 @@ fn serve_next<C: Clock, A: Arrivals, K: Keeper>(
     keeper: &mut K,
 )
     ensures timely { K.is_honest keeper.new → SteppedOnTime 1 (A.tries arrivals.old) (A.tries arrivals.new) (K.vault keeper.old) (K.vault keeper.new) }
-    ensures honest { K.is_honest keeper.new → K.is_honest keeper.old }
-    ensures counted { K.count keeper.old ≤ K.count keeper.new }
+    ensures leaves { LeavesNoLess K.Kept keeper.old keeper.new }
 {
     match arrivals.take() {
         Ok(peer) => {
@@ -49,8 +49,7 @@ fn serve_watched<C: Clock, A: Arrivals, K: Keeper, T: Reporter>(
     ensures reported { K.count keeper.old ≡ since → ReportsOnce T.fails since (K.count keeper.new) reporter.old reporter.new }
     // It isn't reported a second time.
     ensures once { K.count keeper.old ≢ since → reporter.new ≡ reporter.old }
-    ensures honest { K.is_honest keeper.new → K.is_honest keeper.old }
-    ensures counted { K.count keeper.old ≤ K.count keeper.new }
+    ensures leaves { LeavesNoLess K.Kept keeper.old keeper.new }
 {
     let had_failed = keeper.faults() != since;
     serve_next(clock, alloc, arrivals, keeper);
@@ -82,8 +81,7 @@ pub fn serve_arrivals<C: Clock, A: Arrivals, K: Keeper, T: Reporter>(
     ensures reached { K.is_honest keeper.new → Reached (K.vault keeper.old) → Reached (K.vault keeper.new) }
     // A device that failed is reported, once; where none failed nothing is.
     ensures reported { ReportsOnce T.fails (K.count keeper.old) (K.count keeper.new) reporter.old reporter.new }
-    ensures honest { K.is_honest keeper.new → K.is_honest keeper.old }
-    ensures counted { K.count keeper.old ≤ K.count keeper.new }
+    ensures leaves { LeavesNoLess K.Kept keeper.old keeper.new }
 {
     let since = keeper.faults();
     for _ in 0..count {
@@ -105,8 +103,7 @@ pub fn serve_connections<
     ensures reached { K.is_honest keeper.new → Reached (K.vault keeper.old) → Reached (K.vault keeper.new) }
     // A device that failed is reported, once; where none failed nothing is.
     ensures reported { ReportsOnce T.fails (K.count keeper.old) (K.count keeper.new) reporter.old reporter.new }
-    ensures honest { K.is_honest keeper.new → K.is_honest keeper.old }
-    ensures counted { K.count keeper.old ≤ K.count keeper.new }
+    ensures leaves { LeavesNoLess K.Kept keeper.old keeper.new }
 {
     let mut arrivals = Listened { clock, listener };
     serve_arrivals(clock, alloc, &mut arrivals, keeper, count, reporter);
@@ -132,8 +129,7 @@ pub fn serve<R: Net<Stream = TcpStream> + Clock, K: Keeper, T: Reporter>(
     ensures reported { OnOk result ((between : T) × T.listens reporter.old file.now port between × ReportsOnce T.fails (K.count keeper.old) (K.count keeper.new) between reporter.new) }
     // Where it can't listen nothing is reported.
     ensures unreported { OnErr result (reporter.new ≡ reporter.old) }
-    ensures honest { K.is_honest keeper.new → K.is_honest keeper.old }
-    ensures counted { K.count keeper.old ≤ K.count keeper.new }
+    ensures leaves { LeavesNoLess K.Kept keeper.old keeper.new }
 {
     let Ok(listener) = TcpListener::bind(rt, (Ipv4Addr::LOCALHOST, port)) else {
         return Err(PortFault::Device);

@@ -1,5 +1,5 @@
 -- What a job did with a vault.
-use Rattle.std.specs.Prelude.{◌≡◌, ◌⊎◌, ℕ, List, Option, None, Some, ⊤}
+use Rattle.std.specs.Prelude.{◌≡◌, ◌⊎◌, ◌==◌, ℕ, List, Option, None, Some, ⊤, if◌then◌else◌}
 use Rattle.std.specs.Io.KnownBytes.{Consumes, IsAtEnd}
 use Rattle.vault_core_evidence.specs.Breaches.{first_breach}
 use Rattle.vault_core_model.specs.Vault.{Vault}
@@ -48,6 +48,15 @@ abbrev pub IsAnswered : Scene → Scene → Type 0
 IsAnswered old new =
     (input : List ℕ) × (n : ℕ) × (n' : ℕ) × Consumes old.input new.input input × IsAtEnd new.input × AnswersAll (Unit {0}) old.vault n old.output input new.vault n' new.output
 
--- at most as many commands as requests were asked for, one after another
+-- how many requests and lines are served at most where this many are asked for: a million, which is the default, is no limit
+abbrev pub most_with_lines : ℕ → ℕ
+most_with_lines count = if count == 1000000 then 4294967295 else count
+
+-- how many requests are served at most, and lines too where they come in
+abbrev pub most_served : Option (List ℕ) → ℕ → ℕ
+most_served None count = count
+most_served (Some place) count = most_with_lines count
+
+-- at most as many commands as requests and lines were asked for, one after another
 abbrev pub IsServed : ServeJob → Vault → Vault → Type 0
-IsServed job v v' = Stepped job.count v v'
+IsServed job v v' = Stepped (most_served job.lines job.count) v v'

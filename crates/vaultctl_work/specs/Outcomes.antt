@@ -10,6 +10,8 @@ use Rattle.vaultctl_replay.specs.declared.fault.ReplayFault.{ReplayFault}
 use Rattle.vaultctl_replay.specs.declared.fault.ReplayFault.TheVariants as replay
 use Rattle.vaultctl_serve.specs.declared.fault.PortFault.{PortFault}
 use Rattle.vaultctl_serve.specs.declared.fault.PortFault.TheVariants as port
+use Rattle.vaultctl_serve_lines.specs.declared.fault.DoorFault.{DoorFault}
+use Rattle.vaultctl_serve_lines.specs.declared.line.Next.{Next}
 
 -- a register is written or a fault is told, by its name
 abbrev pub exported : Result (Unit {0}) ExportFault → Result Outcome JobFault
@@ -33,3 +35,8 @@ replayed (Err fault) = Err (replay_fault fault)
 abbrev pub served : Result (Unit {0}) PortFault → Result Outcome JobFault
 served (Ok t) = Ok Done
 served (Err port.Device) = Err fault.Device
+
+-- as many requests and lines were served, or a line ended the server; or nobody can listen at one of its doors
+abbrev pub served_at_both : Result Next DoorFault → Result Outcome JobFault
+served_at_both (Ok next) = Ok Done
+served_at_both (Err door) = Err fault.Device

@@ -70,7 +70,7 @@ fn carry_out_asked<C: Clock, K: Keeper, W: Write, E: Write>(
     // It is one step, by the caller who asks and at the reading that is given, and what is printed is the reply to it.
     ensures done { K.is_honest keeper.new → IfOk result (λ told. spec.IsDoneAt (RoseOrIsFull (K.count keeper.old) (K.count keeper.new)) asked.now.at asked.now (K.vault keeper.old) (K.vault keeper.new) told (W.contents out.old) (W.contents out.new)) }
     // Whatever the device does, what is answered is what the printed reply says.
-    ensures told { IfOk result (λ told. TellsReply told (W.contents out.old) (W.contents out.new)) }
+    ensures printed { IfOk result (λ told. TellsReply told (W.contents out.old) (W.contents out.new)) }
     // And that the device failed is told just where it did, whatever it does.
     ensures steady { spec.IsSteadyAt (K.is_honest keeper.new) asked.now.at asked.now (K.vault keeper.old) (K.vault keeper.new) (K.count keeper.old) (K.count keeper.new) result (W.contents out.old) (W.contents out.new) }
     ensures reached { K.is_honest keeper.new → Reached (K.vault keeper.old) → Reached (K.vault keeper.new) }

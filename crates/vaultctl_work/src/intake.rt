@@ -48,7 +48,7 @@ fn take_in_at<K: Keeper, W: Write, E: Write>(
     out: &mut W,
     err: &mut E,
 ) -> Result<Outcome, JobFault>
-    ensures told { IfOk result (λ told. TellsRows told (W.contents out.old) (W.contents out.new)) }
+    ensures printed { IfOk result (λ told. TellsRows told (W.contents out.old) (W.contents out.new)) }
     ensures steady { IsIntakeSteady (K.count keeper.old) (K.count keeper.new) result (W.contents out.old) (W.contents out.new) }
     ensures done { K.is_honest keeper.new → IfOk result (λ told. IsTakenInAt at asked.now told (K.vault keeper.old) (K.vault keeper.new) (W.contents out.old) (W.contents out.new)) }
     ensures reached { K.is_honest keeper.new → Reached (K.vault keeper.old) → Reached (K.vault keeper.new) }
@@ -92,7 +92,7 @@ fn take_in_read<K: Keeper, W: Write, E: Write>(
     err: &mut E,
 ) -> Result<Outcome, JobFault>
     // Done and refused are answered only behind the lines that say so.
-    ensures told { IfOk result (λ told. TellsRows told (W.contents out.old) (W.contents out.new)) }
+    ensures printed { IfOk result (λ told. TellsRows told (W.contents out.old) (W.contents out.new)) }
     // That the vault's device failed is told where it did.
     ensures steady { IsIntakeSteady (K.count keeper.old) (K.count keeper.new) result (W.contents out.old) (W.contents out.new) }
     ensures done { K.is_honest keeper.new → IfOk result (λ told. IsIntakeDone asked.now told (K.vault keeper.old) (K.vault keeper.new) (W.contents out.old) (W.contents out.new)) }
@@ -116,7 +116,7 @@ fn tell_unread<W: Write, E: Write>(
     out: &mut W,
     err: &mut E,
 ) -> Result<Outcome, JobFault>
-    ensures told { IfOk result (λ told. TellsRows told (W.contents out.old) (W.contents out.new)) }
+    ensures printed { IfOk result (λ told. TellsRows told (W.contents out.old) (W.contents out.new)) }
     ensures refused { IfOk result (λ told. told ≡ Outcome.Refused) }
     ensures reader { result ≢ Err JobFault.Read }
     ensures device { result ≢ Err JobFault.Device }
@@ -135,7 +135,7 @@ fn take_in_list<K: Keeper, W: Write, E: Write>(
     out: &mut W,
     err: &mut E,
 ) -> Result<Outcome, JobFault>
-    ensures told { IfOk result (λ told. TellsRows told (W.contents out.old) (W.contents out.new)) }
+    ensures printed { IfOk result (λ told. TellsRows told (W.contents out.old) (W.contents out.new)) }
     ensures steady { IsIntakeSteady (K.count keeper.old) (K.count keeper.new) result (W.contents out.old) (W.contents out.new) }
     ensures done { K.is_honest keeper.new → IfOk result (λ told. IsIntakeDone asked.now told (K.vault keeper.old) (K.vault keeper.new) (W.contents out.old) (W.contents out.new)) }
     ensures reached { K.is_honest keeper.new → Reached (K.vault keeper.old) → Reached (K.vault keeper.new) }

@@ -1,8 +1,10 @@
 //! A register, a script, and requests.
 ghost use Rattle.std.specs.Prelude.{◌≡◌, ⊤, OnOk};
-ghost use Rattle.vaultctl_work.specs.Done.{IsAnswered, IsServed};
+ghost use Rattle.vaultctl_serve.specs.Serving.{Stepped};
+ghost use Rattle.vaultctl_work.specs.Done.{IsAnswered, IsServed, most_with_lines as served_with_lines};
 ghost use Rattle.vaultctl_work.specs.Outcomes as spec;
 
+use crate::saying::say;
 use crate::terminal::terminal_beside;
 use crate::work::Work;
 use std::io::{Read, Stderr, Write};
@@ -16,6 +18,8 @@ use vaultctl_job::job::{RegisterJob, ReplayJob, ServeJob};
 use vaultctl_remedies::explaining::Explainer;
 use vaultctl_replay::{ReplayFault, replay_observed};
 use vaultctl_serve::{PortFault, serve};
+use vaultctl_serve_lines::line::Next;
+use vaultctl_serve_lines::{DoorFault, LinePlace, Places, serve_with_lines};
 
 /// What a fault of a script is told as.
 pub fn fault_of(fault: ReplayFault) -> JobFault
@@ -104,7 +108,72 @@ fn served(ended: Result<(), PortFault>) -> Result<Outcome, JobFault>
     }
 }
 
-/// The answers to requests, at a port of 127.0.0.1.
+/// How many requests and lines are served where `count` are asked for: a million, which is the default, is no limit.
+fn most_with_lines(count: u32) -> u32
+    ensures { result ≡ served_with_lines count }
+{
+    if count == 1_000_000 { u32::MAX } else { count }
+}
+
+fn served_at_both(ended: Result<Next, DoorFault>) -> Result<Outcome, JobFault>
+    ensures { result ≡ spec.served_at_both ended }
+{
+    match ended {
+        Ok(_) => Ok(Outcome::Done),
+        Err(_) => Err(JobFault::Device),
+    }
+}
+
+/// Says in words that nobody can listen for lines.
+fn say_door<E: Write>(err: &mut E, fault: DoorFault) {
+    if fault == DoorFault::Lines {
+        say(
+            err,
+            "--lines: nobody can listen there: of a path the folder isn't there or isn't for this user, or something else is at the path; of a port the same as below",
+        );
+    }
+}
+
+/// Serves at two doors, that of lines being at this place. Where nobody can listen for lines, it says so in words.
+///
+/// `Device` comes where nobody can listen at one of the doors.
+fn serve_both<K: Keeper, E: Write>(
+    rt: &HostRuntime,
+    keeper: &mut K,
+    job: &ServeJob,
+    place: &str,
+    err: &mut E,
+) -> Result<Outcome, JobFault>
+    ensures done { K.is_honest keeper.new → K.is_honest keeper.old
+        × Stepped (served_with_lines job.now.count) (K.vault keeper.old) (K.vault keeper.new) }
+{
+    let Some(lines) = LinePlace::read(place) else {
+        say(
+            err,
+            "--lines: digits are a port from 1 to 65535, and any other text is a path",
+        );
+        return Err(JobFault::Device);
+    };
+    let places = Places {
+        file: job.file.as_str(),
+        port: job.port,
+        lines,
+    };
+    let ended = serve_with_lines(
+        rt,
+        rt.alloc(),
+        keeper,
+        places,
+        most_with_lines(job.count),
+        err,
+    );
+    if let Err(fault) = ended {
+        say_door(err, fault);
+    }
+    served_at_both(ended)
+}
+
+/// The answers to requests at a port of 127.0.0.1, and to lines at a second door where one is asked for.
 impl Work for ServeJob {
     ghost tells = { λ outcome before after. ⊤ };
 
@@ -123,14 +192,17 @@ impl Work for ServeJob {
         _out: &mut W,
         err: &mut E,
     ) -> Result<Outcome, JobFault> {
-        served(serve(
-            rt,
-            rt.alloc(),
-            keeper,
-            self.file.as_str(),
-            self.port,
-            self.count,
-            err,
-        ))
+        match &self.lines {
+            Some(place) => serve_both(rt, keeper, self, place.as_str(), err),
+            None => served(serve(
+                rt,
+                rt.alloc(),
+                keeper,
+                self.file.as_str(),
+                self.port,
+                self.count,
+                err,
+            )),
+        }
     }
 }

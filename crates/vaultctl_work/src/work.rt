@@ -33,7 +33,7 @@ pub trait Work {
         out: &mut W,
         err: &mut E,
     ) -> Result<Outcome, JobFault>
-        ensures told { tells result (W.contents out.old) (W.contents out.new) }
+        ensures printed { tells result (W.contents out.old) (W.contents out.new) }
         ensures done { K.is_honest keeper.new → K.is_honest keeper.old
             × does self.now (scene (K.vault keeper.old) (R.remaining reader.old) (W.contents out.old))
             (scene (K.vault keeper.new) (R.remaining reader.new) (W.contents out.new)) result };
@@ -50,7 +50,7 @@ pub fn work_with<K: Keeper, T: Work, R: Read, W: Write, E: Write>(
     out: &mut W,
     err: &mut E,
 ) -> (K, Result<Outcome, JobFault>)
-    ensures told { T.tells result.1 (W.contents out.old) (W.contents out.new) }
+    ensures printed { T.tells result.1 (W.contents out.old) (W.contents out.new) }
     ensures done { K.is_honest result.0 → K.is_honest keeper
         × T.does work.now (scene (K.vault keeper) (R.remaining reader.old) (W.contents out.old))
         (scene (K.vault result.0) (R.remaining reader.new) (W.contents out.new)) result.1 }

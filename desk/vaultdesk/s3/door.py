@@ -17,10 +17,12 @@ PATIENCE = 60  # seconds that a request waits for those before it
 
 @dataclass(frozen=True)
 class Told:
-    """The value of `ok` in the engine's answer, and the reading of its line."""
+    """The value of `ok` in the engine's answer, and the reading of its line: `is_certain` where it is just that second.
+    """
 
     value: dict[str, Any]
     at: str
+    is_certain: bool = True
 
 
 class Door(Protocol):
@@ -34,7 +36,8 @@ class Door(Protocol):
 
 
 class OwnEngine:
-    """An engine of the gateway's own, which answers one line after another. One that ended is started again."""
+    """A server's engine, or one of the gateway's own: it answers one line after another. An own one that ended is
+    started again."""
 
     def __init__(self, engine: Engine) -> None:
         self.engine = engine
@@ -53,7 +56,8 @@ class OwnEngine:
         try:
             if self.is_closed:
                 raise Fault("SlowDown", "the gateway ends")
-            return Told(self.engine.ask(do, caller, **members), self.engine.last_reading)
+            value = self.engine.ask(do, caller, **members)
+            return Told(value, self.engine.last_reading, self.engine.is_certain)
         except Refused as refusal:
             raise of_refusal(refusal) from refusal
         except EngineError as error:

@@ -65,6 +65,9 @@ def _admitted(asked: Asked, content: bytes) -> Admitted:
     if told.value.get("again"):
         # Admitted by an earlier request; it may be gone by now, so nothing more is asked of it.
         return Admitted(version, etags.md5_of(content), told.at)
+    if not told.is_certain:
+        # By a second the MD5 would be noted of another moment: it is noted as the version is read.
+        return Admitted(version, etags.md5_of(content), told.at)
     return Admitted(version, asked.vault.etags.note(version, told.at, content), told.at)
 
 

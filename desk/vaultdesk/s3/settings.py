@@ -2,6 +2,8 @@
 
     vault = "/var/lib/vaultctl/records.vault"   # or its name in the desk's settings
     keys = "/etc/vaultctl/keys.toml"            # the access keys, which vaultdesk s3 key makes
+    door = "/run/vaultctl/records/lines"        # where its server takes lines; left out, it is found
+    buckets = ["letters"]                       # which there are, where the gateway may not read the vault's file
     etags = "/var/lib/vaultctl/records.etags"   # MD5s of contents; may be lost
     port = 9000
     address = "127.0.0.1"
@@ -26,8 +28,8 @@ from vaultdesk.errors import UsageError
 
 PLACE = "/etc/vaultctl/s3.toml"
 KINDS: Mapping[str, type] = {
-    "vault": str, "keys": str, "etags": str, "port": int, "address": str, "region": str, "presigned": bool,
-    "dropped_metadata": list, "certificate": str, "certificate_key": str,
+    "vault": str, "keys": str, "door": str, "buckets": list, "etags": str, "port": int, "address": str,
+    "region": str, "presigned": bool, "dropped_metadata": list, "certificate": str, "certificate_key": str,
 }  # fmt: skip
 
 
@@ -45,6 +47,8 @@ class Settings:
     dropped_metadata: frozenset[str] = frozenset()
     certificate: Path | None = None
     certificate_key: Path | None = None
+    door: str | None = None
+    buckets: tuple[str, ...] | None = None
 
 
 def _look_at(path: Path, found: Mapping[str, Any]) -> None:
@@ -59,8 +63,9 @@ def _look_at(path: Path, found: Mapping[str, Any]) -> None:
         raise UsageError(f"{path}: {missing[0]} is missing")
     if not 0 <= found.get("port", 0) <= 65_535:
         raise UsageError(f"{path}: port is a number from 1 to 65,535")
-    if not all(isinstance(it, str) for it in found.get("dropped_metadata", [])):
-        raise UsageError(f"{path}: dropped_metadata is a list of names")
+    for name in ("dropped_metadata", "buckets"):
+        if not all(isinstance(it, str) for it in found.get(name, [])):
+            raise UsageError(f"{path}: {name} is a list of names")
     if ("certificate" in found) != ("certificate_key" in found):
         raise UsageError(f"{path}: certificate and certificate_key go together")
 
@@ -77,4 +82,5 @@ def read(path: Path) -> Settings:
         values[name] = Path(found[name]) if found.get(name) else None
     dropped = (it.lower().removeprefix("x-amz-meta-") for it in found.get("dropped_metadata", []))
     values["dropped_metadata"] = frozenset(dropped)
+    values["buckets"] = tuple(found["buckets"]) if "buckets" in found else None
     return Settings(**values)

@@ -24,17 +24,20 @@ from vaultdesk.s3.settings import Settings
 LAST_ANSWERS = 10  # seconds for requests that are under way as it ends
 ABOUT = """A gateway for clients of Amazon S3: boto3, aws, s3cmd, rclone and others as they come. It translates their
 requests for one vault and decides nothing: each refusal is the engine's. It is tried and not proved."""
-SERVE = """Serves a vault to clients of S3, until it is stopped by SIGTERM or SIGINT. It has the vault to itself
-meanwhile: no server and no other command runs on it. docs/S3.md says what each setting means, what works and what is
-refused."""
+SERVE = """Serves a vault to clients of S3, until it is stopped by SIGTERM or SIGINT. Where a server takes lines for the
+vault, it asks that one. Where none does, it has the vault to itself meanwhile: no server and no other command runs on
+it. docs/S3.md says what each setting means, what works and what is refused."""
 KEY = """Lists the access keys, adds one, or removes one. A client signs with an access key and its secret, and asks as
 the caller whose key it is. The secret is printed as the key is added, and never again. A gateway that runs takes the
 change over with the next request."""
 
 
-def _has_default(file: Path) -> dict[str, bool]:
-    """The buckets of a vault, and whether each has a default retention."""
-    return {str(name): bool(mode) for name, mode in reading.rows(file, "SELECT name, mode FROM buckets ORDER BY name")}
+def _has_default(engine: Engine, given: Settings) -> dict[str, bool]:
+    """The buckets of a vault, and whether each has a default retention; of those of the settings it isn't known."""
+    if given.buckets is not None:
+        return dict.fromkeys(given.buckets, True)
+    rows = reading.rows(engine.tables, "SELECT name, mode FROM buckets ORDER BY name")
+    return {str(name): bool(mode) for name, mode in rows}
 
 
 def _say_unlocked(buckets: dict[str, bool]) -> None:
@@ -49,10 +52,12 @@ def serve(words: argparse.Namespace) -> int:
     """Serves a vault to clients of S3."""
     given = settings.read(Path(words.settings))
     there = Keys(given.keys)
-    desk = config.Desk(config.program(), config.settings().file_of(given.vault))
-    buckets = _has_default(desk.file)
+    desk = config.Desk(config.program(), config.settings().file_of(given.vault), None, given.door)
+    engine = Engine(desk)
+    buckets = _has_default(engine, given)
+    engine.close()
     etags = Etags(given.etags)
-    door = OwnEngine(Engine(desk))
+    door = OwnEngine(engine)
     door.open()
     vault = Vault(door, etags, given, list(buckets))
     with _listening(given, Gateway(vault, there), words.quiet) as server:

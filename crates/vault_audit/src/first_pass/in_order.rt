@@ -53,7 +53,7 @@ fn check_rows_of<S: Alter>(
     requires begin { HasCleanDisk (state S.Store conn.old) → BeginTo edition (state S.Store conn.old).now.schema.tables table }
     requires meta { HasCleanDisk (state S.Store conn.old) → IsMetaOf edition (state S.Store conn.old).now (Some meta.now) }
     requires open { HasCleanDisk (state S.Store conn.old) → IsTrue (state S.Store conn.old).is_open }
-    ensures told { HasCleanDisk (state S.Store conn.new) → IfOk result (AreRowsRight edition (state S.Store conn.new).now table) }
+    ensures reported { HasCleanDisk (state S.Store conn.new) → IfOk result (AreRowsRight edition (state S.Store conn.new).now table) }
     ensures damaged { HasCleanDisk (state S.Store conn.new) → IfOk result (λ right. right ≡ false → (v : Vault) → ¬ AreSoundAs edition (state S.Store conn.new).now v) }
     ensures look { OnlyLooks S.Store conn.old conn.new result }
     ensures err { IsHealthy (state S.Store conn.new) → IfErr result IsMemory }
@@ -88,7 +88,7 @@ pub fn look_at_tables<S: Alter>(
     requires behind { difference ≢ Some table.Meta }
     requires meta { HasCleanDisk (state S.Store conn.old) → IsMetaOf edition (state S.Store conn.old).now (Some meta.now) }
     requires open { HasCleanDisk (state S.Store conn.old) → IsTrue (state S.Store conn.old).is_open }
-    ensures told { HasCleanDisk (state S.Store conn.new) → IfOk result (ToldInOrder edition (state S.Store conn.new).now) }
+    ensures reported { HasCleanDisk (state S.Store conn.new) → IfOk result (ToldInOrder edition (state S.Store conn.new).now) }
     ensures look { OnlyLooks S.Store conn.old conn.new result }
     ensures err { IsHealthy (state S.Store conn.new) → IfErr result IsMemory }
 {

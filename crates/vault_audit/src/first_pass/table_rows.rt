@@ -28,7 +28,7 @@ pub fn check_departments<S: Alter>(
     edition: Edition,
 ) -> Result<bool, Error>
     requires { HasCleanDisk (state S.Store conn.old) → BeginTo edition (state S.Store conn.old).now.schema.tables table.Departments }
-    ensures told { HasCleanDisk (state S.Store conn.new) → IfOk result (AreRecords department_row IsDepartmentRow (map (department_columns_as edition) ((state S.Store conn.new).now.trees departments_tree))) }
+    ensures reported { HasCleanDisk (state S.Store conn.new) → IfOk result (AreRecords department_row IsDepartmentRow (map (department_columns_as edition) ((state S.Store conn.new).now.trees departments_tree))) }
     ensures damaged { HasCleanDisk (state S.Store conn.new) → IfOk result (λ told. told ≡ false → (v : Vault) → ¬ AreSoundAs edition (state S.Store conn.new).now v) }
     ensures look { OnlyLooks S.Store conn.old conn.new result }
     ensures err { IsHealthy (state S.Store conn.new) → IfErr result IsMemory }
@@ -39,7 +39,7 @@ pub fn check_departments<S: Alter>(
 /// Whether each row of `callers` holds a record in its limits.
 pub fn check_callers<S: Alter>(conn: &mut Connection<S>, edition: Edition) -> Result<bool, Error>
     requires { HasCleanDisk (state S.Store conn.old) → BeginTo edition (state S.Store conn.old).now.schema.tables table.Callers }
-    ensures told { HasCleanDisk (state S.Store conn.new) → IfOk result (AreRecords caller_row IsCaller (map caller_columns ((state S.Store conn.new).now.trees callers_tree))) }
+    ensures reported { HasCleanDisk (state S.Store conn.new) → IfOk result (AreRecords caller_row IsCaller (map caller_columns ((state S.Store conn.new).now.trees callers_tree))) }
     ensures damaged { HasCleanDisk (state S.Store conn.new) → IfOk result (λ told. told ≡ false → (v : Vault) → ¬ AreSoundAs edition (state S.Store conn.new).now v) }
     ensures look { OnlyLooks S.Store conn.old conn.new result }
     ensures err { IsHealthy (state S.Store conn.new) → IfErr result IsMemory }
@@ -54,7 +54,7 @@ pub fn check_callers<S: Alter>(conn: &mut Connection<S>, edition: Edition) -> Re
 /// Whether each row of `buckets` holds a record in its limits.
 pub fn check_buckets<S: Alter>(conn: &mut Connection<S>, edition: Edition) -> Result<bool, Error>
     requires { HasCleanDisk (state S.Store conn.old) → BeginTo edition (state S.Store conn.old).now.schema.tables table.Buckets }
-    ensures told { HasCleanDisk (state S.Store conn.new) → IfOk result (AreRecords bucket_row IsBucketRow (map bucket_columns ((state S.Store conn.new).now.trees buckets_tree))) }
+    ensures reported { HasCleanDisk (state S.Store conn.new) → IfOk result (AreRecords bucket_row IsBucketRow (map bucket_columns ((state S.Store conn.new).now.trees buckets_tree))) }
     ensures damaged { HasCleanDisk (state S.Store conn.new) → IfOk result (λ told. told ≡ false → (v : Vault) → ¬ AreSoundAs edition (state S.Store conn.new).now v) }
     ensures look { OnlyLooks S.Store conn.old conn.new result }
     ensures err { IsHealthy (state S.Store conn.new) → IfErr result IsMemory }
@@ -83,7 +83,7 @@ fn rules_text(edition: Edition) -> &'static str
 /// Whether each row of `rules` holds a record in its limits.
 pub fn check_rules<S: Alter>(conn: &mut Connection<S>, edition: Edition) -> Result<bool, Error>
     requires { HasCleanDisk (state S.Store conn.old) → BeginTo edition (state S.Store conn.old).now.schema.tables table.Rules }
-    ensures told { HasCleanDisk (state S.Store conn.new) → IfOk result (AreRecords rule_row IsRuleRow (map (rule_columns_as edition) ((state S.Store conn.new).now.trees rules_tree))) }
+    ensures reported { HasCleanDisk (state S.Store conn.new) → IfOk result (AreRecords rule_row IsRuleRow (map (rule_columns_as edition) ((state S.Store conn.new).now.trees rules_tree))) }
     ensures damaged { HasCleanDisk (state S.Store conn.new) → IfOk result (λ told. told ≡ false → (v : Vault) → ¬ AreSoundAs edition (state S.Store conn.new).now v) }
     ensures look { OnlyLooks S.Store conn.old conn.new result }
     ensures err { IsHealthy (state S.Store conn.new) → IfErr result IsMemory }
@@ -94,7 +94,7 @@ pub fn check_rules<S: Alter>(conn: &mut Connection<S>, edition: Edition) -> Resu
 /// Whether each row of `contents` holds a record in its limits.
 pub fn check_contents<S: Alter>(conn: &mut Connection<S>, edition: Edition) -> Result<bool, Error>
     requires { HasCleanDisk (state S.Store conn.old) → BeginTo edition (state S.Store conn.old).now.schema.tables table.Contents }
-    ensures told { HasCleanDisk (state S.Store conn.new) → IfOk result (AreRecords content_row IsContentRow (map content_columns ((state S.Store conn.new).now.trees contents_tree))) }
+    ensures reported { HasCleanDisk (state S.Store conn.new) → IfOk result (AreRecords content_row IsContentRow (map content_columns ((state S.Store conn.new).now.trees contents_tree))) }
     ensures damaged { HasCleanDisk (state S.Store conn.new) → IfOk result (λ told. told ≡ false → (v : Vault) → ¬ AreSoundAs edition (state S.Store conn.new).now v) }
     ensures look { OnlyLooks S.Store conn.old conn.new result }
     ensures err { IsHealthy (state S.Store conn.new) → IfErr result IsMemory }
@@ -105,7 +105,7 @@ pub fn check_contents<S: Alter>(conn: &mut Connection<S>, edition: Edition) -> R
 /// Whether each row of `settings` holds a record in its limits.
 pub fn check_settings<S: Alter>(conn: &mut Connection<S>, edition: Edition) -> Result<bool, Error>
     requires { HasCleanDisk (state S.Store conn.old) → BeginTo edition (state S.Store conn.old).now.schema.tables table.Settings }
-    ensures told { HasCleanDisk (state S.Store conn.new) → IfOk result (AreRecords setting_row IsSettingRow (map setting_columns ((state S.Store conn.new).now.trees settings_tree))) }
+    ensures reported { HasCleanDisk (state S.Store conn.new) → IfOk result (AreRecords setting_row IsSettingRow (map setting_columns ((state S.Store conn.new).now.trees settings_tree))) }
     ensures damaged { HasCleanDisk (state S.Store conn.new) → IfOk result (λ told. told ≡ false → (v : Vault) → ¬ AreSoundAs edition (state S.Store conn.new).now v) }
     ensures look { OnlyLooks S.Store conn.old conn.new result }
     ensures err { IsHealthy (state S.Store conn.new) → IfErr result IsMemory }
@@ -120,7 +120,7 @@ pub fn check_settings<S: Alter>(conn: &mut Connection<S>, edition: Edition) -> R
 /// Whether each row of `intake` holds a record in its limits.
 pub fn check_intake<S: Alter>(conn: &mut Connection<S>, edition: Edition) -> Result<bool, Error>
     requires { HasCleanDisk (state S.Store conn.old) → BeginTo edition (state S.Store conn.old).now.schema.tables table.Intake }
-    ensures told { HasCleanDisk (state S.Store conn.new) → IfOk result (AreRecords note_row IsNote (map note_columns ((state S.Store conn.new).now.trees intake_tree))) }
+    ensures reported { HasCleanDisk (state S.Store conn.new) → IfOk result (AreRecords note_row IsNote (map note_columns ((state S.Store conn.new).now.trees intake_tree))) }
     ensures damaged { HasCleanDisk (state S.Store conn.new) → IfOk result (λ told. told ≡ false → (v : Vault) → ¬ AreSoundAs edition (state S.Store conn.new).now v) }
     ensures look { OnlyLooks S.Store conn.old conn.new result }
     ensures err { IsHealthy (state S.Store conn.new) → IfErr result IsMemory }
@@ -135,7 +135,7 @@ pub fn check_intake<S: Alter>(conn: &mut Connection<S>, edition: Edition) -> Res
 /// Whether each row of `heads` holds a record in its limits.
 pub fn check_heads<S: Alter>(conn: &mut Connection<S>, edition: Edition) -> Result<bool, Error>
     requires { HasCleanDisk (state S.Store conn.old) → BeginTo edition (state S.Store conn.old).now.schema.tables table.Heads }
-    ensures told { HasCleanDisk (state S.Store conn.new) → IfOk result (AreRecords head_row IsHeadRow (map head_columns ((state S.Store conn.new).now.trees heads_tree))) }
+    ensures reported { HasCleanDisk (state S.Store conn.new) → IfOk result (AreRecords head_row IsHeadRow (map head_columns ((state S.Store conn.new).now.trees heads_tree))) }
     ensures damaged { HasCleanDisk (state S.Store conn.new) → IfOk result (λ told. told ≡ false → (v : Vault) → ¬ AreSoundAs edition (state S.Store conn.new).now v) }
     ensures look { OnlyLooks S.Store conn.old conn.new result }
     ensures err { IsHealthy (state S.Store conn.new) → IfErr result IsMemory }
@@ -151,7 +151,7 @@ pub fn check_heads<S: Alter>(conn: &mut Connection<S>, edition: Edition) -> Resu
 pub fn check_tenures<S: Alter>(conn: &mut Connection<S>, edition: Edition) -> Result<bool, Error>
     requires begin { HasCleanDisk (state S.Store conn.old) → BeginTo edition (state S.Store conn.old).now.schema.tables table.Tenures }
     requires open { HasCleanDisk (state S.Store conn.old) → IsTrue (state S.Store conn.old).is_open }
-    ensures told { HasCleanDisk (state S.Store conn.new) → IfOk result (AreRecords tenure_row IsTenureRow (tenure_rows_in edition (state S.Store conn.new).now)) }
+    ensures reported { HasCleanDisk (state S.Store conn.new) → IfOk result (AreRecords tenure_row IsTenureRow (tenure_rows_in edition (state S.Store conn.new).now)) }
     ensures damaged { HasCleanDisk (state S.Store conn.new) → IfOk result (λ told. told ≡ false → (v : Vault) → ¬ AreSoundAs edition (state S.Store conn.new).now v) }
     ensures look { OnlyLooks S.Store conn.old conn.new result }
     ensures err { IsHealthy (state S.Store conn.new) → IfErr result IsMemory }

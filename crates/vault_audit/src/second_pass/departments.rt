@@ -23,7 +23,7 @@ pub fn look_at_departments<S: Alter>(
     meta: &MetaRow,
 ) -> Result<Option<Table>, Error>
     requires { IsOfEdition S.Store conn.old edition }
-    ensures told { HasCleanDisk (state S.Store conn.new) → IfOk result (ToldOf edition (state S.Store conn.new).now meta.now (DepartmentsFound edition (state S.Store conn.new).now meta.now)) }
+    ensures reported { HasCleanDisk (state S.Store conn.new) → IfOk result (ToldOf edition (state S.Store conn.new).now meta.now (DepartmentsFound edition (state S.Store conn.new).now meta.now)) }
     ensures look { OnlyLooks S.Store conn.old conn.new result }
     ensures err { IsHealthy (state S.Store conn.new) → IfErr result IsMemory }
 {

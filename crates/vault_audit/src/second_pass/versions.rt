@@ -21,7 +21,7 @@ pub fn look_at_versions<S: Alter>(
     edition: Edition,
 ) -> Result<Option<Table>, Error>
     requires { IsOfEdition S.Store conn.old edition }
-    ensures told { HasCleanDisk (state S.Store conn.new) → IfOk result (Told edition (state S.Store conn.new).now
+    ensures reported { HasCleanDisk (state S.Store conn.new) → IfOk result (Told edition (state S.Store conn.new).now
         ((es : List Entry) → AreEntries (state S.Store conn.new).now es → VersionsFound (state S.Store conn.new).now es)) }
     ensures look { OnlyLooks S.Store conn.old conn.new result }
     ensures err { IsHealthy (state S.Store conn.new) → IfErr result IsMemory }

@@ -97,7 +97,8 @@ pub fn check_bytes<S: Alter>(
     edition: Edition,
 ) -> Result<Option<u64>, Error>
     requires { IsOfEdition S.Store conn.old edition }
-    ensures told { HasCleanDisk (state S.Store conn.new) → IfOk result (λ found. (es : List Entry) → AreEntries (state S.Store conn.new).now es → TellOfHeld (state S.Store conn.new).now es found) }
+    ensures reported { HasCleanDisk (state S.Store conn.new) → IfOk result (λ found. (es : List Entry) →
+        AreEntries (state S.Store conn.new).now es → TellOfHeld (state S.Store conn.new).now es found) }
     ensures look { OnlyLooks S.Store conn.old conn.new result }
     ensures err { IsHealthy (state S.Store conn.new) → IfErr result IsMemory }
 {

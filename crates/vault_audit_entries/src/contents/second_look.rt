@@ -20,7 +20,8 @@ pub fn check_held_contents<S: Alter>(
     edition: Edition,
 ) -> Result<bool, Error>
     requires { IsOfEdition S.Store conn.old edition }
-    ensures told { HasCleanDisk (state S.Store conn.new) → IfOk result (λ found. (es : List Entry) → AreEntries (state S.Store conn.new).now es → TellContents (state S.Store conn.new).now es found) }
+    ensures reported { HasCleanDisk (state S.Store conn.new) → IfOk result (λ found. (es : List Entry) →
+        AreEntries (state S.Store conn.new).now es → TellContents (state S.Store conn.new).now es found) }
     ensures damaged { HasCleanDisk (state S.Store conn.new) → IfOk result (λ found. found ≡ false → (v : Vault) → ¬ AreSoundAs edition (state S.Store conn.new).now v) }
     ensures look { OnlyLooks S.Store conn.old conn.new result }
     ensures err { IsHealthy (state S.Store conn.new) → IfErr result IsMemory }

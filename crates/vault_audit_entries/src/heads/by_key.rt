@@ -129,7 +129,7 @@ pub fn check_heads_by_key<S: Alter>(
     edition: Edition,
 ) -> Result<Option<u64>, Error>
     requires { IsOfEdition S.Store conn.old edition }
-    ensures told { HasCleanDisk (state S.Store conn.new) → IfOk result (λ total. (es : List Entry) → AreEntries (state S.Store conn.new).now es → TellHeadsByKey (state S.Store conn.new).now es total) }
+    ensures reported { HasCleanDisk (state S.Store conn.new) → IfOk result (λ total. (es : List Entry) → AreEntries (state S.Store conn.new).now es → TellHeadsByKey (state S.Store conn.new).now es total) }
     ensures damaged { HasCleanDisk (state S.Store conn.new) → IfOk result (λ total. total ≡ None → (v : Vault) → ¬ AreSoundAs edition (state S.Store conn.new).now v) }
     ensures look { OnlyLooks S.Store conn.old conn.new result }
     ensures err { IsHealthy (state S.Store conn.new) → IfErr result IsMemory }

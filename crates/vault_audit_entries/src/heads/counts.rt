@@ -40,7 +40,7 @@ impl Check for CountCheck {
 /// it names. It is meant for entries whose ids are 1, 2, 3 and so on, and of heads that the rows hold.
 pub fn check_counts<S: Alter>(conn: &mut Connection<S>, edition: Edition) -> Result<bool, Error>
     requires { IsOfEdition S.Store conn.old edition }
-    ensures told { HasCleanDisk (state S.Store conn.new) → IfOk result (λ found. (es : List Entry) (hs : List HeadRow) → AreEntries (state S.Store conn.new).now es → IsPermutation (map head_row hs) (map head_columns ((state S.Store conn.new).now.trees heads_tree)) → TellCounts es hs found) }
+    ensures reported { HasCleanDisk (state S.Store conn.new) → IfOk result (λ found. (es : List Entry) (hs : List HeadRow) → AreEntries (state S.Store conn.new).now es → IsPermutation (map head_row hs) (map head_columns ((state S.Store conn.new).now.trees heads_tree)) → TellCounts es hs found) }
     ensures look { OnlyLooks S.Store conn.old conn.new result }
     ensures err { IsHealthy (state S.Store conn.new) → IfErr result IsMemory }
 {

@@ -16,7 +16,7 @@ pub(crate) fn have_settings<S: Alter>(
     edition: Edition,
 ) -> Result<bool, Error>
     requires { IsOfEdition S.Store conn.old edition }
-    ensures told { HasCleanDisk (state S.Store conn.new) → IfOk result (TellPresence (state S.Store conn.new).now) }
+    ensures reported { HasCleanDisk (state S.Store conn.new) → IfOk result (TellPresence (state S.Store conn.new).now) }
     ensures look { OnlyLooks S.Store conn.old conn.new result }
     ensures err { IsHealthy (state S.Store conn.new) → IfErr result IsMemory }
 {

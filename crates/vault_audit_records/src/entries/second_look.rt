@@ -66,7 +66,7 @@ pub fn check_numbers<S: Alter>(
     edition: Edition,
 ) -> Result<Option<u64>, Error>
     requires { IsOfEdition S.Store conn.old edition }
-    ensures told { HasCleanDisk (state S.Store conn.new) → IfOk result (AreEntriesUpTo (state S.Store conn.new).now) }
+    ensures reported { HasCleanDisk (state S.Store conn.new) → IfOk result (AreEntriesUpTo (state S.Store conn.new).now) }
     ensures damaged { HasCleanDisk (state S.Store conn.new) → IfOk result (λ found. found ≡ None → (v : Vault) → ¬ AreSoundAs edition (state S.Store conn.new).now v) }
     ensures next { HasCleanDisk (state S.Store conn.new) → IfOk result (λ found. IfSome found (λ next. (v : Vault) → AreSoundAs edition (state S.Store conn.new).now v → next_id v ≡ next)) }
     ensures look { OnlyLooks S.Store conn.old conn.new result }

@@ -44,7 +44,7 @@ pub fn check_next<S: Alter>(
     next: u64,
 ) -> Result<bool, Error>
     requires { IsOfEdition S.Store conn.old edition }
-    ensures told { HasCleanDisk (state S.Store conn.new) → IfOk result (TellNext (state S.Store conn.new).now next) }
+    ensures reported { HasCleanDisk (state S.Store conn.new) → IfOk result (TellNext (state S.Store conn.new).now next) }
     ensures damaged { HasCleanDisk (state S.Store conn.new) → IfOk result (λ hold. hold ≡ false →
         (m : MetaRow) → IsMetaOf edition (state S.Store conn.new).now (Some m) → m.next ≡ next → (v : Vault) → ¬ AreSoundAs edition (state S.Store conn.new).now v) }
     ensures look { OnlyLooks S.Store conn.old conn.new result }

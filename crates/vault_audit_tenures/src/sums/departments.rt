@@ -57,7 +57,7 @@ pub fn check_totals<S: Alter>(
     check: &SumsCheck,
 ) -> Result<bool, Error>
     requires { IsOfEdition S.Store conn.old edition }
-    ensures told { HasCleanDisk (state S.Store conn.new) → IfOk result (AreRecords department_row (HasTotal check.now.totals) (map (department_columns_as edition) ((state S.Store conn.new).now.trees departments_tree))) }
+    ensures reported { HasCleanDisk (state S.Store conn.new) → IfOk result (AreRecords department_row (HasTotal check.now.totals) (map (department_columns_as edition) ((state S.Store conn.new).now.trees departments_tree))) }
     ensures look { OnlyLooks S.Store conn.old conn.new result }
     ensures err { IsHealthy (state S.Store conn.new) → IfErr result IsMemory }
 {

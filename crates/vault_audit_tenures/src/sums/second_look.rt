@@ -24,7 +24,7 @@ fn take_sums<S: Alter>(
     edition: Edition,
 ) -> Result<Option<Totals>, Error>
     requires { IsOfEdition S.Store conn.old edition }
-    ensures told { HasCleanDisk (state S.Store conn.new) → IfOk result (λ found. (v : Vault) →
+    ensures reported { HasCleanDisk (state S.Store conn.new) → IfOk result (λ found. (v : Vault) →
         AreBuckets edition (state S.Store conn.new).now v.buckets → AreEntries (state S.Store conn.new).now (entries_in v.histories) →
         AllByRecursion (IsPast v.last) (entries_in v.histories) → AreTenuresOf edition (state S.Store conn.new).now v → IsSomeAnd found (AreTotals v.histories)) }
     ensures look { OnlyLooks S.Store conn.old conn.new result }
@@ -45,7 +45,7 @@ pub fn check_sums<S: Alter>(
     edition: Edition,
 ) -> Result<bool, Error>
     requires { IsOfEdition S.Store conn.old edition }
-    ensures told { HasCleanDisk (state S.Store conn.new) → IfOk result (λ hold. (v : Vault) →
+    ensures reported { HasCleanDisk (state S.Store conn.new) → IfOk result (λ hold. (v : Vault) →
         AreBuckets edition (state S.Store conn.new).now v.buckets → AreEntries (state S.Store conn.new).now (entries_in v.histories) →
         AllByRecursion (IsPast v.last) (entries_in v.histories) → AreTenuresOf edition (state S.Store conn.new).now v → TellSums edition (state S.Store conn.new).now v.histories hold) }
     ensures damaged { HasCleanDisk (state S.Store conn.new) → IfOk result (λ hold. hold ≡ false → (v : Vault) → ¬ AreSoundAs edition (state S.Store conn.new).now v) }

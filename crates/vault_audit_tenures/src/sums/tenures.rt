@@ -188,7 +188,7 @@ pub fn sum_tenures<S: Alter>(
     conn: &mut Connection<S>,
 ) -> Result<Option<Totals>, Error>
     requires { IsOfEdition S.Store conn.old Edition.Third }
-    ensures told { HasCleanDisk (state S.Store conn.new) → IfOk result (λ found. (v : Vault) →
+    ensures reported { HasCleanDisk (state S.Store conn.new) → IfOk result (λ found. (v : Vault) →
         AreEntries (state S.Store conn.new).now (entries_in v.histories) → AreTenuresOf Edition.Third (state S.Store conn.new).now v →
         IsSomeAnd found (AreTotals v.histories)) }
     ensures look { OnlyLooks S.Store conn.old conn.new result }

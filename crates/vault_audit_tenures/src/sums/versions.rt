@@ -81,7 +81,7 @@ pub fn sum_versions<S: Alter>(
     edition: Edition,
 ) -> Result<Option<Totals>, Error>
     requires { IsOfEdition S.Store conn.old edition }
-    ensures told { HasCleanDisk (state S.Store conn.new) → IfOk result (λ found. (v : Vault) →
+    ensures reported { HasCleanDisk (state S.Store conn.new) → IfOk result (λ found. (v : Vault) →
         AreBuckets edition (state S.Store conn.new).now v.buckets → AreEntries (state S.Store conn.new).now (entries_in v.histories) →
         AllByRecursion (IsPast v.last) (entries_in v.histories) → IsUnmoved v → IsSomeAnd found (AreTotals v.histories)) }
     ensures look { OnlyLooks S.Store conn.old conn.new result }

@@ -176,7 +176,7 @@ impl Trial for Printed<'_> {
     }
 }
 
-/// Holds with ample memory, and with any one growth refused: what `take_in_and_tell` says in `told` and `err`.
+/// Holds with ample memory, and with any one growth refused: what `take_in_and_tell` says in `printed` and `err`.
 #[test]
 fn a_refused_growth_in_an_intake_that_is_printed(rt: HostRuntime) -> Result<(), Fail> {
     try_on_new(rt.alloc(), &Printed { rt: &rt })

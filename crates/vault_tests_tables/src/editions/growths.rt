@@ -49,7 +49,7 @@ impl StoreTrial for Troubled<'_> {
     }
 }
 
-/// Holds with ample memory, and with any one growth refused in the copy: what `migrate` says in `told` and `crash`.
+/// Holds with ample memory, and with any one growth refused in the copy: what `migrate` says in `reported` and `crash`.
 #[test]
 fn a_refused_growth_copies_nothing_or_all(rt: HostRuntime) -> Result<(), Fail> {
     try_in_files(rt.alloc(), &Troubled { rt: &rt })

@@ -11,8 +11,8 @@ use Rattle.vault_audit_entries.proofs.held.count_held.Goals as goal
 pub walk-requires : goal.walk-requires
 walk-requires g c clean = subst (λ s. IsPlain (understood s held_text)) (sym (c.requires clean)) (held_scan c.args.edition).plain
 
-pub returns-clause-told : goal.returns-clause-told
-returns-clause-told g c clean es are =
+pub returns-clause-reported : goal.returns-clause-reported
+returns-clause-reported g c clean es are =
     let early : HasCleanDisk (state g.S.Store c.args.conn.now) = omega (arith, c.in_ok-_whole.ensures.look.crash.clean) in
     (held_all c.args.edition) (state g.S.Store c.args.conn.now) (state g.S.Store c.walk.new.conn) (c.requires early) (c.in_ok-_whole.ensures.look.same clean) c.walk.new.pass es are c.in_ok-_whole._whole (c.in_ok-_whole.ensures.walked clean)
 

@@ -15,15 +15,15 @@ use Rattle.vault_audit_records.proofs.callers.check_callers_by_name.Goals as goa
 pub walk-requires : goal.walk-requires
 walk-requires g c clean = subst (λ s. IsPlain (understood s callers_walk)) (sym (c.requires clean)) (callers_walk_plain c.args.edition)
 
-pub returns-clause-told : goal.returns-clause-told
-returns-clause-told g c clean =
+pub returns-clause-reported : goal.returns-clause-reported
+returns-clause-reported g c clean =
     let early : HasCleanDisk (state g.S.Store c.args.conn.now) = omega (arith, c.walk.ensures.look.crash.clean) in
     (callers_if_ok c.args.edition) (state g.S.Store c.args.conn.now) (state g.S.Store c.walk.new.conn) (c.requires early) c.walk.new.pass c.walk.result (c.walk.ensures.look.same clean) (c.walk.ensures.walked clean)
 
 pub returns-clause-damaged : goal.returns-clause-damaged
 returns-clause-damaged g c clean =
     let db = (state g.S.Store c.walk.new.conn).now in
-    refused_if_ok (TellCallers db) ((v : Vault) → ¬ AreSoundAs c.args.edition db v) (λ none v. (no_callers c.args.edition) db v none) c.walk.result (returns-clause-told g c clean)
+    refused_if_ok (TellCallers db) ((v : Vault) → ¬ AreSoundAs c.args.edition db v) (λ none v. (no_callers c.args.edition) db v none) c.walk.result (returns-clause-reported g c clean)
 
 pub returns-clause-err : goal.returns-clause-err
 returns-clause-err g c well = c.walk.ensures.err well (λ clean. subst (λ s. Asks s callers_walk) (sym (c.requires clean)) (callers_walk_asks c.args.edition))

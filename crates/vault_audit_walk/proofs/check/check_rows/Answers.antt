@@ -82,14 +82,14 @@ returns-then-not-branch-clause-checked g c clean =
     let given = (rw (c.in_ok-row.was, c.in-Some.is) at (moved.ok late)) c.args.sql.now [] was.0 was.1 in
     let begins = given_begin g.S.Store c.args.sql.now [] now _ given in
     let refused : c.in_ok-is_passed_by.field-0 ≡ false = search rules in
-    (was.0, c.in-Some.row.now, subst (λ (h : Held g.row.S.Denot). Begins c.args.sql.now [] (state g.S.Store h) (was.0 ++ c.in-Some.row.now ∷ [])) same begins, rw refused at c.in_ok-is_passed_by.ensures.told)
+    (was.0, c.in-Some.row.now, subst (λ (h : Held g.row.S.Denot). Begins c.args.sql.now [] (state g.S.Store h) (was.0 ++ c.in-Some.row.now ∷ [])) same begins, rw refused at c.in_ok-is_passed_by.ensures.reported)
 
 pub rows-preserved : goal.rows-preserved
 rows-preserved g c =
     let moved = c.next.follows.holds-at-none in
     let now = c.next.follows.lender-at-none.conn.now in
     let taken : c.in_ok-is_passed_by.field-0 ≡ true = search rules in
-    let one = rw taken at c.in_ok-is_passed_by.ensures.told in
+    let one = rw taken at c.in_ok-is_passed_by.ensures.reported in
     let fact = λ (late : HasCleanDisk (state g.S.Store now)).
     let was = c.rows.invariant.2 (omega (arith, moved.survives.clean)) in
     let given = (rw (c.in_ok-row.was, c.in-Some.is) at (moved.ok late)) c.args.sql.now [] was.0 was.1 in

@@ -20,5 +20,5 @@ returns-in-Err-clause-step g c = λ h.
     let b = c.args.run.now.bucket in
     let t = c.args.run.now.at in
     let y = c.run_pages.new.counts in
-    subst (λ (s : Stop). AnswersRun (Ok (plan v b t)) v b t (Stopped y.changes s) v2) (sym c.stop_of.ensures.told)
+    subst (λ (s : Stop). AnswersRun (Ok (plan v b t)) v b t (Stopped y.changes s) v2) (sym c.stop_of.ensures.reported)
     (answers_stopped v b t (plan v b t) c.in-Err.halt y v2 (c.in-Err.ensures.makes h))

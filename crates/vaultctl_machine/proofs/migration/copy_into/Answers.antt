@@ -15,8 +15,8 @@ returns-in-Ok-clause-held g c m w held old new =
     let before = c.copy_file-source.ensures.clean old in
     held_of_earlier (image_at g.A.Start) _ _ (c.requires.opened before).0 (c.requires.found before) ((rw c.in-Ok.is at c.copy_file-source.ensures.found) old new) m w held
 
-pub returns-clause-told : goal.returns-clause-told
-returns-clause-told g c = reports_as IsUncopied c.refused.result c.in-Err.refusal c.refused.ensures.refusal c.refused.ensures.failure (rw c.in-Err.is at c.copy_file-source.ensures.told)
+pub returns-clause-reported : goal.returns-clause-reported
+returns-clause-reported g c = reports_as IsUncopied c.refused.result c.in-Err.refusal c.refused.ensures.refusal c.refused.ensures.failure (rw c.in-Err.is at c.copy_file-source.ensures.reported)
 
 pub returns-clause-lost : goal.returns-clause-lost
 returns-clause-lost g c =

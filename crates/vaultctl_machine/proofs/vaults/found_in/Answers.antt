@@ -26,8 +26,8 @@ returns-in-Ok-clause-opened g c clean =
     let is = c.requires.opened before in
     opened_still (image_at g.S.Start) _ _ is.0 is.1 (c.requires.found before) (c.in-Ok.ensures.same clean)
 
-pub returns-clause-told : goal.returns-clause-told
-returns-clause-told g c = reports_as IsTold c.refused.result c.in-Err.refusal c.refused.ensures.refusal c.refused.ensures.failure c.in-Err.ensures.told
+pub returns-clause-reported : goal.returns-clause-reported
+returns-clause-reported g c = reports_as IsTold c.refused.result c.in-Err.refusal c.refused.ensures.refusal c.refused.ensures.failure c.in-Err.ensures.reported
 
 pub returns-clause-lost : goal.returns-clause-lost
 returns-clause-lost g c =

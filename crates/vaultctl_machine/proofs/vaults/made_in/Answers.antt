@@ -3,8 +3,8 @@ use Rattle.vaultctl_machine.proofs.RefusalLemmas.{closes_as, reports_as, unmade_
 use Rattle.vaultctl_machine.specs.Refusals.{IsUnmade, IsUnmadeOver}
 use Rattle.vaultctl_machine.proofs.vaults.made_in.Goals as goal
 
-pub returns-clause-told : goal.returns-clause-told
-returns-clause-told g c = reports_as IsUnmade c.refused.result c.in-Err.refusal c.refused.ensures.refusal c.refused.ensures.failure c.in-Err.ensures.faults
+pub returns-clause-reported : goal.returns-clause-reported
+returns-clause-reported g c = reports_as IsUnmade c.refused.result c.in-Err.refusal c.refused.ensures.refusal c.refused.ensures.failure c.in-Err.ensures.faults
 
 pub returns-clause-lost : goal.returns-clause-lost
 returns-clause-lost g c =

@@ -40,7 +40,7 @@ loop-table-preserved g c =
           let one = c.in_ok-right.ensures.look.same clean in
           let all = unchanged_then old mid new before.0 one in
           let yes : c.in_ok-right.right ≡ true = search rules in
-          let right = rw yes at (c.in_ok-right.ensures.told clean) in
+          let right = rw yes at (c.in_ok-right.ensures.reported clean) in
           let differs = subst (λ (db : Database). Differs n db.schema d) (sym all.0.now_is) (c.requires.difference start) in
           let so_far = subst (λ (db : Database). AreRightTo n db place) (sym one.0.now_is) before.1 in
           (all, right_more n new.now t place here so_far (right_row n new.now t (begin_at n new.now.schema d t place here differs from) right)),
@@ -61,8 +61,8 @@ check_rows_of-requires-clause-begin g c clean =
     let differs = subst (λ (db : Database). Differs n db.schema d) (sym (was.2 clean).0.0.now_is) (c.requires.difference start) in
     begin_at n mid.now.schema d t place here differs (from_next d t place here was.1 other)
 
-pub returns-then-is_at-clause-told : goal.returns-then-is_at-clause-told
-returns-then-is_at-clause-told g c clean =
+pub returns-then-is_at-clause-reported : goal.returns-then-is_at-clause-reported
+returns-then-is_at-clause-reported g c clean =
     let old = state g.S.Store c.args.conn.now in
     let mid = state g.S.Store c.loop-table.conn in
     let n = c.args.edition in
@@ -75,8 +75,8 @@ returns-then-is_at-clause-told g c clean =
     let differs = subst (λ (db : Database). Differs n db.schema d) (sym before.0.0.now_is) (c.requires.difference start) in
     told_by_form n mid.now t (λ u less. before.1 u (omega (arith, here, less))) (at_table n mid.now.schema d t (c.is_at.ensures.0 c.if-is_at.true) differs)
 
-pub returns-then-not-right-clause-told : goal.returns-then-not-right-clause-told
-returns-then-not-right-clause-told g c clean =
+pub returns-then-not-right-clause-reported : goal.returns-then-not-right-clause-reported
+returns-then-not-right-clause-reported g c clean =
     let mid = state g.S.Store c.loop-table.conn in
     let new = state g.S.Store c.check_rows_of.new.conn in
     let n = c.args.edition in
@@ -87,10 +87,10 @@ returns-then-not-right-clause-told g c clean =
     let one = c.in_ok-right.ensures.look.same clean in
     let wrong : c.in_ok-right.right ≡ false = c.if-not-right.true in
     let so_far = subst (λ (db : Database). AreRightTo n db place) (sym one.0.now_is) (c.loop-table.invariant.2 early).1 in
-    told_by_rows n new.now t (λ u less. so_far u (omega (arith, here, less))) (rw wrong at (c.in_ok-right.ensures.told clean)) (c.in_ok-right.ensures.damaged clean wrong)
+    told_by_rows n new.now t (λ u less. so_far u (omega (arith, here, less))) (rw wrong at (c.in_ok-right.ensures.reported clean)) (c.in_ok-right.ensures.damaged clean wrong)
 
-pub returns-clause-told : goal.returns-clause-told
-returns-clause-told g c clean =
+pub returns-clause-reported : goal.returns-clause-reported
+returns-clause-reported g c clean =
     let old = state g.S.Store c.args.conn.now in
     let mid = state g.S.Store c.loop-table.conn in
     let n = c.args.edition in

@@ -12,17 +12,17 @@ use Rattle.vault_audit_entries.proofs.heads.by_key.check_heads_by_key.Goals as g
 pub walk-requires : goal.walk-requires
 walk-requires g c clean = subst (λ s. IsPlain (understood s heads_walk)) (sym (c.requires clean)) (heads_walk_plain c.args.edition)
 
-pub returns-then-not-whole-clause-told : goal.returns-then-not-whole-clause-told
-returns-then-not-whole-clause-told g c clean es are =
+pub returns-then-not-whole-clause-reported : goal.returns-then-not-whole-clause-reported
+returns-then-not-whole-clause-reported g c clean es are =
     let early : HasCleanDisk (state g.S.Store c.args.conn.now) = omega (arith, c.in_ok-whole.ensures.look.crash.clean) in
     let no : c.in_ok-whole.whole ≡ false = search rules in
     (heads_no c.args.edition) (state g.S.Store c.args.conn.now) (state g.S.Store c.walk.new.conn) (c.requires early) (c.in_ok-whole.ensures.look.same clean) c.walk.new.pass es are (rw no at (c.in_ok-whole.ensures.walked clean))
 
 pub returns-then-not-whole-clause-damaged : goal.returns-then-not-whole-clause-damaged
-returns-then-not-whole-clause-damaged g c clean same v = (unsound c.args.edition) (state g.S.Store c.walk.new.conn).now (returns-then-not-whole-clause-told g c clean) v
+returns-then-not-whole-clause-damaged g c clean same v = (unsound c.args.edition) (state g.S.Store c.walk.new.conn).now (returns-then-not-whole-clause-reported g c clean) v
 
-pub returns-clause-told : goal.returns-clause-told
-returns-clause-told g c clean es are =
+pub returns-clause-reported : goal.returns-clause-reported
+returns-clause-reported g c clean es are =
     let early : HasCleanDisk (state g.S.Store c.args.conn.now) = omega (arith, c.in_ok-whole.ensures.look.crash.clean) in
     let yes : c.in_ok-whole.whole ≡ true = search rules in
     (heads_yes c.args.edition) (state g.S.Store c.args.conn.now) (state g.S.Store c.walk.new.conn) (c.requires early) (c.in_ok-whole.ensures.look.same clean) c.walk.new.pass es are (rw yes at (c.in_ok-whole.ensures.walked clean))

@@ -10,8 +10,8 @@ use Rattle.vault_audit_entries.proofs.heads.counts.check_counts.Goals as goal
 pub check_rows-requires : goal.check_rows-requires
 check_rows-requires g c clean = subst (λ s. IsPlain (understood s counts_text)) (sym (c.requires clean)) (counts_plain c.args.edition)
 
-pub returns-clause-told : goal.returns-clause-told
-returns-clause-told g c clean es hs are tell =
+pub returns-clause-reported : goal.returns-clause-reported
+returns-clause-reported g c clean es hs are tell =
     let early : HasCleanDisk (state g.S.Store c.args.conn.now) = omega (arith, c.in_ok-found.ensures.look.crash.clean) in
     (counts_told c.args.edition) (state g.S.Store c.args.conn.now) (state g.S.Store c.check_rows.new.conn) (c.requires early) (c.in_ok-found.ensures.look.same clean) es hs are tell c.in_ok-found.found (c.in_ok-found.ensures.checked clean)
 

@@ -11,8 +11,8 @@ use Rattle.vault_audit_entries.proofs.settings.present.have_settings.Goals as go
 pub check_rows-requires : goal.check_rows-requires
 check_rows-requires g c clean = subst (λ s. IsPlain (understood s settings_beside)) (sym (c.requires clean)) (settings_beside_is c.args.edition).plain
 
-pub returns-clause-told : goal.returns-clause-told
-returns-clause-told g c clean =
+pub returns-clause-reported : goal.returns-clause-reported
+returns-clause-reported g c clean =
     let early : HasCleanDisk (state g.S.Store c.args.conn.now) = omega (arith, c.check_rows.ensures.look.crash.clean) in
     (presence_if_ok c.args.edition) (state g.S.Store c.args.conn.now) (state g.S.Store c.check_rows.new.conn) (c.requires early) c.check_rows.result (c.check_rows.ensures.look.same clean) (c.check_rows.ensures.checked clean)
 

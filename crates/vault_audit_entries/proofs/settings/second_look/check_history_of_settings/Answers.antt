@@ -7,26 +7,26 @@ use Rattle.vault_audit_entries.proofs.SettingTellLemmas.{not_placed, not_present
 use Rattle.vault_audit_entries.proofs.SettingOwnerLemmas.{have_owners}
 use Rattle.vault_audit_entries.proofs.settings.second_look.check_history_of_settings.Goals as goal
 
-pub returns-then-not-placed-clause-told : goal.returns-then-not-placed-clause-told
-returns-then-not-placed-clause-told g c clean =
+pub returns-then-not-placed-clause-reported : goal.returns-then-not-placed-clause-reported
+returns-then-not-placed-clause-reported g c clean =
     let db = (state g.S.Store c.are_placed.new.conn).now in
     let no : c.in_ok-placed.placed ≡ false = search rules in
-    λ es are. not_placed db es are (subst (TellPlaces db) no (c.in_ok-placed.ensures.told clean))
+    λ es are. not_placed db es are (subst (TellPlaces db) no (c.in_ok-placed.ensures.reported clean))
 
 pub returns-then-not-placed-clause-damaged : goal.returns-then-not-placed-clause-damaged
-returns-then-not-placed-clause-damaged g c clean same = (unsound c.args.edition) (state g.S.Store c.are_placed.new.conn).now (returns-then-not-placed-clause-told g c clean)
+returns-then-not-placed-clause-damaged g c clean same = (unsound c.args.edition) (state g.S.Store c.are_placed.new.conn).now (returns-then-not-placed-clause-reported g c clean)
 
-pub returns-then-not-present-clause-told : goal.returns-then-not-present-clause-told
-returns-then-not-present-clause-told g c clean =
+pub returns-then-not-present-clause-reported : goal.returns-then-not-present-clause-reported
+returns-then-not-present-clause-reported g c clean =
     let db = (state g.S.Store c.have_settings.new.conn).now in
     let no : c.in_ok-present.present ≡ false = search rules in
-    λ es are. not_present db es are (subst (TellPresence db) no (c.in_ok-present.ensures.told clean))
+    λ es are. not_present db es are (subst (TellPresence db) no (c.in_ok-present.ensures.reported clean))
 
 pub returns-then-not-present-clause-damaged : goal.returns-then-not-present-clause-damaged
-returns-then-not-present-clause-damaged g c clean same = (unsound c.args.edition) (state g.S.Store c.have_settings.new.conn).now (returns-then-not-present-clause-told g c clean)
+returns-then-not-present-clause-damaged g c clean same = (unsound c.args.edition) (state g.S.Store c.have_settings.new.conn).now (returns-then-not-present-clause-reported g c clean)
 
-pub returns-clause-told : goal.returns-clause-told
-returns-clause-told g c clean =
+pub returns-clause-reported : goal.returns-clause-reported
+returns-clause-reported g c clean =
     let before = state g.S.Store c.are_placed.new.conn in
     let after = state g.S.Store c.have_settings.new.conn in
     let early : HasCleanDisk before = omega (arith, c.in_ok-present.ensures.look.crash.clean) in
@@ -35,5 +35,5 @@ returns-clause-told g c clean =
     let present : c.in_ok-present.present ≡ true = search rules in
     let same = c.in_ok-present.ensures.look.same clean in
     let schema = ap (λ (db : Database). db.schema) (same.0.now_is ∙ (c.in_ok-placed.ensures.look.same early).0.now_is) ∙ c.requires first in
-    told before after same (subst (TellPlaces before.now) placed (c.in_ok-placed.ensures.told early)) (subst (TellPresence after.now) present (c.in_ok-present.ensures.told clean))
+    told before after same (subst (TellPlaces before.now) placed (c.in_ok-placed.ensures.reported early)) (subst (TellPresence after.now) present (c.in_ok-present.ensures.reported clean))
     (have_owners c.args.edition after.now (c.check_ties.ensures same.0.is_open schema))

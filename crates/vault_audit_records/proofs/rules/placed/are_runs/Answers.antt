@@ -12,14 +12,14 @@ use Rattle.vault_audit_records.specs.RulesWalk.{rules_walk}
 pub walk-requires : goal.walk-requires
 walk-requires g c clean = rw c.rules_walk.ensures (subst (λ s. IsPlain (understood s (rules_walk c.args.edition))) (sym (c.requires clean)) (rules_walk_plain c.args.edition))
 
-pub returns-then-not-whole-clause-told : goal.returns-then-not-whole-clause-told
-returns-then-not-whole-clause-told g c clean =
+pub returns-then-not-whole-clause-reported : goal.returns-then-not-whole-clause-reported
+returns-then-not-whole-clause-reported g c clean =
     let early : HasCleanDisk (state g.S.Store c.args.conn.now) = omega (arith, c.in_ok-whole.ensures.look.crash.clean) in
     let no : c.in_ok-whole.whole ≡ false = search rules in
     rules_stopped c.args.edition (state g.S.Store c.args.conn.now) (state g.S.Store c.walk.new.conn) (c.requires early) (c.in_ok-whole.ensures.look.same clean) _ c.new.ensures.items c.walk.new.pass (rw (no, c.rules_walk.ensures) at (c.in_ok-whole.ensures.walked clean))
 
-pub returns-clause-told : goal.returns-clause-told
-returns-clause-told g c clean =
+pub returns-clause-reported : goal.returns-clause-reported
+returns-clause-reported g c clean =
     let early : HasCleanDisk (state g.S.Store c.args.conn.now) = omega (arith, c.in_ok-whole.ensures.look.crash.clean) in
     let yes : c.in_ok-whole.whole ≡ true = search rules in
     rules_closed c.args.edition (state g.S.Store c.args.conn.now) (state g.S.Store c.walk.new.conn) (c.requires early) (c.in_ok-whole.ensures.look.same clean) _ c.new.ensures.items c.walk.new.pass (rw (yes, c.rules_walk.ensures) at (c.in_ok-whole.ensures.walked clean)) c.close.result c.close.ensures.whole

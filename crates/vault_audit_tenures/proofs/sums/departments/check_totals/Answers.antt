@@ -15,8 +15,8 @@ use Rattle.vault_audit_tenures.proofs.sums.departments.check_totals.Goals as goa
 pub check_rows-requires : goal.check_rows-requires
 check_rows-requires g c clean = rw c.departments_query.ensures (subst (λ s. IsPlain (understood s (departments_query c.args.edition))) (sym (c.requires clean)) (departments_scan c.args.edition).plain)
 
-pub returns-clause-told : goal.returns-clause-told
-returns-clause-told g c clean =
+pub returns-clause-reported : goal.returns-clause-reported
+returns-clause-reported g c clean =
     let early : HasCleanDisk (state g.S.Store c.args.conn.now) = omega (arith, c.check_rows.ensures.look.crash.clean) in
     subst (λ rows. IfOk c.check_rows.result (AreRecords department_row (HasTotal c.args.check.now.totals) rows)) (departments_shows c.args.edition _)
     (records_if_ok department_row (HasTotal c.args.check.now.totals) (departments_scan c.args.edition) (state g.S.Store c.args.conn.now) (state g.S.Store c.check_rows.new.conn) (c.requires early) (λ trees. refl) (c.check_rows.result) (c.check_rows.ensures.look.same clean) (rw c.departments_query.ensures at (c.check_rows.ensures.checked clean)))

@@ -26,22 +26,22 @@ of_table n (Ok hold) a b t same totals told = λ v buckets entries past tenures.
     table_told v.histories t (totals v before.0 before.1 past before.2) n b.now hold told
 of_table n (Err e) a b t same totals told = tt
 
-pub returns-in_default-clause-told : goal.returns-in_default-clause-told
-returns-in_default-clause-told g c clean v buckets entries past tenures =
+pub returns-in_default-clause-reported : goal.returns-in_default-clause-reported
+returns-in_default-clause-reported g c clean v buckets entries past tenures =
     let none : c.in_ok-totals.field-0 ≡ None = search rules in
-    absurd (rw none at (c.in_ok-totals.ensures.told clean v buckets entries past tenures))
+    absurd (rw none at (c.in_ok-totals.ensures.reported clean v buckets entries past tenures))
 
-pub returns-clause-told : goal.returns-clause-told
-returns-clause-told g c clean =
+pub returns-clause-reported : goal.returns-clause-reported
+returns-clause-reported g c clean =
     let early : HasCleanDisk (state g.S.Store c.take_sums.new.conn) = omega (arith, c.check_totals.ensures.look.crash.clean) in
-    let totals = rw c.in-Some.is at (c.in_ok-totals.ensures.told early) in
-    of_table c.args.edition c.check_totals.result (state g.S.Store c.take_sums.new.conn) (state g.S.Store c.check_totals.new.conn) c.in-Some.totals (c.check_totals.ensures.look.same clean) totals (c.check_totals.ensures.told clean)
+    let totals = rw c.in-Some.is at (c.in_ok-totals.ensures.reported early) in
+    of_table c.args.edition c.check_totals.result (state g.S.Store c.take_sums.new.conn) (state g.S.Store c.check_totals.new.conn) c.in-Some.totals (c.check_totals.ensures.look.same clean) totals (c.check_totals.ensures.reported clean)
 
 pub returns-in_default-clause-damaged : goal.returns-in_default-clause-damaged
-returns-in_default-clause-damaged g c clean same = no_sums c.args.edition (state g.S.Store c.take_sums.new.conn).now (returns-in_default-clause-told g c clean)
+returns-in_default-clause-damaged g c clean same = no_sums c.args.edition (state g.S.Store c.take_sums.new.conn).now (returns-in_default-clause-reported g c clean)
 
 pub returns-clause-damaged : goal.returns-clause-damaged
 returns-clause-damaged g c clean =
     let db = (state g.S.Store c.check_totals.new.conn).now in
     refused_if_ok (λ hold. (v : Vault) → AreBuckets c.args.edition db v.buckets → AreEntries db (entries_in v.histories) → AllByRecursion (IsPast v.last) (entries_in v.histories) → AreTenuresOf c.args.edition db v → TellSums c.args.edition db v.histories hold)
-    ((v : Vault) → ¬ AreSoundAs c.args.edition db v) (no_sums c.args.edition db) c.check_totals.result (returns-clause-told g c clean)
+    ((v : Vault) → ¬ AreSoundAs c.args.edition db v) (no_sums c.args.edition db) c.check_totals.result (returns-clause-reported g c clean)

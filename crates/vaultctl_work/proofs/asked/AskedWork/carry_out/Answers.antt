@@ -2,8 +2,8 @@ use Rattle.std.proofs.lemmas.Result.{IfOk-weaker}
 use Rattle.vaultctl_work.proofs.AskedLemmas.{done_plainly}
 use Rattle.vaultctl_work.proofs.asked.AskedWork.carry_out.Goals as goal
 
-pub returns-clause-told : goal.returns-clause-told
-returns-clause-told g c = (c.carry_out_asked.ensures.told, c.carry_out_asked.ensures.reader, c.carry_out_asked.ensures.device)
+pub returns-clause-printed : goal.returns-clause-printed
+returns-clause-printed g c = (c.carry_out_asked.ensures.printed, c.carry_out_asked.ensures.reader, c.carry_out_asked.ensures.device)
 
 pub returns-clause-done : goal.returns-clause-done
 returns-clause-done g c = λ h. (

@@ -1,7 +1,7 @@
 use Rattle.vaultctl_work.proofs.intake.IntakeWork.carry_out.Goals as goal
 
-pub returns-clause-told : goal.returns-clause-told
-returns-clause-told g c = (c.take_in_list.ensures.told, c.take_in_list.ensures.reader, c.take_in_list.ensures.device)
+pub returns-clause-printed : goal.returns-clause-printed
+returns-clause-printed g c = (c.take_in_list.ensures.printed, c.take_in_list.ensures.reader, c.take_in_list.ensures.device)
 
 pub returns-clause-done : goal.returns-clause-done
 returns-clause-done g c = λ h. (c.take_in_list.ensures.honest h, c.take_in_list.ensures.done h)

@@ -1,4 +1,7 @@
 use Rattle.vaultctl_work.proofs.jobs.ServeJobWork.carry_out.Goals as goal
 
-pub returns-clause-done : goal.returns-clause-done
-returns-clause-done g c = λ h. (c.serve.ensures.honest h, c.serve.ensures.stepped h)
+pub returns-in-Some-clause-done : goal.returns-in-Some-clause-done
+returns-in-Some-clause-done g c = λ h. let both = c.serve_both.ensures.done h in (both.0, rw c.in-Some.is both.1)
+
+pub returns-in-None-clause-done : goal.returns-in-None-clause-done
+returns-in-None-clause-done g c = λ h. (c.serve.ensures.leaves.0 h, rw c.in-None.is (c.serve.ensures.stepped h))

@@ -1,0 +1,253 @@
+//! Two doors of which it is known what comes in by them: requests and lines in turns, and the line that ends a server.
+ghost use Rattle.std.specs.Prelude.{None};
+
+use crate::slow::{MovingClock, Part, SlowPeer};
+use std::alloc::Global;
+use std::cell::Cell;
+use std::test::Fail;
+use std::time::Duration;
+use vault_core::fuse_keeper::FuseKeeper;
+use vault_core_model::keeper::Keeper;
+use vault_transcript::transcript::opened;
+use vaultctl_serve_lines::doors::{Arrived, Doors, Heard};
+use vaultctl_serve_lines::line::Next;
+use vaultctl_serve_lines::serve_doors;
+
+/// 2024-01-15T10:30:00Z.
+const READING: i64 = 1_705_314_600;
+
+const GET: &[Part] = &[
+    Part {
+        pause: 0,
+        bytes: "GET /docs/a HTTP/1.1\r\nx-vault-caller: ann\r\n\r\n",
+        times: 1,
+    },
+    Part {
+        pause: 0,
+        bytes: "",
+        times: 1,
+    },
+];
+
+const GOT: &str =
+    "HTTP/1.1 200 OK\r\ndate: Mon, 15 Jan 2024 10:30:00 GMT\r\nconnection: close\r\ncontent-type: application/octet-stream\r\ncontent-length: 5\r\nx-amz-version-id: 1\r\nx-amz-object-lock-legal-hold: OFF\r\n\r\nhello";
+
+const PUT: &str = r#"{"as":"ann","do":"put","bucket":"docs","key":"a","text":"hello"}"#;
+
+const STORED: &str = "{\"ok\":{\"version_id\":1}}\n";
+
+/// What comes in a turn.
+#[derive(Clone, Copy)]
+enum Coming {
+    Request(&'static [Part]),
+    Line(&'static str),
+    /// A line that lacks its LF.
+    Last(&'static str),
+    Nothing,
+}
+
+/// Two doors by which these come in.
+#[derive(Drop)]
+struct KnownDoors<'a> {
+    clock: &'a MovingClock,
+    turns: &'a [Coming],
+    /// What all clients took of their answers and replies, in order.
+    taken: &'a Cell<Vec<u8>>,
+    /// In how many milliseconds a client takes a byte.
+    pace: u64,
+    /// How many connections of lines were kept open.
+    kept: u32,
+    alloc: Global,
+}
+
+impl<'a> KnownDoors<'a> {
+    fn peer(&self, parts: &'static [Part]) -> SlowPeer<'a, 'static> {
+        SlowPeer {
+            clock: self.clock,
+            parts: Cell::new(parts),
+            came: Cell::new(0),
+            pace: self.pace,
+            taken: self.taken,
+            alloc: self.alloc,
+        }
+    }
+
+    fn heard(
+        &self,
+        line: &str,
+        is_ended: bool,
+    ) -> Arrived<SlowPeer<'a, 'static>, SlowPeer<'a, 'static>> {
+        match Vec::from_slice(self.alloc, line.as_bytes()) {
+            Ok(bytes) => Arrived::Line(Heard { bytes, is_ended }, self.peer(&[])),
+            Err(_) => Arrived::Nothing,
+        }
+    }
+}
+
+impl<'a> Doors for KnownDoors<'a> {
+    type Request = SlowPeer<'a, 'static>;
+
+    type Talker = SlowPeer<'a, 'static>;
+
+    ghost tries = { λ _. None };
+
+    ghost shown = { λ _. None };
+
+    fn next(&mut self) -> Arrived<SlowPeer<'a, 'static>, SlowPeer<'a, 'static>> {
+        let Some((first, later)) = self.turns.split_first() else {
+            return Arrived::Nothing;
+        };
+        self.turns = later;
+        match *first {
+            Coming::Request(parts) => Arrived::Request(self.peer(parts)),
+            Coming::Line(line) => self.heard(line, true),
+            Coming::Last(line) => self.heard(line, false),
+            Coming::Nothing => Arrived::Nothing,
+        }
+    }
+
+    fn reading(&self) -> i64 {
+        READING
+    }
+
+    fn keep(&mut self, _talker: SlowPeer<'a, 'static>) {
+        self.kept = self.kept.saturating_add(1);
+    }
+}
+
+/// What came of turns.
+#[derive(Drop)]
+struct Served {
+    next: Next,
+    /// What all clients took.
+    taken: String,
+    /// How many turns were left.
+    left: usize,
+    kept: u32,
+    reports: Vec<u8>,
+}
+
+/// Serves up to n requests and lines of these turns.
+fn serve<K: Keeper>(
+    alloc: Global,
+    keeper: &mut K,
+    turns: &[Coming],
+    pace: u64,
+    n: u32,
+) -> Result<Served, Fail> {
+    let clock = MovingClock {
+        passed: Cell::new(Duration::ZERO),
+    };
+    let taken = Cell::new(Vec::new(alloc));
+    let mut reports = Vec::new(alloc);
+    let mut doors = KnownDoors {
+        clock: &clock,
+        turns,
+        taken: &taken,
+        pace,
+        kept: 0,
+        alloc,
+    };
+    let next = serve_doors(&clock, alloc, &mut doors, keeper, n, &mut reports);
+    let (left, kept) = (doors.turns.len(), doors.kept);
+    drop(doors);
+    Ok(Served {
+        next,
+        taken: String::from_utf8(taken.replace(Vec::new(alloc)))?,
+        left,
+        kept,
+        reports,
+    })
+}
+
+/// Requests and lines are answered in the order in which they come, at the clock's reading. A line's own reading is another
+/// member than it may have. The server ends by the line of a caller who has the right to administer, and by no other.
+#[test]
+fn lines_between_requests(rt: HostRuntime) -> Result<(), Fail> {
+    let alloc = rt.alloc();
+    let mut keeper = opened(alloc)?;
+    let turns = [
+        Coming::Line(PUT),
+        Coming::Request(GET),
+        Coming::Line(r#"{"at":"2024-01-15T10:30:00Z","as":"ann","do":"report","dept":"records"}"#),
+        Coming::Line(""),
+        Coming::Nothing,
+        Coming::Line(r#"{"as":"ann","do":"report","dept":"records"}"#),
+        Coming::Line(r#"{"as":"ann","do":"close"}"#),
+        Coming::Line(r#"{"as":"registrar","do":"close"}"#),
+        Coming::Line(PUT),
+    ];
+    let served = serve(alloc, &mut keeper, &turns, 0, 100)?;
+    let wanted = [
+        STORED,
+        GOT,
+        "{\"error\":{\"code\":\"MalformedBody\",\"n\":12}}\n",
+        "{\"ok\":{\"admitted\":5,\"at\":\"2024-01-15T10:30:00Z\",\"byte_days\":0,\"dept\":\"records\",\"handed\":0,\"held\":5,\"received\":0,\"removed\":0}}\n",
+        "{\"error\":{\"code\":\"AccessDenied\",\"n\":3,\"reason\":\"right:admin\"}}\n",
+        "{\"ok\":{}}\n",
+    ];
+    let mut all = String::new(alloc);
+    for text in &wanted {
+        all.push_str(text)?;
+    }
+    assert_eq!(rt; served.taken.as_str(), all.as_str());
+    assert!(rt; served.next == Next::End);
+    assert_eq!(rt; served.left, 1);
+    assert_eq!(rt; served.kept, 5);
+    Ok(())
+}
+
+/// Turns in which nothing came don't count. After a last line without LF, the connection isn't kept; a CR alone is no empty
+/// line there.
+#[test]
+fn as_many_as_it_should(rt: HostRuntime) -> Result<(), Fail> {
+    let alloc = rt.alloc();
+    let mut keeper = opened(alloc)?;
+    let turns = [
+        Coming::Nothing,
+        Coming::Last(PUT),
+        Coming::Nothing,
+        Coming::Last("\r"),
+        Coming::Line(PUT),
+    ];
+    let served = serve(alloc, &mut keeper, &turns, 0, 2)?;
+    assert_eq!(rt;
+        served.taken.as_str(),
+        "{\"ok\":{\"version_id\":1}}\n{\"error\":{\"code\":\"MalformedBody\",\"n\":12}}\n"
+    );
+    assert!(rt; served.next == Next::On);
+    assert_eq!(rt; served.left, 1);
+    assert_eq!(rt; served.kept, 0);
+    Ok(())
+}
+
+/// A client that doesn't take its reply in time loses its connection, and what it asked for is done.
+#[test]
+fn a_reply_that_is_not_taken(rt: HostRuntime) -> Result<(), Fail> {
+    let alloc = rt.alloc();
+    let mut keeper = opened(alloc)?;
+    let served = serve(alloc, &mut keeper, &[Coming::Line(PUT)], 4_000, 1)?;
+    assert_eq!(rt; served.taken.as_str(), "{\"");
+    assert_eq!(rt; served.kept, 0);
+    let served = serve(alloc, &mut keeper, &[Coming::Request(GET)], 0, 1)?;
+    assert_eq!(rt; served.taken.as_str(), GOT);
+    Ok(())
+}
+
+/// A device that fails is reported once, and the server goes on.
+#[test]
+fn a_device_that_fails(rt: HostRuntime) -> Result<(), Fail> {
+    let alloc = rt.alloc();
+    let mut keeper = FuseKeeper::new(FuseKeeper::new(opened(alloc)?, 0), 0);
+    let turns = [Coming::Line(PUT), Coming::Line(PUT), Coming::Line(PUT)];
+    let served = serve(alloc, &mut keeper, &turns, 0, 3)?;
+    assert_eq!(rt;
+        served.taken.as_str(),
+        "{\"error\":{\"code\":\"Device\",\"n\":23}}\n{\"error\":{\"code\":\"Device\",\"n\":23}}\n{\"ok\":{\"version_id\":1}}\n"
+    );
+    assert_eq!(rt;
+        served.reports.as_slice(),
+        b"serve: the vault's file failed: where requests are answered 500, start the server anew\n".as_slice()
+    );
+    Ok(())
+}

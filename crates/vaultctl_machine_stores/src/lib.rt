@@ -1,0 +1,7 @@
+//! Connections to the files at a path, which a refused command leaves as it found them.
+#![tactic(auto)]
+
+pub mod before;
+mod blank;
+pub mod connect;
+pub mod site;

@@ -1,0 +1,153 @@
+//! The files at a path, which a refused command leaves as it found them.
+
+use crate::before::Before;
+use sqlite_disk::{Disk, Files};
+use std::fs::{self, OpenOptions};
+use std::io::{self, ErrorKind};
+use std::os::unix::fs::OpenOptionsExt;
+use std::path::PathBuf;
+use vaultctl_machine_places::places::Place;
+
+/// The mode of a file that is made: its owner alone may read and write it.
+const OWNERS_ALONE: u32 = 0o600;
+
+/// The path of a vault's file, and which of its two files were missing there.
+#[derive(Clone, Copy)]
+pub struct Site<'a> {
+    rt: &'a HostRuntime,
+    path: &'a str,
+    lacks_file: bool,
+    lacks_log: bool,
+}
+
+/// What a file and its log are called, with no link in it.
+#[derive(Drop)]
+struct Names {
+    file: PathBuf,
+    log: String,
+}
+
+/// Whether a path stands for something else than a file, as `Connection::open_from` reads it.
+pub fn is_no_path(path: &str) -> bool {
+    path == ":memory:" || path.starts_with("file:")
+}
+
+/// The name of the log of a file. The error is want of memory.
+fn log_of(rt: &HostRuntime, file: &str) -> io::Result<String> {
+    Ok(format!(in rt.alloc(); "{file}-wal")?)
+}
+
+impl<'a> Site<'a> {
+    /// A path, and what stood there.
+    pub fn new(rt: &'a HostRuntime, path: &'a str, place: Place) -> Site<'a> {
+        Site {
+            rt,
+            path,
+            lacks_file: place.lacks_file(),
+            lacks_log: place.lacks_log(),
+        }
+    }
+
+    /// The runtime.
+    pub fn runtime(&self) -> &'a HostRuntime {
+        self.rt
+    }
+
+    /// The path.
+    pub fn path(&self) -> &'a str {
+        self.path
+    }
+
+    /// Makes the file if it is missing, which its owner alone may then read and write.
+    pub fn make_file(&self) -> io::Result<()> {
+        if !self.lacks_file || is_no_path(self.path) {
+            return Ok(());
+        }
+        match OpenOptions::new()
+            .write(true)
+            .create_new(true)
+            .mode(OWNERS_ALONE)
+            .open(self.rt, self.path)
+        {
+            Ok(_) => Ok(()),
+            // Another program made it by now, and the opening finds what is in it.
+            Err(error) if error.kind() == ErrorKind::AlreadyExists => Ok(()),
+            Err(error) => Err(error),
+        }
+    }
+
+    /// What the file and its log are called. The error is that the file isn't there, or want of memory.
+    fn names(&self) -> io::Result<Names> {
+        let file = fs::canonicalize(self.rt, self.path)?;
+        let log = log_of(self.rt, file.as_str())?;
+        Ok(Names { file, log })
+    }
+
+    /// Has a log hold again what it held before it was opened, or removes it if it was missing; whether that worked.
+    fn gives_log_back<D: Disk>(
+        &self,
+        log: &mut D,
+        before: &Before,
+        names: &io::Result<Names>,
+    ) -> bool {
+        let is_back = before.put_back_log(log).is_ok();
+        let is_gone = self.lacks_log && before.had_no_log() && self.removes_log(names);
+        is_back || is_gone
+    }
+
+    /// The same of a file.
+    fn gives_file_back<D: Disk>(
+        &self,
+        file: &mut D,
+        before: &Before,
+        names: &io::Result<Names>,
+    ) -> bool {
+        let is_back = before.put_back_file(file).is_ok();
+        let is_gone = self.lacks_file && before.had_no_file() && self.removes_file(names);
+        is_back || is_gone
+    }
+
+    /// Removes a log, while this program has it open; whether that worked.
+    fn removes_log(&self, names: &io::Result<Names>) -> bool {
+        match names {
+            Ok(names) => fs::remove_file(self.rt, names.log.as_str()).is_ok(),
+            Err(_) => false,
+        }
+    }
+
+    /// The same of a file.
+    fn removes_file(&self, names: &io::Result<Names>) -> bool {
+        match names {
+            Ok(names) => fs::remove_file(self.rt, names.file.as_str()).is_ok(),
+            Err(_) => false,
+        }
+    }
+
+    /// Lets go of files, which hold again what they held before they were opened. One that was made for the opening is
+    /// removed. What can't be written or removed stays.
+    ///
+    /// The log goes first. As long as changes are in it the file keeps its first page: beside an empty file they would be
+    /// taken for those of a vault whose file is lost.
+    pub fn leave<D: Disk + Drop>(&self, files: Files<D>, before: &Before) {
+        let mut files = files;
+        let names = self.names();
+        if self.gives_log_back(&mut files.log, before, &names) {
+            self.gives_file_back(&mut files.db, before, &names);
+        }
+    }
+
+    /// The same of files in which the first page wasn't made.
+    ///
+    /// The file goes first: without the log beside it, a part of a first page would be taken for somebody's file. A part
+    /// that was there before comes back after its log.
+    pub fn leave_unmade<D: Disk + Drop>(&self, files: Files<D>, before: &Before) {
+        if before.had_more_than_a_byte() {
+            return self.leave(files, before);
+        }
+        let mut files = files;
+        let names = self.names();
+        if self.gives_file_back(&mut files.db, before, &names) {
+            self.gives_log_back(&mut files.log, before, &names);
+        }
+    }
+}

@@ -1,0 +1,4 @@
+pub mod ClosingLemmas
+pub mod HeardLemmas
+pub mod HearingLemmas
+pub mod TurnLemmas

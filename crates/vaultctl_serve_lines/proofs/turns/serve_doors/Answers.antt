@@ -1,0 +1,70 @@
+use Rattle.std.proofs.Common.{◌≡◌, ◌+◌, ◌≤◌, ℕ, arith, subst, sym}
+use Rattle.vaultctl_serve.proofs.ReportLemmas.{reports-then}
+use Rattle.vaultctl_serve.proofs.ServingLemmas.{Stepped-more, Stepped-reached}
+use Rattle.vaultctl_serve_lines.specs.Doors.{most_of, SteppedWithin}
+use Rattle.vaultctl_serve_lines.specs.declared.turns.Turn.{Turn}
+use Rattle.vaultctl_serve_lines.proofs.TurnLemmas.{Within-append, Within-more, Within-stepped}
+use Rattle.vaultctl_serve_lines.proofs.turns.serve_doors.Goals as goal
+use Rattle.vaultctl_serve_lines.proofs.turns.serve_doors.Goals.{in-Idle, in-Taken}
+
+-- as many were taken as were counted
+pub returns-then-taken-count-clause-stepped : goal.returns-then-taken-count-clause-stepped
+returns-then-taken-count-clause-stepped g c = λ h. Stepped-more c.loop-turn.taken c.args.count _ _ c.loop-turn.invariant.within (Within-stepped _ _ _ _ _ (c.loop-turn.invariant.timely h))
+
+pub returns-then-taken-count-clause-reached : goal.returns-then-taken-count-clause-reached
+returns-then-taken-count-clause-reached g c = λ h before. Stepped-reached _ _ _ (Within-stepped _ _ _ _ _ (c.loop-turn.invariant.timely h)) before
+
+-- a line ended the server, and one less than were counted was taken before it at most
+pub returns-in-End-clause-timely : goal.returns-in-End-clause-timely
+returns-in-End-clause-timely g c =
+    let taken = c.loop-turn.taken in
+    let before = g.D.Doors.tries c.args.doors.now in
+    let mid = g.D.Doors.tries c.loop-turn.doors in
+    let after = g.D.Doors.tries c.watch_turn.new.doors in
+    let old = g.K.Kept.vault c.args.keeper.now in
+    let between = g.K.Kept.vault c.loop-turn.keeper in
+    let new = g.K.Kept.vault c.watch_turn.new.keeper in
+    let room : taken + 1 ≤ c.args.count = omega (arith, c.loop-turn.invariant.within, c.if-taken-count.false) in
+    let P : Turn → Type 0 = λ turn. SteppedWithin (most_of turn) mid after between new in
+    λ h. Within-more (taken + 1) c.args.count before after old new room
+    (Within-append taken 1 before mid after old between new (c.loop-turn.invariant.timely (c.watch_turn.ensures.leaves.0 h)) (subst P c.in-End.is (c.watch_turn.ensures.timely h)))
+
+pub returns-in-End-clause-stepped : goal.returns-in-End-clause-stepped
+returns-in-End-clause-stepped g c = λ h. Within-stepped c.args.count _ _ _ _ (returns-in-End-clause-timely g c h)
+
+pub returns-in-End-clause-reached : goal.returns-in-End-clause-reached
+returns-in-End-clause-reached g c = λ h before. Stepped-reached c.args.count _ _ (returns-in-End-clause-stepped g c h) before
+
+-- the turns so far, and then this one, which took nothing or one
+pub loop-turn-preserved : goal.loop-turn-preserved
+loop-turn-preserved g c =
+    let taken = c.loop-turn.taken in
+    let before = g.D.Doors.tries c.args.doors.now in
+    let mid = g.D.Doors.tries c.loop-turn.doors in
+    let after = g.D.Doors.tries c.watch_turn.new.doors in
+    let old = g.K.Kept.vault c.args.keeper.now in
+    let between = g.K.Kept.vault c.loop-turn.keeper in
+    let new = g.K.Kept.vault c.watch_turn.new.keeper in
+    let summed : c.match-watch_turn.taken ≡ taken + most_of c.watch_turn.result = elim c.match-watch_turn.branch [
+      | in-Idle w ↦ rw w.in-Idle.is (omega (arith, w.taken-is))
+      | in-Taken w ↦ rw w.in-Taken.is (omega (arith, w.taken-is))
+    ] in
+    let room : c.match-watch_turn.taken ≤ c.args.count = elim c.match-watch_turn.branch [
+      | in-Idle w ↦ omega (arith, w.taken-is, c.loop-turn.invariant.within)
+      | in-Taken w ↦ omega (arith, w.taken-is, c.loop-turn.invariant.within, c.if-taken-count.false)
+    ] in
+    let P : ℕ → Type 0 = λ n. SteppedWithin n before after old new in
+    record {
+      within = room;
+      honest = λ h. c.loop-turn.invariant.honest (c.watch_turn.ensures.leaves.0 h);
+      counted = omega (arith, c.loop-turn.invariant.counted, c.watch_turn.ensures.leaves.1);
+      reported = reports-then g.T.Reporter.fails _ _ _ _ _ _ _ c.faults-since.ensures c.loop-turn.invariant.counted c.watch_turn.ensures.leaves.1 c.loop-turn.invariant.reported c.watch_turn.ensures.reported c.watch_turn.ensures.once;
+      timely = λ h. subst P (sym summed) (Within-append taken (most_of c.watch_turn.result) before mid after old between new (c.loop-turn.invariant.timely (c.watch_turn.ensures.leaves.0 h)) (c.watch_turn.ensures.timely h));
+    }
+
+-- nothing came any more
+pub returns-clause-stepped : goal.returns-clause-stepped
+returns-clause-stepped g c = λ h. Stepped-more c.loop-turn.taken c.args.count _ _ c.loop-turn.invariant.within (Within-stepped _ _ _ _ _ (c.loop-turn.invariant.timely h))
+
+pub returns-clause-reached : goal.returns-clause-reached
+returns-clause-reached g c = λ h before. Stepped-reached _ _ _ (Within-stepped _ _ _ _ _ (c.loop-turn.invariant.timely h)) before

@@ -1,0 +1,40 @@
+-- What comes in at two doors, turn by turn.
+use Rattle.std.specs.Prelude.{ℕ, ◌≤◌, ◌+◌, List, [], ◌∷◌, Option, Result, Ok, Err}
+use Rattle.vault_core_model.specs.Vault.{Vault}
+use Rattle.vaultctl_replay.specs.declared.fault.ReplayFault.{ReplayFault}
+use Rattle.vaultctl_serve.specs.Serving.{Missed, SteppedAt, Taken, Tries, Try}
+use Rattle.vaultctl_serve_lines.specs.declared.doors.Arrived.{Arrived}
+use Rattle.vaultctl_serve_lines.specs.declared.doors.Arrived.TheVariants as arrived
+use Rattle.vaultctl_serve_lines.specs.declared.line.Next.{Next}
+use Rattle.vaultctl_serve_lines.specs.declared.line.Next.TheVariants as next
+use Rattle.vaultctl_serve_lines.specs.declared.turns.Turn.{Turn}
+use Rattle.vaultctl_serve_lines.specs.declared.turns.Turn.TheVariants as turn
+
+-- a turn, and what the clock shows then; it takes something where a request or a line came
+abbrev pub HasArrived : {P Q : Type 0} → Option (List Try) → Option (List Try) → Option ℕ → Arrived P Q → Type 0
+HasArrived old new shown (arrived.Request peer) = Tries old new (Taken shown ∷ [])
+HasArrived old new shown (arrived.Line heard talker) = Tries old new (Taken shown ∷ [])
+HasArrived old new shown arrived.Nothing = Tries old new (Missed ∷ [])
+
+-- how many of the tries took something
+abbrev pub taken_in : List Try → ℕ
+taken_in [] = 0
+taken_in (Taken moment ∷ later) = 1 + taken_in later
+taken_in (Missed ∷ later) = taken_in later
+
+-- turns took n requests and lines at most, and each made at most one step, at the clock's reading as it was taken
+abbrev pub SteppedWithin : ℕ → Option (List Try) → Option (List Try) → Vault → Vault → Type 0
+SteppedWithin n before after old new =
+    (tries : List Try) × (taken_in tries ≤ n) × Tries before after tries × SteppedAt tries old new
+
+-- how many requests and lines a turn took at most
+abbrev pub most_of : Turn → ℕ
+most_of turn.Idle = 0
+most_of turn.Taken = 1
+most_of turn.End = 1
+
+-- what a turn came to whose line was answered so
+abbrev pub turn_after : Result Next ReplayFault → Turn
+turn_after (Ok next.End) = turn.End
+turn_after (Ok next.On) = turn.Taken
+turn_after (Err fault) = turn.Taken

@@ -1,0 +1,101 @@
+//! A server with two doors: requests at a port, and lines at another or at a path.
+ghost use Rattle.std.specs.Prelude.{◌≡◌, IfOk, OnErr, OnOk};
+ghost use Rattle.vault_core_model.specs.Step.{Reached};
+ghost use Rattle.vault_http.specs.Left.{LeavesNoLess};
+ghost use Rattle.vaultctl_serve.specs.Serving.{ReportsOnce, Stepped};
+ghost use Rattle.vaultctl_serve_lines.specs.Closing.{IsEnded};
+
+use crate::door_reporter::DoorReporter;
+use crate::fault::DoorFault;
+use crate::line::Next;
+use crate::line_door::LineListener;
+use crate::place::LinePlace;
+use crate::turns::serve_doors;
+use crate::two_doors::TwoDoors;
+use std::alloc::Global;
+use std::fs::Files;
+use std::io;
+use std::net::{Ipv4Addr, Net, TcpListener, TcpStream};
+use std::time::Clock;
+use vault_core_model::keeper::Keeper;
+
+/// What is served, and where.
+#[derive(Clone, Copy)]
+pub struct Places<'a> {
+    /// The vault's file.
+    pub file: &'a str,
+    /// The port of requests.
+    pub port: u16,
+    /// Where lines come in.
+    pub lines: LinePlace<'a>,
+}
+
+/// The listener of requests, at which no accept waits.
+fn request_listener<R: Net<Stream = TcpStream, Listener = TcpListener>>(
+    rt: &R,
+    port: u16,
+) -> io::Result<TcpListener> {
+    let listener = TcpListener::bind(rt, (Ipv4Addr::LOCALHOST, port))?;
+    listener.set_nonblocking(true)?;
+    Ok(listener)
+}
+
+/// The listener of requests and that of lines, at neither of which an accept waits.
+fn listen<R: Net<Stream = TcpStream, Listener = TcpListener> + Files>(
+    rt: &R,
+    places: Places<'_>,
+) -> Result<(TcpListener, LineListener), DoorFault> {
+    let Ok(requests) = request_listener(rt, places.port) else {
+        return Err(DoorFault::Requests);
+    };
+    let Ok(lines) = LineListener::at(rt, places.lines) else {
+        return Err(DoorFault::Lines);
+    };
+    Ok((requests, lines))
+}
+
+/// Serves `count` requests and lines, one after another, or up to the line that asks for the end: answers which of
+/// these it was.
+///
+/// That it listens at both doors is reported first, and that the vault's device failed is reported once, when it first
+/// does. `Requests` and `Lines` come where nobody can listen at that door. No fault of a connection or of the device
+/// ends it.
+pub fn serve_with_lines<
+    R: Net<Stream = TcpStream, Listener = TcpListener> + Files + Clock,
+    K: Keeper,
+    T: DoorReporter,
+>(
+    rt: &R,
+    alloc: Global,
+    keeper: &mut K,
+    places: Places<'_>,
+    count: u32,
+    reporter: &mut T,
+) -> Result<Next, DoorFault>
+    ensures stepped { K.is_honest keeper.new → Stepped count (K.vault keeper.old) (K.vault keeper.new) }
+    ensures reached { K.is_honest keeper.new → Reached (K.vault keeper.old) → Reached (K.vault keeper.new) }
+    // Only a caller with the right to administer ends it.
+    ensures end { IfOk result (λ next. next ≡ Next.End → K.is_honest keeper.new → IsEnded (K.vault keeper.new)) }
+    ensures err { OnErr result (K.vault keeper.new ≡ K.vault keeper.old) }
+    // That it listens is reported first, and then, once, that the device failed where it did.
+    ensures reported { OnOk result ((between : T) × T.listens_at_both reporter.old places.entry.file.now places.entry.port between
+        × ReportsOnce T.fails (K.count keeper.old) (K.count keeper.new) between reporter.new) }
+    // Where it can't listen nothing is reported.
+    ensures unreported { OnErr result (reporter.new ≡ reporter.old) }
+    ensures leaves { LeavesNoLess K.Kept keeper.old keeper.new }
+{
+    let (requests, lines) = match listen(rt, places) {
+        Ok(listeners) => listeners,
+        Err(fault) => return Err(fault),
+    };
+    reporter.listening_at_both(places.file, places.port, places.lines);
+    let mut doors = TwoDoors {
+        clock: rt,
+        alloc,
+        requests: &requests,
+        lines: &lines,
+        talk: None,
+        line_was_last: false,
+    };
+    Ok(serve_doors(rt, alloc, &mut doors, keeper, count, reporter))
+}

@@ -1,0 +1,55 @@
+//! Where requests and lines come in.
+ghost use Rattle.std.specs.Prelude.{◌≡◌, ℕ, List, Option};
+ghost use Rattle.vault_base.specs.Days.{moment_at};
+ghost use Rattle.vaultctl_serve.specs.Serving.{ReadsAs, Try};
+ghost use Rattle.vaultctl_serve_lines.specs.Doors.{HasArrived};
+
+use vaultctl_serve::peer::Peer;
+
+/// A line as it was heard.
+#[derive(Drop)]
+pub struct Heard {
+    /// The bytes of the line before its LF.
+    pub bytes: Vec<u8>,
+    /// Its LF came; else the connection ended after these bytes.
+    pub is_ended: bool,
+}
+
+/// What came in.
+#[derive(Drop)]
+pub enum Arrived<P: Drop, Q: Drop> {
+    /// A connection with a request.
+    Request(P),
+    /// A line, and the connection on which it came.
+    Line(Heard, Q),
+    /// Nothing that asks for anything.
+    Nothing,
+}
+
+/// Where requests and lines come in, and the clock that is read as one of them is taken.
+pub trait Doors {
+    /// The other side of a connection with a request.
+    type Request: Peer + Drop;
+
+    /// The other side of a connection of lines.
+    type Talker: Peer + Drop;
+
+    /// The turns to come, where they are known: in which of them a request or a line is taken, and what the clock will
+    /// show then.
+    ghost tries: { Self → Option (List Try) };
+
+    /// What the clock shows now: a moment, or none.
+    ghost shown: { Self → Option ℕ };
+
+    /// Waits for what comes next, and takes it.
+    fn next(&mut self) -> Arrived<Self::Request, Self::Talker>
+        ensures { HasArrived (tries self.old) (tries self.new) (shown self.new) result };
+
+    /// The clock's reading now.
+    fn reading(&self) -> i64
+        ensures { ReadsAs (tries self.now) (shown self.now) (moment_at result) };
+
+    /// Keeps the connection of a line that was answered: more lines may come on it.
+    fn keep(&mut self, talker: Self::Talker)
+        ensures { tries self.new ≡ tries self.old };
+}

@@ -1,0 +1,222 @@
+//! Two doors of one server, for which one thread waits: requests at a port, lines at another or at a path.
+ghost use Rattle.std.specs.Prelude.{None};
+
+use crate::doors::{Arrived, Doors, Heard};
+use crate::line_door::LineListener;
+use crate::talk::Talk;
+use libc::net::{POLLIN, poll};
+use libc::types::pollfd;
+use std::alloc::Global;
+use std::net::{TcpListener, TcpStream};
+use std::os::fd::AsRawFd;
+use std::time::{Clock, Duration, Instant};
+use std::{io, thread};
+use vaultctl_serve::clock;
+use vaultctl_serve::deadline::{BETWEEN_TRIES, HEAD};
+
+/// Milliseconds for which a connection of lines may be silent between two lines where no other waits.
+const SILENT: u64 = 60_000;
+
+/// Two doors of one server. Of the door of lines one connection is open at a time.
+#[derive(Drop)]
+pub struct TwoDoors<'a, C: Clock> {
+    /// The clock that is read.
+    pub clock: &'a C,
+    /// Where what is read is kept.
+    pub alloc: Global,
+    /// Where requests come in.
+    pub requests: &'a TcpListener,
+    /// Where lines come in.
+    pub lines: &'a LineListener,
+    /// The connection of lines that is open.
+    pub talk: Option<Talk>,
+    /// A line came last, so that a request that waits goes before the next one.
+    pub line_was_last: bool,
+}
+
+/// Who has something to say.
+#[derive(Clone, Copy)]
+struct Ready {
+    /// A connection with a request.
+    request: bool,
+    /// The open connection of lines.
+    talk: bool,
+    /// Another connection of lines.
+    another: bool,
+}
+
+/// A descriptor that is waited for.
+fn waited_for(descriptor: i32) -> pollfd {
+    pollfd {
+        fd: descriptor,
+        events: POLLIN,
+        revents: 0,
+    }
+}
+
+/// No descriptor, which `poll` passes over.
+const NONE: i32 = -1;
+
+/// The whole milliseconds of a time, as `poll` takes them.
+fn millis(time: Duration) -> i32 {
+    i32::try_from(time.as_millis()).unwrap_or(i32::MAX)
+}
+
+/// How long a connection of lines may be silent between two lines.
+fn silence(another: bool) -> Duration {
+    Duration::from_millis(if another { HEAD } else { SILENT })
+}
+
+impl<C: Clock> TwoDoors<'_, C> {
+    /// Whether a connection of lines waits that isn't open yet.
+    fn another_waits(&self) -> bool {
+        let mut found = [waited_for(self.lines.descriptor())];
+        poll(&mut found, 0) > 0
+    }
+
+    /// For how many milliseconds one waits at most; -1 is without end.
+    fn limit(&self, another: bool) -> i32 {
+        match &self.talk {
+            None if another => 0,
+            None => -1,
+            Some(open) if open.has_line() => 0,
+            Some(open) => millis(open.patience(silence(another))),
+        }
+    }
+
+    /// Waits until somebody has something to say, or the patience with the open connection is at its end.
+    fn wait(&self) -> Ready {
+        let another = self.another_waits();
+        let talk = self.talk.as_ref().map_or(NONE, |open| open.descriptor());
+        let mut found = [
+            waited_for(self.requests.as_raw_fd()),
+            waited_for(talk),
+            waited_for(if another {
+                NONE
+            } else {
+                self.lines.descriptor()
+            }),
+        ];
+        let _ = poll(&mut found, self.limit(another));
+        let has_line = self.talk.as_ref().map_or(false, |open| open.has_line());
+        Ready {
+            request: found[0].revents != 0,
+            talk: has_line || found[1].revents != 0,
+            another: another || found[2].revents != 0,
+        }
+    }
+
+    /// The same, and counts how long one has waited.
+    fn wait_counting(&mut self) -> io::Result<Ready> {
+        let since = Instant::now(self.clock)?;
+        let ready = self.wait();
+        let time = since.elapsed(self.clock)?;
+        if let Some(open) = &mut self.talk {
+            open.wait(time);
+        }
+        Ok(ready)
+    }
+
+    /// Opens the connection of lines that waits, where none is open. After one that can't be taken it waits a little,
+    /// so that a fault that lasts doesn't keep the machine busy.
+    fn open(&mut self) {
+        let Ok(since) = Instant::now(self.clock) else {
+            return;
+        };
+        match self.lines.accept() {
+            Ok(peer) => self.talk = Some(Talk::new(self.alloc, peer, since)),
+            Err(_) => thread::sleep(self.clock, Duration::from_millis(BETWEEN_TRIES)),
+        }
+    }
+
+    /// Closes the open connection where one has no patience with it any more.
+    fn close_late(&mut self, another: bool) {
+        let is_late = match &self.talk {
+            Some(open) => millis(open.patience(silence(another))) == 0,
+            None => false,
+        };
+        if is_late {
+            self.talk = None;
+        }
+    }
+
+    /// Sees to the connections of lines where none of them has something to say.
+    fn look_after(&mut self, ready: Ready) {
+        self.close_late(ready.another);
+        if ready.another && self.talk.is_none() {
+            self.open();
+        }
+    }
+
+    /// Takes a request. After one that can't be taken it waits a little, as `open` does.
+    fn take_request(&mut self) -> Option<TcpStream> {
+        self.line_was_last = false;
+        match self.requests.accept() {
+            Ok((peer, _)) => Some(peer),
+            Err(_) => {
+                thread::sleep(self.clock, Duration::from_millis(BETWEEN_TRIES));
+                None
+            }
+        }
+    }
+
+    /// Reads on the open connection, and takes its next line, if that is whole. A connection that is at its end, or
+    /// whose line is late, is closed.
+    fn take_line(&mut self) -> Option<(Heard, Talk)> {
+        self.line_was_last = true;
+        let mut open = self.talk.take()?;
+        match open.read_on(self.clock, self.alloc) {
+            Ok(Some(heard)) => Some((heard, open)),
+            Ok(None) => {
+                self.talk = Some(open);
+                None
+            }
+            Err(_) => None,
+        }
+    }
+}
+
+impl<C: Clock> Doors for TwoDoors<'_, C> {
+    type Request = TcpStream;
+
+    type Talker = Talk;
+
+    ghost tries = { λ _. None };
+
+    ghost shown = { λ _. None };
+
+    fn next(&mut self) -> Arrived<TcpStream, Talk> {
+        let Ok(ready) = self.wait_counting() else {
+            // Without a clock no connection of lines could ever be late.
+            self.talk = None;
+            thread::sleep(self.clock, Duration::from_millis(BETWEEN_TRIES));
+            return Arrived::Nothing;
+        };
+        if !ready.talk {
+            self.look_after(ready);
+        }
+        if ready.request && (self.line_was_last || !ready.talk) {
+            return match self.take_request() {
+                Some(peer) => Arrived::Request(peer),
+                None => Arrived::Nothing,
+            };
+        }
+        if !ready.talk {
+            return Arrived::Nothing;
+        }
+        match self.take_line() {
+            Some((heard, talk)) => Arrived::Line(heard, talk),
+            None => Arrived::Nothing,
+        }
+    }
+
+    fn reading(&self) -> i64 {
+        clock::reading(self.clock)
+    }
+
+    fn keep(&mut self, talker: Talk) {
+        let mut open = talker;
+        open.answered();
+        self.talk = Some(open);
+    }
+}

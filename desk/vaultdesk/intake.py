@@ -1,0 +1,134 @@
+"""A delivery taken in: by the engine's own intake where the vault's file is free, else line by line at a server's door.
+
+Both number the lines of a batch by its rows, so that what the one began the other ends.
+"""
+
+from __future__ import annotations
+
+import argparse
+import csv
+import os
+import re
+import subprocess
+import tempfile
+from collections.abc import Iterator, Mapping, Sequence
+from dataclasses import dataclass
+from pathlib import Path
+from typing import Any
+
+from vaultdesk.engine import Engine
+from vaultdesk.errors import EngineError, Refused
+from vaultdesk.items import Item
+from vaultdesk.output import say, say_while_long
+from vaultdesk.refusals import meaning
+
+ROW = re.compile(r"(\d+) (admitted|again|refused) (\S+)")
+CAUSE = re.compile(r"row (\d+): (.*)")
+STOPPING = ("Device", "Memory")  # refusals after which nothing more is tried
+Row = dict[str, Any]
+
+
+@dataclass(frozen=True)
+class Intake:
+    """What the engine's intake said: its lines, and in words why rows were refused, by their numbers."""
+
+    lines: Sequence[str]
+    causes: Mapping[int, str]
+
+
+def taken_in(engine: Engine, words: argparse.Namespace, items: Sequence[Item]) -> Intake:
+    """Has the engine take in these items."""
+    engine.look_at_date()
+    say_while_long(f"vaultctl takes in {len(items):,} rows: some seconds for each 100 MB that come or are there")
+    return _by_lines(engine, words, items) if engine.is_served else _by_program(engine, words, items)
+
+
+def results(intake: Intake, items: Sequence[Item]) -> Iterator[Row]:
+    """What became of each item that wasn't left out, as far as the engine came."""
+    for line in intake.lines:
+        found = ROW.fullmatch(line)
+        if found and not items[int(found[1]) - 1].wrong:
+            it = items[int(found[1]) - 1]
+            cause = intake.causes.get(it.number, "") if found[2] == "refused" else ""
+            row: Row = {"row": it.number, "file": it.file, "key": it.key}
+            yield {**row, "result": found[2], "value": found[3], "cause": cause}
+
+
+# ---- by the program
+
+
+def _write_list(path: Path, items: Sequence[Item]) -> None:
+    """The engine's list. A row that is left out is there without a file, so that the others keep their numbers:
+    mended and given again, it is taken in, and those that are in the vault aren't taken in twice."""
+    with path.open("w", encoding="utf-8", newline="") as file:
+        writer = csv.writer(file, lineterminator="\n")
+        writer.writerow(("file", "key", "mode", "until", "hold"))
+        for it in items:
+            writer.writerow(("",) * 5 if it.wrong else (it.file, it.key, it.mode, it.until, it.hold))
+
+
+def _cause(items: Sequence[Item], number: int, words: str) -> str:
+    """The cause of a refused row, without the file's name, which is beside it."""
+    return words.removeprefix(f"{items[number - 1].file}: ")
+
+
+def _by_program(engine: Engine, words: argparse.Namespace, items: Sequence[Item]) -> Intake:
+    engine.close()
+    with tempfile.TemporaryDirectory() as scratch:
+        listed = Path(scratch) / "list.csv"
+        _write_list(listed, items)
+        command = [engine.desk.program, "intake", str(engine.desk.file), words.bucket, words.batch, str(listed)]
+        command += [words.folder, "--as", engine.desk.caller]
+        command += ["--at", engine.at] if engine.at else []
+        try:
+            done = subprocess.run(command, capture_output=True, encoding="utf-8", errors="replace", check=False)
+        except OSError as error:
+            raise EngineError(f"{engine.desk.program}: {error.strerror}") from error
+    causes = {}
+    for line in done.stderr.split("\n"):
+        found = CAUSE.fullmatch(line)
+        if found:
+            causes[int(found[1])] = _cause(items, int(found[1]), found[2])
+        elif line:
+            say(line)
+    if done.returncode not in (0, 1):
+        raise EngineError(f"the intake wasn't begun: status {done.returncode}")
+    return Intake(done.stdout.split("\n")[:-1], causes)
+
+
+# ---- line by line
+
+
+def _content(path: Path) -> bytes:
+    """The content of a file of the folder itself: no link is followed."""
+    with open(os.open(path, os.O_RDONLY | os.O_NOFOLLOW | os.O_NONBLOCK), "rb") as file:
+        return file.read()
+
+
+def _line_of(words: argparse.Namespace, it: Item) -> dict[str, Any]:
+    """The members of the line of an item. `OSError` where its file can't be read."""
+    lock = {name: value or None for name, value in (("mode", it.mode), ("until", it.until), ("hold", it.hold))}
+    place = {"bucket": words.bucket, "batch": words.batch, "line": it.number, "key": it.key}
+    return {**place, "hex": _content(Path(words.folder) / it.file).hex(), **lock}
+
+
+def _by_lines(engine: Engine, words: argparse.Namespace, items: Sequence[Item]) -> Intake:
+    """The lines are those that the program would print."""
+    lines, causes = [], {}
+    for it in items:
+        if it.wrong:
+            continue
+        try:
+            done = engine.ask("intake", **_line_of(words, it))
+            lines.append(f"{it.number} {'again' if done['again'] else 'admitted'} {done['version_id']}")
+        except Refused as error:
+            if error.code in STOPPING:
+                say(f"row {it.number}: {it.file}: {error}")
+                lines.append(f"stopped {error.code}")
+                break
+            lines.append(f"{it.number} refused {error.code}")
+            causes[it.number] = meaning(error)
+        except OSError as error:
+            lines.append(f"{it.number} refused InvalidArgument")
+            causes[it.number] = f"it can't be read: {error.strerror}"
+    return Intake(lines, causes)

@@ -1,0 +1,132 @@
+"""The ways to the engine: how a line gets to it, and its reply back."""
+
+from __future__ import annotations
+
+import contextlib
+import json
+import os
+import subprocess
+import tempfile
+from collections.abc import Mapping
+from dataclasses import dataclass
+from pathlib import Path
+from typing import IO, Any, Protocol
+
+from vaultdesk import moments
+from vaultdesk.errors import EngineError
+
+MOST_SAID = 1_048_576  # bytes of what the engine says of refused lines that are kept
+Line = Mapping[str, Any]
+
+
+@dataclass(frozen=True)
+class Answer:
+    """The reply to a line, and the line's reading: `is_certain` where it is just that second."""
+
+    reply: Mapping[str, Any]
+    at: str
+    is_certain: bool = True
+
+
+class Way(Protocol):
+    """How lines get to the engine that has the vault."""
+
+    def answer(self, line: Line, at: str | None) -> Answer:
+        """What the engine answers to a line, which has no `at`: its reading is that moment, or else the clock's.
+
+        `EngineError` where no reply comes."""
+
+    def close(self) -> None:
+        """Ends what this way has open. `EngineError` where the engine ended with a fault."""
+
+
+def text_of(line: Line) -> str:
+    """A line as the engine reads it, without its end."""
+    return json.dumps(line, ensure_ascii=False)
+
+
+def missing(program: str, error: OSError) -> EngineError:
+    """Says that the engine can't be started."""
+    return EngineError(f"{program}: {error.strerror}: is vaultctl installed? $VAULTCTL names another program")
+
+
+class Replay:
+    """One `vaultctl replay` over a vault's file, which is open from the first line on until `close`.
+
+    Without a moment each line has the machine's clock, which is never handed in earlier than before."""
+
+    def __init__(self, program: str, file: Path) -> None:
+        self.program = program
+        self.file = file
+        self._latest = ""
+        self._child: subprocess.Popen[str] | None = None
+        self._said: IO[str] | None = None
+        self._words = ""
+
+    def answer(self, line: Line, at: str | None) -> Answer:
+        """What the engine answers to the line at its reading. `EngineError` where it ended."""
+        reading = at or self._clock()
+        return Answer(self._exchange(text_of({"at": reading, **line})), reading)
+
+    def close(self) -> None:
+        """Closes the vault. `EngineError` where the engine ended with a fault."""
+        if self._child is not None and self._end() != 0:
+            raise EngineError(self._last_words())
+
+    def _clock(self) -> str:
+        # A clock that is set back by a second between two lines would have the second one refused.
+        self._latest = max(self._latest, moments.now())
+        return self._latest
+
+    def _exchange(self, line: str) -> Mapping[str, Any]:
+        child = self._child or self._start()
+        assert child.stdin and child.stdout
+        self._forget_said()
+        try:
+            child.stdin.write(line + "\n")
+            child.stdin.flush()
+            answer = child.stdout.readline()
+        except BrokenPipeError:
+            answer = ""
+        if not answer:
+            self._end()
+            raise EngineError(self._last_words())
+        reply: Mapping[str, Any] = json.loads(answer)
+        return reply
+
+    def _start(self) -> subprocess.Popen[str]:
+        self._said = tempfile.TemporaryFile("w+", encoding="utf-8", errors="replace")
+        words = [self.program, "replay", str(self.file)]
+        try:
+            # In a group of its own: an interrupt at the terminal reaches the desk alone, which closes the vault.
+            self._child = subprocess.Popen(
+                words, 0, None, subprocess.PIPE, subprocess.PIPE, self._said, encoding="utf-8", process_group=0
+            )
+        except OSError as error:
+            raise missing(self.program, error) from error
+        return self._child
+
+    def _forget_said(self) -> None:
+        """Lets go of what was said of lines long ago: an engine that is open for months would fill the disk."""
+        assert self._said
+        place = self._said.fileno()
+        if os.lseek(place, 0, os.SEEK_CUR) > MOST_SAID:  # the engine's end of the file is this one's, too
+            os.ftruncate(place, 0)
+            os.lseek(place, 0, os.SEEK_SET)
+
+    def _end(self) -> int:
+        """Ends the engine, which closes the vault, and returns its status."""
+        child, self._child = self._child, None
+        assert child and child.stdin and child.stdout and self._said
+        with contextlib.suppress(BrokenPipeError):
+            child.stdin.close()
+        child.stdout.close()
+        status = child.wait()
+        self._said.seek(0)
+        self._words = self._said.read().strip()
+        self._said.close()
+        return status
+
+    def _last_words(self) -> str:
+        """What the engine wrote to standard error before it ended."""
+        return self._words or f"the engine ended: look at {self.file} by vaultctl verify"

@@ -1,0 +1,254 @@
+"""Allocations: each of a script's is refused in turn, and want of memory loses nothing.
+
+The script is examples/every-command.jsonl, given to `replay`. The program is what `rt try` builds of the
+sources, unproved, with checks of each access to memory; it is kept in the file that TRIALS_KEPT names, if it names
+one, and taken from there. In each run one allocation is refused, from the program's first one on. The run is right
+where one of these holds:
+
+  - A command, but no lifecycle run, answered Memory. Then each later reply is that of an untroubled
+    run of the script without that line.
+  - A lifecycle run was stopped after some changes, perhaps none. Then each later reply is that of an
+    untroubled run of the script in which other commands make just these changes in its place.
+  - The program ended with status 1 and `replay: Memory`, and wrote the replies of the first lines whole;
+    or it ended so with `words: Memory`, and wrote nothing.
+  - The replies are those of the untroubled run: the refusal made no difference.
+
+As the refused allocation moves on, so does the line that it troubles, and each line is troubled by
+some. After the last one the search ends with some runs in which nothing is refused.
+
+Every right outcome is altered, in ways that would be faults of the vault, and the trial fails where it
+lets one through.
+"""
+
+import collections
+import itertools
+import json
+import os
+import re
+from concurrent.futures import ThreadPoolExecutor
+
+from trials.program import EXAMPLES, TOP, Case, check, ran_words
+from unproved import NEVER, Refusing
+
+TAKES_LONG = True
+SCRIPT = EXAMPLES / "every-command.jsonl"
+JOBS = len(os.sched_getaffinity(0))
+# How many runs in a row that nothing troubles end the search.
+ENOUGH = 100
+# Empty lines, which are no commands: they keep the program running for seconds while it is taken.
+HELD = "\n" * 400_000
+# How long one run may take, in seconds.
+LIMIT = 60
+
+MEMORY = '{"error":{"code":"Memory","n":22}}'
+STOPPED = re.compile(r'\{"stopped":\{"changes":(\d+),"fault":"Memory"\}\}')
+NO_WORDS, WANT = "words: Memory", "replay: Memory"
+
+# For each run of the script, the commands that make its changes, one by one.
+CHANGES = [
+    [
+        {"do": "delete", "key": "a/1"},
+        {"do": "delete-version", "key": "a/1", "id": 1},
+        {"do": "delete", "key": "a/2"},
+        {"do": "delete-version", "key": "m/1", "id": 7},
+    ],
+    [],
+]
+
+
+class Outcome:
+    """What the program wrote, its status, and what it said on standard error."""
+
+    def __init__(self, replies, status=0, said=""):
+        self.replies, self.status, self.said = replies, status, said
+
+
+class Reference:
+    """Replies of untroubled runs: of the whole script, and with a line replaced by others."""
+
+    def __init__(self, whole, without, changed):
+        # without[i]: the replies after line i where it is left out; changed[i][k]: those where the
+        # first k changes of the run at line i are made in its place.
+        self.whole, self.without, self.changed = whole, without, changed
+
+
+class Wrong(AssertionError):
+    """Why want of memory can't have an outcome."""
+
+
+def judge(reference, outcome):
+    """The line that was troubled, counted from 0, and how; `none` where none was."""
+    replies, whole = outcome.replies, reference.whole
+    if outcome.status == 1:
+        if outcome.said != WANT and (replies or outcome.said != NO_WORDS):
+            raise Wrong(f"status 1, with {outcome.said!r} on standard error")
+        if len(replies) >= len(whole) or replies != whole[: len(replies)]:
+            raise Wrong("what was written isn't the whole replies to the first lines")
+        return len(replies), "ended"
+    if outcome.status != 0 or outcome.said:
+        raise Wrong(f"status {outcome.status}, with {outcome.said!r} on standard error")
+    if len(replies) != len(whole):
+        raise Wrong(f"{len(replies)} replies to {len(whole)} lines")
+    if replies == whole:
+        return len(whole), "none"
+    line = next(i for i, reply in enumerate(whole) if replies[i] != reply)
+    stopped = STOPPED.fullmatch(replies[line])
+    if replies[line] == MEMORY and line not in reference.changed:
+        wanted, how = reference.without[line], "memory"
+    elif stopped and int(stopped[1]) < len(reference.changed.get(line, [])):
+        wanted, how = reference.changed[line][int(stopped[1])], "stopped"
+    else:
+        raise Wrong(f"line {line + 1} is answered {replies[line]}")
+    for i, reply in enumerate(wanted, line + 1):
+        if replies[i] != reply:
+            raise Wrong(f"after line {line + 1}, line {i + 1} has {replies[i]} and not {reply}")
+    return line, how
+
+
+def altered(reference, outcome, line, how):
+    """Outcomes that are wrong, each made of a right one by one change, with what the change is."""
+    replies, device = outcome.replies, '{"error":{"code":"Device","n":23}}'
+
+    def put(at, reply):
+        return Outcome(replies[:at] + [reply] + replies[at + 1:], outcome.status, outcome.said)
+
+    for at in {0, line - 1, line + 1, len(replies) - 1}:
+        if 0 <= at < len(replies):
+            yield f"reply {at + 1} is another", put(at, device)
+    yield "another status", Outcome(replies, 1 - outcome.status, outcome.said)
+    if how == "ended":
+        yield "no message", Outcome(replies, 1)
+        yield "a reply to the line that wasn't read", Outcome(replies + [MEMORY], 1, outcome.said)
+        if replies:
+            yield "a cut reply", put(len(replies) - 1, replies[-1][:-1])
+        return
+    yield "a lost reply", Outcome(replies[:-1])
+    yield "a reply too many", Outcome(replies + replies[-1:])
+    if how == "none":
+        return
+    yield "another fault", put(line, device)
+    if how == "stopped":
+        yield "a run that is refused", put(line, MEMORY)
+    others = {"the line was carried out": reference.whole[line + 1:]}
+    if line > 0:
+        others["an earlier line was undone"] = reference.without[line - 1][1:]
+    for k, rest in enumerate(reference.changed.get(line, [])):
+        others[f"{k} changes were made"] = rest
+    for what, rest in others.items():
+        if rest != replies[line + 1:]:
+            yield what, Outcome(replies[: line + 1] + rest)
+
+
+def fault_in(said):
+    """The first line of standard error that isn't on a line of the script, as `replay: Memory`; or nothing."""
+    return next((it for it in said.splitlines() if not re.match("line [0-9]+: ", it)), "")
+
+
+class Program:
+    """The program with one of its allocations refused."""
+
+    def __init__(self, folder):
+        self.folder = folder
+        cases = self.folder / "cases"
+        cases.mkdir()
+        (cases / "held").write_text(HELD)
+        # One step: the interpreter can't run a program that reads its words, so it needn't begin.
+        options = ["--steps", "1", "--cases", str(cases), "--", "replay"]
+        self.program = Refusing(options, TOP / "crates" / "vaultctl", folder, os.environ.get("TRIALS_KEPT"))
+
+    def run(self, lines, number=NEVER):
+        """What it answers to a script where that allocation is refused, in an empty environment, as `rt try` has."""
+        script = "".join(it + "\n" for it in lines)
+        with self.program.refusing(number) as words:
+            done = ran_words(*words, "replay", given=script, env={}, timeout=LIMIT, cwd=self.folder)
+        replies = done.out.split("\n")
+        last = replies.pop()
+        if last:
+            replies.append(f"{last} (with no line's end)")
+        return Outcome(replies, done.status, fault_in(done.err))
+
+
+def references(lines):
+    """Scripts for the untroubled runs."""
+    cases = {"whole": lines}
+    runs = iter(CHANGES)
+    for i, line in enumerate(lines):
+        cases[f"without-{i}"] = lines[:i] + lines[i + 1:]
+        asked = json.loads(line)
+        if asked["do"] != "run":
+            continue
+        changes = next(runs)
+        for k in range(len(changes) + 1):
+            made = [json.dumps({**asked, **it}) for it in changes[:k]]
+            cases[f"changed-{i}-{k}"] = lines[:i] + made + lines[i + 1:]
+    return cases
+
+
+def check_references(lines, outcomes, wanted):
+    """The untroubled replies, which have to be those that are kept beside the script."""
+    for name in references(lines):
+        if outcomes[name].status != 0 or outcomes[name].said or MEMORY in outcomes[name].replies:
+            raise Wrong(f"{name}: an allocation was refused, or the program failed")
+    whole = outcomes["whole"].replies
+    if whole != wanted:
+        raise Wrong("the replies aren't those beside the script")
+    without = [outcomes[f"without-{i}"].replies[i:] for i in range(len(lines))]
+    changed = {}
+    for name in references(lines):
+        if name.startswith("changed-"):
+            i, k = map(int, name.split("-")[1:])
+            made = outcomes[name].replies[i:i + k]
+            if any(not it.startswith('{"ok":') for it in made):
+                raise Wrong(f"{name}: a change of the run can't be made by hand: {made}")
+            changed.setdefault(i, []).append(outcomes[name].replies[i + k:])
+    for i, rests in changed.items():
+        if f'"changes":{len(rests) - 1},' not in whole[i] or rests[-1] != whole[i + 1:]:
+            raise Wrong(f"line {i + 1}: CHANGES has other changes than the run makes")
+    return Reference(whole, without, changed)
+
+
+def count_refused(reference, here, line, how):
+    """How many alterations of an outcome were refused; fails where one is let through."""
+    count = 0
+    for what, other in altered(reference, here, line, how):
+        try:
+            judge(reference, other)
+        except Wrong:
+            count += 1
+            continue
+        raise Wrong(f"line {line + 1}, {how}: an altered outcome is let through: {what}")
+    return count
+
+
+def sweep(program, lines, reference):
+    """Judges each run. Fails where one is wrong, or a line is troubled by no refusal."""
+    troubled, ways, last, untroubled = set(), collections.Counter(), 0, 0
+    with ThreadPoolExecutor(JOBS) as pool:
+        for begin in itertools.count(1, ENOUGH):
+            numbers = range(begin, begin + ENOUGH)
+            for number, here in zip(numbers, pool.map(lambda it: program.run(lines, it), numbers)):
+                line, how = judge(reference, here)
+                if how == "none":
+                    untroubled += 1
+                    continue
+                check(line >= last, f"allocation {number} troubles line {line + 1}, after line {last + 1}")
+                last, untroubled = line, 0
+                troubled.add(line)
+                ways[how] += 1
+                ways["altered outcomes, each refused"] += count_refused(reference, here, line, how)
+            if untroubled >= ENOUGH:
+                break
+    passed = sorted(it + 1 for it in set(range(len(lines))) - troubled)
+    check(not passed, f"no allocation of lines {passed} was refused")
+    return ways
+
+
+class Allocations(Case):
+    def test_script(self):
+        lines = [it for it in SCRIPT.read_text().splitlines() if it]
+        program = Program(self.folder)
+        with ThreadPoolExecutor(JOBS) as pool:
+            cases = references(lines)
+            outcomes = dict(zip(cases, pool.map(program.run, cases.values())))
+        reference = check_references(lines, outcomes, SCRIPT.with_suffix(".out").read_text().splitlines())
+        print("allocations:", dict(sweep(program, lines, reference)))

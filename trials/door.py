@@ -1,0 +1,275 @@
+"""Door: clients at both doors of a server that takes lines, good ones and others.
+
+Each test serves a new vault in a folder of its own, with lines at a Unix socket there. All of it takes less than two
+minutes.
+"""
+
+import contextlib
+import json
+import pathlib
+import shutil
+import socket
+import subprocess
+import threading
+import time
+from collections.abc import Callable
+
+from trials.program import PROGRAM, Case, a_test_each, check, make_office, printed
+from trials.servers import HOST, free_port, read_all
+
+# The deadlines, in seconds: for a line from its first byte; for silence where another waits; and how long a client waits
+# at most, whatever the server does.
+LINE, SILENCE, LIMIT = 5, 5, 60
+# How much later than its deadline something may come on a busy machine.
+SLACK = 5
+LONGEST_LINE = 4_194_304
+MALFORMED = b'{"error":{"code":"MalformedBody","n":12}}'
+
+
+def equal(given: object, wanted: object, of: str) -> None:
+    check(given == wanted, f"{of}: {str(given)[:300]}, wanted {str(wanted)[:300]}")
+
+
+def line(caller: str, do: str, **members: object) -> bytes:
+    return json.dumps({"as": caller, "do": do, **members}).encode() + b"\n"
+
+
+def put(key: str, text: str = "hello") -> bytes:
+    return line("ann", "put", bucket="docs", key=key, text=text)
+
+
+def get(key: str) -> bytes:
+    return line("ann", "get", bucket="docs", key=key)
+
+
+class Server:
+    """A program that serves a vault at two doors."""
+
+    def __init__(self, folder: pathlib.Path, where: str = "") -> None:
+        self.folder, self.file, self.port = folder, str(folder / "records.vault"), free_port()
+        self.where = where or str(folder / "lines")
+
+    def start(self, *words: str) -> None:
+        """Starts the server, and reads what it says once it listens."""
+        self.serving = subprocess.Popen(
+            [PROGRAM, "serve", self.file, str(self.port), "--lines", self.where, *words],
+            stderr=subprocess.PIPE, text=True)
+        assert self.serving.stderr is not None
+        self.said = self.serving.stderr.readline()
+
+    def connect(self) -> socket.socket:
+        """A connection of lines."""
+        at_port = self.where.isdigit()
+        peer = socket.socket(socket.AF_INET if at_port else socket.AF_UNIX)
+        peer.settimeout(LIMIT)
+        peer.connect((HOST, int(self.where)) if at_port else self.where)
+        return peer
+
+    def lines(self, sent: bytes) -> list[bytes]:
+        """The replies to lines that are sent at once, by a client that then ends its side."""
+        with self.connect() as peer:
+            peer.sendall(sent)
+            peer.shutdown(socket.SHUT_WR)
+            return read_all(peer).splitlines()
+
+    def request(self, text: str) -> bytes:
+        with socket.create_connection((HOST, self.port), LIMIT) as peer:
+            peer.sendall(text.encode())
+            return read_all(peer)
+
+    def http_get(self, key: str) -> bytes:
+        answer = self.request(f"GET /docs/{key} HTTP/1.1\r\nhost: x\r\nx-vault-caller: ann\r\n\r\n")
+        return answer.partition(b"\r\n\r\n")[2]
+
+    def end(self) -> int:
+        """Kills the server where it runs still, and returns its status."""
+        if self.serving.poll() is None:
+            self.serving.kill()
+        return self.serving.wait()
+
+
+def ok_puts(replies: list[bytes]) -> list[int]:
+    """The ids of puts that were accepted."""
+    found = [json.loads(it) for it in replies]
+    return [it["ok"]["version_id"] for it in found if "version_id" in it.get("ok", {})]
+
+
+def plain(server: Server) -> None:
+    """Lines and requests over one vault, at the machine's clock."""
+    equal(server.said, f"serving {server.file} at {HOST}:{server.port}, lines at {server.where}\n", "what it says")
+    equal(server.lines(put("a")), [b'{"ok":{"version_id":1}}'], "a put")
+    equal(server.http_get("a"), b"hello", "a get of what a line put")
+    before = time.strftime("%Y-%m-%dT%H:%M:%SZ", time.gmtime())
+    found = json.loads(server.lines(line("ann", "report", dept="records"))[0])["ok"]
+    after = time.strftime("%Y-%m-%dT%H:%M:%SZ", time.gmtime())
+    check(before <= found["at"] <= after, f"the reading is {found['at']}, and the clock showed {before} to {after}")
+    dated = b'{"at":"2024-01-15T10:30:00Z","as":"ann","do":"report","dept":"records"}\n'
+    equal(server.lines(dated + b"\n\r\n" + put("b")), [MALFORMED, b'{"ok":{"version_id":2}}'], "a line with a reading, empty ones, a put")
+    equal(server.lines(get("a")[:-1] + b" " * 20_000), server.lines(get("a")), "a long last line without LF")
+    equal(server.lines(b"\r"), [MALFORMED], "a CR alone")
+
+
+def whole_script(server: Server) -> None:
+    """A script at once is answered in order, and requests go between its lines."""
+    took: list[float] = []
+    ended = threading.Event()
+
+    def ask() -> None:
+        while not ended.is_set():
+            began = time.monotonic()
+            server.http_get("k0")
+            took.append(time.monotonic() - began)
+
+    asking = threading.Thread(target=ask)
+    asking.start()
+    try:
+        replies = server.lines(b"".join(put(f"k{number}") for number in range(500)))
+    finally:
+        ended.set()
+        asking.join()
+    equal(ok_puts(replies), list(range(1, 501)), "the replies to a script")
+    check(len(took) >= 20, f"between 500 lines {len(took)} requests were answered")
+
+
+def late_line(server: Server) -> None:
+    """A line that isn't whole in time gets no reply and changes nothing; requests are answered meanwhile."""
+    began = time.monotonic()
+    with server.connect() as peer:
+        peer.sendall(put("late")[:-1])
+        equal(server.http_get("none")[:1], b"{", "a request meanwhile")
+        equal(read_all(peer), b"", "a line that isn't whole")
+    check(LINE - 0.5 < time.monotonic() - began < LINE + SLACK, f"a line had {time.monotonic() - began:.1f} s")
+    equal(ok_puts(server.lines(put("next"))), [1], "the put after it")
+
+
+def silent(server: Server) -> None:
+    """A connection that is silent gives way to another one after a while, and not to requests."""
+    with server.connect() as first:
+        first.sendall(put("a"))
+        equal(first.recv(65_536), b'{"ok":{"version_id":1}}\n', "a put")
+        equal(server.http_get("a"), b"hello", "a get")
+        began = time.monotonic()
+        equal(ok_puts(server.lines(put("b"))), [2], "a put by another")
+        check(SILENCE - 1 < time.monotonic() - began < SILENCE + SLACK, f"another waited for {time.monotonic() - began:.1f} s")
+        equal(read_all(first), b"", "the silent one")
+
+
+def slow_requests(server: Server) -> None:
+    """The time in which a silent client of the other door is waited for isn't a line's."""
+    with server.connect() as peer:
+        peer.sendall(put("a")[:10])
+        time.sleep(0.5)
+        with socket.create_connection((HOST, server.port), LIMIT), socket.create_connection((HOST, server.port), LIMIT):
+            time.sleep(8)
+            peer.sendall(put("a")[10:])
+            equal(peer.recv(65_536), b'{"ok":{"version_id":1}}\n', "a line in two parts")
+
+
+def oversized(server: Server) -> None:
+    """The longest line is answered, and a longer one is refused once its LF has come."""
+    longest = put("long")[:-1]
+    longest += b" " * (LONGEST_LINE - len(longest)) + b"\n"
+    equal(ok_puts(server.lines(longest)), [1], "the longest line")
+    equal(server.lines(b" " + longest + put("after")), [MALFORMED, b'{"ok":{"version_id":2}}'], "a longer one, and a put")
+
+
+def resetting(server: Server) -> None:
+    """Those who leave in the midst of a line, or take no reply, keep nobody waiting."""
+    for sent in (b"", put("a")[:10], put("b"), put("c") * 3):
+        peer = server.connect()
+        peer.sendall(sent)
+        peer.close()
+    equal(len(ok_puts(server.lines(put("d")))), 1, "a put after them")
+
+
+def flooding(server: Server) -> None:
+    """A client that sends lines for ever and reads nothing is let go; requests are answered meanwhile."""
+    with server.connect() as peer:
+        peer.settimeout(0.2)
+        sent = get("none") * 1_000
+        with contextlib.suppress(TimeoutError, BrokenPipeError, ConnectionResetError):
+            while peer.send(sent):
+                pass
+        equal(server.http_get("none")[:1], b"{", "a request meanwhile")
+        equal(ok_puts(server.lines(put("a"))), [1], "a put by another")
+
+
+def closing(server: Server) -> None:
+    """A caller with the right to administer ends the server, and nobody else does: the file is whole without its log."""
+    equal(ok_puts(server.lines(put("a") + put("b"))), [1, 2], "two puts")
+    refused = b'{"error":{"code":"AccessDenied","n":3,"reason":"right:admin"}}'
+    unknown = b'{"error":{"code":"AccessDenied","n":3,"reason":"unknown-caller"}}'
+    more = line("registrar", "close", more=1)
+    equal(server.lines(line("ann", "close") + line("zoe", "close") + more), [refused, unknown, MALFORMED], "others")
+    equal(server.lines(line("registrar", "close")), [b'{"ok":{}}'], "the line that ends it")
+    equal(server.serving.wait(LIMIT), 0, "the status")
+    alone = server.folder / "alone.vault"
+    shutil.copy(server.file, alone)
+    equal(printed("verify", alone), "sound\n", "the file without its log")
+    server.start()
+    equal(server.http_get("b"), b"hello", "a get after another start, where the old socket was")
+
+
+def at_a_port(server: Server) -> None:
+    """Lines at a port."""
+    equal(server.said, f"serving {server.file} at {HOST}:{server.port}, lines at {HOST}:{server.where}\n", "what it says")
+    equal(ok_puts(server.lines(put("a"))), [1], "a put")
+    equal(server.lines(line("registrar", "close")), [b'{"ok":{}}'], "the end")
+    equal(server.serving.wait(LIMIT), 0, "the status")
+
+
+def counted(server: Server) -> None:
+    """Requests and lines are counted, and connections and silence aren't."""
+    equal(server.lines(b""), [], "a connection without a line")
+    equal(len(server.lines(put("a") + put("b"))), 2, "two lines")
+    equal(server.http_get("a"), b"hello", "a request")
+    equal(server.serving.wait(LIMIT), 0, "the status")
+
+
+def no_places(server: Server) -> None:
+    """Where nobody can listen for lines nothing is served."""
+    server.end()
+    there = server.folder / "there"
+    there.write_text("kept")
+    for where in (str(there), str(server.folder / "none" / "lines"), "0", "70000", ""):
+        server.where = where
+        server.start()
+        assert server.serving.stderr is not None
+        said = server.said + server.serving.stderr.read()
+        equal(server.serving.wait(LIMIT), 1, f"the status for {where!r}")
+        equal([said.startswith("--lines: "), "\nserve: Device\n" in said], [True, True], f"what it says for {where!r}: {said!r}")
+    equal(there.read_text(), "kept", "what was at the path")
+
+
+Trial = tuple[Callable[[Server], None], list[str]]
+# Each trial, with words for the server.
+TRIALS: dict[str, Trial] = {
+    "plain": (plain, []),
+    "whole-script": (whole_script, []),
+    "late-line": (late_line, []),
+    "silent": (silent, []),
+    "slow-requests": (slow_requests, []),
+    "oversized": (oversized, []),
+    "resetting": (resetting, []),
+    "flooding": (flooding, []),
+    "closing": (closing, []),
+    "at-a-port": (at_a_port, []),
+    "counted": (counted, ["--count", "3"]),
+    "no-places": (no_places, []),
+}
+
+
+@a_test_each(TRIALS)
+class Door(Case):
+    is_alone = True
+
+    def look_at(self, name: str) -> None:
+        trial, words = TRIALS[name]
+        make_office(self.folder / "records.vault", "put", "get", "list", "report")
+        server = Server(self.folder, str(free_port()) if name == "at-a-port" else "")
+        server.start(*words)
+        try:
+            trial(server)
+        finally:
+            server.end()
+        self.is_sound("records.vault")

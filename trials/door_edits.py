@@ -1,0 +1,88 @@
+"""Wrong bodies of the desk over a server's door, and of copies of a vault that is served; `desk.py` tries them.
+
+Each is a module of the desk, a text in it and the one that takes its place, and the test that then has to fail.
+"""
+
+ASKED, DELIVERED = "test_door.ByTheDoor.", "test_door.Deliveries."
+DOORS, CLOSE, ALONE = "test_door.Doors.", "test_door.Close.", "test_door.DoorAlone."
+NIGHT, STOP, STARTED = "test_served_units.NightByTheDoor.", "test_served_units.Stop.", "test_served_units.Started."
+LOCKS, VAULT, LOG, S3 = "test_served_units.Locks.", "test_snapshot.OfAVault.", "test_snapshot.OfALog.", "test_s3_served."
+SAME = ASKED + "test_what_is_read_of_the_vault_is_what_it_has_after_its_end"
+BATCH = DELIVERED + "test_what_is_taken_in_by_lines_is_known_to_the_program_and_the_other_way_round"
+EDITS = [
+    # moments
+    ("engine", "raise UsageError(f\"--at {self.at}: {why}: leave --at out\")", "return self._found(), None",
+     ASKED + "test_no_change_has_a_moment"),
+    ("engine", "        if self.at is None or not self.is_served:\n", "        if True:\n", SAME),
+    ("engine", "        if self._past is not None:\n            self._past.close()\n        if self._tables", "        if self._tables",
+     SAME),
+    # copies
+    ("engine", "            self._forget_tables()\n        given", "        given", BATCH),
+    ("snapshot", "    if not is_taken(file):\n", "    if True:\n", SAME),
+    ("snapshot", "return before == _head(log) and changes[:HEAD] in (b\"\", before)", "return True",
+     LOG + "test_a_log_that_is_begun_anew_meanwhile_has_it_tried_again"),
+    ("snapshot", "return before == _head(log) and", "return False and", LOG + "test_one_that_only_grows_doesnt"),
+    ("snapshot", "return bytes(found[:end])", "return bytes(found)", VAULT + "test_a_log_that_is_cut_anywhere_has_whole_changes_alone"),
+    ("snapshot", "    if changes:\n        with _made(log_of(target))", "    if False:\n        with _made(log_of(target))",
+     VAULT + "test_what_was_answered_is_in_it"),
+    ("snapshot", "os.O_TRUNC, 0o600)", "os.O_TRUNC, 0o644)", VAULT + "test_what_was_answered_is_in_it"),
+    ("snapshot", "        for it in both:\n            it.unlink(missing_ok=True)\n", "        pass\n",
+     LOG + "test_one_that_is_begun_anew_all_along_is_given_up"),
+    # where the door is
+    ("door", "found.append(conf.lines_of(name))", "pass", DOORS + "test_a_vault_with_units_is_known_by_its_name"),
+    ("door", "found.append(file.with_name(f\"{name}.lines\"))", "pass", DOORS + "test_a_door_beside_the_vault"),
+    ("door", "    if desk.door:\n", "    if False:\n", DOORS + "test_one_that_is_named_and_not_there_opens_no_file"),
+    ("config", "(given.doors or {}).get(vault or \"\")", "None", DOORS + "test_a_door_that_is_named"),
+    ("config", "    if not _are_texts(doors):\n", "    if False:\n", DOORS + "test_a_settings_file_with_another_kind_of_door"),
+    ("door", "if len(os.fsencode(it)) <= LONGEST]", "]", DOORS + "test_a_path_that_is_too_long_for_a_socket_is_no_door"),
+    ("door", "(FileNotFoundError, ConnectionRefusedError, NotADirectoryError)", "FileNotFoundError",
+     DOORS + "test_a_socket_that_a_killed_server_left_is_none"),
+    ("door", "                if isinstance(error, PermissionError):\n", "                if False:\n",
+     DOORS + "test_who_may_not_come_is_told_so"),
+    ("door", "socket.AF_INET if is_port else socket.AF_UNIX", "socket.AF_UNIX", DOORS + "test_a_door_at_a_port"),
+    # what is answered there
+    ("door", "raise EngineError(f\"{self.where}: the server gave no answer: {UNKNOWN}\")",
+     "return {\"ok\": {\"entries\": [], \"more\": False}}", DOORS + "test_no_answer_may_mean_that_it_was_done"),
+    ("door", "while not found.endswith(b\"\\n\"):", "if True:", ASKED + "test_the_largest_content"),
+    ("door", "and not _has_ended(process, self.patience):", "and False:", CLOSE + "test_it_waits_for_the_process"),
+    ("closing", "    if \"error\" in reply:\n", "    if False:\n", CLOSE + "test_who_has_no_right_to_it_ends_nothing"),
+    ("closing", "    if door is None:\n", "    if False:\n", CLOSE + "test_where_no_server_is_it_says_so"),
+    # who may not read the file
+    ("cases", "        except PermissionError as error:\n", "        except UnicodeEncodeError as error:\n",
+     ALONE + "test_who_may_only_come_to_the_door_is_told_what_wants_the_file"),
+    ("deliveries", "        differing = _differing(engine, words.bucket, taken)\n    except EngineError as error:\n",
+     "        differing = _differing(engine, words.bucket, taken)\n    except UnicodeEncodeError as error:\n",
+     ALONE + "test_a_delivery_is_reported_also_where_it_cant_be_compared"),
+    ("deliveries", "    if why:\n", "    if False:\n",
+     ALONE + "test_a_delivery_is_reported_also_where_it_cant_be_compared"),
+    # deliveries
+    ("intake", "'again' if done['again'] else 'admitted'", "'admitted'", BATCH),
+    ("intake", "\"line\": it.number", "\"line\": it.number + 1", BATCH),
+    ("intake", "(\"hold\", it.hold))}", ")}", BATCH),
+    ("intake", "os.O_NOFOLLOW | ", "", DELIVERED + "test_no_link_is_followed"),
+    ("intake", "            causes[it.number] = meaning(error)\n", "", DELIVERED + "test_a_row_that_is_refused_has_its_cause"),
+    # units
+    ("night", "with contextlib.nullcontext() if goes_on else served.standing_still():", "with served.standing_still():",
+     NIGHT + "test_the_server_goes_on"),
+    ("night", "with contextlib.nullcontext() if goes_on else served.standing_still():", "with contextlib.nullcontext():",
+     NIGHT + "test_a_server_that_takes_no_lines_is_stopped"),
+    ("night", "self.now = int(time.time())  #", "self.now = int(time.time()) - 60  #",
+     NIGHT + "test_a_change_of_this_second_is_no_clock_that_is_behind"),
+    ("night", "        snapshot.copy(old, new)\n        night", "        new = night.served.file\n        night",
+     NIGHT + "test_a_dry_run_changes_nothing"),
+    ("glue", "    if door.is_there():\n", "    if False:\n", STOP + "test_the_server_ends_by_its_door"),
+    ("glue", "    if door.is_there():\n", "    if True:\n", STOP + "test_where_none_is_there_is_nothing_to_do"),
+    ("glue", "end(door, served.conf.admin())", "end(door, \"registrar\")", STOP + "test_a_caller_without_the_right_ends_nothing"),
+    ("glue", "        os.chown(it, -1, number)\n", "", STARTED + "test_who_is_of_the_group_may_come"),
+    ("glue", "(place, 0o660)", "(place, 0o700)", STARTED + "test_who_is_of_the_group_may_come"),
+    ("glue", "while not _takes_lines(", "while False and not _takes_lines(", STARTED + "test_its_door_is_waited_for"),
+    ("units", "os.O_CREAT, 0o600), \"wb\")", "os.O_CREAT, 0o644), \"wb\")", LOCKS + "test_who_works_on_a_vault_is_for_root_to_lock"),
+    ("conf", "        place.chmod(0o755)\n", "        pass\n", LOCKS + "test_who_works_on_a_vault_is_for_root_to_lock"),
+    # the gateway
+    ("s3/objects", "    if not told.is_certain:\n", "    if False:\n",
+     S3 + "Served.test_an_etag_is_noted_for_just_the_second_of_the_admission"),
+    ("s3/words", "    if given.buckets is not None:\n", "    if False:\n",
+     S3 + "Served.test_the_buckets_are_those_of_the_vault_or_of_the_settings"),
+    ("s3/settings", "values[\"buckets\"] = tuple(found[\"buckets\"]) if \"buckets\" in found else None", "values.pop(\"buckets\", None)",
+     S3 + "Settings.test_a_door_and_buckets_are_read"),
+]  # fmt: skip

@@ -1,0 +1,585 @@
+"""S3: the clients that are on this machine work on a vault through its gateway (`vaultdesk s3 serve`).
+
+They are boto3, boto3 whose answers are lost, boto3 through nginx, aws, s3cmd and rclone. boto3 is the one of the Python
+that runs this, and aws is each that is on the path or in /usr/bin; `tools/setup-trials` installs Debian's. Each client
+has a vault and a gateway of its own; in `Served` a server has the vault meanwhile, and the gateway asks that server's
+door for lines. Afterwards the vault is sound, and no refusal has left a version. The requests that these clients sent
+once, byte for byte, are in `desk/tests`, which need none of them and no network.
+"""
+
+import contextlib
+import datetime as dt
+import importlib.util
+import json
+import os
+import shutil
+import socket
+import subprocess
+import threading
+import time
+import unittest
+import unittest.mock
+from concurrent.futures import ThreadPoolExecutor
+
+from trials.program import DESK, PROGRAM, TOP, Case, check, needs
+from trials.servers import free_port
+
+TAKES_LONG = True
+RIGHTS = ["config", "put", "retain", "hold", "get", "list", "delete", "delete-version", "run", "report", "bypass"]
+PLAIN = ["put", "retain", "get", "list", "delete", "delete-version"]
+OPENING = [
+    {"do": "add-dept", "dept": "records"},
+    {"do": "add-caller", "caller": "ann", "dept": "records", "rights": RIGHTS},
+    {"do": "add-caller", "caller": "bea", "dept": "records", "rights": PLAIN},
+    {"do": "add-bucket", "bucket": "docs", "dept": "records"},
+    {"do": "add-bucket", "bucket": "scans", "dept": "records"},
+]
+END = dt.datetime(2040, 1, 1, tzinfo=dt.timezone.utc)
+ODD = ["a b", "a+b", "100%", "%2F", "?", "#", ";=:@&$,!*'()", '"quoted"', " blanks ", "a//b", "ü", "日本", "\U0001f4dc",
+       "<&>", "\\back", "..", "a" * 1_024]
+TOO_LARGE = 1_048_577
+TRIED = 300  # seconds for one run of a client, and for what the gateway is waited for; a busy machine takes long
+
+
+class Gateway:
+    """A vault with callers `ann`, who may all, and `bea`, and its gateway, before a server of the vault if `served`."""
+
+    served = False
+
+    def __init__(self, program, folder, **settings):
+        self.program, self.folder = program, folder
+        self.file = folder / "records.vault"
+        self.env = {it: value for it, value in os.environ.items() if "CA_BUNDLE" not in it and not it.startswith("AWS_")}
+        self.env |= {"VAULTCTL": str(program), "HOME": str(folder), "PYTHONDONTWRITEBYTECODE": "1"}
+        subprocess.run([program, "init", self.file], check=True)
+        self.lines(*OPENING)
+        self.port = free_port()
+        given = {"vault": str(self.file), "keys": str(folder / "keys.toml"), "etags": str(folder / "etags"), "port": self.port,
+                 **settings}
+        self.settings = folder / "s3.toml"
+        self.settings.write_text("".join(f"{it} = {json.dumps(value)}\n" for it, value in given.items()))
+        self.keys = {it: json.loads(self.desk("key", "add", it, "--json")) for it in ("ann", "bea")}
+        self.scheme = "https" if "certificate" in settings else "http"
+        self.child = self.server = None
+
+    def desk(self, *words):
+        ran = subprocess.run([DESK, "s3", *words, "--settings", self.settings], env=self.env, capture_output=True, text=True)
+        check(ran.returncode == 0, ran.stderr)
+        return ran.stdout
+
+    def lines(self, *lines):
+        """The replies of the engine to lines, by the registrar where none says who asks; the gateway stands still."""
+        at = dt.datetime.now(dt.timezone.utc).strftime("%Y-%m-%dT%H:%M:%SZ")
+        script = "".join(json.dumps({"at": at, "as": "registrar", **it}) + "\n" for it in lines)
+        ran = subprocess.run([self.program, "replay", self.file], input=script, capture_output=True, text=True, check=True)
+        return [json.loads(it) for it in ran.stdout.splitlines()]
+
+    def start_server(self):
+        """Has the vault served, with a door where a gateway looks for one."""
+        with socket.create_server(("127.0.0.1", 0)) as free:
+            port = free.getsockname()[1]
+        words = [self.program, "serve", self.file, str(port), "--lines", self.folder / "records.lines"]
+        said = self.folder / "server"
+        with open(said, "w") as log:
+            self.server = subprocess.Popen(words, stderr=log)
+        deadline = time.monotonic() + TRIED
+        while "lines at" not in said.read_text():
+            check(time.monotonic() < deadline and self.server.poll() is None, said.read_text())
+            time.sleep(0.1)
+
+    def end_server(self):
+        """Ends the server by its door, in good order."""
+        words = [DESK, "close", "--vault", self.file, "--as", "registrar"]
+        ran = subprocess.run(words, env=self.env, capture_output=True, text=True)
+        check(ran.returncode == 0, f"close: {ran.stderr}")
+        check(self.server.wait(TRIED) == 0, f"the server ended with {self.server.returncode}")
+        self.server = None
+
+    def start(self):
+        if self.served and not self.server:
+            self.start_server()
+        with open(self.folder / "log", "a") as log:
+            self.child = subprocess.Popen([DESK, "s3", "serve", "--settings", self.settings], env=self.env, stderr=log)
+        deadline = time.monotonic() + TRIED
+        while True:
+            with contextlib.suppress(OSError), socket.create_connection(("127.0.0.1", self.port), timeout=5):
+                return
+            check(time.monotonic() < deadline and self.child.poll() is None, (self.folder / "log").read_text())
+            time.sleep(0.1)
+
+    def stop(self):
+        self.child.terminate()
+        check(self.child.wait(TRIED) == 0, f"the gateway ended with {self.child.returncode}")
+        if self.server:
+            self.end_server()
+
+    def kill(self):
+        self.child.kill()
+        self.child.wait()
+
+    def versions(self, bucket="docs"):
+        """What the bucket holds; the gateway stands still."""
+        found, more = [], {}
+        while True:
+            told = self.lines({"as": "ann", "do": "list-versions", "bucket": bucket, **more})[0]["ok"]
+            found += told["entries"]
+            if not told["more"]:
+                return found
+            more = {"after_key": found[-1]["key"], "after_id": found[-1]["version_id"]}
+
+    def __enter__(self):
+        self.start()
+        return self
+
+    def __exit__(self, kind, error, trace):
+        if self.child.poll() is None:
+            self.stop()
+        if self.server:
+            self.server.kill()
+            self.server.wait()
+        if kind is None:
+            ran = subprocess.run([self.program, "verify", self.file], capture_output=True, text=True)
+            check(ran.stdout == "sound\n", ran.stdout + ran.stderr)
+
+    def run(self, *words, status=0, **env):
+        """The output of a client's command, and the status that is wanted."""
+        ran = subprocess.run([str(it) for it in words], cwd=self.folder, env={**self.env, **env}, capture_output=True, text=True,
+                             timeout=TRIED)
+        check(ran.returncode == status, f"{words}: status {ran.returncode}\n{ran.stdout}{ran.stderr}")
+        return ran.stdout + ran.stderr
+
+
+def made_tree(folder):
+    """A folder of files to be synced."""
+    tree = folder / "tree"
+    (tree / "sub folder").mkdir(parents=True)
+    (tree / "one.txt").write_text("one\n")
+    (tree / "sub folder" / "two ü+.txt").write_text("two\n")
+    (tree / "three.gz").write_bytes(bytes(range(256)) * 4)
+    (tree / "big.bin").write_bytes(os.urandom(300_000))
+    (tree / "empty").write_bytes(b"")
+    return tree
+
+
+# ---- boto3
+
+
+def client(gateway, who="ann", version="s3v4", **more):
+    import boto3
+    from botocore.config import Config
+
+    key = gateway.keys[who]
+    config = Config(signature_version=version, s3={"addressing_style": "path"}, max_pool_connections=100, **more)
+    return boto3.client(
+        "s3", endpoint_url=f"{gateway.scheme}://localhost:{gateway.port}", region_name="us-east-1", config=config,
+        aws_access_key_id=key["access_key"], aws_secret_access_key=key["secret"],
+        verify=str(gateway.folder / "cert.pem") if gateway.scheme == "https" else None,
+    )
+
+
+def refused(code, call, **given):
+    """The call is refused with that code."""
+    from botocore.exceptions import ClientError
+
+    try:
+        call(**given)
+    except ClientError as error:
+        check(error.response["Error"]["Code"] == code, f"{call.__name__}: {error}, and not {code}")
+        return
+    check(False, f"{call.__name__} isn't refused: {code} is wanted")
+
+
+def boto3_locks(gateway):
+    ann, bea = client(gateway), client(gateway, "bea")
+    place = {"Bucket": "docs", "Key": "deed"}
+    put = ann.put_object(**place, Body=b"a deed", ObjectLockMode="COMPLIANCE", ObjectLockRetainUntilDate=END,
+                         ObjectLockLegalHoldStatus="ON")
+    version = {**place, "VersionId": put["VersionId"]}
+    check(ann.get_object(**place)["Body"].read() == b"a deed", "the deed came back otherwise")
+    refused("AccessDenied", ann.delete_object, **version)
+    refused("AccessDenied", bea.put_object_legal_hold, **version, LegalHold={"Status": "OFF"})
+    ann.put_object_legal_hold(**version, LegalHold={"Status": "OFF"})
+    refused("AccessDenied", ann.delete_object, **version, BypassGovernanceRetention=True)
+    earlier = {"Mode": "COMPLIANCE", "RetainUntilDate": END - dt.timedelta(days=1)}
+    refused("AccessDenied", ann.put_object_retention, **version, Retention=earlier, BypassGovernanceRetention=True)
+    later = {"Mode": "COMPLIANCE", "RetainUntilDate": END + dt.timedelta(days=1)}
+    ann.put_object_retention(**version, Retention=later)
+    check(ann.get_object_retention(**version)["Retention"] == later, "the retention isn't the one that was set")
+
+    place = {"Bucket": "docs", "Key": "draft"}
+    version = {**place, "VersionId": ann.put_object(**place, Body=b"d", ObjectLockMode="GOVERNANCE",
+                                                    ObjectLockRetainUntilDate=END)["VersionId"]}
+    refused("AccessDenied", ann.delete_object, **version)
+    refused("AccessDenied", bea.delete_object, **version, BypassGovernanceRetention=True)
+    ann.delete_object(**version, BypassGovernanceRetention=True)
+    refused("404", ann.head_object, **version)
+
+    rule = {"DefaultRetention": {"Mode": "GOVERNANCE", "Days": 30}}
+    ann.put_object_lock_configuration(Bucket="scans", ObjectLockConfiguration={"ObjectLockEnabled": "Enabled", "Rule": rule})
+    check(ann.get_object_lock_configuration(Bucket="scans")["ObjectLockConfiguration"]["Rule"] == rule, "another default")
+    ann.put_object(Bucket="scans", Key="a", Body=b"a")
+    check(ann.head_object(Bucket="scans", Key="a")["ObjectLockMode"] == "GOVERNANCE", "the default doesn't count")
+    rules = [{"ID": "r", "Status": "Enabled", "Filter": {"Prefix": "2024/"}, "Expiration": {"Days": 30},
+              "NoncurrentVersionExpiration": {"NoncurrentDays": 7, "NewerNoncurrentVersions": 2}}]
+    ann.put_bucket_lifecycle_configuration(Bucket="docs", LifecycleConfiguration={"Rules": rules})
+    check(ann.get_bucket_lifecycle_configuration(Bucket="docs")["Rules"] == rules, "other rules")
+    ann.delete_bucket_lifecycle(Bucket="docs")
+    refused("NoSuchLifecycleConfiguration", ann.get_bucket_lifecycle_configuration, Bucket="docs")
+
+
+def boto3_refusals(gateway):
+    ann = client(gateway)
+    place = {"Bucket": "docs", "Key": "refused"}
+    for code, more in (
+        ("InvalidRequest", {"Metadata": {"a": "b"}}), ("InvalidRequest", {"Tagging": "a=b"}),
+        ("InvalidRequest", {"IfNoneMatch": "*"}), ("InvalidRequest", {"WebsiteRedirectLocation": "/a"}),
+        ("AccessControlListNotSupported", {"ACL": "public-read"}), ("InvalidRequest", {"ContentEncoding": "gzip"}),
+        ("InvalidEncryptionAlgorithmError", {"ServerSideEncryption": "AES256"}),
+        ("EntityTooLarge", {"Body": b"x" * TOO_LARGE}),
+    ):
+        refused(code, ann.put_object, **{**place, "Body": b"x", **more})
+    refused("EntityTooLarge", ann.create_multipart_upload, **place)
+    refused("SignatureDoesNotMatch", client_of(gateway, "another").put_object, **place, Body=b"x")
+    refused("InvalidRequest", client(gateway, version="s3").put_object, **place, Body=b"x")
+    for call, more in ((ann.delete_bucket, {}), (ann.put_bucket_versioning, {"VersioningConfiguration": {"Status": "Suspended"}})):
+        refused("NotImplemented", call, Bucket="docs", **more)
+    refused("BucketAlreadyOwnedByYou", ann.create_bucket, Bucket="docs")
+    refused("404", ann.head_object, **place)
+
+
+def client_of(gateway, secret):
+    """A client whose secret isn't the right one."""
+    key = gateway.keys["ann"]
+    gateway.keys["other"] = {**key, "secret": secret}
+    return client(gateway, "other")
+
+
+def boto3_objects(gateway):
+    ann = client(gateway)
+    check([it["Name"] for it in ann.list_buckets()["Buckets"]] == ["docs", "scans"], "other buckets")
+    for key in ODD:
+        ann.put_object(Bucket="docs", Key=f"odd/{key}"[:1_024], Body=key.encode())
+        check(ann.get_object(Bucket="docs", Key=f"odd/{key}"[:1_024])["Body"].read() == key.encode(), f"key {key!r}")
+    keys = [it["Key"] for it in ann.list_objects_v2(Bucket="docs", Prefix="odd/")["Contents"]]
+    check(keys == sorted((f"odd/{it}"[:1_024] for it in ODD), key=str.encode), f"other keys: {keys}")
+    ann.copy_object(Bucket="docs", Key="copy", CopySource={"Bucket": "docs", "Key": "odd/a+b"})
+    check(ann.get_object(Bucket="docs", Key="copy", Range="bytes=1-1")["Body"].read() == b"+", "a range of a copy")
+    refused("InvalidRequest", ann.copy_object, Bucket="docs", Key="copy", CopySource={"Bucket": "docs", "Key": "copy"})
+    tag = ann.head_object(Bucket="docs", Key="copy")["ETag"]
+    refused("304", ann.get_object, Bucket="docs", Key="copy", IfNoneMatch=tag)
+    gone = ann.delete_objects(Bucket="docs", Delete={"Objects": [{"Key": "copy"}, {"Key": "none", "VersionId": "999"}]})
+    check((len(gone["Deleted"]), gone["Errors"][0]["Code"]) == (1, "NoSuchVersion"), gone)
+    url = ann.generate_presigned_url("get_object", Params={"Bucket": "docs", "Key": "odd/a b"})
+    refused_url(url) if gateway.scheme == "http" else None
+
+
+def refused_url(url):
+    """A URL that nobody takes here."""
+    import urllib.error
+    import urllib.request
+
+    try:
+        urllib.request.build_opener(urllib.request.ProxyHandler({})).open(url)
+    except urllib.error.HTTPError as error:
+        check(error.code == 403, f"a presigned URL: {error}")
+        return
+    check(False, "a presigned URL is taken")
+
+
+def boto3_many(gateway):
+    """2,500 puts, a hundred at once, and their lists; the bucket has a key `a` before."""
+    ann = client(gateway, retries={"max_attempts": 1})
+    keys = [f"{it % 7}/{it:05}" for it in range(2_500)]
+    with ThreadPoolExecutor(100) as pool:
+        list(pool.map(lambda it: ann.put_object(Bucket="scans", Key=it, Body=it.encode()), keys))
+
+    def listed(name, **more):
+        pages = list(ann.get_paginator(name).paginate(Bucket="scans", **more))
+        return pages, [it["Key"] for page in pages for it in page.get("Contents", page.get("Versions", []))]
+
+    pages, found = listed("list_objects_v2")
+    check((len(pages), found) == (3, sorted([*keys, "a"])), f"{len(pages)} pages of {len(found)} keys")
+    check(listed("list_objects", Prefix="3/", PaginationConfig={"PageSize": 7})[1] == [it for it in sorted(keys) if it[0] == "3"],
+          "other keys of a prefix")
+    check(len(listed("list_object_versions")[1]) == 2_501, "other versions")
+    prefixes = [it["Prefix"] for page in listed("list_objects_v2", Delimiter="/")[0] for it in page["CommonPrefixes"]]
+    check(prefixes == [f"{it}/" for it in range(7)], prefixes)
+
+
+def try_boto3(program, folder):
+    """boto3 over HTTP and over TLS."""
+    made_certificate(folder)
+    for name, settings in (("plain", {}), ("tls", {"certificate": str(folder / "cert.pem"),
+                                                   "certificate_key": str(folder / "key.pem")})):
+        there = folder / name
+        there.mkdir()
+        shutil.copy(folder / "cert.pem", there)
+        with Gateway(program, there, **settings) as gateway:
+            boto3_locks(gateway)
+            boto3_refusals(gateway)
+            boto3_objects(gateway)
+            if name == "plain":
+                boto3_many(gateway)
+            gateway.stop()
+            check(not [it for it in gateway.versions() if it["key"] == "refused"], "a refused put left a version")
+
+
+# ---- answers that are lost
+
+
+class Cutting:
+    """Stands before a gateway, and cuts the first answers of it off; before each it does what it is told."""
+
+    def __init__(self, gateway, cuts, meanwhile):
+        self.gateway, self.cuts, self.meanwhile = gateway, cuts, meanwhile
+        self.listener = socket.create_server(("127.0.0.1", 0))
+        self.port = self.listener.getsockname()[1]
+        threading.Thread(target=self.serve, daemon=True).start()
+
+    def serve(self):
+        with contextlib.suppress(OSError):
+            while True:
+                self.pass_on(self.listener.accept()[0])
+
+    def pass_on(self, connection):
+        """One request, and its answer, or none."""
+        with connection, socket.create_connection(("127.0.0.1", self.gateway.port), timeout=TRIED) as there:
+            connection.settimeout(TRIED)
+            whole = connection.recv(65_536)
+            if b"Expect: 100-continue" in whole:
+                connection.sendall(b"HTTP/1.1 100 Continue\r\n\r\n")
+                whole = whole.replace(b"Expect: 100-continue\r\n", b"") + connection.recv(65_536)
+            there.sendall(whole.replace(f":{self.port}".encode(), f":{self.port}".encode()))
+            answer = there.recv(65_536)
+            if self.cuts:
+                self.cuts -= 1
+                self.meanwhile()
+                return
+            connection.sendall(answer.replace(b"Connection: keep-alive", b"Connection: close"))
+
+
+def try_again(program, folder):
+    """An answer that is lost, and a gateway that is killed meanwhile: boto3 sends its put again, and one version stands."""
+    for name in ("cut", "killed"):
+        there = folder / name
+        there.mkdir()
+        with Gateway(program, there) as gateway:
+            def anew(gateway=gateway):
+                gateway.kill()
+                gateway.start()
+
+            cutting = Cutting(gateway, 3, anew if name == "killed" else lambda: None)
+            port, gateway.port = gateway.port, cutting.port
+            sender = client(gateway)
+            gateway.port = port
+            done = sender.put_object(Bucket="docs", Key="deed", Body=b"a deed", ObjectLockMode="COMPLIANCE",
+                                     ObjectLockRetainUntilDate=END)
+            check((done["VersionId"], done["ResponseMetadata"]["RetryAttempts"]) == ("1", 3), f"{name}: {done}")
+            gateway.stop()
+            check(len(gateway.versions()) == 1, f"{name}: {gateway.versions()}")
+
+
+# ---- nginx before the gateway
+
+NGINX = """\
+daemon off; pid {folder}/pid; error_log {folder}/error.log;
+events {{}}
+http {{
+    access_log off;
+    client_body_temp_path {folder}/b; proxy_temp_path {folder}/p; fastcgi_temp_path {folder}/f;
+    uwsgi_temp_path {folder}/u; scgi_temp_path {folder}/s;
+    server {{
+        listen 127.0.0.1:{port} ssl; ssl_certificate {folder}/cert.pem; ssl_certificate_key {folder}/key.pem;
+{block}
+    }}
+}}
+"""
+
+
+def made_certificate(folder):
+    """A certificate of localhost, which no browser knows."""
+    subprocess.run(
+        ["openssl", "req", "-x509", "-newkey", "rsa:2048", "-nodes", "-days", "2", "-subj", "/CN=localhost", "-addext",
+         "subjectAltName=DNS:localhost", "-keyout", folder / "key.pem", "-out", folder / "cert.pem"],
+        check=True, capture_output=True,
+    )
+
+
+def try_nginx(program, folder):
+    """boto3 over TLS through nginx, with the lines that the page has for it."""
+    made_certificate(folder)
+    page = (TOP / "docs" / "S3.md").read_text()
+    block = page[page.index("location / {"):].partition("```")[0]
+    with Gateway(program, folder) as gateway:
+        port = free_port()
+        block = block.replace("127.0.0.1:9000", f"127.0.0.1:{gateway.port}")
+        (folder / "nginx.conf").write_text(NGINX.format(folder=folder, port=port, block=block))
+        folder.chmod(0o755)
+        nginx = subprocess.Popen(["nginx", "-c", folder / "nginx.conf"])
+        try:
+            behind, gateway.port, gateway.scheme = gateway.port, port, "https"
+            boto3_locks(gateway)
+            boto3_refusals(gateway)
+            boto3_objects(gateway)
+            gateway.port = behind
+        finally:
+            nginx.terminate()
+            nginx.wait()
+
+
+# ---- aws
+
+
+def try_aws(program, folder):
+    """Each aws: lists, syncs, moves, and a lock."""
+    found = {os.path.realpath(it): it for it in (shutil.which("aws"), "/usr/bin/aws") if it and os.path.exists(it)}
+    for number, aws in enumerate(found.values()):
+        there = folder / str(number)
+        there.mkdir()
+        with Gateway(program, there) as gateway:
+            key = gateway.keys["ann"]
+            env = {"AWS_ACCESS_KEY_ID": key["access_key"], "AWS_SECRET_ACCESS_KEY": key["secret"],
+                   "AWS_DEFAULT_REGION": "us-east-1", "PATH": os.environ["PATH"]}
+            made_tree(there)
+
+            def run(*words, status=0):
+                return gateway.run(aws, "--endpoint-url", f"http://127.0.0.1:{gateway.port}", *words, status=status, **env)
+
+            check("docs" in run("s3", "ls"), "no buckets")
+            check(run("s3", "sync", "tree", "s3://docs/tree").count("upload:") == 5, "other files are synced")
+            check("upload:" not in run("s3", "sync", "tree", "s3://docs/tree"), "a second sync uploads again")
+            run("s3", "sync", "s3://docs/tree", "back")
+            same = subprocess.run(["diff", "-r", there / "tree", there / "back"]).returncode
+            check(same == 0, "what came back is otherwise")
+            run("s3", "mv", "s3://docs/tree/one.txt", "s3://docs/moved")
+            run("s3", "rm", "s3://docs/moved")
+            lock = ("--object-lock-mode", "COMPLIANCE", "--object-lock-retain-until-date", "2040-01-01T00:00:00Z")
+            put = json.loads(run("s3api", "put-object", "--bucket", "docs", "--key", "deed", "--body", "tree/one.txt", *lock,
+                                 "--output", "json"))
+            gone = ("s3api", "delete-object", "--bucket", "docs", "--key", "deed", "--version-id", put["VersionId"])
+            check("AccessDenied" in run(*gone, status=254 if is_second(aws) else 255), "a deed is deleted")
+            (there / "large").write_bytes(b"x" * TOO_LARGE)
+            check("EntityTooLarge" in run("s3", "cp", "large", "s3://docs/large", status=1), "what is too large is put")
+            gateway.stop()
+            keys = [it["key"] for it in gateway.versions() if it["current"] and not it["delete_marker"]]
+            check(keys == ["deed", "tree/big.bin", "tree/empty", "tree/sub folder/two ü+.txt", "tree/three.gz"], keys)
+
+
+def is_second(aws):
+    """Whether it is version 2, which has another status for what a server refuses."""
+    said = subprocess.run([aws, "--version"], capture_output=True, text=True)
+    return "aws-cli/2" in said.stdout + said.stderr
+
+
+# ---- s3cmd and rclone
+
+
+def try_s3cmd(program, folder):
+    """s3cmd: syncs, moves, rules."""
+    with Gateway(program, folder, dropped_metadata=["s3cmd-attrs"]) as gateway:
+        key, host = gateway.keys["ann"], f"127.0.0.1:{gateway.port}"
+        (folder / "s3cfg").write_text(
+            f"[default]\naccess_key = {key['access_key']}\nsecret_key = {key['secret']}\nhost_base = {host}\n"
+            f"host_bucket = {host}\nuse_https = False\nsignature_v2 = False\n"
+        )
+        made_tree(folder)
+
+        def run(*words, status=0):
+            return gateway.run("s3cmd", "-c", "s3cfg", *words, status=status, PATH=os.environ["PATH"])
+
+        check("s3://docs" in run("ls"), "no buckets")
+        check(run("sync", "tree/", "s3://docs/tree/").count("upload:") == 5, "other files are synced")
+        check("upload:" not in run("sync", "tree/", "s3://docs/tree/"), "a second sync uploads again")
+        run("get", "s3://docs/tree/sub folder/two ü+.txt", "two")
+        check((folder / "two").read_text() == "two\n", "what came back is otherwise")
+        check("MD5 sum" in run("info", "s3://docs/tree/one.txt"), "no MD5")
+        run("mv", "s3://docs/tree/one.txt", "s3://docs/moved")
+        run("del", "s3://docs/moved")
+        run("expire", "s3://docs", "--expiry-days=30", "--expiry-prefix=x/")
+        check("<Days>30</Days>" in run("getlifecycle", "s3://docs"), "no rules")
+        run("dellifecycle", "s3://docs")
+        (folder / "large").write_bytes(b"x" * TOO_LARGE)
+        check("EntityTooLarge" in run("put", "large", "s3://docs/large", status=11), "what is too large is put")
+        gateway.stop()
+        keys = [it["key"] for it in gateway.versions() if it["current"] and not it["delete_marker"]]
+        check(keys == ["tree/big.bin", "tree/empty", "tree/sub folder/two ü+.txt", "tree/three.gz"], keys)
+
+
+def try_rclone(program, folder):
+    """rclone: syncs by checksums; its plain sync, which would set times, changes nothing and says so."""
+    with Gateway(program, folder, dropped_metadata=["mtime"]) as gateway:
+        key = gateway.keys["ann"]
+        (folder / "rclone.conf").write_text(
+            f"[v]\ntype = s3\nprovider = Other\naccess_key_id = {key['access_key']}\nsecret_access_key = {key['secret']}\n"
+            f"endpoint = http://127.0.0.1:{gateway.port}\nregion = us-east-1\nno_check_bucket = true\n"
+        )
+        tree = made_tree(folder)
+        gateway.stop()
+        gateway.lines({"as": "ann", "do": "set-default", "bucket": "docs", "mode": "GOVERNANCE", "days": 30})
+        gateway.start()
+
+        def run(*words, status=0):
+            return gateway.run("rclone", "--config", "rclone.conf", *words, status=status, PATH=os.environ["PATH"])
+
+        check("docs" in run("lsd", "v:"), "no buckets")
+        checked = ("sync", "--checksum", "--no-update-modtime", "-v", "tree", "v:docs/tree")
+        check("Copied (new)" in run(*checked), "nothing is synced")
+        check("There was nothing to transfer" in run(*checked), "a second sync transfers again")
+        check("0 differences found" in run("check", "tree", "v:docs/tree"), "rclone finds differences")
+        check("could not be checked" not in run("check", "tree", "v:docs/tree"), "rclone can't compare")
+        later = time.time() + 60
+        os.utime(tree / "one.txt", (later, later))
+        run("sync", "tree", "v:docs/tree", status=1)
+        run("moveto", "v:docs/tree/one.txt", "v:docs/moved")
+        check(run("cat", "v:docs/moved") == "one\n", "what was moved is otherwise")
+        (folder / "large").write_bytes(b"x" * TOO_LARGE)
+        check("EntityTooLarge" in run("copyto", "large", "v:docs/large", status=1), "what is too large is put")
+        gateway.stop()
+        found = gateway.versions()
+        check([it["key"] for it in found if not it["delete_marker"]]
+              == ["moved", "tree/big.bin", "tree/empty", "tree/one.txt", "tree/sub folder/two ü+.txt", "tree/three.gz"], found)
+        lines = [{"as": "ann", "do": "head", "bucket": "docs", "key": it["key"], "id": it["version_id"]}
+                 for it in found if not it["delete_marker"]]
+        check(all(it["ok"]["retention"] for it in gateway.lines(*lines)), "a version of rclone's isn't locked")
+
+
+needs_boto3 = unittest.skipUnless(importlib.util.find_spec("boto3"), "there is no boto3")
+
+
+class S3(Case):
+    # Whether a server has each vault.
+    is_served = False
+
+    def setUp(self):
+        super().setUp()
+        self.enterContext(unittest.mock.patch.object(Gateway, "served", self.is_served))
+
+    @needs_boto3
+    @needs("openssl")
+    def test_boto3(self):
+        try_boto3(PROGRAM, self.folder)
+
+    @needs_boto3
+    def test_again(self):
+        try_again(PROGRAM, self.folder)
+
+    @needs_boto3
+    @needs("openssl", "nginx")
+    def test_nginx(self):
+        try_nginx(PROGRAM, self.folder)
+
+    @needs("aws")
+    def test_aws(self):
+        try_aws(PROGRAM, self.folder)
+
+    @needs("s3cmd")
+    def test_s3cmd(self):
+        try_s3cmd(PROGRAM, self.folder)
+
+    @needs("rclone")
+    def test_rclone(self):
+        try_rclone(PROGRAM, self.folder)
+
+
+class Served(S3):
+    is_served = True

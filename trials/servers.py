@@ -1,0 +1,111 @@
+"""Servers of a vault that the program starts, their ports, and connections to them."""
+
+import contextlib
+import os
+import pathlib
+import select
+import socket
+import struct
+import subprocess
+import time
+from typing import Iterator
+
+from trials import program
+from trials.program import PROGRAM, check
+
+HOST = "127.0.0.1"
+# Seconds that one waits for a server to listen or to end, and for the next bytes of an answer.
+LIMIT = program.LIMIT / 5
+File = pathlib.Path | str
+
+
+def free_ports(count: int) -> list[int]:
+    """That many ports that nobody has. All are taken before any is given back, so that none is given twice."""
+    with contextlib.ExitStack() as held:
+        taken = [held.enter_context(socket.socket()) for _ in range(count)]
+        for it in taken:
+            it.bind((HOST, 0))
+        return [it.getsockname()[1] for it in taken]
+
+
+def free_port() -> int:
+    return free_ports(1)[0]
+
+
+def wait_for(port: int) -> None:
+    """Waits until something listens at a port."""
+    end = time.monotonic() + LIMIT
+    while time.monotonic() < end:
+        with socket.socket() as it:
+            if it.connect_ex((HOST, port)) == 0:
+                return
+        time.sleep(0.05)
+    check(False, f"nothing listens at port {port}")
+
+
+def started(file: File, port: int, *words: str, folder: pathlib.Path | None = None) -> subprocess.Popen[bytes]:
+    """A server of a vault, once it says that it listens; it says nothing else. Whoever asks for it ends it."""
+    asked = [PROGRAM, "serve", file, str(port), *words]
+    server = subprocess.Popen(asked, cwd=folder, stdout=subprocess.DEVNULL, stderr=subprocess.PIPE)
+    wanted, said = f"serving {file} at {HOST}:{port}\n".encode(), b""
+    end = time.monotonic() + LIMIT
+    assert server.stderr is not None
+    while not said.endswith(b"\n"):
+        ready, _, _ = select.select([server.stderr], [], [], max(0, end - time.monotonic()))
+        part = os.read(server.stderr.fileno(), 65_536) if ready else b""
+        if not part:
+            break
+        said += part
+    if said != wanted:
+        ended(server)
+        check(False, f"once it listens the server says {said!r}, wanted {wanted!r}")
+    return server
+
+
+def ended(server: subprocess.Popen[bytes]) -> str:
+    """Kills a server if it runs, and returns what it wrote on standard error since it listened."""
+    server.kill()
+    server.wait()
+    assert server.stderr is not None
+    if server.stderr.closed:
+        return ""
+    with server.stderr as said:
+        return said.read().decode()
+
+
+@contextlib.contextmanager
+def serving(file: File, *words: str, folder: pathlib.Path | None = None) -> Iterator[int]:
+    """The port of a server of that vault, which is killed at the end. With `--count N` among its words the server has
+    to end by itself, with status 0."""
+    port = free_port()
+    server = started(file, port, *words, folder=folder)
+    try:
+        yield port
+        if "--count" in words:
+            check(server.wait(LIMIT) == 0, f"the server has the status {server.returncode}")
+    finally:
+        ended(server)
+
+
+def read_all(peer: socket.socket, *ends: type[OSError]) -> bytes:
+    """What comes up to the connection's end, which a reset is too, and each of these errors."""
+    parts = []
+    with contextlib.suppress(ConnectionResetError, *ends):
+        while part := peer.recv(65_536):
+            parts.append(part)
+    return b"".join(parts)
+
+
+def answer_to(port: int, request: bytes) -> bytes:
+    """What is answered to a request, after which its client ends its sending."""
+    with socket.create_connection((HOST, port), LIMIT) as peer:
+        peer.sendall(request)
+        with contextlib.suppress(OSError):
+            peer.shutdown(socket.SHUT_WR)
+        return read_all(peer)
+
+
+def reset(peer: socket.socket) -> None:
+    """Closes the connection at once, and has what is under way thrown away."""
+    peer.setsockopt(socket.SOL_SOCKET, socket.SO_LINGER, struct.pack("ii", 1, 0))
+    peer.close()

@@ -1,0 +1,29 @@
+"""Tools: those that take long and say by their status what they found."""
+
+from trials.program import PROGRAM, TOP, Case, a_test_each, ran_words
+
+TAKES_LONG = True
+GROWTHS = "tools/refuse-growths"
+TOOLS = {
+    "kill_while_serving": ["bench/kill-while-serving", "--program", str(PROGRAM)],
+    "growths_of_requests": [GROWTHS, "vault_tests_http", "growths::a_refused_growth_is_no_other_answer"],
+    "growths_of_a_run": [GROWTHS, "vault_tests", "growths::a_refused_growth_stops_a_run"],
+    "growths_of_an_intake": [GROWTHS, "vault_tests_files", "faults::growths::a_refused_growth_stops_an_intake"],
+    "growths_of_a_printed_intake": [
+        GROWTHS, "vault_tests_files", "faults::growths::a_refused_growth_in_an_intake_that_is_printed",
+    ],
+    "give_up": ["tools/give-up"],
+    "edits": ["tools/try-edits"],
+}
+
+
+@a_test_each(TOOLS)
+class Tools(Case):
+    # One after another: each takes all processors.
+    is_alone = True
+
+    def look_at(self, name: str) -> None:
+        tool, *words = TOOLS[name]
+        ran = ran_words(TOP / tool, *words, cwd=TOP, timeout=None)
+        print(f"{name}:\n{ran.out}")
+        self.assertEqual(ran.status, 0, ran.err)
