@@ -172,6 +172,8 @@ impl<S: Alter> SqlKeeper<S> {
         ensures taken { (state S.Store conn).now.schema ≢ no_schema → IfErr result (λ e. e.0 ≡ Refusal.NameTaken) }
         ensures free { IfErr result (λ e. e.0 ≡ Refusal.NameTaken → (state S.Store conn).now.schema ≢ no_schema) }
         ensures faults { IfErr result (λ e. e.0 ≢ Refusal.NameTaken → IsFault e.0) }
+        // A store that works, outside a transaction, is never told as one that failed.
+        ensures healthy { conn.in_transaction ≡ false → IfErr result (λ e. IsHealthy (state S.Store e.1) → e.0 ≢ Refusal.Device) }
         // A crash leaves what it could leave before, or a new vault.
         ensures crash { IfOk result (λ k. Survives (state S.Store conn) (state S.Store k.conn) (IsFoundIn opening)) }
         ensures harmless { IfErr result (λ e. Survives (state S.Store conn) (state S.Store e.1) (IsFoundIn opening)) }
