@@ -2,8 +2,12 @@ mod Answering
 mod Begin
 mod Causes
 mod Making
+mod Nearest
 mod One
 mod OverKeys
-mod OverPages
+mod OverRanges
 mod Parts
+mod Prefixes
+mod Ranges
 mod Rising
+mod Unruled
