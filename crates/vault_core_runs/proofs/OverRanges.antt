@@ -226,7 +226,7 @@ module _ (v : Vault) (b : List ℕ) (t : ℕ) (a : List ℕ) (keys : List (List 
       → MakesAll v b t (plans_at v b t keys) x y v2 → GoesOn (Ok found) v b t a x y v2
   goes_by_page None x y v2 short m =
       let n : length keys ≡ min 256 (length (keys_behind v b a)) = ap length is ∙ length-take 256 (keys_behind v b a) in
-      let few : length (keys_behind v b a) ≤ 256 = omega (arith, short) in
+      let few : length (keys_behind v b a) ≤ 256 = let lt : length keys < 256 = short in omega arith in
       let same : keys ≡ keys_behind v b a = is ∙ take_all 256 (keys_behind v b a) few in
       subst (λ (ks : List (List ℕ)). MakesAll v b t (plans_at v b t ks) x y v2) same m
   goes_by_page (Some next) x y v2 last m =

@@ -1,5 +1,5 @@
 -- Keys that rise, cut at places.
-use Rattle.std.proofs.Common.{◌≡◌, ◌⊎◌, inl, inr, ⊎_elim, ℕ, ◌≤◌, ◌++◌, ◌||◌, ◌==◌, Bool, true, false, List, [], ◌∷◌, length, filter, flat_map, refl, sym, ap, subst, ◌∙◌, arith}
+use Rattle.std.proofs.Common.{◌≡◌, ◌⊎◌, inl, inr, ⊎_elim, ℕ, ◌≤◌, ◌++◌, ◌||◌, ◌==◌, Bool, true, false, List, [], ◌∷◌, length, filter, flat_map, refl, sym, ap, subst, ◌∙◌, append-nil, arith}
 use Rattle.std.specs.Prelude.{not, if◌then◌else◌}
 use Rattle.std.specs.List.{AllByRecursion}
 use Rattle.std.specs.Ordering.{is_gt}
@@ -190,17 +190,13 @@ only_at : {X : Type 0} (f : List ℕ → List X) (p : List ℕ) (ks : List (List
     → ((k : List ℕ) → IsIn k ks → cmp k p ≡ Less → f k ≡ []) → ((IsIn p ks → ⊥) → f p ≡ [])
     → flat_map f (up_to p ks) ≡ f p
 only_at f p [] named rising low absent = sym (absent (λ i. i))
-only_at {X} f p (k ∷ ks) named rising low absent =
+only_at f p (k ∷ ks) named rising low absent =
     by_order (cmp k p) refl (only_at f p ks named rising.1 (λ j i less. low j (inr i) less))
   where
     test : (o : Ordering) → cmp k p ≡ o → flat_map f (up_to p (k ∷ ks)) ≡ flat_map f (if not (is_gt o) then k ∷ up_to p ks else up_to p ks)
     test o e = ap (λ b. flat_map f (if not b then k ∷ up_to p ks else up_to p ks)) (is_greater k p named ∙ ap is_gt e)
 
-    append-none : (xs : List X) → xs ++ [] ≡ xs
-    append-none [] = refl
-    append-none (x ∷ xs) = ap (λ (l : List X). x ∷ l) (append-none xs)
-
-    none_later : (js : List (List ℕ)) → cmp k p ≡ Greater ⊎ (k ≡ p) → IsUnder k js → up_to p js ≡ []
+    none_later : (js : List (List ℕ)) → (cmp k p ≡ Greater) ⊎ (k ≡ p) → IsUnder k js → up_to p js ≡ []
     none_later [] at under = refl
     none_later (j ∷ js) at under =
         let over : cmp j p ≡ Greater = ⊎_elim
@@ -215,7 +211,7 @@ only_at {X} f p (k ∷ ks) named rising low absent =
         test Less e ∙ ap (λ l. l ++ flat_map f (up_to p ks)) (low k (inl refl) e) ∙ rest gone
     by_order Equal e rest =
         let same = same_key k p e in
-        test Equal e ∙ ap (λ l. f k ++ flat_map f l) (none_later ks (inr same) rising.0) ∙ append-none (f k) ∙ ap f same
+        test Equal e ∙ ap (λ l. f k ++ flat_map f l) (none_later ks (inr same) rising.0) ∙ append-nil (f k) ∙ ap f same
     by_order Greater e rest =
         let out : IsIn p (k ∷ ks) → ⊥ = λ i. ⊎_elim
         (λ (s : p ≡ k). irreflexive p (subst (λ z. cmp p z ≡ Less) (sym s) (turn p k e)))
