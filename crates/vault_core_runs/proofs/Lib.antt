@@ -1,6 +1,7 @@
 mod Answering
 mod Begin
 mod Causes
+mod Cuts
 mod Making
 mod Nearest
 mod One
@@ -8,6 +9,5 @@ mod OverKeys
 mod OverRanges
 mod Parts
 mod Prefixes
-mod Ranges
 mod Rising
 mod Unruled

@@ -26,7 +26,7 @@ use Rattle.vault_core_runs.proofs.Making.{MakesAll-then, MakesAll-first, MakesUp
 use Rattle.vault_core_runs.proofs.Nearest.{found_after, found_named, unruled_all, unruled_before}
 use Rattle.vault_core_runs.proofs.OverKeys.{may_go_on, same_plans, plans_at-append}
 use Rattle.vault_core_runs.proofs.Prefixes.{cmp}
-use Rattle.vault_core_runs.proofs.Ranges.{behind_nothing, filter_in, filter_rises, in_filter, joined, none_between, nothing_of, onward, page_of, rest_joined, up_to_one}
+use Rattle.vault_core_runs.proofs.Cuts.{behind_nothing, filter_in, filter_rises, in_filter, joined, none_between, nothing_of, onward, page_of, rest_joined, up_to_one}
 use Rattle.vault_core_runs.proofs.Unruled.{absent_plan, unruled_plan}
 
 pub MakesAll-none : (v : Vault) (b : List ℕ) (t : ℕ) (x : Counts) → MakesAll v b t [] x x v
