@@ -4,13 +4,12 @@ use Rattle.std.specs.Prelude.{filter_map, not, option_map, position}
 use Rattle.std.specs.List.{cons_option, position_from}
 use Rattle.std.proofs.lemmas.Bool.{or_parts}
 use Rattle.std.proofs.lemmas.Iterator.Adapters.{position_from-zero}
-use Rattle.vault_lock.specs.Lock.{is_locked}
 use Rattle.vault_rules.specs.declared.plan.Held.{Held}
 use Rattle.vault_rules.specs.declared.plan.Step.{Step}
 use Rattle.vault_rules.specs.declared.plan.Step.TheVariants.{Mark, Remove, RemoveLone}
 use Rattle.vault_rules.specs.declared.rule.Rule.{Rule}
 use Rattle.vault_rules.specs.Due.{days_have_passed, due_current, due_marker, due_noncurrent, is_larger, is_smaller, makes_current_due, makes_marker_due, makes_noncurrent_due, noncurrent_has_passed}
-use Rattle.vault_rules.specs.KeyPlan.{at_key, is_current_among, is_noncurrent_among, kept, key_plan, lone_rule, lone_steps, mark_rule, mark_steps, marked, only_if, rank, removal_rule, removal_steps, since}
+use Rattle.vault_rules.specs.KeyPlan.{at_key, is_current_among, kept, key_plan, lone_rule, lone_steps, mark_rule, mark_steps, marked, only_if, rank, removal_rule, removal_steps, since}
 use Rattle.vault_rules_laws.specs.BucketLaws.{IsIn}
 use Rattle.vault_core_model.specs.Vault.{Vault}
 use Rattle.vault_core_model.specs.Places.{keys_of}
@@ -56,7 +55,7 @@ module _ (rules : List Rule) (key : List ℕ) (t : ℕ) (none : is_ruled rules k
   no_removal hs =
       no_step (λ (x : Held). option_map (λ r. Remove x.id r) (removal_rule rules key t hs x)) hs
       (λ x. ap (option_map (λ r. Remove x.id r))
-      (only_none (is_noncurrent_among hs x && not (is_locked x.lock t)) (due_noncurrent rules key x.size (since hs x) (rank hs x) t)
+      (only_none _ (due_noncurrent rules key x.size (since hs x) (rank hs x) t)
       (nowhere (makes_noncurrent_due key x.size (since hs x) (rank hs x) t) key rules
       (λ r e. off (begins key r) (is_larger r.larger x.size) (is_smaller r.smaller x.size) (noncurrent_has_passed r.noncurrent (since hs x) (rank hs x) t) e) none)))
 
