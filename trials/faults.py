@@ -32,9 +32,6 @@ from trials.servers import serving
 
 AT = ["--at", OPENED_AT]
 LINE = '{"at":"2024-01-15T09:00:00Z","as":"registrar","do":"add-dept","dept":"other"}\n'
-# Where a kill leaves the log of a new vault beside an empty file: whether an earlier kill left a part of a first page,
-# from which sync on the device fails, and before which calls the kill comes (docs/formats/PROGRAM.md, "Faults").
-LOG_STAYS = {(False, 11, "unlink"), (False, 12, "unlink")}
 # What standard error says after the name of a refusal.
 WORDS = {
     "no file": "no file is there: check the path, or make a vault by init",
@@ -272,21 +269,15 @@ class WithoutVault(Meeting):
             status = self.init_where(what)
             if status == 0:
                 return number - 1, 0
-            if (is_part, sync, call) not in LOG_STAYS or not self.has_log_alone():
-                self.is_made_after(f"a kill before {call} {number}, where sync {sync} fails, {is_part=}")
+            self.is_made_after(f"a kill before {call} {number}, where sync {sync} fails, {is_part=}")
             if status not in KILLED:
                 self.assertEqual(status, 1, f"where sync {sync} fails")
                 return number - 1, 1
 
-    def has_log_alone(self):
-        """Whether a log with changes is left beside a file that is missing or empty: the next `init` refuses that."""
-        ran = self.ran("init", "killed")
-        return (ran.status, ran.err) == (1, f"init: NameTaken\n{WORDS['lost']}\n")
-
     @needs_strace
     def test_failing(self):
         """The device of an `init` fails from each sync on, with a kill as files are given back, or without: the next
-        one makes the vault, also where an earlier kill left a part of a first page; but for LOG_STAYS."""
+        one makes the vault, also where an earlier kill left a part of a first page."""
         for is_part in (False, True):
             count = 0
             for sync in itertools.count(1):

@@ -29,9 +29,6 @@ from trials.program import EXAMPLES, PROGRAM, Case, Ran, check
 EARLIER = EXAMPLES / "earlier"
 # The number of the schema in each of them, and the ids that its intake got.
 VAULTS = {"schema1": (1, (10, 11)), "schema2": (2, (11, 12))}
-# From which sync on the device fails where a kill leaves the log of the copy beside an empty file
-# (docs/formats/PROGRAM.md, "Faults").
-LOG_STAYS = (11, 12)
 LATER = ["--at", "2024-03-05T00:00:00Z"]
 EARLIER_TABLES = "meta departments callers buckets rules entries contents settings intake heads".split()
 TABLES = [*EARLIER_TABLES, "tenures"]
@@ -42,7 +39,6 @@ HELD = (
 NEW_HELD = "migrate: Device\nanother program has the file for the copy open: end it, or give another path"
 ONE_FILE = "migrate: Device\nboth paths lead to one file: give another path for the copy"
 TAKEN = "migrate: NameTaken\nsomething is in that file, and was left as it is: give another path"
-LOST = "migrate: NameTaken\nthe file is missing or empty, and its log may have its last changes: put the file back beside the log"
 DAMAGED = "the file is damaged: put the last sound backup back"
 NO_FILE = "migrate: Damaged meta\nno file is there: check the path, or make a vault by init"
 EMPTY = "migrate: Damaged meta\nthe file is empty: check the path, or make a vault by init"
@@ -394,14 +390,10 @@ class Copies:
                 self.remove()
         self.assertGreater(failures, 20, "few reads of the earlier file failed")
 
-    def has_log_alone(self):
-        """Whether a log with changes is left beside a file that is missing or empty: the same words refuse that."""
-        return self.ran("migrate", "old", "new") == (1, "", f"{LOST}\n")
-
     @needs_strace
     def test_removals(self):
         """The device of the copy fails from each sync on, and a kill comes before each removal of what was begun: the
-        same words take over what is left then, but for LOG_STAYS."""
+        same words take over what is left then."""
         count = 0
         for sync, number in ((sync, number) for sync in itertools.count(1) for number in (1, 2)):
             what = {"fdatasync": f"error=EIO:when={sync}+", "unlink": f"signal=KILL:when={number}"}
@@ -411,8 +403,7 @@ class Copies:
             where = f"a kill before removal {number}, where sync {sync} fails"
             self.assertIn(done.status, KILLED, f"{where}: {done}")
             count += 1
-            if sync not in LOG_STAYS or not self.has_log_alone():
-                self.is_made_after(where)
+            self.is_made_after(where)
             self.remove()
         self.assertGreater(count, 20, "a copy was killed at few removals")
 

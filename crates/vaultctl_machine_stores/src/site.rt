@@ -6,7 +6,7 @@ use std::fs::{self, OpenOptions};
 use std::io::{self, ErrorKind};
 use std::os::unix::fs::OpenOptionsExt;
 use std::path::PathBuf;
-use vaultctl_machine_places::places::Place;
+use vaultctl_machine_places::places::{Place, place_at};
 
 /// The mode of a file that is made: its owner alone may read and write it.
 const OWNERS_ALONE: u32 = 0o600;
@@ -136,14 +136,22 @@ impl<'a> Site<'a> {
         }
     }
 
-    /// The same of files in which the first page wasn't made.
+    /// The same of files in which a store couldn't be made. Where they can't be looked at they stay as they are.
+    pub fn leave_unmade<D: Disk + Drop>(&self, files: Files<D>, before: &Before) {
+        match place_at(self.rt, self.path) {
+            Ok(place) if before.had_more_than_a_byte() || place.may_hold_tables() => {
+                self.leave(files, before)
+            }
+            Ok(_) => self.leave_part(files, before),
+            Err(_) => drop(files),
+        }
+    }
+
+    /// The same of files that have a part of a first page at most.
     ///
     /// The file goes first: without the log beside it, a part of a first page would be taken for somebody's file. A part
-    /// that was there before comes back after its log.
-    pub fn leave_unmade<D: Disk + Drop>(&self, files: Files<D>, before: &Before) {
-        if before.had_more_than_a_byte() {
-            return self.leave(files, before);
-        }
+    /// that was there before comes back after its log, by `leave`.
+    fn leave_part<D: Disk + Drop>(&self, files: Files<D>, before: &Before) {
         let mut files = files;
         let names = self.names();
         if self.gives_file_back(&mut files.db, before, &names) {
