@@ -1,7 +1,12 @@
 -- What a statement that makes a table or an index says, over the tables that are there before it.
-use Rattle.std.specs.Prelude.{◌≡◌, ◌+◌, ◌&&◌, ◌==◌, ℕ, List, [], filter, take, Ok}
+use Rattle.std.specs.Prelude.{◌≡◌, ◌≤◌, ◌+◌, ◌*◌, ◌^◌, ◌&&◌, ◌==◌, nat_lt, ℕ, true, false, List, [], length, filter, take, codes, Result, Ok, Err, IsUtf8}
 use Rattle.std.specs.List.{list_any}
-use Rattle.sqlite_catalog.specs.Change.{created, indexed}
+use Rattle.sqlite_value.specs.declared.value.Value.TheVariants.{Text}
+use Rattle.sqlite_resolve.specs.declared.compiled.Compiled.{Compiled}
+use Rattle.sqlite_resolve.specs.declared.error.CompileError.{CompileError}
+use Rattle.sqlite_catalog.specs.Change.{next_tree, is_used, is_reserved, automatics, created, indexed}
+use Rattle.sqlite_catalog.specs.Listing.{is_formed, is_fit}
+use Rattle.sqlite_schema.specs.Rules.{table_reals, index_reals}
 use Rattle.sqlite_schema.specs.declared.schema.Index.{Index}
 use Rattle.sqlite.specs.Command.TheVariants.{CreateTable, CreateIndex}
 use Rattle.sqlite.specs.Compile.{table_defined_by, index_defined_by}
@@ -23,20 +28,56 @@ schema_of_first n = record {
   views = [];
 }
 
+-- the text is one statement, without a parameter
+abbrev pub IsAlone : List ℕ → Result Compiled CompileError → Type 0
+IsAlone text (Ok c) = (length text ≤ c.tail) × (c.names ≡ [])
+IsAlone text (Err e) = ⊥
+
+-- a store that has these tables takes the text: the table's name and those of its indexes are free, its key is one that SQL has, and its row in the list of tables is short
+pub record IsTakenAsTable (schema : Schema) (text : List ℕ) (made : Columns) : Type 0 where
+  pub utf8 : IsUtf8 text
+  pub named : IsUtf8 made.name
+  pub free : is_used schema made.name ≡ false
+  pub apart : list_any (λ (i : Index). is_used schema i.name) (automatics made 0 0 made.uniques) ≡ false
+  pub own : is_reserved made.name ≡ false
+  pub low : nat_lt (next_tree schema + length made.uniques) 65536 ≡ true
+  pub reals : table_reals made ≡ 0
+  pub keys : list_any (λ key. nat_lt 0 (index_reals 0 key)) made.uniques ≡ false
+  pub formed : is_formed made ≡ true
+  pub fit : is_fit (Text (codes "table")) (Text made.name) (Text made.name) (Text text) ≡ true
+  pub short : nat_lt (2 * length made.name + length text + 200) (10 ^ 9) ≡ true
+
+-- the same of an index of a table
+pub record IsTakenAsIndex (schema : Schema) (text : List ℕ) (of : Columns) (made : Index) : Type 0 where
+  pub utf8 : IsUtf8 text
+  pub named : IsUtf8 made.name
+  pub owned : IsUtf8 of.name
+  pub free : is_used schema made.name ≡ false
+  pub own : is_reserved made.name ≡ false
+  pub low : nat_lt (next_tree schema) 65536 ≡ true
+  pub reals : table_reals of ≡ 0
+  pub key : index_reals 0 made.columns ≡ 0
+  pub fit : is_fit (Text (codes "index")) (Text made.name) (Text of.name) (Text text) ≡ true
+  pub short : nat_lt (length made.name + length of.name + length text + 200) (10 ^ 9) ≡ true
+
 -- the text, all of it, makes this table as a vault has it, after those that come before it
 pub record IsCreationOf (t : Table) (text : List ℕ) : Type 0 where
   pub command : commanded (understood (schema_of_first (place_of t)) text) ≡ CreateTable
   pub whole : statement_in text (understood (schema_of_first (place_of t)) text) ≡ text
   pub plain : IsPlain (understood (schema_of_first (place_of t)) text)
+  pub alone : IsAlone text (understood (schema_of_first (place_of t)) text)
   pub made : Columns
   pub defined : table_defined_by text ≡ Ok made
   pub next : created (schema_of_first (place_of t)) made ≡ schema_of_first (place_of t + 1)
+  pub taken : IsTakenAsTable (schema_of_first (place_of t)) text made
 
 -- the text, all of it, makes the index of the entries, after all tables
 pub record IsIndexCreation (text : List ℕ) : Type 0 where
   pub command : commanded (understood (schema_of_first 11) text) ≡ CreateIndex (place_of table.Entries)
   pub whole : statement_in text (understood (schema_of_first 11) text) ≡ text
   pub plain : IsPlain (understood (schema_of_first 11) text)
+  pub alone : IsAlone text (understood (schema_of_first 11) text)
   pub made : Index
   pub defined : index_defined_by entries text ≡ Ok made
   pub next : indexed (schema_of_first 11) entries made ≡ vault_schema
+  pub taken : IsTakenAsIndex (schema_of_first 11) text entries made

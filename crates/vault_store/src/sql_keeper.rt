@@ -136,7 +136,7 @@ impl<S: Alter> SqlKeeper<S> {
         ensures alone { IfOk result (λ k. HasCleanDisk (state S.Store k.conn) → LeavesAlone (state S.Store k.conn) (vault_of S.Store k)) }
         ensures counted { IfOk result (λ k. k.blamed.faults ≡ 0) }
         ensures reported { IfErr result (λ e. IsTold e.0) }
-        // A store that works, outside a transaction, is never told as one that failed.
+        // A store that works, outside a transaction, is never reported as one that failed.
         ensures healthy { conn.in_transaction ≡ false → IfErr result (λ e. IsHealthy (state S.Store e.1) → e.0 ≢ Refusal.Device) }
         ensures damaged { IfErr result (λ e. HasCleanDisk (state S.Store e.1) → (t : Table) → e.0 ≡ Refusal.Damaged t → (v : Vault) → ¬ AreSound (state S.Store conn).now v) }
         ensures harmless { IfErr result (λ e. Survives (state S.Store conn) (state S.Store e.1) (λ _. ⊥)) }
@@ -172,6 +172,8 @@ impl<S: Alter> SqlKeeper<S> {
         ensures taken { (state S.Store conn).now.schema ≢ no_schema → IfErr result (λ e. e.0 ≡ Refusal.NameTaken) }
         ensures free { IfErr result (λ e. e.0 ≡ Refusal.NameTaken → (state S.Store conn).now.schema ≢ no_schema) }
         ensures faults { IfErr result (λ e. e.0 ≢ Refusal.NameTaken → IsFault e.0) }
+        // A store that works, outside a transaction, is never reported as one that failed.
+        ensures healthy { conn.in_transaction ≡ false → IfErr result (λ e. IsHealthy (state S.Store e.1) → e.0 ≢ Refusal.Device) }
         // A crash leaves what it could leave before, or a new vault.
         ensures crash { IfOk result (λ k. Survives (state S.Store conn) (state S.Store k.conn) (IsFoundIn opening)) }
         ensures harmless { IfErr result (λ e. Survives (state S.Store conn) (state S.Store e.1) (IsFoundIn opening)) }

@@ -33,7 +33,7 @@ use Rattle.vault_store_create.proofs.TextLemmas.{meta_row_text, meta_row_terms, 
 use Rattle.vault_audit_model.proofs.OutcomeLemmas.{went, same_value}
 use Rattle.vault_audit_model.proofs.ValueLemmas.{cast_null, cast_int}
 
-abbrev task_on : Option ℕ → Mode → Schema → Table → Row → Task
+abbrev pub task_on : Option ℕ → Mode → Schema → Table → Row → Task
 task_on limit mode schema base params = record { limit = limit; keys = mode.keys; schema = schema; table = record base { is_counted = false }; params = params }
 
 -- an INSERT of rows that no foreign key acts on puts its rows into its table
@@ -53,7 +53,7 @@ added limit mode schema base params at from db tally after h =
     (given.0, given.1, subst (λ t. Applies schema mode.keys db edit t) (sym (ap (λ (d : Database). d.trees) now ∙ trees)) step, ap (λ (d : Database). d.schema) now)
 
 -- the tables of other trees are as they were: without a row
-others_empty : (at : ℕ) (tables : List Table) → list_all (λ t. not (t.tree == at)) tables ≡ true → (old new : Trees)
+pub others_empty : (at : ℕ) (tables : List Table) → list_all (λ t. not (t.tree == at)) tables ≡ true → (old new : Trees)
     → AllByRecursion (λ t. t.tree ≢ at → new t.tree ≡ old t.tree) tables → AllByRecursion (λ t. old t.tree ≡ []) tables → AllByRecursion (λ t. new t.tree ≡ []) tables
 others_empty at [] other old new same empty = tt
 others_empty at (t ∷ ts) other old new same empty =

@@ -9,3 +9,5 @@ mod ShownLemmas
 mod CopyLemmas
 mod FillLemmas
 mod PartLemmas
+mod RefusedLemmas
+mod PutLemmas

@@ -1,8 +1,9 @@
 -- The way from a store without tables to a new vault.
-use Rattle.std.specs.Prelude.{◌≡◌, ◌⊎◌, ℕ, [], ◌∷◌, map, drop, IsTrue, Result, OnOk}
+use Rattle.std.specs.Prelude.{◌≡◌, ◌⊎◌, ℕ, [], ◌∷◌, map, drop, IsTrue, Result, OnOk, IfErr}
 use Rattle.std.specs.List.{AllByRecursion}
 use Rattle.sqlite_trees.specs.Tree.{Trees}
 use Rattle.sqlite_catalog.specs.Listing.{IsSound}
+use Rattle.sqlite.specs.declared.error.Error.{Error}
 use Rattle.sqlite.specs.Effect.{Database, IsDatabase}
 use Rattle.sqlite.specs.Schema.{Schema}
 use Rattle.sqlite.specs.State.{State, HasCleanDisk}
@@ -16,6 +17,7 @@ use Rattle.vault_audit_model.specs.Tables.{vault_schema, meta_tree}
 use Rattle.vault_audit_model.specs.Rows.{meta_row, meta_columns}
 use Rattle.vault_audit_model.specs.Spells.{meta_of, AreSound}
 use Rattle.vault_audit_schema.specs.Statements.{schema_of_first}
+use Rattle.vault_audit_walk.specs.Health.{IsHealthy, IsMemory}
 
 -- these tables and no others are there, and none has a row
 pub record HasEmpty (schema_is : Schema) (db : Database) : Type 0 where
@@ -64,3 +66,7 @@ without_tables = Damaged table.Meta
 -- inside a transaction: where it is answered, tables of the one kind became tables of the other
 abbrev pub MovesInside : {S A E : Type 0} → Ghosts S → Held S → Held S → Result A E → (Database → Type 0) → (Database → Type 0) → Type 0
 MovesInside g old new result before after = HasCleanDisk (state g new) → IsTrue old.in_transaction → OnOk result (Moves (state g old) (state g new) before after)
+
+-- inside a transaction, with tables of the one kind, a store that works refuses for want of memory alone
+abbrev pub FailsForMemory : {S A : Type 0} → Ghosts S → Held S → Held S → Result A Error → (Database → Type 0) → Type 0
+FailsForMemory g old new result before = IsHealthy (state g new) → IsTrue old.in_transaction → before (state g old).now → IfErr result IsMemory

@@ -5,7 +5,8 @@ ghost use Rattle.sqlite.specs.Held.{state};
 ghost use Rattle.vault_core_model.specs.Vault.{opening};
 ghost use Rattle.vault_audit_model.specs.Spells.{AreSound};
 ghost use Rattle.vault_audit_model.specs.Tables.{no_schema};
-ghost use Rattle.vault_store_create.specs.Create.{HasFirst, IsFilled, AreOpening, IsFault, without_tables, MovesInside};
+ghost use Rattle.vault_store_create.specs.Create.{HasFirst, IsFilled, AreOpening, IsFault, without_tables, MovesInside, FailsForMemory};
+ghost use Rattle.vault_audit_walk.specs.Health.{IsHealthy};
 ghost use Rattle.vault_store_edits.specs.Inside.{CommitsNothing};
 
 use crate::first_rows::{put_meta, put_registrar};
@@ -33,6 +34,7 @@ pub fn without_tables() -> Refusal
 fn put_opening<S: Alter>(tx: &mut Transaction<'_, S>) -> Result<(), Error>
     ensures same_reference { tx.new.conn.ghost_name ≡ tx.old.conn.ghost_name }
     ensures made { MovesInside S.Store tx.old.conn.now tx.new.conn.now result (HasFirst 0) IsFilled }
+    ensures memory { FailsForMemory S.Store tx.old.conn.now tx.new.conn.now result (HasFirst 0) }
     ensures kept { CommitsNothing S.Store tx.old.conn.now tx.new.conn.now result }
     ensures survives { Survives (state S.Store tx.old.conn.now) (state S.Store tx.new.conn.now) (λ _. ⊥) }
 {
@@ -57,6 +59,8 @@ pub fn fill<S: Alter>(conn: &mut Connection<S>) -> Result<(), Refusal>
     ensures taken { (result ≡ Err Refusal.NameTaken) ↔ ((state S.Store conn.old).now.schema ≢ no_schema) }
     ensures untouched { result ≡ Err Refusal.NameTaken → conn.new ≡ conn.old }
     ensures faults { IfErr result (λ r. r ≢ Refusal.NameTaken → IsFault r) }
+    // A store that works, outside a transaction, is never reported as one that failed.
+    ensures healthy { conn.old.in_transaction ≡ false → IsHealthy (state S.Store conn.new) → IfErr result (λ r. r ≢ Refusal.Device) }
     ensures nothing { HasCleanDisk (state S.Store conn.new) → IsTrue (state S.Store conn.new).is_open
         → OnErr result (((state S.Store conn.new).now ≡ (state S.Store conn.old).now) × ((state S.Store conn.new).committed ≡ (state S.Store conn.old).committed)) }
     ensures mode { conn.old.in_transaction ≡ false → conn.new.in_transaction ≡ false }

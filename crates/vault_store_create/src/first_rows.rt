@@ -2,7 +2,7 @@
 ghost use Rattle.std.specs.Prelude.{◌≡◌};
 ghost use Rattle.sqlite.specs.State.{Survives};
 ghost use Rattle.sqlite.specs.Held.{state};
-ghost use Rattle.vault_store_create.specs.Create.{HasAll, HasMetaRow, IsFilled, MovesInside};
+ghost use Rattle.vault_store_create.specs.Create.{HasAll, HasMetaRow, IsFilled, MovesInside, FailsForMemory};
 ghost use Rattle.vault_store_edits.specs.Inside.{CommitsNothing};
 
 use sqlite::{Alter, Error, Transaction};
@@ -11,6 +11,7 @@ use sqlite::{Alter, Error, Transaction};
 pub fn put_meta<S: Alter>(tx: &mut Transaction<'_, S>) -> Result<usize, Error>
     ensures same_reference { tx.new.conn.ghost_name ≡ tx.old.conn.ghost_name }
     ensures made { MovesInside S.Store tx.old.conn.now tx.new.conn.now result HasAll HasMetaRow }
+    ensures memory { FailsForMemory S.Store tx.old.conn.now tx.new.conn.now result HasAll }
     ensures kept { CommitsNothing S.Store tx.old.conn.now tx.new.conn.now result }
     ensures survives { Survives (state S.Store tx.old.conn.now) (state S.Store tx.new.conn.now) (λ _. ⊥) }
 {
@@ -24,6 +25,7 @@ pub fn put_meta<S: Alter>(tx: &mut Transaction<'_, S>) -> Result<usize, Error>
 pub fn put_registrar<S: Alter>(tx: &mut Transaction<'_, S>) -> Result<usize, Error>
     ensures same_reference { tx.new.conn.ghost_name ≡ tx.old.conn.ghost_name }
     ensures made { MovesInside S.Store tx.old.conn.now tx.new.conn.now result HasMetaRow IsFilled }
+    ensures memory { FailsForMemory S.Store tx.old.conn.now tx.new.conn.now result HasMetaRow }
     ensures kept { CommitsNothing S.Store tx.old.conn.now tx.new.conn.now result }
     ensures survives { Survives (state S.Store tx.old.conn.now) (state S.Store tx.new.conn.now) (λ _. ⊥) }
 {

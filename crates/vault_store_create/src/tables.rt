@@ -3,7 +3,7 @@ ghost use Rattle.std.specs.Prelude.{◌≡◌, ◌+◌};
 ghost use Rattle.sqlite.specs.State.{Survives};
 ghost use Rattle.sqlite.specs.Held.{state};
 ghost use Rattle.vault_audit_model.specs.Order.{place_of};
-ghost use Rattle.vault_store_create.specs.Create.{HasFirst, HasAll, MovesInside};
+ghost use Rattle.vault_store_create.specs.Create.{HasFirst, HasAll, MovesInside, FailsForMemory};
 ghost use Rattle.vault_store_edits.specs.Inside.{CommitsNothing};
 
 use sqlite::{Alter, Error, Transaction};
@@ -14,6 +14,7 @@ use vault_base::refusal::Table;
 fn make_table<S: Alter>(tx: &mut Transaction<'_, S>, table: Table) -> Result<usize, Error>
     ensures same_reference { tx.new.conn.ghost_name ≡ tx.old.conn.ghost_name }
     ensures made { MovesInside S.Store tx.old.conn.now tx.new.conn.now result (HasFirst (place_of table)) (HasFirst (place_of table + 1)) }
+    ensures memory { FailsForMemory S.Store tx.old.conn.now tx.new.conn.now result (HasFirst (place_of table)) }
     ensures kept { CommitsNothing S.Store tx.old.conn.now tx.new.conn.now result }
     ensures survives { Survives (state S.Store tx.old.conn.now) (state S.Store tx.new.conn.now) (λ _. ⊥) }
 {
@@ -24,6 +25,7 @@ fn make_table<S: Alter>(tx: &mut Transaction<'_, S>, table: Table) -> Result<usi
 fn make_index<S: Alter>(tx: &mut Transaction<'_, S>) -> Result<usize, Error>
     ensures same_reference { tx.new.conn.ghost_name ≡ tx.old.conn.ghost_name }
     ensures made { MovesInside S.Store tx.old.conn.now tx.new.conn.now result (HasFirst 11) HasAll }
+    ensures memory { FailsForMemory S.Store tx.old.conn.now tx.new.conn.now result (HasFirst 11) }
     ensures kept { CommitsNothing S.Store tx.old.conn.now tx.new.conn.now result }
     ensures survives { Survives (state S.Store tx.old.conn.now) (state S.Store tx.new.conn.now) (λ _. ⊥) }
 {
@@ -33,6 +35,7 @@ fn make_index<S: Alter>(tx: &mut Transaction<'_, S>) -> Result<usize, Error>
 fn make_first<S: Alter>(tx: &mut Transaction<'_, S>) -> Result<(), Error>
     ensures same_reference { tx.new.conn.ghost_name ≡ tx.old.conn.ghost_name }
     ensures made { MovesInside S.Store tx.old.conn.now tx.new.conn.now result (HasFirst 0) (HasFirst 4) }
+    ensures memory { FailsForMemory S.Store tx.old.conn.now tx.new.conn.now result (HasFirst 0) }
     ensures kept { CommitsNothing S.Store tx.old.conn.now tx.new.conn.now result }
     ensures survives { Survives (state S.Store tx.old.conn.now) (state S.Store tx.new.conn.now) (λ _. ⊥) }
 {
@@ -46,6 +49,7 @@ fn make_first<S: Alter>(tx: &mut Transaction<'_, S>) -> Result<(), Error>
 fn make_second<S: Alter>(tx: &mut Transaction<'_, S>) -> Result<(), Error>
     ensures same_reference { tx.new.conn.ghost_name ≡ tx.old.conn.ghost_name }
     ensures made { MovesInside S.Store tx.old.conn.now tx.new.conn.now result (HasFirst 4) (HasFirst 8) }
+    ensures memory { FailsForMemory S.Store tx.old.conn.now tx.new.conn.now result (HasFirst 4) }
     ensures kept { CommitsNothing S.Store tx.old.conn.now tx.new.conn.now result }
     ensures survives { Survives (state S.Store tx.old.conn.now) (state S.Store tx.new.conn.now) (λ _. ⊥) }
 {
@@ -59,6 +63,7 @@ fn make_second<S: Alter>(tx: &mut Transaction<'_, S>) -> Result<(), Error>
 fn make_last<S: Alter>(tx: &mut Transaction<'_, S>) -> Result<(), Error>
     ensures same_reference { tx.new.conn.ghost_name ≡ tx.old.conn.ghost_name }
     ensures made { MovesInside S.Store tx.old.conn.now tx.new.conn.now result (HasFirst 8) (HasFirst 11) }
+    ensures memory { FailsForMemory S.Store tx.old.conn.now tx.new.conn.now result (HasFirst 8) }
     ensures kept { CommitsNothing S.Store tx.old.conn.now tx.new.conn.now result }
     ensures survives { Survives (state S.Store tx.old.conn.now) (state S.Store tx.new.conn.now) (λ _. ⊥) }
 {
@@ -72,6 +77,7 @@ fn make_last<S: Alter>(tx: &mut Transaction<'_, S>) -> Result<(), Error>
 pub fn make_tables<S: Alter>(tx: &mut Transaction<'_, S>) -> Result<(), Error>
     ensures same_reference { tx.new.conn.ghost_name ≡ tx.old.conn.ghost_name }
     ensures made { MovesInside S.Store tx.old.conn.now tx.new.conn.now result (HasFirst 0) HasAll }
+    ensures memory { FailsForMemory S.Store tx.old.conn.now tx.new.conn.now result (HasFirst 0) }
     ensures kept { CommitsNothing S.Store tx.old.conn.now tx.new.conn.now result }
     ensures survives { Survives (state S.Store tx.old.conn.now) (state S.Store tx.new.conn.now) (λ _. ⊥) }
 {
